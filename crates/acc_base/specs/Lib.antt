@@ -1,0 +1,5 @@
+pub mod Numbers
+pub mod Tables
+pub mod Equality
+pub mod Pairs
+pub mod FormEquality

@@ -1,0 +1,10 @@
+//! Designs, states and events of a stepped transaction engine, as plain values, and what they mean.
+#![tactic(auto)]
+
+pub mod designs;
+pub mod forms;
+pub mod machines;
+pub mod sequences;
+pub mod sequents;
+pub mod steps;
+pub mod tables;
