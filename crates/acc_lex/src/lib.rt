@@ -1,0 +1,4 @@
+//! The words of a design's text.
+#![tactic(auto)]
+
+pub mod words;
