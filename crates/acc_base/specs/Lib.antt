@@ -1,5 +1,11 @@
 pub mod Numbers
 pub mod Tables
+pub mod Linear
+pub mod Reads
+pub mod Actions
+pub mod Effects
+pub mod Runnable
+pub mod Machine
 pub mod Equality
 pub mod Pairs
 pub mod FormEquality

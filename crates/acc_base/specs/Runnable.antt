@@ -1,0 +1,92 @@
+-- What a design has to keep so that its steps can be taken: the form rules and limits on which running it rests.
+use Rattle.std.specs.Prelude.{ℕ, ◌≤◌, ◌<◌, ◌^◌, List, length, All, ℤ, pos, ◌<ℤ◌, ⊤}
+use Rattle.acc_base.specs.declared.forms.Lin.{Lin}
+use Rattle.acc_base.specs.declared.forms.LinRel.{LinRel}
+use Rattle.acc_base.specs.declared.steps.Read.{Read}
+use Rattle.acc_base.specs.declared.steps.Read.TheVariants.{Let, Col, Has, Count, Sum, Least, Greatest, Take, Mul, Div}
+use Rattle.acc_base.specs.declared.steps.Action.{Action}
+use Rattle.acc_base.specs.declared.steps.Action.TheVariants.{Put, Del, Set, Add}
+use Rattle.acc_base.specs.declared.steps.Target.{Target}
+use Rattle.acc_base.specs.declared.steps.Target.TheVariants.{Point as ToPoint, Commit, Undone, Refuse}
+use Rattle.acc_base.specs.declared.steps.Path.{Path}
+use Rattle.acc_base.specs.declared.steps.Step.{Step}
+use Rattle.acc_base.specs.declared.designs.Side.{Side}
+use Rattle.acc_base.specs.declared.designs.Side.TheVariants.{Next, Undo}
+use Rattle.acc_base.specs.declared.designs.Point.{Point}
+use Rattle.acc_base.specs.declared.designs.TxType.{TxType}
+use Rattle.acc_base.specs.declared.designs.Design.{Design}
+use Rattle.acc_base.specs.declared.machines.Frame.{Frame}
+use Rattle.acc_base.specs.Numbers.{IsSmall}
+
+-- few enough terms that no sum leaves 128 bits
+abbrev pub IsShort : Lin → Type 0
+IsShort l = length l.coeffs ≤ 2 ^ 16
+
+abbrev pub HasShort : LinRel → Type 0
+HasShort r = IsShort r.lin
+
+-- a key or a prefix of at most 6 parts
+pub record IsKey (k : List Lin) : Type 0 where
+  pub short : All IsShort k
+  pub width : length k ≤ 6
+
+abbrev pub CanRead : Read → Type 0
+CanRead (Let x l) = IsShort l
+CanRead (Col x t k c) = IsKey k
+CanRead (Has x t k) = IsKey k
+CanRead (Count x t p) = IsKey p
+CanRead (Sum x t p c) = IsKey p
+CanRead (Least x t p) = IsKey p
+CanRead (Greatest x t p) = IsKey p
+CanRead (Take x) = ⊤
+CanRead (Mul x y z) = ⊤
+CanRead (Div x y c) = pos 0 <ℤ c
+
+-- a row that is put has at most 12 columns
+abbrev pub CanAct : Action → Type 0
+CanAct (Put t k vs) = IsKey k × All IsShort vs × (length vs ≤ 12)
+CanAct (Del t k) = IsKey k
+CanAct (Set t k c v) = IsKey k × IsShort v
+CanAct (Add t k c v) = IsKey k × IsShort v
+
+-- a forward path doesn't end undone, and an undo path neither commits nor refuses
+abbrev pub CanEnd : Side → Target → Type 0
+CanEnd Next (ToPoint p) = ⊤
+CanEnd Next Commit = ⊤
+CanEnd Next Undone = ⊥
+CanEnd Next (Refuse n) = ⊤
+CanEnd Undo (ToPoint p) = ⊤
+CanEnd Undo Commit = ⊥
+CanEnd Undo Undone = ⊤
+CanEnd Undo (Refuse n) = ⊥
+
+pub record CanGo (side : Side) (p : Path) : Type 0 where
+  pub guard : All HasShort p.guard
+  pub actions : All CanAct p.actions
+  pub few : length p.actions ≤ 16
+  pub target : CanEnd side p.target
+
+pub record CanStep (side : Side) (step : Step) : Type 0 where
+  pub reads : All CanRead step.reads
+  pub paths : All (CanGo side) step.paths
+  pub few : length step.paths < 2 ^ 32
+
+pub record IsRunnablePoint (p : Point) : Type 0 where
+  pub next : CanStep Next p.next
+  pub undo : CanStep Undo p.undo
+
+pub record IsRunnableType (x : TxType) : Type 0 where
+  pub points : All IsRunnablePoint x.points
+  pub few : length x.locals ≤ 48
+
+-- every step of the design can be taken
+abbrev pub IsRunnable : Design → Type 0
+IsRunnable d = All IsRunnableType d.types
+
+-- a frame whose numbers are in range: its number, locals and tape within 2^45 of 0
+pub record FrameFits (f : Frame) : Type 0 where
+  pub locals : All IsSmall f.locals
+  pub few : length f.locals ≤ 48
+  pub tape : All IsSmall f.tape
+  pub long : length f.tape < 2 ^ 32
+  pub number : f.t ≤ 2 ^ 45
