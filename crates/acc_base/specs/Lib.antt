@@ -6,6 +6,10 @@ pub mod Actions
 pub mod Effects
 pub mod Runnable
 pub mod Machine
+pub mod Turns
+pub mod Plays
+pub mod Lines
+pub mod Cells
 pub mod Equality
 pub mod Pairs
 pub mod FormEquality

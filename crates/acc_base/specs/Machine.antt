@@ -202,12 +202,19 @@ abbrev pub with_begun : Design → World → Call → World
 with_begun d w call =
     record w { transactions = w.transactions ++ Forward (begun d (next_number w) call) ∷ []; events = w.events ++ Begin call ∷ [] }
 
+-- what an event of one transaction does with the rows and with that transaction
+abbrev pub changed : Design → List Row → Event → Option Transaction → Option (List Row × Transaction)
+changed d db (Begin call) x = None
+changed d db (Step t) x = stepped d db x
+changed d db (Abort t c) x = turned d db c x
+changed d db (Undo t) x = undone d db x
+
 -- the state after an event, or none where the machine does not allow it
 abbrev pub after_event : Design → World → Event → Option World
 after_event d w (Begin call) = if call_fits (slice_get d.types call.ty) call then Some (with_begun d w call) else None
-after_event d w (Step t) = becomes w (Step t) t (stepped d w.rows (transaction_at t w.transactions))
-after_event d w (Abort t c) = becomes w (Abort t c) t (turned d w.rows c (transaction_at t w.transactions))
-after_event d w (Undo t) = becomes w (Undo t) t (undone d w.rows (transaction_at t w.transactions))
+after_event d w (Step t) = becomes w (Step t) t (changed d w.rows (Step t) (transaction_at t w.transactions))
+after_event d w (Abort t c) = becomes w (Abort t c) t (changed d w.rows (Abort t c) (transaction_at t w.transactions))
+after_event d w (Undo t) = becomes w (Undo t) t (changed d w.rows (Undo t) (transaction_at t w.transactions))
 
 -- ---- runs
 

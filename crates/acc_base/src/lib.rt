@@ -3,6 +3,7 @@
 
 pub mod designs;
 pub mod forms;
+pub mod laws;
 pub mod machines;
 pub mod sequences;
 pub mod sequents;
