@@ -8,7 +8,7 @@ ghost use Rattle.std.specs.BTreeMap.{insert_entry, keys, get};
 ghost use Rattle.acc_base.specs.Tables.{is_at, is_under, column_of, count_of, sum_of, least_of, greatest_of, parts_at, place_cmp, place_of, cell, best, put, drop_row};
 ghost use Rattle.acc_store.specs.Rows.{live, cells_at as cells_there, column_in, columns_of, one_in, part_in, IsRising, SumsFit, IsUp, AreFit, IsFit, below, write as written_by, written, IsNarrow, has_entry, has_room, KeepsEntries, row_of as row_with, with_row};
 
-use crate::cells::Cells;
+use crate::inline::Inline;
 use crate::places::Place;
 use crate::writes::Write;
 use acc_base::sequences::Seq;
@@ -16,6 +16,9 @@ use acc_base::tables::{Key, Row};
 use std::alloc::{AllocError, Global};
 use std::collections::BTreeMap;
 use std::collections::btree_map::Range;
+
+/// The columns of a row.
+type Cells = Inline<i128, 12>;
 
 /// Entries in the order of their places; one without cells is blank.
 pub type Entries = BTreeMap<Place, Option<Cells>>;
@@ -267,7 +270,7 @@ fn put_row(entries: &mut Entries, row: &Row)
     ensures up { IsUp entries.new.entries }
 {
     let place = Place::new(row.table, row.key.parts.as_slice());
-    let cells = Cells::new(row.cols.as_slice());
+    let cells = Inline::from_slice(0, row.cols.as_slice());
     replace(entries, place, Some(cells));
 }
 
