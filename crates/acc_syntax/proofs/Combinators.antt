@@ -1,7 +1,7 @@
 -- Further ways to put exact readers together, over any signs.
-use Rattle.std.proofs.Common.{◌≡◌, Bool, true, false, cond, List, [], ◌∷◌, ◌++◌, Result, Ok, Err, refl, sym, ap, subst, ◌∙◌, inl, inr, ◌⊎◌}
-use Rattle.acc_grammar.specs.Readers.{AllIn, OutcomeOf, ◌>>=◌}
-use Rattle.acc_grammar.proofs.Exact.{ok_is, Stops, Exact, All, Free, made, Made, made_exact, ByHead, chosen}
+use Rattle.std.proofs.Common.{◌≡◌, Bool, true, false, cond, List, [], ◌∷◌, Ok, Err, refl, sym, ap, subst, ◌∙◌, inl, inr, ◌⊎◌}
+use Rattle.acc_grammar.specs.Readers.{AllIn, OutcomeOf}
+use Rattle.acc_grammar.proofs.Exact.{ok_is, Exact, All, Free, made, Made, made_exact, ByHead, chosen}
 
 -- a part of a larger tree that anything may follow
 pub made_free : {S A B : Type 0} {Q : S → Type 0} {sa : A → List S} {P : A → Type 0} {ga : A → List S → Type 0} {ra : List S → OutcomeOf S A} (ea : Exact Q sa P ga ra) (f : A → B) (sb : B → List S) (same : (a : A) → P a → sb (f a) ≡ sa a) (to : (a : A) (rest : List S) → ga a rest) → Exact Q sb (Made f P) Free (made f ra)

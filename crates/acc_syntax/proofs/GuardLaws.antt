@@ -1,10 +1,9 @@
 -- The readers of guards are exact.
-use Rattle.std.proofs.Common.{◌≡◌, ℕ, Bool, true, false, List, [], ◌∷◌, ◌++◌, Option, Some, None, refl, sym, ap, subst, ◌∙◌, append_assoc, inl, inr}
+use Rattle.std.proofs.Common.{◌≡◌, true, false, List, [], ◌∷◌, ◌++◌, Option, Some, None, refl, sym, ap, subst, ◌∙◌, append_assoc, inl, inr}
 use Rattle.acc_lex.specs.declared.words.Sign.TheVariants as sign
 use Rattle.acc_lex.specs.declared.words.Word.{Word}
-use Rattle.acc_lex.specs.declared.words.Word.TheVariants as word
 use Rattle.acc_lex.specs.Words.{CanSpell}
-use Rattle.acc_grammar.specs.Readers.{joined, ◌>>=◌, many}
+use Rattle.acc_grammar.specs.Readers.{joined, many}
 use Rattle.acc_grammar.proofs.Exact.{bind_assoc, Exact, All, Free, seq_exact, Made, made_exact, trees_exact, same_exact, Or, maybe_exact}
 use Rattle.acc_grammar.proofs.Many.{Shrinks, Runs}
 use Rattle.acc_syntax.specs.declared.trees.Relation.{Relation}
@@ -13,7 +12,7 @@ use Rattle.acc_syntax.specs.declared.trees.LinRelTree.{LinRelTree}
 use Rattle.acc_syntax.specs.declared.trees.LinRels.{LinRels}
 use Rattle.acc_syntax.specs.Spelling.{just, further, sum, relation_sign, lin_rel, guard}
 use Rattle.acc_syntax.specs.WordReaders.{comes, further_at}
-use Rattle.acc_syntax.specs.ValueReaders.{sum_at, starts_sum, relation_at, lin_rel_at, lin_rels_at, guard_at}
+use Rattle.acc_syntax.specs.ValueReaders.{starts_sum, relation_at, lin_rel_at, lin_rels_at, guard_at}
 use Rattle.acc_syntax.proofs.Combinators.{made_free, all_in}
 use Rattle.acc_syntax.proofs.WordLaws.{sign_exact, further_shrinks, furthers_exact, ends_before, furthers_end}
 use Rattle.acc_syntax.proofs.KindLaws.{Begun, or_kind, last_kind}

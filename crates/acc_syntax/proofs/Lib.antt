@@ -1,4 +1,5 @@
 pub mod Combinators
+pub mod Faults
 pub mod WordLaws
 pub mod KindLaws
 pub mod SumLaws

@@ -1,11 +1,11 @@
 -- The readers of reads are exact.
-use Rattle.std.proofs.Common.{◌≡◌, ℕ, ◌<◌, Bool, true, false, ◌||◌, List, [], ◌∷◌, ◌++◌, length, refl, ap, inl, inr}
+use Rattle.std.proofs.Common.{◌≡◌, true, false, List, [], ◌∷◌, ◌++◌, refl, ap, inl, inr}
 use Rattle.acc_lex.specs.declared.words.Sign.{Sign}
 use Rattle.acc_lex.specs.declared.words.Sign.TheVariants as sign
 use Rattle.acc_lex.specs.declared.words.Word.{Word}
 use Rattle.acc_lex.specs.declared.words.Word.TheVariants as word
 use Rattle.acc_lex.specs.Words.{CanSpell}
-use Rattle.acc_grammar.specs.Readers.{joined, ◌>>=◌, many}
+use Rattle.acc_grammar.specs.Readers.{joined, many}
 use Rattle.acc_grammar.proofs.Exact.{bind_assoc, Exact, All, Free, seq_exact, trees_exact, same_exact, Or, ByHead}
 use Rattle.acc_grammar.proofs.Many.{Shrinks, item_shrinks, Runs, many_exact}
 use Rattle.acc_syntax.specs.declared.trees.Variable.{Variable}
@@ -14,7 +14,7 @@ use Rattle.acc_syntax.specs.declared.trees.Place.{Place}
 use Rattle.acc_syntax.specs.declared.trees.Cell.{Cell}
 use Rattle.acc_syntax.specs.declared.trees.ReadTree.{ReadTree}
 use Rattle.acc_syntax.specs.declared.trees.ReadTree.TheVariants as read
-use Rattle.acc_syntax.specs.Spelling.{just, read_statement}
+use Rattle.acc_syntax.specs.Spelling.{read_statement}
 use Rattle.acc_syntax.specs.StatementReaders.{let_at, get_at, has_at, read_at, starts_read}
 use Rattle.acc_syntax.proofs.Combinators.{made_free, all_in}
 use Rattle.acc_syntax.proofs.WordLaws.{after_exact, closed_exact}

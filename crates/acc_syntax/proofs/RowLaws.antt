@@ -1,22 +1,20 @@
 -- The readers of lists of values, of rows and of columns are exact.
-use Rattle.std.proofs.Common.{◌≡◌, ℕ, Bool, true, false, List, [], ◌∷◌, ◌++◌, Option, Some, None, refl, sym, ap, subst, ◌∙◌, append_assoc, inl, inr}
+use Rattle.std.proofs.Common.{◌≡◌, true, false, List, ◌∷◌, ◌++◌, Option, Some, None, refl, sym, ap, subst, ◌∙◌, append_assoc, inl, inr}
 use Rattle.acc_lex.specs.declared.words.Sign.TheVariants as sign
 use Rattle.acc_lex.specs.declared.words.Word.{Word}
 use Rattle.acc_lex.specs.declared.words.Word.TheVariants as word
 use Rattle.acc_lex.specs.Words.{CanSpell}
-use Rattle.acc_grammar.specs.Readers.{joined, ◌>>=◌, many}
+use Rattle.acc_grammar.specs.Readers.{joined, many}
 use Rattle.acc_grammar.proofs.Exact.{bind_assoc, Exact, All, Free, seq_exact, Made, made_exact, trees_exact, same_exact, Or, maybe_exact}
 use Rattle.acc_grammar.proofs.Many.{Shrinks, Runs}
 use Rattle.acc_syntax.specs.declared.trees.Sum.{Sum}
 use Rattle.acc_syntax.specs.declared.trees.Sums.{Sums}
-use Rattle.acc_syntax.specs.declared.trees.Place.{Place}
-use Rattle.acc_syntax.specs.declared.trees.Cell.{Cell}
-use Rattle.acc_syntax.specs.Spelling.{just, name, further, sum, sums, place, cell, values}
+use Rattle.acc_syntax.specs.Spelling.{further, sum, sums, place, cell, values}
 use Rattle.acc_syntax.specs.WordReaders.{comes, further_at}
 use Rattle.acc_syntax.specs.ValueReaders.{sum_at, sums_at, starts_sum, values_at, place_at, cell_at}
 use Rattle.acc_syntax.proofs.Combinators.{made_free, all_in}
 use Rattle.acc_syntax.proofs.WordLaws.{name_exact, after_exact, closed_exact, further_shrinks, furthers_exact, ends_before, furthers_end}
-use Rattle.acc_syntax.proofs.SumLaws.{SumGoes, sum_heads, sum_exact, Stop, sum_ends, sum_head, sum_starts}
+use Rattle.acc_syntax.proofs.SumLaws.{SumGoes, sum_exact, Stop, sum_ends, sum_head, sum_starts}
 
 pub further_sum_shrinks : Shrinks (further_at sum_at)
 further_sum_shrinks = further_shrinks sum_exact

@@ -1,15 +1,15 @@
 -- The readers of paths and steps are exact.
-use Rattle.std.proofs.Common.{◌≡◌, ℕ, Bool, true, false, List, [], ◌∷◌, ◌++◌, refl, arith}
+use Rattle.std.proofs.Common.{◌≡◌, false, List, [], ◌∷◌, refl, arith}
 use Rattle.acc_lex.specs.declared.words.Sign.{Sign}
 use Rattle.acc_lex.specs.declared.words.Sign.TheVariants as sign
 use Rattle.acc_lex.specs.declared.words.Word.{Word}
 use Rattle.acc_lex.specs.Words.{CanSpell}
-use Rattle.acc_grammar.specs.Readers.{joined, ◌>>=◌, many}
+use Rattle.acc_grammar.specs.Readers.{joined, many}
 use Rattle.acc_grammar.proofs.Exact.{bind_assoc, Exact, All, Free, seq_exact, made_exact, trees_exact, same_exact}
 use Rattle.acc_grammar.proofs.Many.{Shrinks, item_shrinks, Runs, many_exact}
 use Rattle.acc_syntax.specs.declared.trees.PathTree.{PathTree}
 use Rattle.acc_syntax.specs.declared.trees.StepTree.{StepTree}
-use Rattle.acc_syntax.specs.Spelling.{just, target_statement, path, step, side}
+use Rattle.acc_syntax.specs.Spelling.{path, step, side}
 use Rattle.acc_syntax.specs.WordReaders.{comes}
 use Rattle.acc_syntax.specs.DesignReaders.{path_at, step_at, side_at}
 use Rattle.acc_syntax.proofs.Combinators.{made_free, all_in}

@@ -1,12 +1,12 @@
 -- The readers of linear values are exact.
-use Rattle.std.proofs.Common.{◌≡◌, ℕ, ◌+◌, ◌<◌, ◌≤◌, Bool, true, false, cond, ◌||◌, List, [], ◌∷◌, ◌++◌, length, Option, Some, None, Result, Ok, Err, refl, sym, ap, subst, ◌∙◌, append_assoc, arith, inl, inr, ◌⊎◌, length-append}
+use Rattle.std.proofs.Common.{◌≡◌, ℕ, ◌<◌, Bool, true, false, List, [], ◌∷◌, ◌++◌, length, Option, Some, None, refl, sym, ap, subst, ◌∙◌, append_assoc, arith, inl, inr}
 use Rattle.acc_lex.specs.declared.words.Sign.{Sign}
 use Rattle.acc_lex.specs.declared.words.Sign.TheVariants as sign
 use Rattle.acc_lex.specs.declared.words.Word.{Word}
 use Rattle.acc_lex.specs.declared.words.Word.TheVariants as word
 use Rattle.acc_lex.specs.Words.{CanSpell}
-use Rattle.acc_grammar.specs.Readers.{AllIn, joined, ◌>>=◌, many}
-use Rattle.acc_grammar.proofs.Exact.{bind_assoc, Exact, All, Free, Each, Next, seq_exact, made, Made, made_exact, trees_exact, same_exact, Or, ByHead, either_exact, maybe_exact}
+use Rattle.acc_grammar.specs.Readers.{joined, many}
+use Rattle.acc_grammar.proofs.Exact.{bind_assoc, Exact, All, Free, Each, seq_exact, Made, made_exact, trees_exact, same_exact, Or, ByHead, either_exact, maybe_exact}
 use Rattle.acc_grammar.proofs.Many.{Shrinks, item_shrinks, Runs, many_exact}
 use Rattle.acc_syntax.specs.declared.trees.Variable.{Variable}
 use Rattle.acc_syntax.specs.declared.trees.Variable.TheVariants.{Named, Oneself}
@@ -14,12 +14,12 @@ use Rattle.acc_syntax.specs.declared.trees.Term.{Term}
 use Rattle.acc_syntax.specs.declared.trees.Term.TheVariants.{Constant, Plain, Product}
 use Rattle.acc_syntax.specs.declared.trees.SignedTerm.{SignedTerm}
 use Rattle.acc_syntax.specs.declared.trees.Sum.{Sum}
-use Rattle.acc_syntax.specs.Spelling.{just, name, number, variable, term, signed_term, sum}
-use Rattle.acc_syntax.specs.WordReaders.{Outcome, comes, is_name, is_number, further_at}
+use Rattle.acc_syntax.specs.Spelling.{just, number, variable, term, signed_term, sum}
+use Rattle.acc_syntax.specs.WordReaders.{comes, is_number}
 use Rattle.acc_syntax.specs.ValueReaders.{variable_at, factor_at, product_of, number_term_at, term_at, minus_at, direction_at, signed_term_at, starts_signed_term, sum_at, starts_sum}
 use Rattle.acc_syntax.proofs.Combinators.{made_free, all_in}
-use Rattle.acc_syntax.proofs.WordLaws.{comes_head, number_head, name_head, fixed, sign_exact, name_exact, number_exact, after_exact}
-use Rattle.acc_syntax.proofs.KindLaws.{Begun, Kinds, or_kind, last_kind}
+use Rattle.acc_syntax.proofs.WordLaws.{comes_head, number_head, sign_exact, name_exact, number_exact, after_exact}
+use Rattle.acc_syntax.proofs.KindLaws.{Begun, or_kind, last_kind}
 
 -- ---- variables
 

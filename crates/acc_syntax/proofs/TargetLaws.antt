@@ -1,14 +1,13 @@
 -- The readers of targets are exact.
-use Rattle.std.proofs.Common.{◌≡◌, ℕ, Bool, true, false, ◌||◌, List, [], ◌∷◌, ◌++◌, refl, ap, inl, inr}
+use Rattle.std.proofs.Common.{◌≡◌, ℕ, false, List, ◌++◌, refl, ap, inl, inr}
 use Rattle.acc_lex.specs.declared.words.Sign.{Sign}
 use Rattle.acc_lex.specs.declared.words.Sign.TheVariants as sign
 use Rattle.acc_lex.specs.declared.words.Word.{Word}
 use Rattle.acc_lex.specs.Words.{CanSpell}
-use Rattle.acc_grammar.specs.Readers.{◌>>=◌}
 use Rattle.acc_grammar.proofs.Exact.{bind_assoc, Exact, All, Free, trees_exact, same_exact, Or}
 use Rattle.acc_syntax.specs.declared.trees.TargetTree.{TargetTree}
 use Rattle.acc_syntax.specs.declared.trees.TargetTree.TheVariants as target
-use Rattle.acc_syntax.specs.Spelling.{just, target_statement}
+use Rattle.acc_syntax.specs.Spelling.{target_statement}
 use Rattle.acc_syntax.specs.StatementReaders.{goto_at, commit_at, undone_at, refuse_at, target_at, starts_action}
 use Rattle.acc_syntax.proofs.Combinators.{made_free}
 use Rattle.acc_syntax.proofs.WordLaws.{sign_exact, name_exact, number_exact, after_exact, closed_exact}

@@ -1,21 +1,21 @@
 -- The readers of points, types and whole designs are exact.
-use Rattle.std.proofs.Common.{◌≡◌, ℕ, Bool, true, false, List, [], ◌∷◌, ◌++◌, Option, Some, None, refl, sym, ap, ◌∙◌, append_assoc, arith}
+use Rattle.std.proofs.Common.{◌≡◌, false, List, [], ◌∷◌, ◌++◌, Option, Some, None, refl, sym, ap, ◌∙◌, arith}
 use Rattle.std.proofs.lemmas.List.{append-nil}
 use Rattle.acc_lex.specs.declared.words.Sign.TheVariants as sign
 use Rattle.acc_lex.specs.declared.words.Word.{Word}
 use Rattle.acc_lex.specs.Words.{CanSpell}
-use Rattle.acc_grammar.specs.Readers.{joined, ◌>>=◌, many}
+use Rattle.acc_grammar.specs.Readers.{joined, many}
 use Rattle.acc_grammar.proofs.Exact.{bind_assoc, Exact, All, Free, seq_exact, made_exact, trees_exact, same_exact}
 use Rattle.acc_grammar.proofs.Many.{Shrinks, item_shrinks, Runs, many_exact}
 use Rattle.acc_syntax.specs.declared.trees.Names.{Names}
 use Rattle.acc_syntax.specs.declared.trees.PointTree.{PointTree}
 use Rattle.acc_syntax.specs.declared.trees.TypeTree.{TypeTree}
 use Rattle.acc_syntax.specs.declared.trees.DesignTree.{DesignTree}
-use Rattle.acc_syntax.specs.Spelling.{just, point, limit, names_statement, type_words, spelled_design, table}
+use Rattle.acc_syntax.specs.Spelling.{point, limit, names_statement, type_words, spelled_design, table}
 use Rattle.acc_syntax.specs.WordReaders.{comes, is_word}
 use Rattle.acc_syntax.specs.StatementReaders.{starts_table}
 use Rattle.acc_syntax.specs.DesignReaders.{point_at, limit_at, type_head_at, type_at, design_at}
-use Rattle.acc_syntax.proofs.Combinators.{made_free, all_in}
+use Rattle.acc_syntax.proofs.Combinators.{all_in}
 use Rattle.acc_syntax.proofs.WordLaws.{comes_head, name_exact, number_exact, end_exact, after_exact, closed_exact, names_run, names_end}
 use Rattle.acc_syntax.proofs.TableLaws.{tables_exact, tables_end, NamesStatementGoes, names_statement_exact}
 use Rattle.acc_syntax.proofs.StepLaws.{StepGoes, step_exact, step_ends, side_exact}

@@ -1,10 +1,10 @@
 -- What reading all words says of them.
-use Rattle.std.proofs.Common.{◌≡◌, ℕ, ◌+◌, ◌-◌, ◌<◌, ◌≤◌, Bool, true, false, List, [], ◌∷◌, ◌++◌, length, take, Result, Ok, Err, refl, sym, ap, subst, ◌∙◌, arith, append_assoc, length-append}
+use Rattle.std.proofs.Common.{◌≡◌, ◌+◌, ◌-◌, ◌≤◌, false, List, [], ◌∷◌, ◌++◌, length, take, Ok, Err, refl, sym, ap, subst, ◌∙◌, arith, append_assoc, length-append}
 use Rattle.std.proofs.lemmas.List.{append-nil, take_at}
 use Rattle.acc_lex.specs.declared.words.Word.{Word}
 use Rattle.acc_syntax.specs.declared.trees.DesignTree.{DesignTree}
 use Rattle.acc_syntax.specs.Spelling.{spelled_design}
-use Rattle.acc_syntax.specs.WordReaders.{Outcome, is_word}
+use Rattle.acc_syntax.specs.WordReaders.{is_word}
 use Rattle.acc_syntax.specs.DesignReaders.{design_at}
 use Rattle.acc_syntax.specs.Texts.{Begins, StopsAt}
 use Rattle.acc_syntax.proofs.TypeLaws.{design_exact}

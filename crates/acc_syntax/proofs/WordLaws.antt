@@ -1,5 +1,5 @@
 -- The readers of single words are exact, and ways to put readers together by fixed words.
-use Rattle.std.proofs.Common.{◌≡◌, ℕ, ◌+◌, ◌<◌, ◌≤◌, Bool, true, false, cond, List, [], ◌∷◌, ◌++◌, length, Option, Some, None, Result, Ok, Err, refl, sym, ap, subst, ◌∙◌, arith, inl, inr, ◌⊎◌, rules}
+use Rattle.std.proofs.Common.{◌≡◌, ℕ, true, false, List, [], ◌∷◌, ◌++◌, Ok, Err, refl, sym, ap, subst, ◌∙◌, arith, inl, inr, ◌⊎◌, rules}
 use denote.Enum.Bare.{same_true, true_same}
 use Rattle.acc_lex.specs.contracts.words.Sign.{the_type}
 use Rattle.acc_lex.specs.declared.words.Sign.{Sign}
@@ -9,7 +9,7 @@ use Rattle.acc_lex.specs.declared.words.Word.TheVariants as word
 use Rattle.acc_lex.specs.Keywords.{keyword_of}
 use Rattle.acc_lex.specs.Words.{CanSpell}
 use Rattle.acc_grammar.specs.Readers.{AllIn, joined, ◌>>=◌, many}
-use Rattle.acc_grammar.proofs.Exact.{ok_is, bind_assoc, Stops, Exact, All, Free, seq_exact, made_exact, trees_exact, same_exact, Or, ByHead, either_exact}
+use Rattle.acc_grammar.proofs.Exact.{ok_is, bind_assoc, Stops, Exact, All, Free, seq_exact, made_exact, trees_exact, same_exact, ByHead}
 use Rattle.acc_grammar.proofs.Many.{Shrinks, item_shrinks, Runs, many_exact}
 use Rattle.acc_syntax.specs.Spelling.{just, name, number, further}
 use Rattle.acc_syntax.specs.WordReaders.{Outcome, same_sign, comes, is_name, is_number, is_word, sign_at, name_at, number_at, end_at, further_at}

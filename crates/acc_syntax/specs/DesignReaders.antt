@@ -1,5 +1,5 @@
 -- Reading paths, steps, points, types and the whole design.
-use Rattle.std.specs.Prelude.{ℕ, List, Ok, Err}
+use Rattle.std.specs.Prelude.{ℕ, List, Ok}
 use Rattle.acc_grammar.specs.Readers.{◌>>=◌, many}
 use Rattle.acc_lex.specs.declared.words.Sign.{Sign}
 use Rattle.acc_lex.specs.declared.words.Sign.TheVariants as sign

@@ -1,5 +1,5 @@
 -- Reading statements, each up to its end.
-use Rattle.std.specs.Prelude.{ℕ, Bool, true, false, ◌||◌, List, [], ◌∷◌, Option, Some, None, Ok, Err, if◌then◌else◌}
+use Rattle.std.specs.Prelude.{Bool, true, false, ◌||◌, List, Option, Some, None, Ok, if◌then◌else◌}
 use Rattle.acc_grammar.specs.Readers.{◌>>=◌, many}
 use Rattle.acc_lex.specs.declared.words.Sign.{Sign}
 use Rattle.acc_lex.specs.declared.words.Sign.TheVariants as sign
