@@ -4,5 +4,7 @@
 pub mod designs;
 mod parsers;
 mod statements;
+#[cfg(test)]
+mod tests;
 pub mod trees;
 mod values;
