@@ -1,3 +1,5 @@
 pub mod Exact
 pub mod Many
 pub mod LoopFaults
+pub mod RunReaders
+pub mod Rows
