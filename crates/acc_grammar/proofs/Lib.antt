@@ -3,3 +3,4 @@ pub mod Many
 pub mod LoopFaults
 pub mod RunReaders
 pub mod Rows
+pub mod Leads

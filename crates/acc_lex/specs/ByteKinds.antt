@@ -22,9 +22,9 @@ is_letter b = is_ascii_alphabetic b
 abbrev pub is_digit : ℕ → Bool
 is_digit b = is_ascii_digit b
 
--- what a number of several digits begins with: no leading zero
+-- what a number other than 0 begins with: 1 to 9
 abbrev pub is_leading : ℕ → Bool
-is_leading b = is_ascii_digit b && not (b == 48)
+is_leading b = nat_le 49 b && nat_le b 57
 
 -- what stands in a word behind its first letter: a letter, a digit or _
 abbrev pub is_inner : ℕ → Bool

@@ -1,0 +1,3 @@
+pub mod ByteFacts
+pub mod Tokens
+pub mod Statements
