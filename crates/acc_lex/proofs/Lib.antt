@@ -1,3 +1,4 @@
 pub mod ByteFacts
 pub mod Tokens
 pub mod Statements
+pub mod Lines

@@ -53,15 +53,12 @@ item_exact =
 
 -- ---- statements
 
--- with what a token begins stands inside of a statement, and is no space
+-- with what a token begins stands inside of a statement
 starts_inside : (b : ℕ) → starts_token b ≡ true → is_inside b ≡ true
 starts_inside b h = rw (byte_apart starts_token 10 refl b h, byte_apart starts_token 59 refl b h) refl
 
-starts_no_space : (b : ℕ) → starts_token b ≡ true → is_space b ≡ false
-starts_no_space b h = byte_apart starts_token 32 refl b h
-
 -- behind a statement comes a line feed, a ; or nothing
-outside : (rest : List ℕ) → next_is is_inside rest ≡ false → (test : ℕ → Bool) → test 10 ≡ false → test 59 ≡ false → next_is test rest ≡ false
+pub outside : (rest : List ℕ) → next_is is_inside rest ≡ false → (test : ℕ → Bool) → test 10 ≡ false → test 59 ≡ false → next_is test rest ≡ false
 outside [] h test a b = refl
 outside (c ∷ rest) h test a b = elim (flag (c == 10)) [
   | inl k ↦ ap test (is_the 10 c k) ∙ a
@@ -84,10 +81,10 @@ item_out i rest h s = (behind i.spaces, outside rest s is_space refl refl)
     behind zero = parted i.token rest (outside rest s is_inner refl refl) (outside rest s (is_byte 62) refl refl)
     behind (suc n) = parted i.token (32 ∷ (blanks n ++ rest)) refl refl
 
--- behind a token's spaces comes no space
+-- a token begins with no space
 no_space : (is : List Item) → IsRow item_bytes IsItem ItemParted is → next_is is_space (joined item_bytes is) ≡ false
 no_space [] h = refl
-no_space (i ∷ is) h = let l = token_leads i.token h.0 in ap (λ (z : List ℕ). next_is is_space ((z ++ blanks i.spaces) ++ joined item_bytes is)) l.2 ∙ starts_no_space l.0 l.3
+no_space (i ∷ is) h = let l = token_leads i.token h.0 in ap (λ (z : List ℕ). next_is is_space ((z ++ blanks i.spaces) ++ joined item_bytes is)) l.2 ∙ byte_apart starts_token 32 refl l.0 l.3
 
 parted_of : (is : List Item) → IsRow item_bytes IsItem ItemGoes is → IsRow item_bytes IsItem ItemParted is
 parted_of [] h = tt
@@ -111,10 +108,10 @@ pub items_exact : Exact Byte (joined item_bytes) AreItems ItemsGoes items_at
 unfolding items_at
 items_exact = trees_exact (row_exact item_exact (next_is is_inside) (next_head is_inside) refl (λ i rest p g. item_leads i rest p) item_long item_out) parted_of goes_of
 
--- behind spaces and tokens comes no space
-pub no_space_behind : (is : List Item) (rest : List ℕ) → AreItems is → next_is is_inside rest ≡ false → next_is is_space (joined item_bytes is ++ rest) ≡ false
-no_space_behind [] rest h s = outside rest s is_space refl refl
-no_space_behind (i ∷ is) rest h s = let l = token_leads i.token h.0 in ap (λ (z : List ℕ). next_is is_space (((z ++ blanks i.spaces) ++ joined item_bytes is) ++ rest)) l.2 ∙ starts_no_space l.0 l.3
+-- a byte that begins no token, and is no line feed and no ;, doesn't come behind spaces
+pub none_behind : (c : ℕ) → starts_token c ≡ false → is_byte c 10 ≡ false → is_byte c 59 ≡ false → (is : List Item) (rest : List ℕ) → AreItems is → next_is is_inside rest ≡ false → next_is (is_byte c) (joined item_bytes is ++ rest) ≡ false
+none_behind c n a b [] rest h s = outside rest s (is_byte c) a b
+none_behind c n a b (i ∷ is) rest h s = let l = token_leads i.token h.0 in ap (λ (z : List ℕ). next_is (is_byte c) (((z ++ blanks i.spaces) ++ joined item_bytes is) ++ rest)) l.2 ∙ byte_apart starts_token c n l.0 l.3
 
 abbrev pub StatementGoes : Statement → List ℕ → Type 0
 StatementGoes s rest = next_is is_inside rest ≡ false
@@ -122,7 +119,7 @@ StatementGoes s rest = next_is is_inside rest ≡ false
 pub statement_exact : Exact Byte statement_bytes IsStatement StatementGoes statement_at
 unfolding statement_at
 statement_exact =
-    trees_exact (same_exact (λ bs. simp bind_assoc) (made_exact (seq_exact spaces_exact items_exact) statement statement_bytes StatementGoes (λ a p. refl) (λ a rest g. g.1) (λ a rest p g. (no_space_behind a.1 rest p.1 g, g)) (λ s w more after g. g))) (λ s m. subst IsStatement m.2 m.1.1) (λ s h. ((s.spaces, s.items), (tt, h), refl))
+    trees_exact (same_exact (λ bs. simp bind_assoc) (made_exact (seq_exact spaces_exact items_exact) statement statement_bytes StatementGoes (λ a p. refl) (λ a rest g. g.1) (λ a rest p g. (none_behind 32 refl refl refl a.1 rest p.1 g, g)) (λ s w more after g. g))) (λ s m. subst IsStatement m.2 m.1.1) (λ s h. ((s.spaces, s.items), (tt, h), refl))
   where
     statement : ℕ × List Item → Statement
     statement p = record { spaces = p.0; items = p.1 }
