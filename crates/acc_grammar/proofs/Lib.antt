@@ -4,3 +4,4 @@ pub mod LoopFaults
 pub mod RunReaders
 pub mod Rows
 pub mod Leads
+pub mod Adding
