@@ -1,6 +1,7 @@
 -- The readers of signs that pass a test are exact.
 use Rattle.std.proofs.Common.{◌≡◌, ℕ, ◌+◌, ◌<◌, ◌≤◌, Bool, true, false, List, [], ◌∷◌, ◌++◌, length, take, drop, Result, Ok, Err, refl, sym, ap, subst, ◌∙◌, arith, inl, inr, ◌⊎◌, length-append}
 use Rattle.std.proofs.lemmas.List.{take_at, drop_at}
+use Rattle.std.specs.List.{prefix_len}
 use Rattle.acc_grammar.specs.Readers.{AllIn, OutcomeOf}
 use Rattle.acc_grammar.specs.Runs.{EachPasses, IsRun, next_is, run, behind_run, one_at, run_at, front_at, absent_at}
 use Rattle.acc_grammar.proofs.Exact.{ok_is, Stops, Exact, All, Free, ByHead, chosen}
@@ -40,6 +41,34 @@ take_run test ss = ap (take (length (run test ss))) (run_splits test ss) ∙ tak
 
 pub drop_run : {S : Type 0} (test : S → Bool) (ss : List S) → drop (length (run test ss)) ss ≡ behind_run test ss
 drop_run test ss = ap (drop (length (run test ss))) (run_splits test ss) ∙ drop_at (run test ss) (behind_run test ss) (length (run test ss)) refl
+
+pub prefix_is_run : {S : Type 0} (test : S → Bool) (ss : List S) → prefix_len test ss ≡ length (run test ss)
+prefix_is_run test [] = refl
+prefix_is_run test (s ∷ ss) = elim (flag (test s)) [ inl h ↦ rw h (omega (arith, prefix_is_run test ss)) | inr h ↦ rw h refl ]
+
+module _ {S : Type 0} (test : S → Bool) (ss w rest : List S) (n : ℕ) (len : n ≡ prefix_len test ss) (front : w ≡ take n ss) (back : rest ≡ drop n ss) where
+  -- what was cut off is the run, and what is left stands behind it
+  pub cut_run : w ≡ run test ss
+  cut_run = front ∙ ap (λ (k : ℕ). take k ss) (len ∙ prefix_is_run test ss) ∙ take_run test ss
+
+  pub cut_rest : rest ≡ behind_run test ss
+  cut_rest = back ∙ ap (λ (k : ℕ). drop k ss) (len ∙ prefix_is_run test ss) ∙ drop_run test ss
+
+  pub cut_len : length w ≡ n
+  cut_len = ap length cut_run ∙ sym (len ∙ prefix_is_run test ss)
+
+  -- each sign that was cut off passes
+  pub cut_passes : EachPasses test w
+  cut_passes = subst (EachPasses test) (sym cut_run) (run_passes test ss)
+
+  -- so the readers of runs give what was cut off
+  pub front_read : front_at test ss ≡ Ok (w, rest)
+  unfolding front_at
+  front_read = λ i. Ok (sym cut_run i, sym cut_rest i)
+
+  pub run_read : (first : S → Bool) → next_is first ss ≡ true → run_at first test ss ≡ Ok (w, rest)
+  unfolding run_at
+  run_read first h = rw h (λ i. Ok (sym cut_run i, sym cut_rest i))
 
 -- ---- their readers
 

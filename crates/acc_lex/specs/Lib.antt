@@ -5,3 +5,4 @@ pub mod Words
 pub mod Spellings
 pub mod LineWords
 pub mod Readings
+pub mod Texts

@@ -31,8 +31,11 @@ abbrev pub ended : List Word → List Word
 ended [] = []
 ended (w ∷ ws) = (w ∷ ws) ++ word.Sign sign.End ∷ []
 
+abbrev pub items_words : List Item → List Word
+items_words items = ended (map item_word items)
+
 abbrev pub statement_words : Statement → List Word
-statement_words s = ended (map item_word s.items)
+statement_words s = items_words s.items
 
 abbrev pub line_words : Line → List Word
 line_words (Comment n bytes) = []
