@@ -2,3 +2,4 @@ pub mod ByteFacts
 pub mod Tokens
 pub mod Statements
 pub mod Lines
+pub mod WholeTexts

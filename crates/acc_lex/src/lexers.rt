@@ -1,11 +1,15 @@
 //! A design's text, read from left to right.
-ghost use Rattle.std.specs.Prelude.{◌≡◌, ℕ, ◌+◌, ◌<◌, ◌≤◌, ◌==◌, true, List, [], ◌∷◌, length, take, drop, map, count_by, Option, Some, None, MatchOption, MatchResult, IfOk};
+ghost use Rattle.std.specs.Prelude.{◌≡◌, ℕ, ◌+◌, ◌-◌, ◌<◌, ◌≤◌, ◌==◌, true, List, [], length, take, drop, map, count_by, MatchResult, IfOk};
 ghost use Rattle.acc_grammar.specs.Readers.{AllIn, joined, many};
 ghost use Rattle.acc_grammar.specs.Runs.{EachPasses, next_is, one_at, run_at, front_at, absent_at};
 ghost use Rattle.acc_grammar.specs.Answers.{Gives, GivesAs, Adds};
 ghost use Rattle.acc_lex.specs.ByteKinds.{is_byte, is_plain, is_letter, is_digit, is_leading, is_inner};
 ghost use Rattle.acc_lex.specs.LineWords.{number_of, token_word, item_word, items_words, statement_words, line_words, lines_words};
 ghost use Rattle.acc_lex.specs.Readings.{spaces_at, letters_at, zero_at, whole_at, pair_at, arrow_at, equal_or, equal_at, mark_of, mark_at, token_at, one_word, is_inside, item_at, items_at, statement_at, next_statement_at, next_statements_at, body_words, remark_at, rest_at, body_at, line_at, next_line_at, next_lines_at, is_any, lines_at};
+
+ghost use Rattle.acc_lex.specs.declared.words.Word.{Word};
+ghost use Rattle.acc_lex.specs.Words.{CanSpell};
+ghost use Rattle.acc_lex.specs.Texts.{IsLexed, line_number, Answers};
 
 use crate::scans::{digits_len, inner_len, is_inner, is_leading, plain_len, spaces_len};
 use crate::signs::keyword;
@@ -411,5 +415,41 @@ impl<'a> Lexer<'a> {
         self.line()?;
         self.next_lines()?;
         self.end()
+    }
+}
+
+/// The number of the line on which the byte behind `front` stands, counted from 1.
+fn line_behind(front: &[u8]) -> u64
+    ensures { result ≡ 1 + count_by (λ b. b == 10) front.now }
+{
+    1 + front.iter().filter(|b| **b == b'\n').count() as u64
+}
+
+/// The line on which the first byte of `rest` stands, the end of `text`.
+fn bad_line(text: &[u8], rest: &[u8]) -> u64
+    requires { length rest.now ≤ length text.now }
+    ensures { result ≡ line_number text.now (length text.now - length rest.now) }
+{
+    line_behind(&text[..text.len() - rest.len()])
+}
+
+/// The words of a design's text. Their number is at most that of the bytes, and only the bytes of names are copied.
+pub fn lex(alloc: Global, text: &[u8]) -> Result<Seq<Word>, LexError>
+    // The words are the text's, or it has none and the line is that of the first byte with which no text goes on.
+    ensures exact { Answers text.now result }
+    // Whatever words a text has are answered, unless memory runs out.
+    ensures only { (words : List Word) → IsLexed text.now words
+        → MatchResult result (λ found. found ≡ words) (λ e. e ≡ LexError.Memory) }
+    ensures spelled { IfOk result (AllIn CanSpell) }
+{
+    let mut lexer = Lexer {
+        alloc,
+        rest: text,
+        words: Seq::new(alloc),
+    };
+    match lexer.lines() {
+        Ok(()) => Ok(lexer.words),
+        Err(Fault::Memory) => Err(LexError::Memory),
+        Err(Fault::Syntax) => Err(LexError::Bad(bad_line(text, lexer.rest))),
     }
 }
