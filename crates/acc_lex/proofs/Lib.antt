@@ -1,3 +1,4 @@
+pub mod KeywordLemmas
 pub mod ByteFacts
 pub mod Tokens
 pub mod Statements

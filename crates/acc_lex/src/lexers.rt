@@ -433,7 +433,7 @@ fn bad_line(text: &[u8], rest: &[u8]) -> u64
     line_behind(&text[..text.len() - rest.len()])
 }
 
-/// The words of a design's text. Their number is at most that of the bytes, and only the bytes of names are copied.
+/// The words of a design's text. The cost is linear in its bytes, and only those of names are copied.
 pub fn lex(alloc: Global, text: &[u8]) -> Result<Seq<Word>, LexError>
     // The words are the text's, or it has none and the line is that of the first byte with which no text goes on.
     ensures exact { Answers text.now result }
