@@ -2,6 +2,7 @@
 use Rattle.std.proofs.Common.{◌≡◌, ◌+◌, ◌-◌, ◌≤◌, false, List, [], ◌∷◌, ◌++◌, length, take, Ok, Err, refl, sym, ap, subst, ◌∙◌, arith, append_assoc, length-append}
 use Rattle.std.proofs.lemmas.List.{append-nil, take_at}
 use Rattle.acc_lex.specs.declared.words.Word.{Word}
+use Rattle.acc_grammar.proofs.Exact.{ok_is}
 use Rattle.acc_syntax.specs.declared.trees.DesignTree.{DesignTree}
 use Rattle.acc_syntax.specs.Spelling.{spelled_design}
 use Rattle.acc_syntax.specs.WordReaders.{is_word}
@@ -20,6 +21,13 @@ text_is ws t rest h =
 
 pub is_read : (ws : List Word) (t : DesignTree) → ws ≡ spelled_design t → design_at ws ≡ Ok (t, [])
 is_read ws t e = ap design_at (e ∙ sym (append-nil (spelled_design t))) ∙ design_exact.again t [] tt refl
+
+-- no two trees are spelled alike
+pub one_tree : (t u : DesignTree) → spelled_design t ≡ spelled_design u → t ≡ u
+one_tree t u e =
+    let one : DesignTree × List Word = (t, []) in
+    let other : DesignTree × List Word = (u, []) in
+    ap (λ (z : DesignTree × List Word). z.0) (ok_is one other (sym (is_read (spelled_design t) t refl) ∙ is_read (spelled_design t) u e))
 
 pub fewer : (ws rest : List Word) → design_at ws ≡ Err rest → length rest ≤ length ws
 fewer ws rest h = let s = design_exact.stops ws rest h in omega (arith, ap length s.split, length-append s.front rest)

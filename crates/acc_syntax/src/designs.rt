@@ -177,9 +177,12 @@ impl Parser<'_> {
 }
 
 /// The tree of a design's words, in time linear in their number and in the bytes of the names.
+#[tactic(auto, using(crate::proofs::WholeLaws::one_tree))]
 pub fn syntax(alloc: Global, words: &[Word]) -> Result<DesignTree, SyntaxError>
     // The tree is spelled by the words; a place is that of the first word with which no design goes on.
     ensures answers { Answers words.now result }
+    // No other tree is spelled by the same words.
+    ensures unique { (t u : DesignTree) → spelled_design t ≡ spelled_design u → t ≡ u }
     // What is spelled by some tree is answered with a tree, unless memory runs out.
     ensures only { (t : DesignTree) → words.now ≡ spelled_design t → IsOkUnless result SyntaxError.Memory }
 {
