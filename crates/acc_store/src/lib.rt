@@ -10,3 +10,6 @@ pub mod writes;
 pub use inline::Inline;
 pub use stores::{MapStore, Store, StoreError};
 pub use writes::Write;
+
+#[cfg(test)]
+mod tests;
