@@ -19,7 +19,7 @@ use acc_grammar::faults::Fault;
 use std::alloc::Global;
 
 /// Why bytes are no design's text.
-#[derive(Debug, Drop)]
+#[derive(Clone, Copy, Debug, PartialEq, Eq)]
 pub enum LexError {
     /// On this line, counted from 1, stands the first byte with which no text goes on.
     Bad(u64),

@@ -4,4 +4,6 @@
 pub mod lexers;
 pub mod scans;
 pub mod signs;
+#[cfg(test)]
+mod tests;
 pub mod words;
