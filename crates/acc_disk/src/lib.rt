@@ -1,0 +1,6 @@
+//! A file as a journal needs it: what its calls do, and what a crash at any moment may leave.
+#![tactic(auto)]
+
+mod disk;
+
+pub use disk::Disk;
