@@ -1,3 +1,6 @@
 pub mod Faults
 pub mod Crashes
 pub mod Moments
+pub mod Standings
+pub mod Changes
+pub mod Histories

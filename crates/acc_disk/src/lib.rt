@@ -2,5 +2,6 @@
 #![tactic(auto)]
 
 mod disk;
+mod history;
 
 pub use disk::Disk;
