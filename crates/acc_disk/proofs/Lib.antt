@@ -1,3 +1,4 @@
 pub mod Steps
 pub mod Orders
 pub mod Replays
+pub mod Numbers

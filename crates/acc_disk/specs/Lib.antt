@@ -4,3 +4,4 @@ pub mod Moments
 pub mod Standings
 pub mod Changes
 pub mod Histories
+pub mod MemDisks

@@ -1,5 +1,5 @@
 // What was done to a file in memory, from which it tells what stood at each moment.
-ghost use Rattle.std.specs.Prelude.{◌≡◌, ◌≤◌, ◌+◌, max, length, vec_len, vec_capacity, IfOk, OnOk, OnErr};
+ghost use Rattle.std.specs.Prelude.{◌≡◌, ◌≤◌, ◌+◌, [], length, vec_len, vec_capacity, IfOk, OnOk, OnErr};
 ghost use Rattle.acc_disk.specs.Crashes.{overwritten};
 ghost use Rattle.acc_disk.specs.Standings.{settled, IsInOrder};
 ghost use Rattle.acc_disk.specs.Changes.{after_all};
@@ -49,7 +49,8 @@ impl History {
     ghost use Rattle.acc_disk.specs.Histories.{present, IsUnchanged, Advances};
 
     pub(crate) fn new(alloc: Global, bytes: &[u8]) -> Result<History, AllocError>
-        ensures { IfOk result (λ history. present history ≡ settled bytes.now) }
+        ensures stands { IfOk result (λ history. present history ≡ settled bytes.now) }
+        ensures empty { IfOk result (λ history. history.past.items ≡ []) }
     {
         Ok(History {
             start: bytes.to_vec(alloc)?,

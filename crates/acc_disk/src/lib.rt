@@ -3,5 +3,10 @@
 
 mod disk;
 mod history;
+mod mem_disk;
 
 pub use disk::Disk;
+pub use mem_disk::MemDisk;
+
+/// Want of memory.
+pub type DiskMemory = acc_io::IoMemory;
