@@ -4,4 +4,5 @@ pub mod Moments
 pub mod Standings
 pub mod Changes
 pub mod Histories
+pub mod Laws
 pub mod MemDisks

@@ -1,8 +1,8 @@
 -- What a disk in memory shows, and what its calls do to it.
-use Rattle.std.specs.Prelude.{◌≡◌, ◌⊎◌, ◌<◌, ◌≤◌, ℕ, List, Contains, Option, IsSomeAnd, Result, Ok, Err}
+use Rattle.std.specs.Prelude.{◌≡◌, ◌⊎◌, ◌+◌, ◌<◌, ◌≤◌, ℕ, List, Contains, Option, Some, IsSomeAnd, Result, Ok, Err}
 use Rattle.acc_io.specs.Causes.{one_more}
-use Rattle.acc_disk.specs.Standings.{Standing, settled, after_sync}
-use Rattle.acc_disk.specs.Histories.{present, standing_by}
+use Rattle.acc_disk.specs.Standings.{Standing, settled, after_sync, IsImage}
+use Rattle.acc_disk.specs.Histories.{present, standing_by, change_count, LeftSince}
 use Rattle.acc_disk.specs.declared.mem_disk.MemDisk.{MemDisk}
 
 -- what stands now
@@ -16,6 +16,22 @@ standing_after disk calls = standing_by disk.history calls
 -- the bytes that stand there
 abbrev pub stored : MemDisk → List ℕ
 stored disk = disk.history.bytes.items
+
+-- the number of changes, by which moments are told apart
+abbrev pub clock_of : MemDisk → ℕ
+clock_of disk = change_count disk.history
+
+-- it tells what stands there
+abbrev pub told_by : MemDisk → Option (List ℕ)
+told_by disk = Some (stored disk)
+
+-- what a crash now may leave
+abbrev pub may_be_left : MemDisk → List ℕ → Type 0
+may_be_left disk = IsImage (standing disk)
+
+-- what a crash since that time may have left
+abbrev pub may_have_been_left : MemDisk → ℕ → List ℕ → Type 0
+may_have_been_left disk = LeftSince disk.history
 
 -- how many calls were made
 abbrev pub call_count : MemDisk → ℕ
@@ -32,6 +48,10 @@ listed_faults disk = disk.failed
 -- how many of its growths were refused
 abbrev pub refused : MemDisk → ℕ
 refused disk = disk.refused
+
+-- how many calls failed, by the lists or for want of room
+abbrev pub fault_count : MemDisk → ℕ
+fault_count disk = listed_faults disk + refused disk
 
 -- the number of the next call, from 1 on
 abbrev pub next_call : MemDisk → ℕ
