@@ -6,11 +6,11 @@ use Rattle.acc_disk.specs.Standings.{Standing, settled, after_write, after_cut, 
 use Rattle.acc_disk.proofs.Steps.{length-overwritten, overwritten_below, overwritten_above}
 
 -- a place that no write covered lies before the last of them or behind it
-apart : (at end i : ℕ) (written : List (ℕ × ℕ)) → is_written ((at, end) ∷ written) i ≡ false → (i < at) ⊎ (end ≤ i)
-apart at end i written un = grind (arith, nat_tests)
+apart : (at count i : ℕ) (written : List (ℕ × ℕ)) → is_written ((at, count) ∷ written) i ≡ false → (i < at) ⊎ (at + count ≤ i)
+apart at count i written un = grind (arith, nat_tests)
 
-unwritten_before : (at end i : ℕ) (written : List (ℕ × ℕ)) → is_written ((at, end) ∷ written) i ≡ false → is_written written i ≡ false
-unwritten_before at end i written un = grind (arith, nat_tests)
+unwritten_before : (at count i : ℕ) (written : List (ℕ × ℕ)) → is_written ((at, count) ∷ written) i ≡ false → is_written written i ≡ false
+unwritten_before at count i written un = grind (arith, nat_tests)
 
 pub settled_in_order : (bytes : List ℕ) → IsInOrder (settled bytes)
 settled_in_order bytes = record {
@@ -29,11 +29,11 @@ write_in_order standing at bytes order fits =
         no_shorter = omega (arith, long, short);
         no_longer = omega (arith, long);
         untouched = λ i lt un.
-        let was = order.present.untouched i lt (unwritten_before at (at + length bytes) i standing.written un) in
+        let was = order.present.untouched i lt (unwritten_before at (length bytes) i standing.written un) in
         ⊎_elim
         (λ under. overwritten_below at bytes standing.bytes i fits under ∙ was)
         (λ over. overwritten_above at bytes standing.bytes i fits over ∙ was)
-        (apart at (at + length bytes) i standing.written un);
+        (apart at (length bytes) i standing.written un);
       };
     }
 

@@ -1,7 +1,7 @@
 -- Each step keeps a standing in order, and what a crash may leave after it comes by that step from what it might
 -- have left before.
 use Rattle.std.proofs.Common.{◌≡◌, ℕ, ◌+◌, ◌-◌, ◌<◌, ◌≤◌, ltb, leb, ◌&&◌, min, max, Bool, true, false, cond, List, [], ◌∷◌, ◌++◌, map, length, get_or, take, drop, refl, sym, ◌∙◌, ap, subst, arith, rules}
-use Rattle.std.proofs.lemmas.List.{places}
+use Rattle.std.proofs.lemmas.List.{places, same_lists}
 use Rattle.std.proofs.lemmas.Grind.{common_steps}
 use Rattle.std.proofs.lemmas.Bool.Decides.{nat_tests}
 use Rattle.std.specs.List.{range_with_len}
@@ -19,12 +19,16 @@ overwritten_below at bytes file i le lt = grind (arith, places)
 pub overwritten_above : (at : ℕ) (bytes file : List ℕ) (i : ℕ) → at ≤ length file → at + length bytes ≤ i → get_or (overwritten at bytes file) i 0 ≡ get_or file i 0
 overwritten_above at bytes file i le lt = grind (arith, places)
 
--- a place before the range, or behind it, isn't covered by it
-still_unwritten_below : (at end i : ℕ) (written : List (ℕ × ℕ)) → i < at → is_written written i ≡ false → is_written ((at, end) ∷ written) i ≡ false
-still_unwritten_below at end i written lt was = grind (arith, nat_tests)
+-- a write past the end begins at the end
+pub overwritten-min : (at : ℕ) (bytes file : List ℕ) → overwritten (min at (length file)) bytes file ≡ overwritten at bytes file
+overwritten-min at bytes file = same_lists _ _ (search (rules, places)) (λ k d h. grind (arith, places))
 
-still_unwritten_above : (at end i : ℕ) (written : List (ℕ × ℕ)) → end ≤ i → is_written written i ≡ false → is_written ((at, end) ∷ written) i ≡ false
-still_unwritten_above at end i written le was = grind (arith, nat_tests)
+-- a place before the range, or behind it, isn't covered by it
+still_unwritten_below : (at count i : ℕ) (written : List (ℕ × ℕ)) → i < at → is_written written i ≡ false → is_written ((at, count) ∷ written) i ≡ false
+still_unwritten_below at count i written lt was = grind (arith, nat_tests)
+
+still_unwritten_above : (at count i : ℕ) (written : List (ℕ × ℕ)) → at + count ≤ i → is_written written i ≡ false → is_written ((at, count) ∷ written) i ≡ false
+still_unwritten_above at count i written le was = grind (arith, nat_tests)
 
 -- the synced byte where it must stand, and else that of the image
 mended_byte : Standing → List ℕ → ℕ → ℕ
@@ -68,10 +72,10 @@ write_follows standing at bytes order fits image is =
         no_shorter = omega (arith, counted);
         no_longer = omega (arith, counted, long, is.no_longer, order.present.no_longer);
         below = λ i lt under.
-        let free = mended_free standing image i (λ low un. is.untouched i low (still_unwritten_below at (at + length bytes) i standing.written under un)) in
+        let free = mended_free standing image i (λ low un. is.untouched i low (still_unwritten_below at (length bytes) i standing.written under un)) in
         sym (get_or-mended standing image count i (omega (arith, counted)) ∙ free);
         above = λ i lt over.
-        let free = mended_free standing image i (λ low un. is.untouched i low (still_unwritten_above at (at + length bytes) i standing.written over un)) in
+        let free = mended_free standing image i (λ low un. is.untouched i low (still_unwritten_above at (length bytes) i standing.written over un)) in
         sym (get_or-mended standing image count i (omega (arith, counted)) ∙ free);
       },
     )

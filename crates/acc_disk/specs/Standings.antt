@@ -4,7 +4,7 @@ use Rattle.std.specs.List.{list_any}
 use Rattle.acc_disk.specs.Crashes.{overwritten}
 
 -- The bytes that a read gives; those of the last sync that answered Ok, and the lowest and the highest length that
--- the file had since; and the ranges written since, each from its first place up to the one behind its last.
+-- the file had since; and the ranges written since, each by its first place and its length.
 pub record Standing : Type 0 where
   pub bytes : List ℕ
   pub synced : List ℕ
@@ -25,7 +25,7 @@ after_write at bytes standing =
       synced = standing.synced;
       lowest = standing.lowest;
       highest = max standing.highest (length file);
-      written = (at, at + length bytes) ∷ standing.written;
+      written = (at, length bytes) ∷ standing.written;
     }
 
 -- after a cut to that length
@@ -46,7 +46,7 @@ after_sync standing = settled standing.bytes
 
 -- whether one of these writes covered that place
 abbrev pub is_written : List (ℕ × ℕ) → ℕ → Bool
-is_written written place = list_any (λ range. nat_le range.0 place && nat_lt place range.1) written
+is_written written place = list_any (λ range. nat_le range.0 place && nat_lt place (range.0 + range.1)) written
 
 -- A crash may leave these bytes: as many as the lowest length at least, and as the highest at most; and below the
 -- lowest length each byte that no write since the sync covered is the synced one.
@@ -54,6 +54,10 @@ pub record IsImage (standing : Standing) (image : List ℕ) : Type 0 where
   pub no_shorter : standing.lowest ≤ length image
   pub no_longer : length image ≤ standing.highest
   pub untouched : (i : ℕ) → i < standing.lowest → is_written standing.written i ≡ false → slice_index image i ≡ slice_index standing.synced i
+
+-- nothing was done since the sync
+abbrev pub IsSettled : Standing → Type 0
+IsSettled standing = standing ≡ settled standing.bytes
 
 -- What every run of calls keeps: the lengths stand in order, and the bytes that a read gives are an image.
 pub record IsInOrder (standing : Standing) : Type 0 where
