@@ -4,6 +4,7 @@ use Rattle.std.proofs.Common.{◌≡◌, ℕ, ◌+◌, ◌-◌, ◌<◌, ◌≤�
 use Rattle.std.proofs.lemmas.List.{places, same_lists}
 use Rattle.std.proofs.lemmas.Grind.{common_steps}
 use Rattle.std.proofs.lemmas.Bool.Decides.{nat_tests}
+use Rattle.std.proofs.lemmas.List.Folds.{list_any-append}
 use Rattle.std.specs.List.{range_with_len}
 use Rattle.std.proofs.lemmas.List.FromFn.{length-map-range_with_len, get_or-map-range_with_len}
 use Rattle.acc_disk.specs.Crashes.{overwritten, Torn, PartlyCut, Follows}
@@ -24,11 +25,11 @@ pub overwritten-min : (at : ℕ) (bytes file : List ℕ) → overwritten (min at
 overwritten-min at bytes file = same_lists _ _ (search (rules, places)) (λ k d h. grind (arith, places))
 
 -- a place before the range, or behind it, isn't covered by it
-still_unwritten_below : (at count i : ℕ) (written : List (ℕ × ℕ)) → i < at → is_written written i ≡ false → is_written ((at, count) ∷ written) i ≡ false
-still_unwritten_below at count i written lt was = grind (arith, nat_tests)
+still_unwritten_below : (at count i : ℕ) (written : List (ℕ × ℕ)) → i < at → is_written written i ≡ false → is_written (written ++ (at, count) ∷ []) i ≡ false
+still_unwritten_below at count i written lt was = grind (arith, nat_tests, list_any-append)
 
-still_unwritten_above : (at count i : ℕ) (written : List (ℕ × ℕ)) → at + count ≤ i → is_written written i ≡ false → is_written ((at, count) ∷ written) i ≡ false
-still_unwritten_above at count i written le was = grind (arith, nat_tests)
+still_unwritten_above : (at count i : ℕ) (written : List (ℕ × ℕ)) → at + count ≤ i → is_written written i ≡ false → is_written (written ++ (at, count) ∷ []) i ≡ false
+still_unwritten_above at count i written le was = grind (arith, nat_tests, list_any-append)
 
 -- the synced byte where it must stand, and else that of the image
 mended_byte : Standing → List ℕ → ℕ → ℕ

@@ -1,10 +1,10 @@
 -- What stands of a disk between two syncs, and what a crash may leave of it.
-use Rattle.std.specs.Prelude.{◌≡◌, ℕ, ◌+◌, ◌<◌, ◌≤◌, min, max, nat_le, nat_lt, ◌&&◌, Bool, false, List, [], ◌∷◌, length, take, slice_index}
+use Rattle.std.specs.Prelude.{◌≡◌, ℕ, ◌+◌, ◌<◌, ◌≤◌, min, max, nat_le, nat_lt, ◌&&◌, Bool, false, List, [], ◌∷◌, ◌++◌, length, take, slice_index}
 use Rattle.std.specs.List.{list_any}
 use Rattle.acc_disk.specs.Crashes.{overwritten}
 
 -- The bytes that a read gives; those of the last sync that answered Ok, and the lowest and the highest length that
--- the file had since; and the ranges written since, each by its first place and its length.
+-- the file had since; and the ranges written since, in their order, each by its first place and its length.
 pub record Standing : Type 0 where
   pub bytes : List ℕ
   pub synced : List ℕ
@@ -25,7 +25,7 @@ after_write at bytes standing =
       synced = standing.synced;
       lowest = standing.lowest;
       highest = max standing.highest (length file);
-      written = (at, length bytes) ∷ standing.written;
+      written = standing.written ++ (at, length bytes) ∷ [];
     }
 
 -- after a cut to that length

@@ -32,7 +32,7 @@ pub(crate) struct History {
 }
 
 // Writes the piece over what stands at that place, and past the end, where there is room for it.
-fn put(file: &mut Vec<u8>, at: usize, piece: &[u8])
+pub(crate) fn put(file: &mut Vec<u8>, at: usize, piece: &[u8])
     requires at { at ≤ vec_len file.old }
     requires room { at + length piece.now ≤ vec_capacity file.old }
     ensures { file.new.items ≡ overwritten at piece.now file.old.items }

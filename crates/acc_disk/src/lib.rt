@@ -2,8 +2,10 @@
 #![tactic(auto)]
 
 mod disk;
+mod draw;
 mod history;
 mod mem_disk;
+mod replay;
 
 pub use disk::Disk;
 pub use mem_disk::MemDisk;
