@@ -1,5 +1,7 @@
 -- One more change joins those of a file in memory.
-use Rattle.std.proofs.Common.{◌≡◌, Bool, true, false, cond, List, [], ◌∷◌, ◌++◌, ℕ, ap, ◌∙◌, refl, sym, subst}
+use Rattle.std.proofs.Common.{◌+◌, ◌<◌, ◌≤◌, nat_le, take, cond, arith, ◌≡◌, Bool, true, false, List, [], ◌∷◌, ◌++◌, ℕ, ap, ◌∙◌, refl, sym, subst}
+use Rattle.std.proofs.lemmas.Bool.Decides.{nat_tests}
+use Rattle.std.specs.List.{prefix_len}
 use Rattle.acc_disk.specs.Standings.{Standing, settled, IsInOrder}
 use Rattle.acc_disk.specs.Changes.{after_change, after_all}
 use Rattle.acc_disk.specs.declared.history.Recorded.{Recorded}
@@ -23,3 +25,13 @@ module _ (start bytes : List ℕ) (past later : List Recorded) (number : ℕ) wh
   pub in_order_by_sync : (is_noted : Bool) → later ≡ cond is_noted (past ++ (record { number = number; change = Synced }) ∷ []) past → IsInOrder (after_all past (settled start)) → IsInOrder (after_all later (settled start))
   in_order_by_sync true is order = subst IsInOrder (sym (stands_after start past later _ is)) (settled_in_order (after_all past (settled start)).bytes)
   in_order_by_sync false is order = subst (λ changes. IsInOrder (after_all changes (settled start))) (sym is) order
+
+-- after those of the changes that stand before the first call with a larger number
+abbrev pub after_by : ℕ → Standing → List Recorded → Standing
+after_by calls standing past = after_all (take (prefix_len (λ recorded. nat_le recorded.number calls) past) past) standing
+
+pub after_by-next : (calls : ℕ) (standing : Standing) (recorded : Recorded) (rest : List Recorded) → recorded.number ≤ calls → after_by calls standing (recorded ∷ rest) ≡ after_by calls (after_change recorded.change standing) rest
+after_by-next calls standing recorded rest le = grind (arith, nat_tests)
+
+pub after_by-later : (calls : ℕ) (standing : Standing) (recorded : Recorded) (rest : List Recorded) → calls < recorded.number → after_by calls standing (recorded ∷ rest) ≡ standing
+after_by-later calls standing recorded rest lt = grind (arith, nat_tests)

@@ -4,6 +4,7 @@ ghost use Rattle.acc_disk.specs.Crashes.{overwritten};
 ghost use Rattle.acc_disk.specs.Standings.{settled, IsInOrder};
 ghost use Rattle.acc_disk.specs.Changes.{after_all};
 
+use crate::replay::Replay;
 use std::alloc::{AllocError, Global};
 
 // A call that changed what stands there.
@@ -46,7 +47,7 @@ pub(crate) fn put(file: &mut Vec<u8>, at: usize, piece: &[u8])
 
 impl History {
     ghost use Rattle.acc_disk.specs.Standings.{after_write, after_cut, after_sync};
-    ghost use Rattle.acc_disk.specs.Histories.{present, IsUnchanged, Advances};
+    ghost use Rattle.acc_disk.specs.Histories.{present, standing_by, IsUnchanged, Advances};
 
     pub(crate) fn new(alloc: Global, bytes: &[u8]) -> Result<History, AllocError>
         ensures stands { IfOk result (λ history. present history ≡ settled bytes.now) }
@@ -106,5 +107,19 @@ impl History {
             change: Change::Synced,
         })?;
         Ok(())
+    }
+
+    // What stood when so many calls were done. It costs all that was written before.
+    pub(crate) fn replay(&self, alloc: Global, calls: u64) -> Result<Replay, AllocError>
+        ensures { IfOk result (λ replay. replay ≡ standing_by self.now calls) }
+    {
+        let mut replay = Replay::new(alloc, &self.start)?;
+        for recorded in &self.past {
+            if recorded.number > calls {
+                return Ok(replay);
+            }
+            replay.apply(alloc, &recorded.change)?;
+        }
+        Ok(replay)
     }
 }

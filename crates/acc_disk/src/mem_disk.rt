@@ -56,7 +56,8 @@ fn grown(outcome: Result<(), AllocError>, refused: &mut u64) -> Result<(), Faile
 impl MemDisk {
     ghost use Rattle.std.specs.Prelude.{◌≡◌, ◌↔◌, IfOk, OnOk, OnErr};
     ghost use Rattle.acc_io.specs.Causes.{one_more};
-    ghost use Rattle.acc_disk.specs.MemDisks.{IsFresh, FailsAt, FailsNext, Begins, stored, call_count, sync_count, refused};
+    ghost use Rattle.acc_disk.specs.Standings.{IsImage, IsSettled};
+    ghost use Rattle.acc_disk.specs.MemDisks.{IsFresh, FailsAt, FailsNext, Begins, stored, call_count, sync_count, refused, standing_after, may_have_been_left};
 
     /// A disk that holds these bytes as synced. The calls whose numbers, from 1 on, stand in `fails`, and all calls
     /// from the number `from` on, answer `Failed` and do nothing.
@@ -106,6 +107,19 @@ impl MemDisk {
         ensures { result.now ≡ stored self.now }
     {
         &self.history.bytes
+    }
+
+    /// Bytes that a crash may have left when that many calls were done. Where nothing was unsynced then, they are
+    /// those that stood there. The number `pick` chooses among them: small numbers choose what is cut short, lost or
+    /// torn in the plainest ways, and larger ones each length and each bytes, as far as 64 bits reach.
+    pub fn image(&self, after: u64, pick: u64) -> Result<Vec<u8>, DiskMemory>
+        requires { after ≤ call_count self.now }
+        ensures allowed { IfOk result (λ image. IsImage (standing_after self.now after) image.items) }
+        ensures settled { IfOk result (λ image. IsSettled (standing_after self.now after) → image.items ≡ (standing_after self.now after).bytes) }
+        ensures left { IfOk result (λ image. may_have_been_left self.now 0 image.items) }
+    {
+        let replay = self.history.replay(self.alloc, after)?;
+        Ok(replay.image(self.alloc, pick)?)
     }
 
     // Whether the call of that number is to fail.

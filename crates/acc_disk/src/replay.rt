@@ -60,9 +60,9 @@ impl Replay {
         match change {
             Change::Wrote { at, bytes } => {
                 self.written.push((*at, bytes.len()))?;
-                let inside = (*at).min(self.bytes.len());
+                let start = (*at).min(self.bytes.len());
                 self.bytes.reserve(bytes.len())?;
-                put(&mut self.bytes, inside, bytes);
+                put(&mut self.bytes, start, bytes);
                 self.highest = self.highest.max(self.bytes.len());
             }
             Change::Cut { to } => {
