@@ -4,3 +4,4 @@ pub mod Replays
 pub mod Numbers
 pub mod Times
 pub mod MadeCalls
+pub mod Untold

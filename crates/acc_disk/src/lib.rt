@@ -3,11 +3,13 @@
 
 mod disk;
 mod draw;
+mod file_disk;
 mod history;
 mod mem_disk;
 mod replay;
 
 pub use disk::Disk;
+pub use file_disk::FileDisk;
 pub use mem_disk::MemDisk;
 
 /// Want of memory.
