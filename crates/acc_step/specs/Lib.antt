@@ -1,0 +1,5 @@
+pub mod Guards
+pub mod ReadValues
+pub mod Overlay
+pub mod Changing
+pub mod Seen

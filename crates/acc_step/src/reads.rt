@@ -1,0 +1,260 @@
+//! What the reads of a step assign.
+ghost use Rattle.std.specs.Prelude.{◌≡◌, ◌≤◌, ◌<◌, ◌^◌, [], length, All, Some, None, pos, ◌*ℤ◌, ◌<ℤ◌, IfNone, IfSome};
+ghost use Rattle.std.specs.Int.{int_div_euclid};
+ghost use Rattle.acc_base.specs.Numbers.{IsSmall};
+ghost use Rattle.acc_base.specs.Linear.{variables, var, lin_value, lin_values};
+ghost use Rattle.acc_base.specs.Reads.{assigned, at_after, unread, after_reads};
+ghost use Rattle.acc_base.specs.Tables.{column_of, has_row, count_of, sum_of, least_of, greatest_of};
+ghost use Rattle.acc_base.specs.Runnable.{IsShort, IsKey, CanRead, FrameFits};
+ghost use Rattle.acc_step.specs.ReadValues.{value_read, read_of};
+
+use crate::values::{in_range, key_in_range, linear_in_range, times, variable, widened};
+use acc_base::forms::Lin;
+use acc_base::machines::Frame;
+use acc_base::steps::Read;
+use acc_store::{Inline, Store};
+
+/// A product of two variables.
+fn product(y: u32, z: u32, locals: &[i64], t: u64) -> i128
+    requires small { All IsSmall locals.now }
+    requires number { t ≤ 2 ^ 45 }
+    ensures { result ≡ var (variables t locals.now) y *ℤ var (variables t locals.now) z }
+{
+    times(variable(y, locals, t), variable(z, locals, t))
+}
+
+/// A quotient, rounded down.
+fn quotient(y: u32, c: i64, locals: &[i64], t: u64) -> i128
+    requires small { All IsSmall locals.now }
+    requires number { t ≤ 2 ^ 45 }
+    requires divisor { pos 0 <ℤ c }
+    ensures { result ≡ int_div_euclid (var (variables t locals.now) y) c }
+{
+    divided(variable(y, locals, t), c)
+}
+
+/// A quotient, rounded down.
+fn divided(y: i64, c: i64) -> i128
+    requires divisor { pos 0 <ℤ c }
+    ensures { result ≡ int_div_euclid y c }
+{
+    widened(y.div_euclid(c))
+}
+
+/// The number of the tape at a place, which is 0 past its end.
+fn taken(tape: &[i64], at: u32) -> i64
+    ensures { result ≡ var tape.now at }
+{
+    match tape.get(at as usize) {
+        Some(number) => *number,
+        None => 0,
+    }
+}
+
+/// A linear value, in range.
+fn read_let(l: &Lin, locals: &[i64], t: u64) -> Option<i64>
+    requires small { All IsSmall locals.now }
+    requires number { t ≤ 2 ^ 45 }
+    requires short { IsShort l.now }
+    ensures { result ≡ value_read [] (lin_value (variables t locals.now) l.now) }
+{
+    linear_in_range(l, locals, t)
+}
+
+/// A column, in range.
+fn read_column<S: Store>(
+    s: &S,
+    table: u32,
+    key: &[Lin],
+    col: u32,
+    locals: &[i64],
+    t: u64,
+) -> Option<i64>
+    requires small { All IsSmall locals.now }
+    requires number { t ≤ 2 ^ 45 }
+    requires key { IsKey key.now }
+    ensures { result ≡ value_read (lin_values (variables t locals.now) key.now) (column_of (S.rows s.now) table (lin_values (variables t locals.now) key.now) col) }
+{
+    match key_in_range(key, locals, t) {
+        Some(key) => in_range(s.get(table, key.as_slice(), col)),
+        None => None,
+    }
+}
+
+/// Whether there is a row, as a number.
+fn row_there<S: Store>(s: &S, table: u32, key: &[i64]) -> i64
+    requires short { length key.now ≤ 6 }
+    ensures { result ≡ has_row (S.rows s.now) table key.now }
+{
+    if s.has(table, key) { 1 } else { 0 }
+}
+
+/// Whether there is a row, where its key is in range.
+fn read_row<S: Store>(s: &S, table: u32, key: &[Lin], locals: &[i64], t: u64) -> Option<i64>
+    requires small { All IsSmall locals.now }
+    requires number { t ≤ 2 ^ 45 }
+    requires key { IsKey key.now }
+    ensures { result ≡ value_read (lin_values (variables t locals.now) key.now) (has_row (S.rows s.now) table (lin_values (variables t locals.now) key.now)) }
+{
+    match key_in_range(key, locals, t) {
+        Some(key) => in_range(widened(row_there(s, table, key.as_slice()))),
+        None => None,
+    }
+}
+
+/// A number of rows.
+fn counted<S: Store>(s: &S, table: u32, prefix: &[i64]) -> i128
+    requires short { length prefix.now ≤ 6 }
+    ensures { result ≡ count_of (S.rows s.now) table prefix.now }
+{
+    s.count(table, prefix) as i128
+}
+
+/// How many rows there are, in range.
+fn read_count<S: Store>(s: &S, table: u32, prefix: &[Lin], locals: &[i64], t: u64) -> Option<i64>
+    requires small { All IsSmall locals.now }
+    requires number { t ≤ 2 ^ 45 }
+    requires key { IsKey prefix.now }
+    ensures { result ≡ value_read (lin_values (variables t locals.now) prefix.now) (count_of (S.rows s.now) table (lin_values (variables t locals.now) prefix.now)) }
+{
+    match key_in_range(prefix, locals, t) {
+        Some(key) => in_range(counted(s, table, key.as_slice())),
+        None => None,
+    }
+}
+
+/// The sum of a column, in range.
+fn read_sum<S: Store>(
+    s: &S,
+    table: u32,
+    prefix: &[Lin],
+    col: u32,
+    locals: &[i64],
+    t: u64,
+) -> Option<i64>
+    requires small { All IsSmall locals.now }
+    requires number { t ≤ 2 ^ 45 }
+    requires key { IsKey prefix.now }
+    ensures { result ≡ value_read (lin_values (variables t locals.now) prefix.now) (sum_of (S.rows s.now) table (lin_values (variables t locals.now) prefix.now) col) }
+{
+    match key_in_range(prefix, locals, t) {
+        Some(key) => in_range(s.sum(table, key.as_slice(), col)),
+        None => None,
+    }
+}
+
+/// The least part after a prefix, in range.
+fn read_least<S: Store>(s: &S, table: u32, prefix: &[Lin], locals: &[i64], t: u64) -> Option<i64>
+    requires small { All IsSmall locals.now }
+    requires number { t ≤ 2 ^ 45 }
+    requires key { IsKey prefix.now }
+    ensures { result ≡ value_read (lin_values (variables t locals.now) prefix.now) (least_of (S.rows s.now) table (lin_values (variables t locals.now) prefix.now)) }
+{
+    match key_in_range(prefix, locals, t) {
+        Some(key) => in_range(widened(s.least(table, key.as_slice()))),
+        None => None,
+    }
+}
+
+/// The greatest part after a prefix, in range.
+fn read_greatest<S: Store>(s: &S, table: u32, prefix: &[Lin], locals: &[i64], t: u64) -> Option<i64>
+    requires small { All IsSmall locals.now }
+    requires number { t ≤ 2 ^ 45 }
+    requires key { IsKey prefix.now }
+    ensures { result ≡ value_read (lin_values (variables t locals.now) prefix.now) (greatest_of (S.rows s.now) table (lin_values (variables t locals.now) prefix.now)) }
+{
+    match key_in_range(prefix, locals, t) {
+        Some(key) => in_range(widened(s.greatest(table, key.as_slice()))),
+        None => None,
+    }
+}
+
+/// What a read assigns, if its numbers are in range.
+fn read_one<S: Store>(
+    s: &S,
+    read: &Read,
+    locals: &[i64],
+    t: u64,
+    tape: &[i64],
+    at: u32,
+) -> Option<i64>
+    requires small { All IsSmall locals.now }
+    requires number { t ≤ 2 ^ 45 }
+    requires can { CanRead read.now }
+    ensures { result ≡ read_of (S.rows s.now) tape.now at (variables t locals.now) read.now }
+{
+    match read {
+        Read::Let(_, l) => read_let(l, locals, t),
+        Read::Col(_, table, key, col) => read_column(s, *table, key.as_slice(), *col, locals, t),
+        Read::Has(_, table, key) => read_row(s, *table, key.as_slice(), locals, t),
+        Read::Count(_, table, prefix) => read_count(s, *table, prefix.as_slice(), locals, t),
+        Read::Sum(_, table, prefix, col) => {
+            read_sum(s, *table, prefix.as_slice(), *col, locals, t)
+        }
+        Read::Least(_, table, prefix) => read_least(s, *table, prefix.as_slice(), locals, t),
+        Read::Greatest(_, table, prefix) => read_greatest(s, *table, prefix.as_slice(), locals, t),
+        Read::Take(_) => in_range(widened(taken(tape, at))),
+        Read::Mul(_, y, z) => in_range(product(*y, *z, locals, t)),
+        Read::Div(_, y, c) => in_range(quotient(*y, *c, locals, t)),
+    }
+}
+
+/// The local that a read assigns.
+fn assigned_by(read: &Read) -> u32
+    ensures { result ≡ assigned read.now }
+{
+    match read {
+        Read::Let(x, _) => *x,
+        Read::Col(x, _, _, _) => *x,
+        Read::Has(x, _, _) => *x,
+        Read::Count(x, _, _) => *x,
+        Read::Sum(x, _, _, _) => *x,
+        Read::Least(x, _, _) => *x,
+        Read::Greatest(x, _, _) => *x,
+        Read::Take(x) => *x,
+        Read::Mul(x, _, _) => *x,
+        Read::Div(x, _, _) => *x,
+    }
+}
+
+/// The place on the tape after a read.
+fn place_after(tape: &[i64], at: u32, read: &Read) -> u32
+    requires few { length tape.now < 2 ^ 32 }
+    ensures { result ≡ at_after (length tape.now) at read.now }
+{
+    match read {
+        Read::Take(_) => {
+            if (at as usize) < tape.len() {
+                at + 1
+            } else {
+                at
+            }
+        }
+        _ => at,
+    }
+}
+
+/// The reads of a step, one after the other: they assign the locals, and give the place on the tape, if their numbers are in range.
+pub fn take_reads<S: Store>(
+    s: &S,
+    f: &Frame,
+    reads: &[Read],
+    locals: &mut Inline<i64, 48>,
+) -> Option<u32>
+    requires fits { FrameFits f.now }
+    requires can { All CanRead reads.now }
+    requires start { locals.old ≡ f.now.locals }
+    ensures none { IfNone result (after_reads (S.rows s.now) f.now reads.now (unread f.now) ≡ None) }
+    ensures some { IfSome result (λ at. after_reads (S.rows s.now) f.now reads.now (unread f.now) ≡ Some (record { locals = locals.new; at = at })) }
+    ensures small { All IsSmall locals.new }
+    ensures kept { length locals.new ≡ length f.now.locals }
+{
+    let tape = f.tape.as_slice();
+    let mut at = f.pos;
+    for read in reads {
+        let value = read_one(s, read, locals.as_slice(), f.t, tape, at)?;
+        locals.set(assigned_by(read) as usize, value);
+        at = place_after(tape, at, read);
+    }
+    Some(at)
+}

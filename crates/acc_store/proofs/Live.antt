@@ -1,0 +1,173 @@
+-- Entries as rows: what a look-up finds, and what a change of an entry does.
+use Rattle.std.proofs.Common.{◌≡◌, ℕ, ◌<◌, Bool, true, false, cond, ◌||◌, List, [], ◌∷◌, ap, sym, ◌∙◌, refl, subst, ℤ, ◌<ℤ◌, Option, Some, None, is_some}
+use Rattle.std.specs.Prelude.{find}
+use Rattle.std.specs.List.{AllByRecursion, list_any}
+use Rattle.std.specs.List.Sorted.{IsStrictlySortedBy}
+use Rattle.std.specs.declared.cmp.Ordering.{Ordering}
+use Rattle.std.specs.declared.cmp.Ordering.TheVariants.{Less, Equal, Greater}
+use Rattle.std.specs.Ordering.{nat_cmp, int_cmp, is_eq, ordering_then, match_ordering, MatchOrdering}
+use Rattle.std.specs.Cmp.{int_ranks, ranked}
+use Rattle.std.specs.Cmp.Lexicographic.{slice_cmp}
+use Rattle.std.specs.Map.{keys_of, lookup, remove_entry}
+use Rattle.std.specs.BTreeMap.{insert_entry, is_at as at}
+use Rattle.acc_base.specs.Tables.{Place, place_cmp, is_at, put, put_here, drop_row, column_of, cell_of}
+use Rattle.acc_store.specs.Places.{place_total}
+use Rattle.acc_store.specs.Rows.{Entry, row_of, with_row, live, flat, cells_at, column_in, columns_of, IsUp, has_entry}
+
+-- ---- places that compare alike are one
+
+ints_equal : (xs ys : List ℤ) → slice_cmp int_cmp xs ys ≡ Equal → xs ≡ ys
+ints_equal [] [] h = refl
+ints_equal [] (y ∷ ys) h = cc
+ints_equal (x ∷ xs) [] h = cc
+ints_equal (x ∷ xs) (y ∷ ys) h = by (int_cmp x y) (int_ranks x y) h (ints_equal xs ys)
+  where
+    by : (o : Ordering) → MatchOrdering o (x <ℤ y) (x ≡ y) (y <ℤ x) → ordering_then o (slice_cmp int_cmp xs ys) ≡ Equal → (slice_cmp int_cmp xs ys ≡ Equal → xs ≡ ys) → x ∷ xs ≡ y ∷ ys
+    by Less e g ih = cc
+    by Equal e g ih = λ i. e i ∷ ih g i
+    by Greater e g ih = cc
+
+pub one_place : (p q : Place) → place_cmp p q ≡ Equal → p ≡ q
+one_place p q h = by (nat_cmp p.0 q.0) (ranked p.0 q.0 (nat_cmp p.0 q.0) refl) h
+  where
+    by : (o : Ordering) → MatchOrdering o (p.0 < q.0) (p.0 ≡ q.0) (q.0 < p.0) → ordering_then o (slice_cmp int_cmp p.1 q.1) ≡ Equal → p ≡ q
+    by Less e g = cc
+    by Equal e g = let s = ints_equal p.1 q.1 g in λ i. (e i, s i)
+    by Greater e g = cc
+
+-- ---- entries past a place
+
+abbrev ArePast : Place → List Entry → Type 0
+ArePast p es = AllByRecursion (λ q. place_cmp p q ≡ Less) (keys_of es)
+
+past_both : (p q : Place) (es : List Entry) → place_cmp p q ≡ Less → ArePast q es → ArePast p es
+past_both p q [] h g = tt
+past_both p q (e ∷ es) h g = (place_total.trans p q e.0 h g.0, past_both p q es h g.1)
+
+put_first : (p : Place) (cols : List ℤ) (es : List Entry) → ArePast p es → put (row_of p cols) (live es) ≡ row_of p cols ∷ live es
+put_first p cols [] h = refl
+put_first p cols (e ∷ es) h = by e.1 (put_first p cols es h.1)
+  where
+    by : (v : Option (List ℤ)) → put (row_of p cols) (live es) ≡ row_of p cols ∷ live es → put (row_of p cols) (with_row e.0 v (live es)) ≡ row_of p cols ∷ with_row e.0 v (live es)
+    by None ih = ih
+    by (Some c) ih = ap (λ o. put_here o (row_of p cols) (row_of e.0 c) (live es) (put (row_of p cols) (live es))) h.0
+
+drop_none : (p : Place) (es : List Entry) → ArePast p es → drop_row p.0 p.1 (live es) ≡ live es
+drop_none p [] h = refl
+drop_none p (e ∷ es) h = by e.1 (drop_none p es h.1)
+  where
+    by : (v : Option (List ℤ)) → drop_row p.0 p.1 (live es) ≡ live es → drop_row p.0 p.1 (with_row e.0 v (live es)) ≡ with_row e.0 v (live es)
+    by None ih = ih
+    by (Some c) ih = ap (λ o. cond (is_eq o) (live es) (row_of e.0 c ∷ drop_row p.0 p.1 (live es))) h.0 ∙ ap (λ rows. row_of e.0 c ∷ rows) ih
+
+any_none : (p : Place) (es : List Entry) → ArePast p es → list_any (is_at p.0 p.1) (live es) ≡ false
+any_none p [] h = refl
+any_none p (e ∷ es) h = by e.1 (any_none p es h.1)
+  where
+    by : (v : Option (List ℤ)) → list_any (is_at p.0 p.1) (live es) ≡ false → list_any (is_at p.0 p.1) (with_row e.0 v (live es)) ≡ false
+    by None ih = ih
+    by (Some c) ih = ap (λ o. is_eq o || list_any (is_at p.0 p.1) (live es)) h.0 ∙ ih
+
+find_none : (p : Place) (es : List Entry) → ArePast p es → find (is_at p.0 p.1) (live es) ≡ None
+find_none p [] h = refl
+find_none p (e ∷ es) h = by e.1 (find_none p es h.1)
+  where
+    by : (v : Option (List ℤ)) → find (is_at p.0 p.1) (live es) ≡ None → find (is_at p.0 p.1) (with_row e.0 v (live es)) ≡ None
+    by None ih = ih
+    by (Some c) ih = ap (λ o. cond (is_eq o) (Some (row_of e.0 c)) (find (is_at p.0 p.1) (live es))) h.0 ∙ ih
+
+past_same : (p q : Place) (es : List Entry) → place_cmp p q ≡ Equal → ArePast q es → ArePast p es
+past_same p q es h g = subst (λ x. ArePast x es) (sym (one_place p q h)) g
+
+-- ---- look-ups
+
+pub live_any : (p : Place) (es : List Entry) → IsUp es → list_any (is_at p.0 p.1) (live es) ≡ is_some (cells_at p es)
+unfolding IsStrictlySortedBy
+live_any p [] up = refl
+live_any p (e ∷ es) up = by (place_cmp p e.0) refl e.1 (live_any p es up.1)
+  where
+    by : (o : Ordering) → place_cmp p e.0 ≡ o → (v : Option (List ℤ)) → list_any (is_at p.0 p.1) (live es) ≡ is_some (cells_at p es) → list_any (is_at p.0 p.1) (with_row e.0 v (live es)) ≡ is_some (flat (cond (is_eq o) (Some v) (lookup (at (place_cmp p)) es)))
+    by Less h None ih = ih
+    by Less h (Some c) ih = ap (λ x. is_eq x || list_any (is_at p.0 p.1) (live es)) h ∙ ih
+    by Equal h None ih = any_none p es (past_same p e.0 es h up.0)
+    by Equal h (Some c) ih = ap (λ x. is_eq x || list_any (is_at p.0 p.1) (live es)) h
+    by Greater h None ih = ih
+    by Greater h (Some c) ih = ap (λ x. is_eq x || list_any (is_at p.0 p.1) (live es)) h ∙ ih
+
+pub live_column : (p : Place) (col : ℕ) (es : List Entry) → IsUp es → column_of (live es) p.0 p.1 col ≡ column_in col (cells_at p es)
+unfolding IsStrictlySortedBy
+live_column p col [] up = refl
+live_column p col (e ∷ es) up = by (place_cmp p e.0) refl e.1 (live_column p col es up.1)
+  where
+    by : (o : Ordering) → place_cmp p e.0 ≡ o → (v : Option (List ℤ)) → column_of (live es) p.0 p.1 col ≡ column_in col (cells_at p es) → column_of (with_row e.0 v (live es)) p.0 p.1 col ≡ column_in col (flat (cond (is_eq o) (Some v) (lookup (at (place_cmp p)) es)))
+    by Less h None ih = ih
+    by Less h (Some c) ih = ap (λ x. cell_of col (cond (is_eq x) (Some (row_of e.0 c)) (find (is_at p.0 p.1) (live es)))) h ∙ ih
+    by Equal h None ih = ap (cell_of col) (find_none p es (past_same p e.0 es h up.0))
+    by Equal h (Some c) ih = ap (λ x. cell_of col (cond (is_eq x) (Some (row_of e.0 c)) (find (is_at p.0 p.1) (live es)))) h
+    by Greater h None ih = ih
+    by Greater h (Some c) ih = ap (λ x. cell_of col (cond (is_eq x) (Some (row_of e.0 c)) (find (is_at p.0 p.1) (live es)))) h ∙ ih
+
+pub live_columns : (p : Place) (es : List Entry) → IsUp es → columns_of (find (is_at p.0 p.1) (live es)) ≡ cells_at p es
+unfolding IsStrictlySortedBy
+live_columns p [] up = refl
+live_columns p (e ∷ es) up = by (place_cmp p e.0) refl e.1 (live_columns p es up.1)
+  where
+    by : (o : Ordering) → place_cmp p e.0 ≡ o → (v : Option (List ℤ)) → columns_of (find (is_at p.0 p.1) (live es)) ≡ cells_at p es → columns_of (find (is_at p.0 p.1) (with_row e.0 v (live es))) ≡ flat (cond (is_eq o) (Some v) (lookup (at (place_cmp p)) es))
+    by Less h None ih = ih
+    by Less h (Some c) ih = ap (λ x. columns_of (cond (is_eq x) (Some (row_of e.0 c)) (find (is_at p.0 p.1) (live es)))) h ∙ ih
+    by Equal h None ih = ap columns_of (find_none p es (past_same p e.0 es h up.0))
+    by Equal h (Some c) ih = ap (λ x. columns_of (cond (is_eq x) (Some (row_of e.0 c)) (find (is_at p.0 p.1) (live es)))) h
+    by Greater h None ih = ih
+    by Greater h (Some c) ih = ap (λ x. columns_of (cond (is_eq x) (Some (row_of e.0 c)) (find (is_at p.0 p.1) (live es)))) h ∙ ih
+
+-- ---- changes
+
+pub live_put : (p : Place) (cols : List ℤ) (es : List Entry) → IsUp es → live (insert_entry place_cmp es p (Some cols)) ≡ put (row_of p cols) (live es)
+unfolding IsStrictlySortedBy
+live_put p cols [] up = refl
+live_put p cols (e ∷ es) up = by (place_cmp p e.0) refl e.1 (live_put p cols es up.1)
+  where
+    by : (o : Ordering) → place_cmp p e.0 ≡ o → (v : Option (List ℤ)) → live (insert_entry place_cmp es p (Some cols)) ≡ put (row_of p cols) (live es) → live (match_ordering o ((p, Some cols) ∷ (e.0, v) ∷ es) ((e.0, Some cols) ∷ es) ((e.0, v) ∷ insert_entry place_cmp es p (Some cols))) ≡ put (row_of p cols) (with_row e.0 v (live es))
+    by Less h None ih = sym (put_first p cols es (past_both p e.0 es h up.0))
+    by Less h (Some c) ih = sym (ap (λ o. put_here o (row_of p cols) (row_of e.0 c) (live es) (put (row_of p cols) (live es))) h)
+    by Equal h None ih = ap (λ q. row_of q cols ∷ live es) (sym (one_place p e.0 h)) ∙ sym (put_first p cols es (past_same p e.0 es h up.0))
+    by Equal h (Some c) ih = ap (λ q. row_of q cols ∷ live es) (sym (one_place p e.0 h)) ∙ sym (ap (λ o. put_here o (row_of p cols) (row_of e.0 c) (live es) (put (row_of p cols) (live es))) h)
+    by Greater h None ih = ih
+    by Greater h (Some c) ih = ap (λ rows. row_of e.0 c ∷ rows) ih ∙ sym (ap (λ o. put_here o (row_of p cols) (row_of e.0 c) (live es) (put (row_of p cols) (live es))) h)
+
+pub live_drop : (p : Place) (es : List Entry) → IsUp es → live (insert_entry place_cmp es p None) ≡ drop_row p.0 p.1 (live es)
+unfolding IsStrictlySortedBy
+live_drop p [] up = refl
+live_drop p (e ∷ es) up = by (place_cmp p e.0) refl e.1 (live_drop p es up.1)
+  where
+    by : (o : Ordering) → place_cmp p e.0 ≡ o → (v : Option (List ℤ)) → live (insert_entry place_cmp es p None) ≡ drop_row p.0 p.1 (live es) → live (match_ordering o ((p, None) ∷ (e.0, v) ∷ es) ((e.0, None) ∷ es) ((e.0, v) ∷ insert_entry place_cmp es p None)) ≡ drop_row p.0 p.1 (with_row e.0 v (live es))
+    by Less h None ih = sym (drop_none p es (past_both p e.0 es h up.0))
+    by Less h (Some c) ih = sym (ap (λ o. cond (is_eq o) (live es) (row_of e.0 c ∷ drop_row p.0 p.1 (live es))) h ∙ ap (λ rows. row_of e.0 c ∷ rows) (drop_none p es (past_both p e.0 es h up.0)))
+    by Equal h None ih = sym (drop_none p es (past_same p e.0 es h up.0))
+    by Equal h (Some c) ih = sym (ap (λ o. cond (is_eq o) (live es) (row_of e.0 c ∷ drop_row p.0 p.1 (live es))) h)
+    by Greater h None ih = ih
+    by Greater h (Some c) ih = ap (λ rows. row_of e.0 c ∷ rows) ih ∙ sym (ap (λ o. cond (is_eq o) (live es) (row_of e.0 c ∷ drop_row p.0 p.1 (live es))) h)
+
+-- a new blank entry is no row
+pub live_blank : (p : Place) (es : List Entry) → has_entry es p ≡ false → live (insert_entry place_cmp es p None) ≡ live es
+live_blank p [] h = refl
+live_blank p (e ∷ es) h = by (place_cmp p e.0) h (live_blank p es)
+  where
+    by : (o : Ordering) → is_some (cond (is_eq o) (Some e.1) (lookup (at (place_cmp p)) es)) ≡ false → (has_entry es p ≡ false → live (insert_entry place_cmp es p None) ≡ live es) → live (match_ordering o ((p, None) ∷ e ∷ es) ((e.0, None) ∷ es) (e ∷ insert_entry place_cmp es p None)) ≡ live (e ∷ es)
+    by Less g ih = refl
+    by Equal g ih = cc
+    by Greater g ih = ap (with_row e.0 e.1) (ih g)
+
+-- and one may be forgotten
+pub live_forget : (p : Place) (es : List Entry) → lookup (at (place_cmp p)) es ≡ Some None → live (remove_entry (at (place_cmp p)) es) ≡ live es
+live_forget p [] h = cc
+live_forget p (e ∷ es) h = by (is_eq (place_cmp p e.0)) e.1 h (live_forget p es)
+  where
+    by : (b : Bool) (v : Option (List ℤ)) → cond b (Some v) (lookup (at (place_cmp p)) es) ≡ Some None → (lookup (at (place_cmp p)) es ≡ Some None → live (remove_entry (at (place_cmp p)) es) ≡ live es) → live (cond b es ((e.0, v) ∷ remove_entry (at (place_cmp p)) es)) ≡ with_row e.0 v (live es)
+    by true None g ih = refl
+    by true (Some c) g ih = cc
+    by false v g ih = ap (with_row e.0 v) (ih g)
+
+-- a place without an entry is no row's
+pub live_absent : (p : Place) (es : List Entry) → IsUp es → has_entry es p ≡ false → live es ≡ drop_row p.0 p.1 (live es)
+live_absent p es up h = sym (live_blank p es h) ∙ live_drop p es up

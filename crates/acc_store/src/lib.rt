@@ -1,0 +1,12 @@
+//! Rows that are kept in order, and changed by writes.
+#![tactic(auto)]
+
+pub mod inline;
+mod maps;
+mod places;
+pub mod stores;
+pub mod writes;
+
+pub use inline::Inline;
+pub use stores::{MapStore, Store, StoreError};
+pub use writes::Write;

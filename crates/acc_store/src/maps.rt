@@ -1,0 +1,485 @@
+//! Rows in an ordered map: look-ups and changes.
+ghost use Rattle.std.specs.Prelude.{◌≡◌, ◌≤◌, ◌<◌, ◌^◌, length, map, filter, is_some, option_copied, OnOk, OnErr, IsTrue, IfErr, All, Some, None, [], ◌∷◌, true, false, pos, IfOk, IfSome, ◌++◌, find};
+ghost use Rattle.std.specs.Prelude.{◌+◌, ◌+ℤ◌, unsigned_abs};
+ghost use Rattle.std.specs.List.{list_any, list_all, sum_by};
+ghost use Rattle.std.specs.Int.{int_min, int_max};
+ghost use Rattle.acc_base.specs.Numbers.{total};
+ghost use Rattle.std.specs.BTreeMap.{insert_entry, keys, get};
+ghost use Rattle.acc_base.specs.Tables.{is_at, is_under, column_of, count_of, sum_of, least_of, greatest_of, parts_at, place_cmp, place_of, cell, best, put, drop_row};
+ghost use Rattle.acc_store.specs.Rows.{live, cells_at as cells_there, column_in, columns_of, one_in, part_in, IsRising, SumsFit, IsUp, AreFit, IsFit, below, write as written_by, written, IsNarrow, has_entry, has_room, KeepsEntries, row_of as row_with, with_row};
+
+use crate::inline::Inline;
+use crate::places::Place;
+use crate::writes::Write;
+use acc_base::sequences::Seq;
+use acc_base::tables::{Key, Row};
+use std::alloc::{AllocError, Global};
+use std::collections::BTreeMap;
+use std::collections::btree_map::Range;
+
+/// The columns of a row.
+type Cells = Inline<i128, 12>;
+
+/// Entries in the order of their places; one without cells is blank.
+pub type Entries = BTreeMap<Place, Option<Cells>>;
+
+/// The columns of the row at a key.
+fn cells_at<'a>(entries: &'a Entries, table: u32, key: &[i64]) -> Option<&'a Cells>
+    requires short { length key.now ≤ 6 }
+    ensures { option_copied result ≡ cells_there (table, key.now) entries.now.entries }
+{
+    let place = Place::new(table, key);
+    match entries.get(&place) {
+        Some(Some(cells)) => Some(cells),
+        _ => None,
+    }
+}
+
+/// A column, which is 0 where there is none.
+fn column(cells: Option<&Cells>, col: u32) -> i128
+    ensures { result ≡ column_in col (option_copied cells.entry) }
+{
+    match cells {
+        Some(cells) => match cells.as_slice().get(col as usize) {
+            Some(value) => *value,
+            None => 0,
+        },
+        None => 0,
+    }
+}
+
+/// Whether there is a row at a key.
+pub fn has_row(entries: &Entries, table: u32, key: &[i64]) -> bool
+    requires short { length key.now ≤ 6 }
+    requires up { IsUp entries.now.entries }
+    ensures { result ≡ list_any (is_at table key.now) (live entries.now.entries) }
+{
+    cells_at(entries, table, key).is_some()
+}
+
+/// A column of the row at a key.
+pub fn column_at(entries: &Entries, table: u32, key: &[i64], col: u32) -> i128
+    requires short { length key.now ≤ 6 }
+    requires up { IsUp entries.now.entries }
+    ensures { result ≡ column_of (live entries.now.entries) table key.now col }
+{
+    column(cells_at(entries, table, key), col)
+}
+
+/// The columns of an entry, if there is one.
+fn slice_of<'a>(cells: Option<&'a Cells>) -> Option<&'a [i128]>
+    ensures value { option_copied result ≡ option_copied cells.entry }
+    ensures few { IfSome (option_copied result) (λ cols. length cols ≤ 12) }
+{
+    match cells {
+        Some(cells) => Some(cells.as_slice()),
+        None => None,
+    }
+}
+
+/// The columns of the row at a key.
+pub fn columns_at<'a>(entries: &'a Entries, table: u32, key: &[i64]) -> Option<&'a [i128]>
+    requires short { length key.now ≤ 6 }
+    requires up { IsUp entries.now.entries }
+    ensures value { option_copied result ≡ columns_of (find (is_at table key.now) (live entries.now.entries)) }
+    ensures few { IfSome (option_copied result) (λ cols. length cols ≤ 12) }
+{
+    slice_of(cells_at(entries, table, key))
+}
+
+/// The entries whose keys begin with a prefix.
+pub fn entries_below<'a>(
+    entries: &'a Entries,
+    table: u32,
+    prefix: &[i64],
+) -> Range<'a, Place, Option<Cells>>
+    requires short { length prefix.now ≤ 6 }
+    requires fit { AreFit entries.now.entries }
+    ensures below { result ≡ below table prefix.now entries.now.entries }
+    ensures few { length result < 2 ^ 63 }
+{
+    let start = Place::new(table, prefix);
+    let past = Place::past(table, prefix);
+    entries.range(start..past)
+}
+
+/// Replaces what stands at a place.
+fn replace(entries: &mut Entries, place: Place, cells: Option<Cells>)
+    requires there { has_entry entries.old.entries place ≡ true }
+    ensures entries { entries.new.entries ≡ insert_entry place_cmp entries.old.entries place cells }
+    ensures keys { keys entries.new ≡ keys entries.old }
+    ensures up { IsUp entries.new.entries }
+    ensures was_up { IsUp entries.old.entries }
+{
+    match entries.insert(place, cells) {
+        Ok(_) => {}
+        Err(_) => {}
+    }
+}
+
+/// Makes a blank entry.
+fn make_blank(entries: &mut Entries, place: Place) -> Result<(), AllocError>
+    requires fit { IsFit place }
+    requires absent { has_entry entries.old.entries place ≡ false }
+    requires are_fit { AreFit entries.old.entries }
+    ensures rows { live entries.new.entries ≡ live entries.old.entries }
+    ensures there { OnOk result (has_entry entries.new.entries place ≡ true) }
+    ensures kept { KeepsEntries entries.old.entries entries.new.entries }
+    ensures up { IsUp entries.new.entries }
+    ensures fit { AreFit entries.new.entries }
+{
+    entries.insert(place, None)?;
+    Ok(())
+}
+
+/// Makes a blank entry, where there is none.
+fn make_entry(entries: &mut Entries, place: Place) -> Result<(), AllocError>
+    requires fit { IsFit place }
+    requires up { IsUp entries.old.entries }
+    requires are_fit { AreFit entries.old.entries }
+    ensures rows { live entries.new.entries ≡ live entries.old.entries }
+    ensures there { OnOk result (has_entry entries.new.entries place ≡ true) }
+    ensures kept { KeepsEntries entries.old.entries entries.new.entries }
+    ensures up { IsUp entries.new.entries }
+    ensures fit { AreFit entries.new.entries }
+{
+    if entries.contains_key(&place) {
+        Ok(())
+    } else {
+        make_blank(entries, place)
+    }
+}
+
+/// Makes room for a write.
+fn make_room_for(entries: &mut Entries, write: &Write) -> Result<(), AllocError>
+    requires narrow { IsNarrow write.now }
+    requires up { IsUp entries.old.entries }
+    requires are_fit { AreFit entries.old.entries }
+    ensures rows { live entries.new.entries ≡ live entries.old.entries }
+    ensures room { OnOk result (has_room entries.new.entries write.now ≡ true) }
+    ensures kept { KeepsEntries entries.old.entries entries.new.entries }
+    ensures up { IsUp entries.new.entries }
+    ensures fit { AreFit entries.new.entries }
+{
+    match write {
+        Write::Row(row) => make_entry(entries, Place::new(row.table, row.key.parts.as_slice())),
+        Write::Gone(_, _) => Ok(()),
+    }
+}
+
+/// How many rows an entry is.
+fn rows_in(cells: &Option<Cells>) -> u64
+    ensures { result ≡ one_in cells.now }
+{
+    match cells {
+        Some(_) => 1,
+        None => 0,
+    }
+}
+
+/// How many of the entries are rows.
+fn count_live(entries: Range<'_, Place, Option<Cells>>) -> u64
+    requires few { length entries < 2 ^ 63 }
+    ensures { result ≡ length (live entries.entry) }
+{
+    let mut count = 0;
+    for (_, cells) in entries {
+        count += rows_in(cells);
+    }
+    count
+}
+
+/// A column of an entry.
+fn value(cells: &Option<Cells>, col: u32) -> i128
+    ensures { result ≡ column_in col cells.now }
+{
+    match cells {
+        Some(cells) => match cells.as_slice().get(col as usize) {
+            Some(value) => *value,
+            None => 0,
+        },
+        None => 0,
+    }
+}
+
+/// A sum, which fits.
+fn plus(a: i128, b: i128) -> i128
+    requires fits { unsigned_abs a + unsigned_abs b ≤ 2 ^ 120 }
+    ensures value { result ≡ a +ℤ b }
+    ensures bound { unsigned_abs result ≤ unsigned_abs a + unsigned_abs b }
+{
+    a + b
+}
+
+/// The sum of a column over the entries.
+fn sum_live(entries: Range<'_, Place, Option<Cells>>, col: u32) -> i128
+    requires fits { sum_by (λ r. unsigned_abs (cell col r)) (live entries) ≤ 2 ^ 120 }
+    ensures { result ≡ total (map (cell col) (live entries.entry)) }
+{
+    let mut sum = 0;
+    for (_, cells) in entries {
+        sum = plus(sum, value(cells, col));
+    }
+    sum
+}
+
+/// The part at a place of the key of an entry that is no blank.
+fn part_at(place: &Place, cells: &Option<Cells>, at: usize) -> Option<i64>
+    ensures { result ≡ part_in at place.now cells.now }
+{
+    match cells {
+        Some(_) => place.key().get(at).copied(),
+        None => None,
+    }
+}
+
+/// The least part at a place, where they rise.
+fn least_live(entries: Range<'_, Place, Option<Cells>>, at: usize) -> i64
+    requires rising { IsRising (parts_at at (live entries)) }
+    ensures { result ≡ best int_min (parts_at at (live entries.entry)) }
+{
+    for (place, cells) in entries {
+        if let Some(part) = part_at(place, cells, at) {
+            return part;
+        }
+    }
+    0
+}
+
+/// The greatest part at a place, where they rise.
+fn greatest_live(entries: Range<'_, Place, Option<Cells>>, at: usize) -> i64
+    requires rising { IsRising (parts_at at (live entries)) }
+    ensures { result ≡ best int_max (parts_at at (live entries.entry)) }
+{
+    let mut rest = entries;
+    while let Some((place, cells)) = rest.next_back() {
+        if let Some(part) = part_at(place, cells, at) {
+            return part;
+        }
+    }
+    0
+}
+
+/// Puts a row, for which there is an entry.
+fn put_row(entries: &mut Entries, row: &Row)
+    requires fit { IsFit (place_of row.now) }
+    requires columns { length row.now.cols ≤ 12 }
+    requires there { has_entry entries.old.entries (place_of row.now) ≡ true }
+    ensures rows { live entries.new.entries ≡ put row.now (live entries.old.entries) }
+    ensures keys { keys entries.new ≡ keys entries.old }
+    ensures up { IsUp entries.new.entries }
+{
+    let place = Place::new(row.table, row.key.parts.as_slice());
+    let cells = Inline::from_slice(0, row.cols.as_slice());
+    replace(entries, place, Some(cells));
+}
+
+/// Drops a row, if there is one, and leaves a blank.
+fn drop_one(entries: &mut Entries, table: u32, key: &[i64])
+    requires short { length key.now ≤ 6 }
+    requires up { IsUp entries.old.entries }
+    ensures rows { live entries.new.entries ≡ drop_row table key.now (live entries.old.entries) }
+    ensures keys { keys entries.new ≡ keys entries.old }
+    ensures up { IsUp entries.new.entries }
+{
+    let place = Place::new(table, key);
+    if entries.contains_key(&place) {
+        replace(entries, place, None);
+    }
+}
+
+/// One write, for which there is room.
+fn write_one(entries: &mut Entries, write: &Write)
+    requires narrow { IsNarrow write.now }
+    requires room { has_room entries.old.entries write.now ≡ true }
+    requires up { IsUp entries.old.entries }
+    ensures rows { live entries.new.entries ≡ written_by write.now (live entries.old.entries) }
+    ensures keys { keys entries.new ≡ keys entries.old }
+    ensures up { IsUp entries.new.entries }
+{
+    match write {
+        Write::Row(row) => put_row(entries, row),
+        Write::Gone(table, key) => drop_one(entries, *table, key.parts.as_slice()),
+    }
+}
+
+/// Forgets an entry that is blank.
+fn forget(entries: &mut Entries, table: u32, key: &[i64])
+    requires short { length key.now ≤ 6 }
+    requires up { IsUp entries.old.entries }
+    requires are_fit { AreFit entries.old.entries }
+    ensures rows { live entries.new.entries ≡ live entries.old.entries }
+    ensures up { IsUp entries.new.entries }
+    ensures fit { AreFit entries.new.entries }
+{
+    let place = Place::new(table, key);
+    if let Some(None) = entries.get(&place) {
+        entries.remove(&place);
+    }
+}
+
+/// Forgets the entry of a write, if it is blank. One of a row that was put is not.
+fn forget_for(entries: &mut Entries, write: &Write, were_put: bool)
+    requires narrow { IsNarrow write.now }
+    requires up { IsUp entries.old.entries }
+    requires are_fit { AreFit entries.old.entries }
+    ensures rows { live entries.new.entries ≡ live entries.old.entries }
+    ensures up { IsUp entries.new.entries }
+    ensures fit { AreFit entries.new.entries }
+{
+    match write {
+        Write::Row(row) => {
+            if !were_put {
+                forget(entries, row.table, row.key.parts.as_slice());
+            }
+        }
+        Write::Gone(table, key) => forget(entries, *table, key.parts.as_slice()),
+    }
+}
+
+/// Makes room for writes.
+fn make_room(entries: &mut Entries, writes: &[Write]) -> Result<(), AllocError>
+    requires narrow { All IsNarrow writes.now }
+    requires up { IsUp entries.old.entries }
+    requires are_fit { AreFit entries.old.entries }
+    ensures rows { live entries.new.entries ≡ live entries.old.entries }
+    ensures room { OnOk result (list_all (has_room entries.new.entries) writes.now ≡ true) }
+    ensures up { IsUp entries.new.entries }
+    ensures fit { AreFit entries.new.entries }
+{
+    for write in writes {
+        make_room_for(entries, write)?;
+    }
+    Ok(())
+}
+
+/// Does writes for which there is room.
+fn write_all(entries: &mut Entries, writes: &[Write])
+    requires narrow { All IsNarrow writes.now }
+    requires room { list_all (has_room entries.old.entries) writes.now ≡ true }
+    requires up { IsUp entries.old.entries }
+    requires are_fit { AreFit entries.old.entries }
+    ensures rows { live entries.new.entries ≡ written writes.now (live entries.old.entries) }
+    ensures up { IsUp entries.new.entries }
+    ensures fit { AreFit entries.new.entries }
+{
+    for write in writes {
+        write_one(entries, write);
+    }
+}
+
+/// Forgets the entries of writes that are blank.
+fn forget_all(entries: &mut Entries, writes: &[Write], were_put: bool)
+    requires narrow { All IsNarrow writes.now }
+    requires up { IsUp entries.old.entries }
+    requires are_fit { AreFit entries.old.entries }
+    ensures rows { live entries.new.entries ≡ live entries.old.entries }
+    ensures up { IsUp entries.new.entries }
+    ensures fit { AreFit entries.new.entries }
+{
+    for write in writes {
+        forget_for(entries, write, were_put);
+    }
+}
+
+/// Does all writes, or none.
+pub fn apply_writes(entries: &mut Entries, writes: &[Write]) -> Result<(), AllocError>
+    requires narrow { All IsNarrow writes.now }
+    requires up { IsUp entries.old.entries }
+    requires are_fit { AreFit entries.old.entries }
+    ensures ok { OnOk result (live entries.new.entries ≡ written writes.now (live entries.old.entries)) }
+    ensures err { OnErr result (live entries.new.entries ≡ live entries.old.entries) }
+    ensures up { IsUp entries.new.entries }
+    ensures fit { AreFit entries.new.entries }
+{
+    let room = make_room(entries, writes);
+    let is_room = room.is_ok();
+    if is_room {
+        write_all(entries, writes);
+    }
+    forget_all(entries, writes, is_room);
+    room
+}
+
+/// How many rows have keys that begin with the prefix.
+pub fn count_below(entries: &Entries, table: u32, prefix: &[i64]) -> u64
+    requires short { length prefix.now ≤ 6 }
+    requires fit { AreFit entries.now.entries }
+    ensures { pos result ≡ count_of (live entries.now.entries) table prefix.now }
+{
+    count_live(entries_below(entries, table, prefix))
+}
+
+/// The sum of a column over these rows.
+pub fn sum_below(entries: &Entries, table: u32, prefix: &[i64], col: u32) -> i128
+    requires short { length prefix.now ≤ 6 }
+    requires fit { AreFit entries.now.entries }
+    requires sums { SumsFit (live entries.now.entries) }
+    ensures { result ≡ sum_of (live entries.now.entries) table prefix.now col }
+{
+    sum_live(entries_below(entries, table, prefix), col)
+}
+
+/// The least part after the prefix, and 0 where there is none.
+pub fn least_below(entries: &Entries, table: u32, prefix: &[i64]) -> i64
+    requires short { length prefix.now ≤ 6 }
+    requires fit { AreFit entries.now.entries }
+    requires up { IsUp entries.now.entries }
+    ensures { result ≡ least_of (live entries.now.entries) table prefix.now }
+{
+    least_live(entries_below(entries, table, prefix), prefix.len())
+}
+
+/// The greatest part after the prefix, and 0 where there is none.
+pub fn greatest_below(entries: &Entries, table: u32, prefix: &[i64]) -> i64
+    requires short { length prefix.now ≤ 6 }
+    requires fit { AreFit entries.now.entries }
+    requires up { IsUp entries.now.entries }
+    ensures { result ≡ greatest_of (live entries.now.entries) table prefix.now }
+{
+    greatest_live(entries_below(entries, table, prefix), prefix.len())
+}
+
+/// The row of an entry that is not blank.
+fn row_of(alloc: Global, place: &Place, cells: &Cells) -> Result<Row, AllocError>
+    ensures { IfOk result (λ r. r ≡ row_with place.now cells.now) }
+{
+    let parts = Vec::from_slice(alloc, place.key())?;
+    let cols = Vec::from_slice(alloc, cells.as_slice())?;
+    Ok(Row {
+        table: place.table(),
+        key: Key {
+            parts: Seq::from_vec(parts),
+        },
+        cols: Seq::from_vec(cols),
+    })
+}
+
+/// Adds the row of an entry, if it is not blank.
+fn push_row(
+    rows: &mut Vec<Row>,
+    alloc: Global,
+    place: &Place,
+    cells: &Option<Cells>,
+) -> Result<(), AllocError>
+    ensures { OnOk result (rows.new.items ≡ rows.old.items ++ with_row place.now cells.now []) }
+{
+    match cells {
+        Some(cells) => {
+            rows.push(row_of(alloc, place, cells)?)?;
+            Ok(())
+        }
+        None => Ok(()),
+    }
+}
+
+/// The rows, in order.
+pub fn rows_of(entries: &Entries, alloc: Global) -> Result<Vec<Row>, AllocError>
+    ensures { IfOk result (λ rows. rows.items ≡ live entries.now.entries) }
+{
+    let mut rows = Vec::new(alloc);
+    for (place, cells) in entries {
+        push_row(&mut rows, alloc, place, cells)?;
+    }
+    Ok(rows)
+}
