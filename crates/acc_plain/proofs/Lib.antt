@@ -1,0 +1,4 @@
+pub mod AheadLemmas
+pub mod Runs
+pub mod Sets
+pub mod Turning
