@@ -4,3 +4,7 @@ pub mod Smalls
 pub mod RowChanges
 pub mod RowOrder
 pub mod Lookups
+pub mod ActionRuns
+pub mod ReadRuns
+pub mod EffectParts
+pub mod Runnables

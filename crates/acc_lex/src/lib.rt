@@ -1,4 +1,7 @@
 //! The words of a design's text.
 #![tactic(auto)]
 
+pub mod lexers;
+pub mod scans;
+pub mod signs;
 pub mod words;

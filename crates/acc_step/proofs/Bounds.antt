@@ -1,6 +1,6 @@
 -- How far from 0 the stored values are after actions.
-use Rattle.std.proofs.Common.{◌≡◌, ℕ, zero, suc, ◌+◌, ◌≤◌, ◌^◌, Bool, true, false, cond, List, [], ◌∷◌, arith, subst, ℤ, pos, ◌+ℤ◌, Some}
-use Rattle.std.specs.Prelude.{All, find, unsigned_abs, slice_index_or}
+use Rattle.std.proofs.Common.{◌≡◌, ℕ, ◌+◌, ◌≤◌, ◌^◌, Bool, true, false, cond, List, [], ◌∷◌, arith, subst, ℤ, pos, ◌+ℤ◌, Some}
+use Rattle.std.specs.Prelude.{find, unsigned_abs, slice_index_or}
 use Rattle.std.specs.List.{list_all, AllByRecursion}
 use Rattle.std.proofs.lemmas.Int.{ints}
 use Rattle.std.proofs.lemmas.List.Elements.{All-weaker, All-set, All-head, All-tail, All-from_recursion, recursion_from_All}
@@ -15,6 +15,7 @@ use Rattle.acc_base.proofs.Smalls.{all_small, small_back, small_last}
 use Rattle.acc_base.proofs.RowChanges.{put_all, drop_all, change_all}
 use Rattle.acc_store.specs.Bounds.{IsWithin, AreWithin}
 use Rattle.acc_store.specs.Rows.{columns_of}
+use Rattle.acc_store.proofs.Withins.{value_within}
 
 abs-add : (x y : ℤ) → unsigned_abs (x +ℤ y) ≤ unsigned_abs x + unsigned_abs y
 abs-add x y = omega (arith, ints)
@@ -26,13 +27,7 @@ module _ (m n : ℕ) (more : m ≤ n) where
   pub within_weaker : (db : List Row) → AreWithin m db → AreWithin n db
   within_weaker db h = All-weaker (IsWithin m) (IsWithin n) row_weaker db h
 
--- a column that is there or 0 is within the bound
-pub value_within : (m : ℕ) (cols : List ℤ) (c : ℕ) → All (λ v. unsigned_abs v ≤ m) cols → unsigned_abs (slice_index_or cols c (pos 0)) ≤ m
-value_within m [] c h = omega (arith, ints)
-value_within m (x ∷ cols) zero h = All-head (λ v. unsigned_abs v ≤ m) x cols h
-value_within m (x ∷ cols) (suc c) h = value_within m cols c (All-tail (λ v. unsigned_abs v ≤ m) x cols h)
-
--- and so is one of a row that is found
+-- a column of a row that is found is within the bound
 pub found_within : (m : ℕ) (test : Row → Bool) (db : List Row) (cols : List ℤ) (c : ℕ) → AreWithin m db → columns_of (find test db) ≡ Some cols → unsigned_abs (slice_index_or cols c (pos 0)) ≤ m
 found_within m test [] cols c h e = cc
 found_within m test (r ∷ db) cols c h e = by (test r) e (found_within m test db cols c (All-tail (IsWithin m) r db h))

@@ -6,3 +6,4 @@ pub mod Overlays
 pub mod ChangeWrites
 pub mod Bounds
 pub mod ActionSteps
+pub mod Leaves

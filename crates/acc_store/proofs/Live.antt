@@ -1,39 +1,16 @@
 -- Entries as rows: what a look-up finds, and what a change of an entry does.
-use Rattle.std.proofs.Common.{◌≡◌, ℕ, ◌<◌, Bool, true, false, cond, ◌||◌, List, [], ◌∷◌, ap, sym, ◌∙◌, refl, subst, ℤ, ◌<ℤ◌, Option, Some, None, is_some}
+use Rattle.std.proofs.Common.{◌≡◌, ℕ, Bool, true, false, cond, ◌||◌, List, [], ◌∷◌, ap, sym, ◌∙◌, refl, subst, ℤ, Option, Some, None, is_some}
 use Rattle.std.specs.Prelude.{find}
 use Rattle.std.specs.List.{AllByRecursion, list_any}
 use Rattle.std.specs.List.Sorted.{IsStrictlySortedBy}
 use Rattle.std.specs.declared.cmp.Ordering.{Ordering}
 use Rattle.std.specs.declared.cmp.Ordering.TheVariants.{Less, Equal, Greater}
-use Rattle.std.specs.Ordering.{nat_cmp, int_cmp, is_eq, ordering_then, match_ordering, MatchOrdering}
-use Rattle.std.specs.Cmp.{int_ranks, ranked}
-use Rattle.std.specs.Cmp.Lexicographic.{slice_cmp}
+use Rattle.std.specs.Ordering.{is_eq, match_ordering}
 use Rattle.std.specs.Map.{keys_of, lookup, remove_entry}
 use Rattle.std.specs.BTreeMap.{insert_entry, is_at as at}
 use Rattle.acc_base.specs.Tables.{Place, place_cmp, is_at, put, put_here, drop_row, column_of, cell_of}
-use Rattle.acc_store.specs.Places.{place_total}
+use Rattle.acc_base.proofs.Places.{place_total, one_place}
 use Rattle.acc_store.specs.Rows.{Entry, row_of, with_row, live, flat, cells_at, column_in, columns_of, IsUp, has_entry}
-
--- ---- places that compare alike are one
-
-ints_equal : (xs ys : List ℤ) → slice_cmp int_cmp xs ys ≡ Equal → xs ≡ ys
-ints_equal [] [] h = refl
-ints_equal [] (y ∷ ys) h = cc
-ints_equal (x ∷ xs) [] h = cc
-ints_equal (x ∷ xs) (y ∷ ys) h = by (int_cmp x y) (int_ranks x y) h (ints_equal xs ys)
-  where
-    by : (o : Ordering) → MatchOrdering o (x <ℤ y) (x ≡ y) (y <ℤ x) → ordering_then o (slice_cmp int_cmp xs ys) ≡ Equal → (slice_cmp int_cmp xs ys ≡ Equal → xs ≡ ys) → x ∷ xs ≡ y ∷ ys
-    by Less e g ih = cc
-    by Equal e g ih = λ i. e i ∷ ih g i
-    by Greater e g ih = cc
-
-pub one_place : (p q : Place) → place_cmp p q ≡ Equal → p ≡ q
-one_place p q h = by (nat_cmp p.0 q.0) (ranked p.0 q.0 (nat_cmp p.0 q.0) refl) h
-  where
-    by : (o : Ordering) → MatchOrdering o (p.0 < q.0) (p.0 ≡ q.0) (q.0 < p.0) → ordering_then o (slice_cmp int_cmp p.1 q.1) ≡ Equal → p ≡ q
-    by Less e g = cc
-    by Equal e g = let s = ints_equal p.1 q.1 g in λ i. (e i, s i)
-    by Greater e g = cc
 
 -- ---- entries past a place
 
