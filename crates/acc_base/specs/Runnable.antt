@@ -78,6 +78,7 @@ pub record IsRunnablePoint (p : Point) : Type 0 where
 pub record IsRunnableType (x : TxType) : Type 0 where
   pub points : All IsRunnablePoint x.points
   pub few : length x.locals ≤ 48
+  pub params : x.params ≤ length x.locals
 
 -- every step of the design can be taken
 abbrev pub IsRunnable : Design → Type 0

@@ -32,7 +32,7 @@ some_from : {X : Type 0} (P : X → Type 0) (o : Option X) → IsSomeAnd o P →
 some_from P None h = absurd h
 some_from P (Some x) h = (x, refl, h)
 
-at_place : (t : ℕ) (ts : List Transaction) (x : Transaction) → transaction_at t ts ≡ Some x → (0 < t) × (slice_get ts (t - 1) ≡ Some x)
+pub at_place : (t : ℕ) (ts : List Transaction) (x : Transaction) → transaction_at t ts ≡ Some x → (0 < t) × (slice_get ts (t - 1) ≡ Some x)
 at_place t ts x h = by (t == 0) refl h
   where
     by : (b : Bool) → (t == 0) ≡ b → (if b then None else slice_get ts (t - 1)) ≡ Some x → (0 < t) × (slice_get ts (t - 1) ≡ Some x)
