@@ -1,0 +1,5 @@
+pub mod Running
+pub mod Reached
+pub mod Change
+pub mod Ahead
+pub mod Turned

@@ -1,0 +1,8 @@
+//! The plain machine of steps: transactions take their turns in any order, without locks.
+#![tactic(auto)]
+
+mod changes;
+mod machines;
+
+pub use changes::PlainError;
+pub use machines::Machine;

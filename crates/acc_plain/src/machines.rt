@@ -1,0 +1,359 @@
+//! The machine: transactions that take their turns over a store.
+ghost use Rattle.std.specs.Prelude.{◌≡◌, ◌≤◌, ◌<◌, ◌^◌, ◌+◌, ◌-◌, [], ◌∷◌, ◌++◌, length, true, slice_get, slice_set, vec_len, All, Some, None, IfOk, IfSome, OnErr, OnOk, option_copied, MatchOption, replicate, pos};
+ghost use Rattle.acc_base.specs.Tables.{IsInOrder};
+ghost use Rattle.acc_base.specs.Machine.{start, next_number, call_fits, locals_in, begun, transaction_at, frame_in, after_event};
+ghost use Rattle.acc_base.specs.Turns.{next_event, said};
+ghost use Rattle.acc_base.specs.Runnable.{IsRunnable, FrameFits};
+ghost use Rattle.acc_base.specs.declared.machines.Event.TheVariants.{Begin};
+ghost use Rattle.acc_base.specs.declared.machines.Event.{Event as TheEvent};
+ghost use Rattle.acc_base.specs.declared.machines.Transaction.{Transaction as TheTransaction};
+ghost use Rattle.acc_store.specs.Bounds.{AreWithin};
+ghost use Rattle.acc_store.specs.Rows.{written, IsNarrow, SumsFit};
+ghost use Rattle.acc_plain.specs.Change.{left_by, IsNextChange};
+ghost use Rattle.acc_plain.specs.Turned.{cause_in, IsUnfinished, IsTurned};
+
+use crate::changes::{Becomes, Change, PlainError, forward_change, undo_change};
+use acc_base::designs::{At, Design, Side};
+use acc_base::machines::{Call, Cause, Event, Frame, Outcome, Reply, Transaction, Turn};
+use acc_base::sequences::{Seq, copied};
+use acc_store::{Store, StoreError, Write};
+use std::alloc::{AllocError, Global};
+use std::marker::Model;
+use std::mem;
+
+/// A machine over a design. Contracts see the design and the state after the events so far.
+///
+/// A transaction is found in constant time; a turn costs what its step's look-ups and writes cost.
+pub struct Machine<'a, S: Store> {
+    alloc: Global,
+    design: &'a Design,
+    store: S,
+    transactions: Vec<Transaction>,
+    events: Vec<Event>,
+}
+
+impl<'a, S: Store> Model for Machine<'a, S> {
+    ghost use Rattle.acc_plain.specs.Running.{Running};
+    ghost use Rattle.acc_plain.specs.Reached.{IsReached};
+
+    ghost Value = { Running };
+
+    ghost view = { λ m. record { design = m.design.now; world = record { rows = S.rows m.store; transactions = m.transactions.items; events = m.events.items } } };
+
+    ghost invariant = { λ m. IsReached m.design.now (record { rows = S.rows m.store; transactions = m.transactions.items; events = m.events.items }) };
+}
+
+/// A call again.
+fn call_again(call: &Call) -> Result<Call, AllocError>
+    ensures { IfOk result (λ again. again ≡ call.now) }
+{
+    Ok(Call {
+        ty: call.ty,
+        params: copied(&call.params)?,
+        tape: copied(&call.tape)?,
+        ask: call.ask,
+    })
+}
+
+/// How many locals a type has.
+fn locals_in(d: &Design, ty: u32) -> usize
+    ensures { result ≡ locals_in (slice_get d.now.types ty) }
+{
+    match d.types.as_slice().get(ty as usize) {
+        Some(x) => x.locals.len(),
+        None => 0,
+    }
+}
+
+/// The locals of a transaction as it begins: its parameters, and then zeros.
+fn first_locals(alloc: Global, params: &[i64], count: usize) -> Result<Vec<i64>, AllocError>
+    ensures { IfOk result (λ v. v.items ≡ params.now ++ replicate (count - length params.now) (pos 0)) }
+{
+    let mut locals = Vec::from_slice(alloc, params)?;
+    locals.resize(count.max(params.len()), 0)?;
+    Ok(locals)
+}
+
+/// The frame of a call as it begins.
+fn first_frame(alloc: Global, d: &Design, t: u64, call: &Call) -> Result<Frame, AllocError>
+    ensures { IfOk result (λ f. f ≡ begun d.now t call.now) }
+{
+    let locals = first_locals(alloc, call.params.as_slice(), locals_in(d, call.ty))?;
+    Ok(Frame {
+        t,
+        ty: call.ty,
+        point: 0,
+        side: Side::Next,
+        locals: Seq::from_vec(locals),
+        tape: copied(&call.tape)?,
+        pos: 0,
+        steps: 0,
+        ask: call.ask,
+    })
+}
+
+/// The transaction that a change leaves.
+fn left_by(becomes: Becomes, x: Transaction) -> Transaction
+    ensures { result ≡ left_by becomes x }
+{
+    match (becomes, x) {
+        (Becomes::Turns(cause), Transaction::Forward(f)) => {
+            Transaction::Undoing(
+                Frame {
+                    side: Side::Undo,
+                    ..f
+                },
+                cause,
+            )
+        }
+        (Becomes::Stands(s), Transaction::Forward(f)) => Transaction::Forward(Frame {
+            locals: s.locals,
+            pos: s.pos,
+            point: s.point,
+            steps: s.steps,
+            ..f
+        }),
+        (Becomes::Stands(s), Transaction::Undoing(f, cause)) => Transaction::Undoing(
+            Frame {
+                locals: s.locals,
+                pos: s.pos,
+                point: s.point,
+                steps: s.steps,
+                ..f
+            },
+            cause,
+        ),
+        (Becomes::Ends(reply), _) => Transaction::Ended(reply),
+        (_, x) => x,
+    }
+}
+
+/// The point at which a frame stands.
+fn standing_at(f: &Frame) -> At
+    ensures { result ≡ record { ty = f.now.ty; point = f.now.point } }
+{
+    At {
+        ty: f.ty,
+        point: f.point,
+    }
+}
+
+/// Why an event turns its transaction, if it does.
+fn cause_in(event: &Event) -> Option<Cause>
+    ensures { result ≡ cause_in event.now }
+{
+    match event {
+        Event::Abort(_, cause) => Some(*cause),
+        _ => None,
+    }
+}
+
+/// What is said of a turn: why the transaction turned, if it did, and else where it stands now.
+fn said(cause: Option<Cause>, x: &Transaction) -> Turn
+    ensures { (event : TheEvent) → cause ≡ cause_in event → result ≡ said event x.now }
+{
+    if let Some(cause) = cause {
+        return Turn::Turned(cause);
+    }
+    match x {
+        Transaction::Forward(f) => Turn::Stepped(standing_at(f)),
+        Transaction::Undoing(f, _) => Turn::Back(standing_at(f)),
+        Transaction::Ended(_) => Turn::Ended,
+    }
+}
+
+/// A transaction's place among all.
+fn place_of(t: u64) -> usize
+    requires { 0 < t }
+    ensures { result ≡ t - 1 }
+{
+    (t - 1) as usize
+}
+
+/// What the next turn of a transaction changes, if it has one.
+fn next_change<S: Store>(
+    alloc: Global,
+    d: &Design,
+    x: &Transaction,
+    s: &S,
+) -> Result<Option<Change>, PlainError>
+    requires runnable { IsRunnable d.now }
+    requires fits { IfSome (frame_in x.now) FrameFits }
+    requires order { IsInOrder (S.rows s.now) }
+    requires within { AreWithin (2 ^ 120) (S.rows s.now) }
+    ensures { IfOk result (λ c. MatchOption c (next_event d.now (S.rows s.now) (Some x.now) ≡ None) (IsNextChange d.now (S.rows s.now) x.now)) }
+{
+    match x {
+        Transaction::Forward(f) => Ok(Some(forward_change(alloc, d, f, s)?)),
+        Transaction::Undoing(f, cause) => undo_change(alloc, d, f, *cause, s),
+        Transaction::Ended(_) => Ok(None),
+    }
+}
+
+/// Replaces a transaction by what a change leaves of it.
+fn replace(transactions: &mut Vec<Transaction>, place: usize, becomes: Becomes)
+    requires within { place < vec_len transactions.old }
+    ensures len { vec_len transactions.new ≡ vec_len transactions.old }
+    ensures items { (x : TheTransaction) → slice_get transactions.old.items place ≡ Some x → transactions.new.items ≡ slice_set transactions.old.items place (left_by becomes x) }
+{
+    let nothing = Transaction::Ended(Reply {
+        t: 0,
+        outcome: Outcome::Compensated(Cause::Crash),
+    });
+    let x = mem::replace(&mut transactions[place], nothing);
+    transactions[place] = left_by(becomes, x);
+}
+
+/// Adds an event and does its writes, or neither.
+fn log_writes<S: Store>(
+    events: &mut Vec<Event>,
+    store: &mut S,
+    event: Event,
+    writes: &[Write],
+) -> Result<(), PlainError>
+    requires narrow { All IsNarrow writes.now }
+    requires sums { SumsFit (written writes.now (S.rows store.old)) }
+    ensures events { OnOk result (events.new.items ≡ events.old.items ++ event ∷ []) }
+    ensures rows { OnOk result (S.rows store.new ≡ written writes.now (S.rows store.old)) }
+    ensures events_stay { OnErr result (events.new.items ≡ events.old.items) }
+    ensures rows_stay { OnErr result (S.rows store.new ≡ S.rows store.old) }
+{
+    events.push(event)?;
+    match store.apply(writes) {
+        Ok(()) => Ok(()),
+        Err(StoreError::Memory) => {
+            events.pop();
+            Err(PlainError::Memory)
+        }
+    }
+}
+
+/// Adds an event and the transaction that begins by it, or neither.
+fn log_begin(
+    events: &mut Vec<Event>,
+    transactions: &mut Vec<Transaction>,
+    event: Event,
+    x: Transaction,
+) -> Result<(), PlainError>
+    ensures events { OnOk result (events.new.items ≡ events.old.items ++ event ∷ []) }
+    ensures transactions { OnOk result (transactions.new.items ≡ transactions.old.items ++ x ∷ []) }
+    ensures events_stay { OnErr result (events.new.items ≡ events.old.items) }
+    ensures transactions_stay { OnErr result (transactions.new.items ≡ transactions.old.items) }
+{
+    events.push(event)?;
+    match transactions.push(x) {
+        Ok(()) => Ok(()),
+        Err(_) => {
+            events.pop();
+            Err(PlainError::Memory)
+        }
+    }
+}
+
+impl<'a, S: Store> Machine<'a, S> {
+    /// A machine before any event, over an empty store.
+    pub fn new(alloc: Global, design: &'a Design, store: S) -> Self
+        requires runnable { IsRunnable design.now }
+        requires empty { S.rows store ≡ [] }
+        ensures design { result.design ≡ design.now }
+        ensures start { result.world ≡ start }
+    {
+        Machine {
+            alloc,
+            design,
+            store,
+            transactions: Vec::new(alloc),
+            events: Vec::new(alloc),
+        }
+    }
+
+    /// How many transactions have begun.
+    pub fn count(&self) -> u64
+        ensures { result ≡ length self.now.world.transactions }
+    {
+        self.transactions.len() as u64
+    }
+
+    /// The transaction with this number, if it has begun.
+    pub fn transaction(&self, t: u64) -> Option<&Transaction>
+        ensures { option_copied result ≡ transaction_at t self.now.world.transactions }
+    {
+        let place = t.checked_sub(1)?;
+        self.transactions.get(place as usize)
+    }
+
+    /// The events so far, oldest first.
+    pub fn events(&self) -> &[Event]
+        ensures { result.now ≡ self.now.world.events }
+    {
+        self.events.as_slice()
+    }
+
+    /// The rows, kept in the store, and the events, oldest first.
+    pub fn into_parts(self) -> (S, Seq<Event>)
+        ensures store { S.rows result.0 ≡ self.entry.world.rows }
+        ensures events { result.1 ≡ self.entry.world.events }
+    {
+        let Machine {
+            alloc: _,
+            design: _,
+            store,
+            transactions: _,
+            events,
+        } = self;
+        (store, Seq::from_vec(events))
+    }
+
+    /// Begins a call. It answers the new transaction's number, which is one above all before.
+    pub fn begin(&mut self, call: &Call) -> Result<u64, PlainError>
+        requires fits { call_fits (slice_get self.old.design.types call.now.ty) call.now ≡ true }
+        requires room { length self.old.world.events < 2 ^ 30 }
+        ensures ok { OnOk result (after_event self.old.design self.old.world (Begin call.now) ≡ Some self.new.world) }
+        ensures number { IfOk result (λ t. t ≡ next_number self.old.world) }
+        ensures err { OnErr result (self.new.world ≡ self.old.world) }
+        ensures design { self.new.design ≡ self.old.design }
+    {
+        let t = self.transactions.len() as u64 + 1;
+        let frame = first_frame(self.alloc, self.design, t, call)?;
+        let again = call_again(call)?;
+        log_begin(
+            &mut self.events,
+            &mut self.transactions,
+            Event::Begin(again),
+            Transaction::Forward(frame),
+        )?;
+        Ok(t)
+    }
+
+    /// Gives an unfinished transaction its next turn, by the plain machine's rules: it turns where it was asked to,
+    /// where its limit is reached, where a number of its step leaves ±2^45 or where its step refuses; else it takes its step.
+    ///
+    /// It answers nothing where the transaction is being undone and a number of its undo step leaves ±2^45; then nothing changes.
+    pub fn turn(&mut self, t: u64) -> Result<Option<Turn>, PlainError>
+        requires unfinished { IsUnfinished t self.old.world }
+        requires room { length self.old.world.events < 2 ^ 30 }
+        ensures turn { IfOk result (IsTurned self.old.design self.old.world self.new.world t) }
+        ensures err { OnErr result (self.new.world ≡ self.old.world) }
+        ensures design { self.new.design ≡ self.old.design }
+    {
+        let place = place_of(t);
+        let Some(change) = next_change(
+            self.alloc,
+            self.design,
+            &self.transactions[place],
+            &self.store,
+        )?
+        else {
+            return Ok(None);
+        };
+        let Change {
+            event,
+            writes,
+            becomes,
+        } = change;
+        let cause = cause_in(&event);
+        log_writes(&mut self.events, &mut self.store, event, writes.as_slice())?;
+        replace(&mut self.transactions, place, becomes);
+        Ok(Some(said(cause, &self.transactions[place])))
+    }
+}
