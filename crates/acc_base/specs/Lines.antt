@@ -1,5 +1,5 @@
 -- The lines that are printed of a play: one a mention, one a place, and the number of events.
-use Rattle.std.specs.Prelude.{ℕ, ◌++◌, List, [], ◌∷◌, length, map, Option, Some, None, option_and_then, slice_get, ℤ, codes}
+use Rattle.std.specs.Prelude.{ℕ, ◌++◌, List, [], ◌∷◌, length, Option, Some, None, slice_get, ℤ, codes}
 use Rattle.std.specs.List.{flat_map, range_with_len}
 use Rattle.std.specs.Fmt.{decimal, signed_decimal}
 use Rattle.acc_base.specs.declared.designs.At.{At}

@@ -1,18 +1,18 @@
 -- A play of calls in a given order on the plain machine.
-use Rattle.std.specs.Prelude.{ℕ, ◌+◌, ◌-◌, ◌==◌, List, [], ◌∷◌, ◌++◌, Option, Some, None, option_and_then, option_map, position, slice_get}
+use Rattle.std.specs.Prelude.{ℕ, ◌-◌, List, [], ◌∷◌, ◌++◌, length, replicate, Option, Some, None, option_and_then, option_map, slice_get, slice_set}
 use Rattle.acc_base.specs.declared.designs.Design.{Design}
 use Rattle.acc_base.specs.declared.machines.Call.{Call}
 use Rattle.acc_base.specs.declared.machines.Event.TheVariants.{Begin}
 use Rattle.acc_base.specs.declared.machines.Transaction.{Transaction}
 use Rattle.acc_base.specs.declared.machines.Transaction.TheVariants.{Forward, Undoing, Ended}
 use Rattle.acc_base.specs.declared.machines.Turn.{Turn}
-use Rattle.acc_base.specs.Machine.{World, start, after_event, transaction_at}
+use Rattle.acc_base.specs.Machine.{World, start, next_number, after_event, transaction_at}
 use Rattle.acc_base.specs.Turns.{turn_of}
 
--- the machine's state, and the places that have begun, in the order in which they did. A place is a call's number from 1
+-- the machine's state, and the number of each place's transaction, none where the place hasn't begun. A place is a call's number from 1
 pub record Play : Type 0 where
   pub world : World
-  pub begun : List ℕ
+  pub numbers : List (Option ℕ)
 
 -- what is told of a mention: the place's turn; that its undo step is out of range; or that it had ended before
 pub data Told : Type 0 where
@@ -21,20 +21,20 @@ pub data Told : Type 0 where
   IsOver : (place : ℕ) → Told
 
 -- no place has begun
-abbrev pub opening : Play
-opening = record { world = start; begun = [] }
+abbrev pub opening : List Call → Play
+opening calls = record { world = start; numbers = replicate (length calls) None }
 
--- the transaction of a place: the n-th place that began has number n
+-- the number of a place's transaction, if the place has begun
 abbrev pub number_of : Play → ℕ → Option ℕ
-number_of p place = option_map (λ i. i + 1) (position (λ k. k == place) p.begun)
+number_of p place = option_and_then (λ n. n) (slice_get p.numbers (place - 1))
 
--- a place begins
-abbrev pub with_place : ℕ → List ℕ → World → Play
-with_place place begun w = record { world = w; begun = begun ++ place ∷ [] }
+-- a place begins: its transaction has the next number
+abbrev pub with_place : Play → ℕ → World → Play
+with_place p place w = record { world = w; numbers = slice_set p.numbers (place - 1) (Some (next_number p.world)) }
 
 abbrev pub begin_place : Design → List Call → Play → ℕ → Option Play
 begin_place d calls p place =
-    option_and_then (λ call. option_map (with_place place p.begun) (after_event d p.world (Begin call))) (slice_get calls (place - 1))
+    option_and_then (λ call. option_map (with_place p place) (after_event d p.world (Begin call))) (slice_get calls (place - 1))
 
 -- a place that hasn't begun begins at its first mention
 abbrev pub has_begun : Design → List Call → Play → ℕ → Option ℕ → Option Play
@@ -72,4 +72,4 @@ mentions d calls (place ∷ order) so_far =
 
 -- what is told of an order of places, and the play after it
 abbrev pub played : Design → List Call → List ℕ → Option (List Told × Play)
-played d calls order = mentions d calls order ([], opening)
+played d calls order = mentions d calls order ([], opening calls)

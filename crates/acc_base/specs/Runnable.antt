@@ -1,5 +1,5 @@
 -- What a design has to keep so that its steps can be taken: the form rules and limits on which running it rests.
-use Rattle.std.specs.Prelude.{ℕ, ◌≤◌, ◌<◌, ◌^◌, List, length, All, ℤ, pos, ◌<ℤ◌, ⊤}
+use Rattle.std.specs.Prelude.{◌≤◌, ◌<◌, ◌^◌, List, length, All, pos, ◌<ℤ◌, ⊤}
 use Rattle.acc_base.specs.declared.forms.Lin.{Lin}
 use Rattle.acc_base.specs.declared.forms.LinRel.{LinRel}
 use Rattle.acc_base.specs.declared.steps.Read.{Read}
