@@ -1,0 +1,5 @@
+pub mod Cutting
+pub mod Decimals
+pub mod LineSteps
+pub mod OrderSteps
+pub mod Refusals

@@ -1,0 +1,5 @@
+pub mod Pieces
+pub mod Numerals
+pub mod LineReadings
+pub mod CallLines
+pub mod OrderLines
