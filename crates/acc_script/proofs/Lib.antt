@@ -3,3 +3,4 @@ pub mod Decimals
 pub mod LineSteps
 pub mod OrderSteps
 pub mod Refusals
+pub mod CallSteps

@@ -2,4 +2,5 @@ pub mod Pieces
 pub mod Numerals
 pub mod LineReadings
 pub mod CallLines
+pub mod CallParts
 pub mod OrderLines
