@@ -1,0 +1,6 @@
+pub mod Cutting
+pub mod Decimals
+pub mod LineSteps
+pub mod OrderSteps
+pub mod Refusals
+pub mod CallSteps

@@ -1,0 +1,91 @@
+-- Lines that are read one after the other.
+use Rattle.std.proofs.Common.{◌≡◌, ℕ, ◌+◌, ◌≤◌, Bool, true, false, List, [], ◌∷◌, ◌++◌, length, refl, sym, ap, subst, ◌∙◌, arith, append_assoc, length-append, MatchBool}
+use Rattle.std.proofs.lemmas.List.{append-nil}
+use Rattle.acc_script.specs.Pieces.{lines_of, is_skipped}
+use Rattle.acc_script.proofs.Cutting.{length_pieces}
+use Rattle.acc_script.specs.LineReadings.{Says, AreSaid, IsSaid, IsTooMuch, Refuses, AddsSaid}
+
+-- The first n lines are read: they say the items, and these are few enough; the other lines are left.
+pub record SoFar {X : Type 0} (Line : List ℕ → List X → Type 0) (most : ℕ) (all left : List (List ℕ)) (n : ℕ) (items : List X) : Type 0 where
+  pub before : List (List ℕ)
+  pub parts : all ≡ before ++ left
+  pub number : n ≡ length before
+  pub said : AreSaid Line before items
+  pub few : length items ≤ most
+
+-- before the first line
+pub none_read : {X : Type 0} (Line : List ℕ → List X → Type 0) (most : ℕ) (all : List (List ℕ)) → SoFar Line most all all 0 []
+none_read Line most all = record { before = []; parts = refl; number = refl; said = refl; few = omega arith }
+
+-- lines and then a line
+skip_behind : {X : Type 0} (Line : List ℕ → List X → Type 0) (before : List (List ℕ)) (line : List ℕ) (items : List X) → AreSaid Line before items → is_skipped line ≡ true → AreSaid Line (before ++ line ∷ []) items
+skip_behind Line [] line items h skip = rw skip h
+skip_behind {X} Line (first ∷ before) line items h skip = by (is_skipped first) h (λ xs g. skip_behind Line before line xs g skip)
+  where
+    by : (b : Bool) → MatchBool b (AreSaid Line before items) (Says Line first (AreSaid Line before) items) → ((xs : List X) → AreSaid Line before xs → AreSaid Line (before ++ line ∷ []) xs) → MatchBool b (AreSaid Line (before ++ line ∷ []) items) (Says Line first (AreSaid Line (before ++ line ∷ [])) items)
+    by true g ih = ih items g
+    by false g ih = record { here = g.here; behind = g.behind; parts = g.parts; said = g.said; rest = ih g.behind g.rest }
+
+say_behind : {X : Type 0} (Line : List ℕ → List X → Type 0) (before : List (List ℕ)) (line : List ℕ) (items here : List X) → AreSaid Line before items → is_skipped line ≡ false → Line line here → AreSaid Line (before ++ line ∷ []) (items ++ here)
+say_behind Line [] line items here h counts said =
+    rw counts (record { here = here; behind = []; parts = ap (λ xs. xs ++ here) h ∙ sym (append-nil here); said = said; rest = refl })
+say_behind {X} Line (first ∷ before) line items here h counts said = by (is_skipped first) h (λ xs g. say_behind Line before line xs here g counts said)
+  where
+    by : (b : Bool) → MatchBool b (AreSaid Line before items) (Says Line first (AreSaid Line before) items) → ((xs : List X) → AreSaid Line before xs → AreSaid Line (before ++ line ∷ []) (xs ++ here)) → MatchBool b (AreSaid Line (before ++ line ∷ []) (items ++ here)) (Says Line first (AreSaid Line (before ++ line ∷ [])) (items ++ here))
+    by true g ih = ih items g
+    by false g ih =
+        record { here = g.here; behind = g.behind ++ here; parts = ap (λ xs. xs ++ here) g.parts ∙ append_assoc g.here g.behind here; said = g.said; rest = ih g.behind g.rest }
+
+longer : (before : List (List ℕ)) (line : List ℕ) (n : ℕ) → n ≡ length before → n + 1 ≡ length (before ++ line ∷ [])
+longer before line n h = simp length-append (omega arith)
+
+-- a skipped line is read
+pub one_skipped : {X : Type 0} (Line : List ℕ → List X → Type 0) (most : ℕ) (all left : List (List ℕ)) (line : List ℕ) (n : ℕ) (items : List X) → SoFar Line most all (line ∷ left) n items → is_skipped line ≡ true → SoFar Line most all left (n + 1) items
+one_skipped Line most all left line n items h skip =
+    record { before = h.before ++ line ∷ []; parts = h.parts ∙ sym (append_assoc h.before (line ∷ []) left); number = longer h.before line n h.number; said = skip_behind Line h.before line items h.said skip; few = h.few }
+
+-- a line that says something is read
+pub one_said : {X : Type 0} (Line : List ℕ → List X → Type 0) (most : ℕ) (all left : List (List ℕ)) (line : List ℕ) (n : ℕ) (items new : List X) → SoFar Line most all (line ∷ left) n items → is_skipped line ≡ false → AddsSaid Line most line items new → SoFar Line most all left (n + 1) new
+one_said Line most all left line n items new h counts adds =
+    record { before = h.before ++ line ∷ []; parts = h.parts ∙ sym (append_assoc h.before (line ∷ []) left); number = longer h.before line n h.number; said = subst (AreSaid Line (h.before ++ line ∷ [])) (sym adds.parts) (say_behind Line h.before line items adds.here h.said counts adds.said); few = adds.few }
+
+-- a line that comes next has a number that isn't large
+pub next_number : {X : Type 0} (Line : List ℕ → List X → Type 0) (most : ℕ) (text : List ℕ) (left : List (List ℕ)) (line : List ℕ) (n : ℕ) (items : List X) → SoFar Line most (lines_of text) (line ∷ left) n items → n ≤ length text
+next_number Line most text left line n items h = omega (arith, length_pieces 10 text, ap length h.parts, length-append h.before (line ∷ left), h.number)
+
+-- all lines are read
+pub all_read : {X : Type 0} (Line : List ℕ → List X → Type 0) (most : ℕ) (text : List ℕ) (n : ℕ) (items : List X) → SoFar Line most (lines_of text) [] n items → IsSaid Line most text items
+all_read Line most text n items h = record { said = subst (λ ls. AreSaid Line ls items) (sym (h.parts ∙ append-nil h.before)) h.said; few = h.few }
+
+-- a line is refused
+pub one_refused : {X : Type 0} (Line : List ℕ → List X → Type 0) (most : ℕ) (text : List ℕ) (left : List (List ℕ)) (line : List ℕ) (n : ℕ) (items : List X) → SoFar Line most (lines_of text) (line ∷ left) n items → is_skipped line ≡ false → IsTooMuch Line most line (length items) → Refuses Line most text (n + 1)
+one_refused Line most text left line n items h counts wrong =
+    record { before = h.before; line = line; behind = left; parts = h.parts; number = ap (λ k. k + 1) h.number; items = items; said = h.said; few = h.few; counts = counts; wrong = wrong }
+
+-- ---- what lines say is as long, however it is read
+
+abbrev pub SaysAsMany : {X : Type 0} → (List ℕ → List X → Type 0) → Type 0
+SaysAsMany {X} Line = (line : List ℕ) (xs ys : List X) → Line line xs → Line line ys → length xs ≡ length ys
+
+-- among all items there is room for some and for what a line may say
+abbrev Room : {X : Type 0} → (List ℕ → List X → Type 0) → List ℕ → List X → List X → Type 0
+Room {X} Line line items all = (here : List X) × Line line here × (length items + length here ≤ length all)
+
+-- lines, a line and more lines say no fewer items than the former do
+parted : {X : Type 0} (Line : List ℕ → List X → Type 0) → SaysAsMany Line → (before : List (List ℕ)) (line : List ℕ) (behind : List (List ℕ)) (items all : List X) → AreSaid Line before items → is_skipped line ≡ false → AreSaid Line (before ++ line ∷ behind) all → Room Line line items all
+parted Line same [] line behind items all h counts whole =
+    let w : Says Line line (AreSaid Line behind) all = rw counts at whole in
+    (w.here, w.said, omega (arith, ap length h, ap length w.parts, length-append w.here w.behind))
+parted {X} Line same (first ∷ before) line behind items all h counts whole = by (is_skipped first) h whole (λ xs ys g w. parted Line same before line behind xs ys g counts w)
+  where
+    by : (b : Bool) → MatchBool b (AreSaid Line before items) (Says Line first (AreSaid Line before) items) → MatchBool b (AreSaid Line (before ++ line ∷ behind) all) (Says Line first (AreSaid Line (before ++ line ∷ behind)) all) → ((xs ys : List X) → AreSaid Line before xs → AreSaid Line (before ++ line ∷ behind) ys → Room Line line xs ys) → Room Line line items all
+    by true g w ih = ih items all g w
+    by false g w ih =
+        let more = ih g.behind w.behind g.rest w.rest in
+        (more.0, more.1, omega (arith, same first g.here w.here g.said w.said, ap length g.parts, ap length w.parts, length-append g.here g.behind, length-append w.here w.behind, more.2))
+
+-- a refused text says nothing
+pub refused_none : {X : Type 0} (Line : List ℕ → List X → Type 0) → SaysAsMany Line → (most : ℕ) (text : List ℕ) (n : ℕ) → Refuses Line most text n → (items : List X) → ¬ IsSaid Line most text items
+refused_none Line same most text n r items whole =
+    let p = parted Line same r.before r.line r.behind r.items items r.said r.counts (subst (λ ls. AreSaid Line ls items) r.parts whole.said) in
+    absurd (omega (arith, r.wrong p.0 p.1, p.2, whole.few))

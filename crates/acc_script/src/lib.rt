@@ -1,0 +1,14 @@
+//! Scripts and orders, read line by line, and the printed lines of a play.
+#![tactic(auto)]
+
+mod cuts;
+mod errors;
+mod lines;
+mod numbers;
+mod orders;
+mod scripts;
+
+pub use errors::ScriptError;
+pub use lines::{push_events, push_over, push_rest, push_stuck, push_turn, push_unbegun};
+pub use orders::order;
+pub use scripts::calls;
