@@ -12,7 +12,8 @@ use Rattle.acc_base.specs.declared.machines.Frame.{Frame}
 use Rattle.acc_base.specs.Numbers.{is_small, IsSmall}
 use Rattle.acc_base.specs.Linear.{variables, lin_values}
 use Rattle.acc_base.specs.Reads.{Reading, read_key, read_value, assigned, at_after, after_read, after_reads}
-use Rattle.acc_step.specs.ReadValues.{read_of, value_read}
+use Rattle.acc_step.specs.InRange.{value_read}
+use Rattle.acc_step.specs.ReadValues.{read_of}
 
 small_is : (x : ℤ) → is_small x ≡ true → IsSmall x
 small_is x h = grind (arith, nat_tests)

@@ -1,5 +1,5 @@
 -- Changes of rows: actions whose numbers are worked out.
-use Rattle.std.specs.Prelude.{◌≤◌, Bool, true, not, ◌&&◌, ◌||◌, List, length, ℤ, ◌+ℤ◌}
+use Rattle.std.specs.Prelude.{◌≤◌, Bool, true, not, ◌&&◌, ◌||◌, List, length, Option, Some, None, if◌then◌else◌, ℤ, ◌+ℤ◌}
 use Rattle.std.specs.List.{list_any, list_all}
 use Rattle.acc_base.specs.declared.tables.Row.{Row}
 use Rattle.acc_base.specs.declared.designs.Side.{Side}
@@ -25,6 +25,10 @@ change_of env (Put t k vs) = Puts (record { table = t; parts = lin_values env k 
 change_of env (Del t k) = Drops (record { table = t; parts = lin_values env k })
 change_of env (Set t k c v) = Sets (record { table = t; parts = lin_values env k }) c (lin_value env v)
 change_of env (Add t k c v) = Adds (record { table = t; parts = lin_values env k }) c (lin_value env v)
+
+-- and the same where the action's numbers are in range
+abbrev pub change_if_small : List ℤ → Action → Option Change
+change_if_small env a = if list_all is_small (action_numbers env a) then Some (change_of env a) else None
 
 abbrev pub place_at : RowKey → Place
 place_at k = (k.table, k.parts)

@@ -1,3 +1,4 @@
+pub mod InRange
 pub mod Guards
 pub mod ReadValues
 pub mod Overlay

@@ -1,12 +1,10 @@
 //! Actions whose numbers are worked out.
-ghost use Rattle.std.specs.Prelude.{◌≡◌, ◌≤◌, ◌^◌, length, All, Some, None, IfSome, if◌then◌else◌};
-ghost use Rattle.std.specs.List.{list_all};
-ghost use Rattle.acc_base.specs.Numbers.{IsSmall, is_small};
+ghost use Rattle.std.specs.Prelude.{◌≡◌, ◌≤◌, ◌^◌, length, All, IfSome};
+ghost use Rattle.acc_base.specs.Numbers.{IsSmall};
 ghost use Rattle.acc_base.specs.Linear.{variables};
-ghost use Rattle.acc_base.specs.Actions.{action_numbers};
 ghost use Rattle.acc_base.specs.Runnable.{IsShort, IsKey, CanAct};
 ghost use Rattle.acc_base.specs.declared.steps.Action.TheVariants.{Put as ToPut, Del as ToDrop, Set as ToSet, Add as ToAdd};
-ghost use Rattle.acc_step.specs.Changing.{change_of, IsFitChange};
+ghost use Rattle.acc_step.specs.Changing.{change_if_small, IsFitChange};
 
 use crate::values::{key_in_range, linear_in_range, linears_in_range};
 use acc_base::forms::Lin;
@@ -36,7 +34,7 @@ fn to_put(table: u32, key: &[Lin], values: &[Lin], locals: &[i64], t: u64) -> Op
     requires key { IsKey key.now }
     requires values { All IsShort values.now }
     requires few { length values.now ≤ 12 }
-    ensures value { result ≡ (if list_all is_small (action_numbers (variables t locals.now) (ToPut table key.now values.now)) then Some (change_of (variables t locals.now) (ToPut table key.now values.now)) else None) }
+    ensures value { result ≡ change_if_small (variables t locals.now) (ToPut table key.now values.now) }
     ensures fit { IfSome result IsFitChange }
 {
     let parts = key_in_range(key, locals, t)?;
@@ -49,7 +47,7 @@ fn to_drop(table: u32, key: &[Lin], locals: &[i64], t: u64) -> Option<Change>
     requires small { All IsSmall locals.now }
     requires number { t ≤ 2 ^ 45 }
     requires key { IsKey key.now }
-    ensures value { result ≡ (if list_all is_small (action_numbers (variables t locals.now) (ToDrop table key.now)) then Some (change_of (variables t locals.now) (ToDrop table key.now)) else None) }
+    ensures value { result ≡ change_if_small (variables t locals.now) (ToDrop table key.now) }
     ensures fit { IfSome result IsFitChange }
 {
     let parts = key_in_range(key, locals, t)?;
@@ -62,7 +60,7 @@ fn to_set(table: u32, key: &[Lin], col: u32, value: &Lin, locals: &[i64], t: u64
     requires number { t ≤ 2 ^ 45 }
     requires key { IsKey key.now }
     requires short { IsShort value.now }
-    ensures value { result ≡ (if list_all is_small (action_numbers (variables t locals.now) (ToSet table key.now col value.now)) then Some (change_of (variables t locals.now) (ToSet table key.now col value.now)) else None) }
+    ensures value { result ≡ change_if_small (variables t locals.now) (ToSet table key.now col value.now) }
     ensures fit { IfSome result IsFitChange }
 {
     let parts = key_in_range(key, locals, t)?;
@@ -76,7 +74,7 @@ fn to_add(table: u32, key: &[Lin], col: u32, value: &Lin, locals: &[i64], t: u64
     requires number { t ≤ 2 ^ 45 }
     requires key { IsKey key.now }
     requires short { IsShort value.now }
-    ensures value { result ≡ (if list_all is_small (action_numbers (variables t locals.now) (ToAdd table key.now col value.now)) then Some (change_of (variables t locals.now) (ToAdd table key.now col value.now)) else None) }
+    ensures value { result ≡ change_if_small (variables t locals.now) (ToAdd table key.now col value.now) }
     ensures fit { IfSome result IsFitChange }
 {
     let parts = key_in_range(key, locals, t)?;
@@ -89,7 +87,7 @@ pub fn evaluated(action: &Action, locals: &[i64], t: u64) -> Option<Change>
     requires small { All IsSmall locals.now }
     requires number { t ≤ 2 ^ 45 }
     requires can { CanAct action.now }
-    ensures value { result ≡ (if list_all is_small (action_numbers (variables t locals.now) action.now) then Some (change_of (variables t locals.now) action.now) else None) }
+    ensures value { result ≡ change_if_small (variables t locals.now) action.now }
     ensures fit { IfSome result IsFitChange }
 {
     match action {

@@ -100,6 +100,9 @@ fn step_effect_on<S: Store>(
 }
 
 /// What the step of a frame on a side does with the rows of a store, which stay as they are.
+///
+/// It takes one look-up of the store a read or action. An action that changes a column walks the writes before it,
+/// of which there are at most 15. The reads and guards take no memory.
 pub fn effect<S: Store>(
     alloc: Global,
     d: &Design,

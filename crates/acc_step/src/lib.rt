@@ -13,3 +13,6 @@ mod writers;
 
 pub use effects::{StepEffect, effect};
 pub use errors::StepError;
+
+#[cfg(test)]
+mod tests;

@@ -6,7 +6,8 @@ ghost use Rattle.acc_base.specs.Linear.{variables, var, lin_value, lin_values};
 ghost use Rattle.acc_base.specs.Reads.{assigned, at_after, unread, after_reads};
 ghost use Rattle.acc_base.specs.Tables.{column_of, has_row, count_of, sum_of, least_of, greatest_of};
 ghost use Rattle.acc_base.specs.Runnable.{IsShort, IsKey, CanRead, FrameFits};
-ghost use Rattle.acc_step.specs.ReadValues.{value_read, read_of};
+ghost use Rattle.acc_step.specs.InRange.{value_read};
+ghost use Rattle.acc_step.specs.ReadValues.{read_of};
 
 use crate::values::{in_range, key_in_range, linear_in_range, times, variable, widened};
 use acc_base::forms::Lin;

@@ -1,9 +1,9 @@
 //! Linear values of a transaction's variables, and values in range.
-ghost use Rattle.std.specs.Prelude.{◌≡◌, ◌≤◌, ◌^◌, ◌+◌, length, All, Some, None, if◌then◌else◌, unsigned_abs, ◌+ℤ◌, ◌*ℤ◌};
-ghost use Rattle.std.specs.List.{list_all};
-ghost use Rattle.acc_base.specs.Numbers.{IsSmall, is_small};
+ghost use Rattle.std.specs.Prelude.{◌≡◌, ◌≤◌, ◌^◌, ◌+◌, length, All, unsigned_abs, ◌+ℤ◌, ◌*ℤ◌};
+ghost use Rattle.acc_base.specs.Numbers.{IsSmall};
 ghost use Rattle.acc_base.specs.Linear.{variables, var, term_value, lin_value, lin_values};
 ghost use Rattle.acc_base.specs.Runnable.{IsShort, IsKey};
+ghost use Rattle.acc_step.specs.InRange.{if_small, if_all_small};
 
 use acc_base::forms::Lin;
 use acc_store::Inline;
@@ -80,7 +80,7 @@ pub fn linear(l: &Lin, locals: &[i64], t: u64) -> i128
 
 /// A number, if it is in range.
 pub fn in_range(v: i128) -> Option<i64>
-    ensures { result ≡ (if is_small v then Some v else None) }
+    ensures { result ≡ if_small v }
 {
     if -RANGE <= v && v <= RANGE {
         Some(v as i64)
@@ -94,7 +94,7 @@ pub fn linear_in_range(l: &Lin, locals: &[i64], t: u64) -> Option<i64>
     requires small { All IsSmall locals.now }
     requires number { t ≤ 2 ^ 45 }
     requires short { IsShort l.now }
-    ensures { result ≡ (if is_small (lin_value (variables t locals.now) l.now) then Some (lin_value (variables t locals.now) l.now) else None) }
+    ensures { result ≡ if_small (lin_value (variables t locals.now) l.now) }
 {
     in_range(linear(l, locals, t))
 }
@@ -109,7 +109,7 @@ pub fn linears_in_range<const N: usize>(
     requires number { t ≤ 2 ^ 45 }
     requires short { All IsShort ls.now }
     requires few { length ls.now ≤ N }
-    ensures { result ≡ (if list_all is_small (lin_values (variables t locals.now) ls.now) then Some (lin_values (variables t locals.now) ls.now) else None) }
+    ensures { result ≡ if_all_small (lin_values (variables t locals.now) ls.now) }
 {
     let mut values = Inline::new(0);
     for l in ls {
@@ -126,7 +126,7 @@ pub fn key_in_range(key: &[Lin], locals: &[i64], t: u64) -> Option<Inline<i64, 6
     requires small { All IsSmall locals.now }
     requires number { t ≤ 2 ^ 45 }
     requires key { IsKey key.now }
-    ensures { result ≡ (if list_all is_small (lin_values (variables t locals.now) key.now) then Some (lin_values (variables t locals.now) key.now) else None) }
+    ensures { result ≡ if_all_small (lin_values (variables t locals.now) key.now) }
 {
     linears_in_range(key, locals, t)
 }

@@ -1,10 +1,10 @@
 //! Changes of rows, as writes over the rows of a store.
 ghost use Rattle.std.specs.Prelude.{◌≡◌, ◌≤◌, ◌^◌, length, All, Some, None, IfOk, IfSome, IsErrOf, OnOk, if◌then◌else◌, slice_set, slice_index_or, pos, ◌+ℤ◌, unsigned_abs, true, false};
-ghost use Rattle.acc_base.specs.Numbers.{is_small};
 ghost use Rattle.acc_base.specs.Tables.{IsInOrder};
 ghost use Rattle.acc_store.specs.Bounds.{AreWithin};
 ghost use Rattle.acc_store.specs.Rows.{written, row_of, IsFit, IsNarrow};
 ghost use Rattle.acc_store.specs.declared.writes.Write.TheVariants.{Row as Puts, Gone};
+ghost use Rattle.acc_step.specs.InRange.{if_small};
 ghost use Rattle.acc_step.specs.Overlay.{may_store, columns_at, put_with, set_of, add_of, with_write};
 ghost use Rattle.acc_step.specs.Changing.{place_at, changed, may_change, IsFitChange};
 ghost use Rattle.acc_step.specs.declared.changes.Change.TheVariants.{Put as ToPut, Drop as ToDrop, Set as ToSet, Add as ToAdd};
@@ -195,7 +195,7 @@ fn near_sum(value: i128, more: i64) -> i128
 
 /// A sum that is in range.
 fn small_sum(sum: i128) -> Option<i128>
-    ensures { result ≡ (if is_small sum then Some sum else None) }
+    ensures { result ≡ if_small sum }
 {
     match in_range(sum) {
         Some(_) => Some(sum),

@@ -2,7 +2,8 @@ use Rattle.std.proofs.Common.{◌∙◌, sym, ap}
 use Rattle.acc_base.specs.Linear.{lin_values}
 use Rattle.acc_base.specs.Tables.{column_of}
 use Rattle.acc_base.specs.Linear.{variables}
-use Rattle.acc_step.specs.ReadValues.{read_of, value_read}
+use Rattle.acc_step.specs.InRange.{value_read}
+use Rattle.acc_step.specs.ReadValues.{read_of}
 use Rattle.acc_step.proofs.reads.read_one.Goals as goal
 
 pub returns-in-Col : goal.returns-in-Col
