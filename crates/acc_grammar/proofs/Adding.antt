@@ -1,5 +1,5 @@
 -- A loop over items that adds to a list what each item stands for.
-use Rattle.std.proofs.Common.{◌≡◌, Bool, false, true, List, [], ◌∷◌, ◌++◌, Result, Ok, Err, refl, sym, ap, subst, ◌∙◌, append_assoc}
+use Rattle.std.proofs.Common.{◌≡◌, Bool, false, true, List, [], ◌∷◌, ◌++◌, Ok, Err, refl, sym, ap, ◌∙◌, append_assoc}
 use Rattle.std.proofs.lemmas.List.{append-nil}
 use Rattle.acc_grammar.specs.declared.faults.Fault.{Fault}
 use Rattle.acc_grammar.specs.declared.faults.Fault.TheVariants.{Memory, Syntax}

@@ -1,5 +1,5 @@
 -- One reader or the other, by the sign that leads what they read.
-use Rattle.std.proofs.Common.{◌≡◌, Bool, true, false, List, [], ◌∷◌, ◌++◌, refl, sym, ap, subst, ◌∙◌, inl, inr, ◌⊎◌}
+use Rattle.std.proofs.Common.{◌≡◌, Bool, true, false, List, ◌∷◌, ◌++◌, refl, ap, subst, ◌∙◌, inl, inr}
 use Rattle.std.specs.Prelude.{◌||◌}
 use Rattle.acc_grammar.specs.Readers.{OutcomeOf}
 use Rattle.acc_grammar.specs.Runs.{next_is}

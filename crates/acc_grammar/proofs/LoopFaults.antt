@@ -1,5 +1,5 @@
 -- A loop that stops by an item's fault.
-use Rattle.std.proofs.Common.{◌≡◌, Bool, false, true, List, [], Ok, Err}
+use Rattle.std.proofs.Common.{◌≡◌, Bool, false, true, List, [], Err}
 use Rattle.acc_grammar.specs.declared.faults.Fault.{Fault}
 use Rattle.acc_grammar.specs.declared.faults.Fault.TheVariants.{Memory, Syntax}
 use Rattle.acc_grammar.specs.Readers.{OutcomeOf, many}

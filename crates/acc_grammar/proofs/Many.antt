@@ -1,8 +1,8 @@
 -- Items as long as one starts: exact where the item is, and what a loop over them keeps.
-use Rattle.std.proofs.Common.{◌≡◌, ℕ, zero, suc, ◌+◌, ◌<◌, ◌≤◌, Bool, true, false, cond, List, [], ◌∷◌, ◌++◌, length, Result, Ok, Err, refl, sym, ap, subst, ◌∙◌, append_assoc, arith, inl, inr, ◌⊎◌, length-append}
-use Rattle.std.proofs.lemmas.List.{append-nil, nil_from_length}
+use Rattle.std.proofs.Common.{◌≡◌, ℕ, zero, suc, ◌<◌, ◌≤◌, Bool, true, false, cond, List, [], ◌∷◌, ◌++◌, length, Ok, Err, refl, sym, ap, subst, ◌∙◌, append_assoc, arith, inl, inr, length-append}
+use Rattle.std.proofs.lemmas.List.{append-nil}
 use Rattle.acc_grammar.specs.Readers.{AllIn, OutcomeOf, ◌>>=◌, joined, item_and, many_for, many}
-use Rattle.acc_grammar.proofs.Exact.{AllIn-append, ok_is, bind_ok, bind_err, bind_assoc, Stops, Exact, heads_behind, ByHead, chosen, test_behind}
+use Rattle.acc_grammar.proofs.Exact.{ok_is, bind_ok, bind_err, Exact, heads_behind, ByHead, chosen, test_behind}
 
 -- the reader of items uses up words
 abbrev pub Shrinks : {S T : Type 0} → (List S → OutcomeOf S T) → Type 0

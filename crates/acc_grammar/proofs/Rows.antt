@@ -1,10 +1,10 @@
 -- Items as long as one starts, as a row: the reader is exact for the rows in which no item runs into what is spelled behind it.
-use Rattle.std.proofs.Common.{◌≡◌, ℕ, zero, suc, ◌+◌, ◌<◌, ◌≤◌, Bool, true, false, List, [], ◌∷◌, ◌++◌, length, Result, Ok, Err, refl, sym, ap, subst, ◌∙◌, append_assoc, arith, inl, inr, ◌⊎◌}
+use Rattle.std.proofs.Common.{◌≡◌, ℕ, zero, suc, ◌<◌, Bool, true, false, List, [], ◌∷◌, ◌++◌, length, Ok, Err, refl, sym, ap, subst, ◌∙◌, append_assoc, arith, inl, inr}
 use Rattle.std.proofs.lemmas.List.{append-nil, append_cancel_right}
 use Rattle.acc_grammar.specs.Readers.{AllIn, OutcomeOf, ◌>>=◌, joined, item_and, many_for, many}
 use Rattle.acc_grammar.specs.Runs.{IsRow}
 use Rattle.acc_grammar.proofs.Exact.{bind_err, Stops, Exact, ByHead, chosen}
-use Rattle.acc_grammar.proofs.Many.{item_shrinks, Runs, many_exact}
+use Rattle.acc_grammar.proofs.Many.{Runs, many_exact}
 
 -- none starts behind the row
 abbrev pub Closed : {S T : Type 0} → (List S → Bool) → List T → List S → Type 0

@@ -1,8 +1,7 @@
 -- The readers of signs that pass a test are exact.
-use Rattle.std.proofs.Common.{◌≡◌, ℕ, ◌+◌, ◌<◌, ◌≤◌, Bool, true, false, List, [], ◌∷◌, ◌++◌, length, take, drop, Result, Ok, Err, refl, sym, ap, subst, ◌∙◌, arith, inl, inr, ◌⊎◌, length-append}
+use Rattle.std.proofs.Common.{◌≡◌, ℕ, ◌≤◌, Bool, true, false, List, [], ◌∷◌, ◌++◌, length, take, drop, Ok, Err, refl, sym, ap, subst, ◌∙◌, arith, inl, inr, ◌⊎◌, length-append}
 use Rattle.std.proofs.lemmas.List.{take_at, drop_at}
 use Rattle.std.specs.List.{prefix_len}
-use Rattle.acc_grammar.specs.Readers.{AllIn, OutcomeOf}
 use Rattle.acc_grammar.specs.Runs.{EachPasses, IsRun, next_is, run, behind_run, one_at, run_at, front_at, absent_at}
 use Rattle.acc_grammar.proofs.Exact.{ok_is, Stops, Exact, All, Free, ByHead, chosen}
 

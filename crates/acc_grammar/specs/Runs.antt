@@ -1,5 +1,5 @@
 -- Signs that pass a test: one of them, a run of them, or none; and trees in a row that don't run into each other.
-use Rattle.std.specs.Prelude.{◌≡◌, ℕ, Bool, true, false, List, [], ◌∷◌, ◌++◌, length, Result, Ok, Err, if◌then◌else◌}
+use Rattle.std.specs.Prelude.{◌≡◌, Bool, true, false, List, [], ◌∷◌, Ok, Err, if◌then◌else◌}
 use Rattle.acc_grammar.specs.Readers.{OutcomeOf, joined}
 
 -- each of the signs passes

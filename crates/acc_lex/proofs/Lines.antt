@@ -1,17 +1,17 @@
 -- The readers of lines, and of a whole text, are exact.
-use Rattle.std.proofs.Common.{◌≡◌, ℕ, ◌<◌, Bool, true, false, List, [], ◌∷◌, ◌++◌, length, Result, Ok, Err, refl, sym, ap, subst, ◌∙◌, append_assoc, arith, inl, inr, length-append}
+use Rattle.std.proofs.Common.{◌≡◌, ℕ, ◌<◌, true, false, List, [], ◌∷◌, ◌++◌, length, refl, sym, ap, subst, ◌∙◌, append_assoc, arith, inl, inr}
 use Rattle.std.proofs.lemmas.List.{append-nil}
-use Rattle.acc_grammar.specs.Readers.{AllIn, OutcomeOf, ◌>>=◌, joined, many}
-use Rattle.acc_grammar.specs.Runs.{EachPasses, next_is, one_at, front_at, absent_at}
-use Rattle.acc_grammar.proofs.Exact.{bind_assoc, Stops, Exact, All, Each, Next, seq_exact, made, Made, made_exact, trees_exact, same_exact, Or, either_exact}
+use Rattle.acc_grammar.specs.Readers.{AllIn, joined}
+use Rattle.acc_grammar.specs.Runs.{EachPasses, next_is}
+use Rattle.acc_grammar.proofs.Exact.{bind_assoc, Exact, All, Each, seq_exact, Made, made_exact, trees_exact, same_exact, Or, either_exact}
 use Rattle.acc_grammar.proofs.Many.{Shrinks, item_shrinks, Runs, many_exact}
-use Rattle.acc_grammar.proofs.RunReaders.{next_head, just, nothing, Passes, Apart, one_exact, front_exact, absent_exact}
+use Rattle.acc_grammar.proofs.RunReaders.{next_head, Passes, one_exact, front_exact, absent_exact}
 use Rattle.acc_lex.specs.ByteKinds.{is_byte, is_space, is_plain}
-use Rattle.acc_lex.specs.Spellings.{Item, Statement, Line, Comment, Statements, blanks, item_bytes, statement_bytes, next_statement, line_bytes, next_line, lines_bytes, IsStatement, IsLine, AreLines}
-use Rattle.acc_lex.specs.Readings.{spaces_at, is_inside, items_at, next_statement_at, next_statements_at, Body, Remark, Rest, remark_at, rest_at, body_at, line_of, line_at, next_line_at, next_lines_at, is_any, lines_at}
+use Rattle.acc_lex.specs.Spellings.{Item, Statement, Line, Comment, Statements, blanks, item_bytes, next_statement, line_bytes, next_line, lines_bytes, IsStatement, IsLine, AreLines}
+use Rattle.acc_lex.specs.Readings.{is_inside, next_statement_at, next_statements_at, Body, Remark, Rest, remark_at, rest_at, body_at, line_of, line_at, next_line_at, next_lines_at, is_any, lines_at}
 use Rattle.acc_lex.proofs.ByteFacts.{Byte, is_the}
 use Rattle.acc_lex.proofs.Tokens.{starts_token}
-use Rattle.acc_lex.proofs.Statements.{spaces_exact, AreItems, ItemsGoes, items_exact, none_behind, StatementGoes, next_statement_exact}
+use Rattle.acc_lex.proofs.Statements.{spaces_exact, AreItems, items_exact, none_behind, StatementGoes, next_statement_exact}
 
 -- ---- further statements
 

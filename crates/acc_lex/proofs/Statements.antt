@@ -1,17 +1,16 @@
 -- The readers of spaces and statements are exact.
-use Rattle.std.proofs.Common.{◌≡◌, ℕ, zero, suc, ◌<◌, Bool, true, false, List, [], ◌∷◌, ◌++◌, length, replicate, Result, Ok, Err, refl, sym, ap, subst, ◌∙◌, arith, inl, inr, ◌⊎◌, length-append}
+use Rattle.std.proofs.Common.{◌≡◌, ℕ, zero, suc, ◌<◌, Bool, true, false, List, [], ◌∷◌, ◌++◌, length, refl, sym, ap, subst, ◌∙◌, arith, inl, inr, length-append}
 use Rattle.std.proofs.lemmas.List.{length-replicate}
-use Rattle.std.specs.Prelude.{◌==◌, ◌||◌, not}
-use Rattle.acc_grammar.specs.Readers.{AllIn, OutcomeOf, ◌>>=◌, joined, many}
-use Rattle.acc_grammar.specs.Runs.{EachPasses, IsRow, next_is, one_at, front_at}
-use Rattle.acc_grammar.proofs.Exact.{bind_assoc, Stops, Exact, All, Each, Next, seq_exact, made, Made, made_exact, trees_exact, same_exact}
+use Rattle.std.specs.Prelude.{◌==◌}
+use Rattle.acc_grammar.specs.Readers.{joined}
+use Rattle.acc_grammar.specs.Runs.{EachPasses, IsRow, next_is}
+use Rattle.acc_grammar.proofs.Exact.{bind_assoc, Exact, All, seq_exact, made_exact, trees_exact, same_exact}
 use Rattle.acc_grammar.proofs.Many.{Shrinks, item_shrinks}
-use Rattle.acc_grammar.proofs.RunReaders.{flag, next_head, just, Passes, Apart, one_exact, front_exact}
-use Rattle.acc_grammar.proofs.Leads.{leads_yes, leads_no}
-use Rattle.acc_grammar.proofs.Rows.{Closed, row_exact}
+use Rattle.acc_grammar.proofs.RunReaders.{flag, next_head, Apart, one_exact, front_exact}
+use Rattle.acc_grammar.proofs.Rows.{row_exact}
 use Rattle.acc_lex.specs.ByteKinds.{is_byte, is_space, is_inner}
-use Rattle.acc_lex.specs.Spellings.{Token, Item, Statement, token_bytes, blanks, item_bytes, statement_bytes, next_statement, IsToken, Parted, IsItem, ItemParted, IsStatement}
-use Rattle.acc_lex.specs.Readings.{spaces_at, token_at, item_at, is_inside, items_at, statement_at, next_statement_at}
+use Rattle.acc_lex.specs.Spellings.{Token, Item, Statement, token_bytes, blanks, item_bytes, statement_bytes, next_statement, Parted, IsItem, ItemParted, IsStatement}
+use Rattle.acc_lex.specs.Readings.{spaces_at, item_at, is_inside, items_at, statement_at, next_statement_at}
 use Rattle.acc_lex.proofs.ByteFacts.{Byte, is_the, byte_apart}
 use Rattle.acc_lex.proofs.Tokens.{parted_heads, parted, starts_token, token_exact, token_leads}
 

@@ -1,18 +1,18 @@
 -- The reader of tokens is exact.
-use Rattle.std.proofs.Common.{◌≡◌, ◌≢◌, ℕ, ◌<◌, ◌≤◌, Bool, true, false, cond, List, [], ◌∷◌, ◌++◌, length, Result, Ok, Err, refl, sym, ap, subst, ◌∙◌, arith, inl, inr, ◌⊎◌}
-use Rattle.std.specs.Prelude.{◌==◌, ◌||◌, unwrap_or}
+use Rattle.std.proofs.Common.{◌≡◌, ◌≢◌, ℕ, Bool, true, false, List, [], ◌∷◌, ◌++◌, refl, sym, ap, subst, ◌∙◌, inl, inr}
+use Rattle.std.specs.Prelude.{unwrap_or}
 use Rattle.std.proofs.lemmas.List.{append-nil}
-use Rattle.acc_grammar.specs.Readers.{AllIn, OutcomeOf, ◌>>=◌}
-use Rattle.acc_grammar.specs.Runs.{EachPasses, IsRun, next_is, one_at, run_at, absent_at}
-use Rattle.acc_grammar.proofs.Exact.{bind_assoc, Stops, Exact, All, Free, Each, Next, seq_exact, made, Made, made_exact, trees_exact, same_exact, Or, maybe_exact}
-use Rattle.acc_grammar.proofs.RunReaders.{flag, next_head, just, Passes, Apart, one_exact, run_exact, absent_exact}
+use Rattle.acc_grammar.specs.Readers.{AllIn}
+use Rattle.acc_grammar.specs.Runs.{IsRun, next_is}
+use Rattle.acc_grammar.proofs.Exact.{bind_assoc, Exact, All, Each, seq_exact, Made, made_exact, trees_exact, same_exact, Or, maybe_exact}
+use Rattle.acc_grammar.proofs.RunReaders.{flag, next_head, just, Passes, one_exact, run_exact, absent_exact}
 use Rattle.acc_grammar.proofs.Leads.{Leads, made_leads, one_of, or_leads, first_exact}
 use Rattle.acc_lex.specs.declared.words.Sign.{Sign}
 use Rattle.acc_lex.specs.declared.words.Sign.TheVariants as sign
 use Rattle.acc_lex.specs.ByteKinds.{is_byte, is_letter, is_digit, is_leading, is_inner}
-use Rattle.acc_lex.specs.Spellings.{Token, Letters, Digits, Mark, mark_bytes, token_bytes, IsNumeral, IsToken, MarkParted, Parted}
+use Rattle.acc_lex.specs.Spellings.{Token, Letters, Digits, Mark, mark_bytes, token_bytes, IsToken, MarkParted, Parted}
 use Rattle.acc_lex.specs.Readings.{letters_at, zero_at, whole_at, pair_at, arrow_at, equal_or, equal_at, marks, mark_of, is_mark, mark_at, token_at}
-use Rattle.acc_lex.proofs.ByteFacts.{Byte, is_the, byte_apart, letter_not_digit, letter_inner, leading_digit, leading_not_zero, digit_not_letter, apart_digit, mark_has, mark_all, no_mark}
+use Rattle.acc_lex.proofs.ByteFacts.{Byte, is_the, byte_apart, letter_inner, leading_digit, digit_not_letter, apart_digit, mark_has, mark_all, no_mark}
 
 -- ---- what may follow a token
 

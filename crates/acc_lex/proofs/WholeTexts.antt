@@ -1,16 +1,15 @@
 -- What reading a whole text says of it.
-use Rattle.std.proofs.Common.{◌≡◌, ℕ, ◌+◌, ◌-◌, ◌<◌, ◌≤◌, List, [], ◌∷◌, ◌++◌, length, take, Option, Some, None, Result, Ok, Err, refl, sym, ap, subst, ◌∙◌, arith, append_assoc, length-append}
+use Rattle.std.proofs.Common.{◌≡◌, ℕ, ◌+◌, ◌-◌, ◌≤◌, List, [], ◌∷◌, ◌++◌, length, take, Option, Some, None, Ok, Err, refl, sym, ap, subst, ◌∙◌, arith, append_assoc, length-append}
 use Rattle.std.specs.Prelude.{map}
 use Rattle.std.proofs.lemmas.List.{append-nil, take_at}
 use Rattle.acc_grammar.specs.Readers.{AllIn, joined}
 use Rattle.acc_grammar.specs.Runs.{IsRow}
 use Rattle.acc_grammar.proofs.Exact.{AllIn-append, ok_is}
 use Rattle.acc_lex.specs.declared.words.Word.{Word}
-use Rattle.acc_lex.specs.declared.words.Word.TheVariants as word
 use Rattle.acc_lex.specs.Keywords.{keyword_of}
 use Rattle.acc_lex.specs.Words.{CanSpell}
-use Rattle.acc_lex.specs.Spellings.{Token, Letters, Digits, Mark, Item, Statement, Line, Comment, Statements, item_bytes, IsToken, IsItem, ItemParted, IsStatement, IsLine, AreLines, lines_bytes}
-use Rattle.acc_lex.specs.LineWords.{name_or_sign, token_word, item_word, items_words, ended, statement_words, line_words, lines_words}
+use Rattle.acc_lex.specs.Spellings.{Token, Letters, Digits, Mark, Item, Line, Comment, Statements, item_bytes, IsToken, IsItem, ItemParted, IsStatement, IsLine, lines_bytes}
+use Rattle.acc_lex.specs.LineWords.{name_or_sign, token_word, item_word, ended, statement_words, line_words, lines_words}
 use Rattle.acc_lex.specs.Readings.{lines_at}
 use Rattle.acc_lex.specs.Texts.{IsLexed, Begins, StopsAt}
 use Rattle.acc_lex.proofs.Lines.{nothing_left, lines_exact}

@@ -18,11 +18,13 @@ name_or_sign w None = word.Name w
 abbrev pub number_of : List ℕ → ℕ
 number_of w = min (digits_value 10 w) (2 ^ 64 - 1)
 
+-- the word of a token
 abbrev pub token_word : Token → Word
 token_word (Letters w) = name_or_sign w (keyword_of w)
 token_word (Digits w) = word.Number (number_of w)
 token_word (Mark s) = word.Sign s
 
+-- the word of a token, whatever spaces follow
 abbrev pub item_word : Item → Word
 item_word i = token_word i.token
 
@@ -31,15 +33,19 @@ abbrev pub ended : List Word → List Word
 ended [] = []
 ended (w ∷ ws) = (w ∷ ws) ++ word.Sign sign.End ∷ []
 
+-- a statement's words, by its tokens
 abbrev pub items_words : List Item → List Word
 items_words items = ended (map item_word items)
 
+-- spaces in front add none
 abbrev pub statement_words : Statement → List Word
 statement_words s = items_words s.items
 
+-- a comment has none, any other line those of its statements
 abbrev pub line_words : Line → List Word
 line_words (Comment n bytes) = []
 line_words (Statements s others) = joined statement_words (s ∷ others)
 
+-- those of the first line, and of the others
 abbrev pub lines_words : Line × List Line → List Word
 lines_words ls = joined line_words (ls.0 ∷ ls.1)

@@ -45,17 +45,21 @@ mark_bytes sign.Minus = codes "-"
 mark_bytes sign.Times = codes "*"
 mark_bytes _ = []
 
+-- a word and a number are their own bytes
 abbrev pub token_bytes : Token → List ℕ
 token_bytes (Letters w) = w
 token_bytes (Digits w) = w
 token_bytes (Mark s) = mark_bytes s
 
+-- so many spaces
 abbrev pub blanks : ℕ → List ℕ
 blanks n = replicate n 32
 
+-- a token, and the spaces behind it
 abbrev pub item_bytes : Item → List ℕ
 item_bytes i = token_bytes i.token ++ blanks i.spaces
 
+-- spaces, and then tokens
 abbrev pub statement_bytes : Statement → List ℕ
 statement_bytes s = blanks s.spaces ++ joined item_bytes s.items
 
@@ -63,6 +67,7 @@ statement_bytes s = blanks s.spaces ++ joined item_bytes s.items
 abbrev pub next_statement : Statement → List ℕ
 next_statement s = 59 ∷ statement_bytes s
 
+-- the bytes of a line, without its line feed
 abbrev pub line_bytes : Line → List ℕ
 line_bytes (Comment n bytes) = blanks n ++ (35 ∷ bytes)
 line_bytes (Statements s others) = statement_bytes s ++ joined next_statement others
@@ -98,9 +103,11 @@ Parted (Letters w) behind = next_is is_inner behind ≡ false
 Parted (Digits w) behind = next_is is_inner behind ≡ false
 Parted (Mark s) behind = MarkParted s behind
 
+-- a token that fits
 abbrev pub IsItem : Item → Type 0
 IsItem i = IsToken i.token
 
+-- a token and its spaces are parted from what stands behind them
 abbrev pub ItemParted : Item → List ℕ → Type 0
 ItemParted i behind = Parted i.token (blanks i.spaces ++ behind)
 
@@ -113,5 +120,6 @@ abbrev pub IsLine : Line → Type 0
 IsLine (Comment n bytes) = EachPasses is_plain bytes
 IsLine (Statements s others) = AllIn IsStatement (s ∷ others)
 
+-- each line fits
 abbrev pub AreLines : Line × List Line → Type 0
 AreLines ls = AllIn IsLine (ls.0 ∷ ls.1)

@@ -6,7 +6,6 @@ ghost use Rattle.acc_grammar.specs.Answers.{Gives, GivesAs, Adds};
 ghost use Rattle.acc_lex.specs.ByteKinds.{is_byte, is_plain, is_letter, is_digit, is_leading, is_inner};
 ghost use Rattle.acc_lex.specs.LineWords.{number_of, token_word, item_word, items_words, statement_words, line_words, lines_words};
 ghost use Rattle.acc_lex.specs.Readings.{spaces_at, letters_at, zero_at, whole_at, pair_at, arrow_at, equal_or, equal_at, mark_of, mark_at, token_at, one_word, is_inside, item_at, items_at, statement_at, next_statement_at, next_statements_at, body_words, remark_at, rest_at, body_at, line_at, next_line_at, next_lines_at, is_any, lines_at};
-
 ghost use Rattle.acc_lex.specs.declared.words.Word.{Word};
 ghost use Rattle.acc_lex.specs.Words.{CanSpell};
 ghost use Rattle.acc_lex.specs.Texts.{IsLexed, line_number, Answers};
@@ -23,6 +22,7 @@ use std::alloc::Global;
 pub enum LexError {
     /// On this line, counted from 1, stands the first byte with which no text goes on.
     Bad(u64),
+    /// Memory ran out; nothing is said of the text.
     Memory,
 }
 
@@ -33,7 +33,9 @@ fn saturated(digits: &[u8]) -> u64
 {
     let mut value: u64 = 0;
     for b in digits {
-        value = value.saturating_mul(10).saturating_add(u64::from(*b - b'0'));
+        value = value
+            .saturating_mul(10)
+            .saturating_add(u64::from(*b - b'0'));
     }
     value
 }
@@ -189,9 +191,7 @@ impl<'a> Lexer<'a> {
         let word = self.letters();
         match keyword(word) {
             Some(sign) => Ok(Word::Sign(sign)),
-            None => Ok(Word::Name(Seq::from_vec(Vec::from_slice(
-                self.alloc, word,
-            )?))),
+            None => Ok(Word::Name(Seq::from_vec(Vec::from_slice(self.alloc, word)?))),
         }
     }
 

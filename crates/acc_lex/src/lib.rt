@@ -1,8 +1,8 @@
-//! The words of a design's text.
+//! The words of a design's text: what its bytes are, read exactly, or the line of the first byte that doesn't fit.
 #![tactic(auto)]
 
 pub mod lexers;
-pub mod scans;
+mod scans;
 pub mod signs;
 #[cfg(test)]
 mod tests;

@@ -1,7 +1,5 @@
-use Rattle.std.proofs.Common.{◌≡◌, ◌-◌, ◌++◌, List, ℕ, length, refl, sym, ap, subst, ◌∙◌}
-use Rattle.acc_grammar.specs.Readers.{AllIn}
+use Rattle.std.proofs.Common.{◌≡◌, ◌-◌, ◌++◌, List, length, sym, ap, subst, ◌∙◌}
 use Rattle.acc_lex.specs.declared.words.Word.{Word}
-use Rattle.acc_lex.specs.Words.{CanSpell}
 use Rattle.acc_lex.specs.LineWords.{lines_words}
 use Rattle.acc_lex.specs.Texts.{IsLexed}
 use Rattle.acc_lex.proofs.WholeTexts.{found, same_words, not_text, fewer, stops_at, can_spell}

@@ -1,8 +1,7 @@
-use Rattle.std.proofs.Common.{◌≡◌, arith, subst}
+use Rattle.std.proofs.Common.{arith}
 use Rattle.std.proofs.lemmas.List.Sums.{prefix_len-le-length}
-use Rattle.acc_grammar.specs.Runs.{next_is}
-use Rattle.acc_grammar.proofs.RunReaders.{cut_passes, front_read, run_read}
-use Rattle.acc_lex.specs.ByteKinds.{is_letter, is_leading, is_inner, is_digit, is_plain, is_space}
+use Rattle.acc_grammar.proofs.RunReaders.{front_read}
+use Rattle.acc_lex.specs.ByteKinds.{is_plain}
 use Rattle.acc_lex.proofs.lexers.Lexer.comment.Goals as goal
 
 pub front-requires : goal.front-requires

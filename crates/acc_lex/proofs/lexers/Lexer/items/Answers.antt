@@ -2,8 +2,6 @@ use Rattle.std.proofs.Common.{refl, sym, ◌∙◌}
 use Rattle.std.proofs.lemmas.Result.{err_from_is_err_and}
 use Rattle.acc_grammar.specs.Runs.{next_is}
 use Rattle.acc_grammar.proofs.Adding.{adds_on, adds_ends, adds_all}
-use Rattle.acc_lex.specs.ByteKinds.{is_byte}
-use Rattle.acc_lex.specs.LineWords.{statement_words, line_words}
 use Rattle.acc_lex.specs.Readings.{one_word, is_inside, item_at, items_at}
 use Rattle.acc_lex.proofs.Statements.{item_shorter}
 use Rattle.acc_lex.proofs.lexers.Lexer.items.Goals as goal

@@ -2,8 +2,6 @@ use Rattle.std.proofs.Common.{◌≡◌, length}
 use Rattle.acc_grammar.specs.Readers.{many}
 use Rattle.acc_grammar.specs.Runs.{next_is}
 use Rattle.acc_grammar.proofs.Adding.{with_items}
-use Rattle.acc_lex.specs.ByteKinds.{is_byte}
-use Rattle.acc_lex.specs.LineWords.{statement_words, line_words}
 use Rattle.acc_lex.specs.Readings.{one_word, is_inside, item_at}
 use Rattle.acc_lex.proofs.lexers.Lexer.items.Given as goal
 

@@ -3,8 +3,8 @@ use Rattle.acc_grammar.specs.Readers.{many}
 use Rattle.acc_grammar.specs.Runs.{next_is}
 use Rattle.acc_grammar.proofs.Adding.{with_items}
 use Rattle.acc_lex.specs.ByteKinds.{is_byte}
-use Rattle.acc_lex.specs.LineWords.{statement_words, line_words}
-use Rattle.acc_lex.specs.Readings.{one_word, is_inside, next_line_at}
+use Rattle.acc_lex.specs.LineWords.{line_words}
+use Rattle.acc_lex.specs.Readings.{next_line_at}
 use Rattle.acc_lex.proofs.lexers.Lexer.next_lines.Given as goal
 
 abbrev pub invariant-loop-self : goal.invariant-loop-self

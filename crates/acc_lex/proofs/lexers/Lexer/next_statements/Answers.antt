@@ -3,8 +3,8 @@ use Rattle.std.proofs.lemmas.Result.{err_from_is_err_and}
 use Rattle.acc_grammar.specs.Runs.{next_is}
 use Rattle.acc_grammar.proofs.Adding.{adds_on, adds_ends, adds_all}
 use Rattle.acc_lex.specs.ByteKinds.{is_byte}
-use Rattle.acc_lex.specs.LineWords.{statement_words, line_words}
-use Rattle.acc_lex.specs.Readings.{one_word, is_inside, next_statement_at, next_statements_at}
+use Rattle.acc_lex.specs.LineWords.{statement_words}
+use Rattle.acc_lex.specs.Readings.{next_statement_at, next_statements_at}
 use Rattle.acc_lex.proofs.Lines.{next_shorter}
 use Rattle.acc_lex.proofs.lexers.Lexer.next_statements.Goals as goal
 

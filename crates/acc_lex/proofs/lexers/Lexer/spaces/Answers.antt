@@ -1,4 +1,4 @@
-use Rattle.std.proofs.Common.{◌≡◌, arith, Ok}
+use Rattle.std.proofs.Common.{arith, Ok}
 use Rattle.std.proofs.lemmas.List.Sums.{prefix_len-le-length}
 use Rattle.acc_grammar.proofs.RunReaders.{front_read, cut_len}
 use Rattle.acc_lex.specs.ByteKinds.{is_space}
