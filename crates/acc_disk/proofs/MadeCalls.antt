@@ -34,8 +34,8 @@ looked old new number fails from same = record {
   fails = fails;
   from = from;
   earlier = λ calls lt.
-  ap (λ changes. after_all (take (prefix_len (λ recorded. nat_le recorded.number calls) changes) changes) (settled new.history.start.items)) same.past
-  ∙ ap (λ start. after_all (take (prefix_len (λ recorded. nat_le recorded.number calls) old.history.past.items) old.history.past.items) (settled start)) same.start;
+      ap (λ changes. after_all (take (prefix_len (λ recorded. nat_le recorded.number calls) changes) changes) (settled new.history.start.items)) same.past
+      ∙ ap (λ start. after_all (take (prefix_len (λ recorded. nat_le recorded.number calls) old.history.past.items) old.history.past.items) (settled start)) same.start;
   latest = latest new;
 }
 
@@ -46,11 +46,11 @@ changed old new step number fails from advances = record {
   fails = fails;
   from = from;
   earlier = λ calls lt.
-  let before = prefix_len (λ recorded. nat_le recorded.number calls) old.history.past.items in
-  ap (λ count. past_standing new.history count)
-  (ap (λ changes. prefix_len (λ recorded. nat_le recorded.number calls) changes) advances.past
-   ∙ prefix_len-later old.history.past.items advances.last calls (omega (arith, advances.number_is, lt)))
-  ∙ past_standing-advanced (next_call old) step old.history new.history advances before (prefix_len-le-length (λ recorded. nat_le recorded.number calls) old.history.past.items);
+      let before = prefix_len (λ recorded. nat_le recorded.number calls) old.history.past.items in
+      ap (λ count. past_standing new.history count)
+      (ap (λ changes. prefix_len (λ recorded. nat_le recorded.number calls) changes) advances.past
+      ∙ prefix_len-later old.history.past.items advances.last calls (omega (arith, advances.number_is, lt)))
+      ∙ past_standing-advanced (next_call old) step old.history new.history advances before (prefix_len-le-length (λ recorded. nat_le recorded.number calls) old.history.past.items);
   latest = latest new;
 }
 

@@ -30,11 +30,11 @@ write_in_order standing at bytes order fits =
         no_shorter = omega (arith, long, short);
         no_longer = omega (arith, long);
         untouched = λ i lt un.
-        let was = order.present.untouched i lt (unwritten_before at (length bytes) i standing.written un) in
-        ⊎_elim
-        (λ under. overwritten_below at bytes standing.bytes i fits under ∙ was)
-        (λ over. overwritten_above at bytes standing.bytes i fits over ∙ was)
-        (apart at (length bytes) i standing.written un);
+            let was = order.present.untouched i lt (unwritten_before at (length bytes) i standing.written un) in
+            ⊎_elim
+            (λ under. overwritten_below at bytes standing.bytes i fits under ∙ was)
+            (λ over. overwritten_above at bytes standing.bytes i fits over ∙ was)
+            (apart at (length bytes) i standing.written un);
       };
     }
 

@@ -73,11 +73,11 @@ write_follows standing at bytes order fits image is =
         no_shorter = omega (arith, counted);
         no_longer = omega (arith, counted, long, is.no_longer, order.present.no_longer);
         below = λ i lt under.
-        let free = mended_free standing image i (λ low un. is.untouched i low (still_unwritten_below at (length bytes) i standing.written under un)) in
-        sym (get_or-mended standing image count i (omega (arith, counted)) ∙ free);
+            let free = mended_free standing image i (λ low un. is.untouched i low (still_unwritten_below at (length bytes) i standing.written under un)) in
+            sym (get_or-mended standing image count i (omega (arith, counted)) ∙ free);
         above = λ i lt over.
-        let free = mended_free standing image i (λ low un. is.untouched i low (still_unwritten_above at (length bytes) i standing.written over un)) in
-        sym (get_or-mended standing image count i (omega (arith, counted)) ∙ free);
+            let free = mended_free standing image i (λ low un. is.untouched i low (still_unwritten_above at (length bytes) i standing.written over un)) in
+            sym (get_or-mended standing image count i (omega (arith, counted)) ∙ free);
       },
     )
 
@@ -92,7 +92,7 @@ cut_follows standing to order fits image is =
         no_shorter = omega (arith, counted, long, is.no_shorter);
         no_longer = omega (arith, counted);
         below = λ i lt under.
-        let free = mended_free standing image i (λ low un. is.untouched i (omega (arith, long)) un) in
-        sym (get_or-mended standing image count i (omega arith) ∙ free);
+            let free = mended_free standing image i (λ low un. is.untouched i (omega (arith, long)) un) in
+            sym (get_or-mended standing image count i (omega arith) ∙ free);
       },
     )

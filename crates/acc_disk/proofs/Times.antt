@@ -65,15 +65,15 @@ module _ (number : ℕ) (step : Standing → Standing) (old new : History) (adva
   goes_on = record {
     later = omega (arith, change_count-advanced);
     nothing_else = λ time image le left.
-    elim (old_or_new time image left) [
-      inl before ↦ inl (record {
-        count = left.count;
-        since = left.since;
-        within = before;
-        left = subst (λ standing. IsImage standing image) (past_standing-advanced left.count before) left.left;
-      })
-    | inr now ↦ inr (subst (λ standing. IsImage standing image) (past_standing-all new left.count now) left.left)
-    ];
+        elim (old_or_new time image left) [
+          | inl before ↦ inl (record {
+            count = left.count;
+            since = left.since;
+            within = before;
+            left = subst (λ standing. IsImage standing image) (past_standing-advanced left.count before) left.left;
+          })
+          | inr now ↦ inr (subst (λ standing. IsImage standing image) (past_standing-all new left.count now) left.left)
+        ];
     keeps = λ time image le left. record {
       count = left.count;
       since = left.since;

@@ -215,7 +215,9 @@ impl Disk for MemDisk {
         ensures made { MadeCall self.old self.new }
     {
         self.begin()?;
-        let outcome = self.history.write(self.alloc, self.calls, at as usize, bytes);
+        let outcome = self
+            .history
+            .write(self.alloc, self.calls, at as usize, bytes);
         grown(outcome, &mut self.refused)?;
         Ok(())
     }

@@ -33,5 +33,5 @@ returns-clause-ok c =
       number_is = refl;
       past = c.in_ok-push.ensures.items;
       steps = stands_after old.start.items old.past.items c.push.new.self.items last c.in_ok-push.ensures.items
-      ∙ ap (λ bytes. after_write c.args.at bytes (after_all old.past.items (settled old.start.items))) copy;
+          ∙ ap (λ bytes. after_write c.args.at bytes (after_all old.past.items (settled old.start.items))) copy;
     }
