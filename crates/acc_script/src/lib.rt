@@ -9,6 +9,6 @@ mod orders;
 mod scripts;
 
 pub use errors::ScriptError;
-pub use lines::{push_events, push_over, push_rest, push_stuck, push_turn, push_unbegun};
+pub use lines::{push_events, push_over, push_rest, push_stuck, push_turn, push_unbegun, push_unfinished};
 pub use orders::order;
 pub use scripts::calls;

@@ -136,6 +136,13 @@ pub fn push_unbegun(out: &mut Vec<u8>, place: u64) -> Result<(), AllocError>
     push_place(out, place, b" unbegun")
 }
 
+/// Writes that the transaction of a place hasn't ended.
+pub fn push_unfinished(out: &mut Vec<u8>, place: u64) -> Result<(), AllocError>
+    ensures { OnOk result (out.new.items ≡ out.old.items ++ line (decimal place ++ codes " unfinished")) }
+{
+    push_place(out, place, b" unfinished")
+}
+
 /// Numbers, each behind a space.
 fn push_spaced(out: &mut Vec<u8>, values: &[i64]) -> Result<(), AllocError>
     ensures { OnOk result (out.new.items ≡ out.old.items ++ flat_map spaced values.now) }
