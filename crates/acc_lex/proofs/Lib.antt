@@ -4,3 +4,4 @@ pub mod Tokens
 pub mod Statements
 pub mod Lines
 pub mod WholeTexts
+pub mod LineFeeds
