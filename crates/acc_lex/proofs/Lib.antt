@@ -5,3 +5,4 @@ pub mod Statements
 pub mod Lines
 pub mod WholeTexts
 pub mod LineFeeds
+pub mod WrittenWords

@@ -5,11 +5,10 @@ use Rattle.std.proofs.lemmas.List.{append-nil}
 use Rattle.acc_grammar.specs.Readers.{AllIn, joined}
 use Rattle.acc_grammar.specs.Runs.{EachPasses, IsRun, IsRow}
 use Rattle.acc_grammar.proofs.Exact.{AllIn-append}
-use Rattle.acc_grammar.proofs.RunReaders.{flag}
 use Rattle.acc_lex.specs.declared.words.Sign.{Sign}
 use Rattle.acc_lex.specs.declared.words.Sign.TheVariants as sign
 use Rattle.acc_lex.specs.declared.words.Word.{Word}
-use Rattle.acc_lex.specs.ByteKinds.{is_byte, is_plain, is_letter, is_digit, is_leading, is_inner}
+use Rattle.acc_lex.specs.ByteKinds.{is_plain, is_letter, is_digit, is_leading, is_inner}
 use Rattle.acc_lex.specs.Spellings.{Token, Letters, Digits, Mark, Item, Statement, Line, Comment, Statements, mark_bytes, token_bytes, blanks, item_bytes, statement_bytes, next_statement, line_bytes, next_line, lines_bytes, IsToken, IsItem, ItemParted, IsStatement, IsLine, AreLines}
 use Rattle.acc_lex.specs.LineWords.{line_words, lines_words}
 use Rattle.acc_lex.specs.Texts.{IsLexed}
