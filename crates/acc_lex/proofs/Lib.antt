@@ -5,4 +5,5 @@ pub mod Statements
 pub mod Lines
 pub mod WholeTexts
 pub mod LineFeeds
+pub mod StatementWords
 pub mod WrittenWords

@@ -16,27 +16,15 @@ use Rattle.acc_lex.specs.Keywords.{keywords, keyword_of}
 use Rattle.acc_lex.specs.Spellings.{Token, Letters, Digits, Mark, Item, Statement, Line, Statements, mark_bytes, item_bytes, line_bytes, IsNumeral, IsToken, IsItem, ItemParted, IsStatement}
 use Rattle.acc_lex.specs.LineWords.{name_or_sign, number_of, token_word, item_word, statement_words}
 use Rattle.acc_lex.specs.Texts.{IsLexed}
+use Rattle.acc_lex.proofs.ByteFacts.{and_both}
 use Rattle.acc_lex.proofs.Tokens.{parted}
+use Rattle.acc_lex.proofs.StatementWords.{is_end_sign, is_end, InStatements}
 
 -- a word for which bytes can be written: a name is no fixed word, and a number is what some digits mean
 abbrev pub CanWrite : Word → Type 0
 CanWrite (word.Sign s) = Unit {0}
 CanWrite (word.Name x) = IsRun is_letter is_inner x × (keyword_of x ≡ None)
 CanWrite (word.Number n) = (w : List ℕ) × IsNumeral w × (number_of w ≡ n)
-
-abbrev is_end_sign : Sign → Bool
-is_end_sign sign.End = true
-is_end_sign _ = false
-
--- the end of a statement
-abbrev pub is_end : Word → Bool
-is_end (word.Sign s) = is_end_sign s
-is_end _ = false
-
--- Whole statements, none of them empty; at false one has begun before.
-abbrev pub InStatements : Bool → List Word → Type 0
-InStatements fresh [] = fresh ≡ true
-InStatements fresh (w ∷ ws) = MatchBool (is_end w) ((fresh ≡ false) × InStatements true ws) (InStatements false ws)
 
 -- ---- a token for each word
 
@@ -59,10 +47,6 @@ word_in (k ∷ ks) s = cond (derived.ghosts.eq k.1 s) k.0 (word_in ks s)
 abbrev is_run : List ℕ → Bool
 is_run [] = false
 is_run (b ∷ bs) = is_letter b && list_all is_inner bs
-
-and_both : (x y : Bool) → (x && y) ≡ true → (x ≡ true) × (y ≡ true)
-and_both true y h = (refl, h)
-and_both false y h = absurd cc
 
 each_inner : (bs : List ℕ) → list_all is_inner bs ≡ true → EachPasses is_inner bs
 each_inner [] h = tt
