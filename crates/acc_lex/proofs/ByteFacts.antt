@@ -1,6 +1,6 @@
 -- Which bytes pass which tests.
 use Rattle.std.proofs.Common.{◌≡◌, ℕ, Bool, true, false, cond, List, [], ◌∷◌, refl, sym, ap, subst, ◌∙◌, arith, inl, inr, Some}
-use Rattle.std.specs.Prelude.{◌==◌, ◌||◌, is_some, unwrap_or}
+use Rattle.std.specs.Prelude.{◌==◌, ◌&&◌, ◌||◌, is_some, unwrap_or}
 use Rattle.std.specs.Char.{is_ascii_alphabetic, is_ascii_digit}
 use Rattle.std.proofs.lemmas.Bool.{eqb-true}
 use Rattle.std.proofs.lemmas.Bool.Decides.{nat_tests}
@@ -11,6 +11,11 @@ use Rattle.acc_lex.specs.declared.words.Sign.{Sign}
 use Rattle.acc_lex.specs.declared.words.Sign.TheVariants as sign
 use Rattle.acc_lex.specs.ByteKinds.{is_byte, is_letter, is_digit, is_leading, is_inner}
 use Rattle.acc_lex.specs.Readings.{marks, mark_among, mark_of, is_mark}
+
+-- two tests that pass
+pub and_both : (x y : Bool) → (x && y) ≡ true → (x ≡ true) × (y ≡ true)
+and_both true y h = (refl, h)
+and_both false y h = absurd cc
 
 -- any byte
 abbrev pub Byte : ℕ → Type 0

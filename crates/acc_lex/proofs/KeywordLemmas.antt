@@ -7,6 +7,7 @@ use Rattle.std.proofs.lemmas.Bool.{eqb-true}
 use Rattle.std.proofs.lemmas.Slice.Eq.{bytes_eq-Decides}
 use Rattle.acc_grammar.proofs.RunReaders.{flag}
 use Rattle.acc_lex.specs.declared.words.Sign.{Sign}
+use Rattle.acc_lex.proofs.ByteFacts.{and_both}
 use Rattle.acc_lex.specs.Keywords.{keywords, sign_in, keyword_of, keywords_of}
 
 apart_by_length : (w k : List ℕ) → (length k == length w) ≡ false → bytes_eq w k ≡ false
@@ -30,14 +31,10 @@ keyword_is w n h = by_length keywords w ∙ ap (λ (m : ℕ). sign_in (keywords_
 abbrev fits : ℕ → Bool
 fits n = nat_le 2 n && nat_le n 8
 
-both_hold : (x y : Bool) → (x && y) ≡ true → (x ≡ true) × (y ≡ true)
-both_hold true y h = (refl, h)
-both_hold false y h = absurd cc
-
 none_in : (ks : List (List ℕ × Sign)) (w : List ℕ) → list_all (λ k. fits (length k.0)) ks ≡ true → fits (length w) ≡ false → sign_in ks w ≡ None
 none_in [] w h out = refl
 none_in (k ∷ ks) w h out =
-    let here = both_hold (fits (length k.0)) (list_all (λ k. fits (length k.0)) ks) h in
+    let here = and_both (fits (length k.0)) (list_all (λ k. fits (length k.0)) ks) h in
     let differs : (length k.0 == length w) ≡ false = elim (flag (length k.0 == length w)) [
       | inl e ↦ absurd (let wrong = sym here.0 ∙ ap fits (eqb-true (length k.0) (length w) e) ∙ out in cc)
       | inr e ↦ e

@@ -4,3 +4,6 @@ pub mod Tokens
 pub mod Statements
 pub mod Lines
 pub mod WholeTexts
+pub mod LineFeeds
+pub mod StatementWords
+pub mod WrittenWords
