@@ -12,8 +12,9 @@ use Rattle.acc_grammar.specs.Readers.{AllIn, joined, ◌>>=◌, many}
 use Rattle.acc_grammar.proofs.Exact.{ok_is, bind_assoc, Stops, Exact, All, Free, seq_exact, made_exact, trees_exact, same_exact, ByHead}
 use Rattle.acc_grammar.proofs.Many.{Shrinks, item_shrinks, Runs, many_exact}
 use Rattle.acc_syntax.specs.Spelling.{just, name, number, further}
-use Rattle.acc_syntax.specs.WordReaders.{Outcome, same_sign, comes, is_name, is_number, is_word, sign_at, name_at, number_at, end_at, further_at}
-use Rattle.acc_syntax.proofs.Combinators.{flag, all_in, nothing, absent_exact}
+use Rattle.acc_syntax.specs.WordReaders.{Outcome, same_sign, comes, is_name, is_number, every, is_word, sign_at, name_at, number_at, end_at, further_at}
+use Rattle.acc_grammar.proofs.RunReaders.{flag, nothing, absent_exact}
+use Rattle.acc_syntax.proofs.Combinators.{all_in}
 
 -- ---- fixed words
 
@@ -138,7 +139,7 @@ number_exact = one_word number number_at 0 (tt, tt) (λ t rest. refl) refl numbe
 -- the end of the words
 pub end_exact : Exact CanSpell nothing All (λ o rest. is_word rest ≡ false) end_at
 unfolding end_at
-end_exact = absent_exact CanSpell is_word (λ w more after. refl)
+end_exact = absent_exact CanSpell every
 
 -- ---- a fixed word before or behind a part
 

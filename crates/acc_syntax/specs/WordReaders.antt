@@ -1,6 +1,7 @@
 -- Reading one word, and what the next word is.
 use Rattle.std.specs.Prelude.{ℕ, Bool, true, false, List, [], ◌∷◌, Ok, Err, if◌then◌else◌}
 use Rattle.acc_grammar.specs.Readers.{OutcomeOf, ◌>>=◌}
+use Rattle.acc_grammar.specs.Runs.{next_is, absent_at}
 use Rattle.acc_lex.specs.declared.words.Sign.{Sign}
 use Rattle.acc_lex.specs.declared.words.Sign.TheVariants as sign
 use Rattle.acc_lex.specs.contracts.words.SignPartialEq.TheImpl as derived
@@ -30,10 +31,13 @@ abbrev pub is_number : List Word → Bool
 is_number (word.Number n ∷ ws) = true
 is_number _ = false
 
+-- every word passes
+abbrev pub every : Word → Bool
+every w = true
+
 -- there is a next word
 abbrev pub is_word : List Word → Bool
-is_word [] = false
-is_word (w ∷ ws) = true
+is_word ws = next_is every ws
 
 -- this fixed word
 unfoldable pub sign_at : Sign → List Word → Outcome (Unit {0})
@@ -52,7 +56,7 @@ number_at ws = Err ws
 
 -- the end of the words
 unfoldable pub end_at : List Word → Outcome (Unit {0})
-end_at ws = if is_word ws then Err ws else Ok (tt, ws)
+end_at ws = absent_at every ws
 
 -- a comma, and a further part of a list
 unfoldable pub further_at : {T : Type 0} → (List Word → Outcome T) → List Word → Outcome T

@@ -82,7 +82,7 @@ impl Parser<'_> {
         }
     }
 
-    #[tactic(auto, unfolding(crate::specs::WordReaders::end_at))]
+    #[tactic(auto, unfolding(crate::specs::WordReaders::end_at, acc_grammar::specs::Runs::absent_at))]
     pub(crate) fn end(&self) -> Result<(), Fault>
         ensures { Gives result self.now.words.now (end_at self.now.words.now) }
     {
