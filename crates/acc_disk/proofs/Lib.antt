@@ -5,3 +5,5 @@ pub mod Numbers
 pub mod Times
 pub mod MadeCalls
 pub mod Untold
+pub mod Runs
+pub mod Ranges

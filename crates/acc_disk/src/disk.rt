@@ -33,7 +33,8 @@ pub trait Disk {
         ensures count { IfOk result (λ count. IfSome (told self.old) (λ file. count ≡ length file)) }
         ensures told { told self.new ≡ told self.old }
         ensures crash { LeavesNoMore (may_leave self.old) (may_leave self.new) }
-        ensures time { Elapses (clock self.old) (clock self.new) (left_since self.old) (left_since self.new) (may_leave self.new) }
+        ensures time { Elapses (clock self.old) (clock self.new)
+            (left_since self.old) (left_since self.new) (may_leave self.new) }
         ensures faults { CountsFault result (faults self.old) (faults self.new) };
 
     /// Reads the bytes from that place on into the buffer, as many as fit in it or are there, and tells how many.
@@ -42,7 +43,8 @@ pub trait Disk {
         ensures bytes { IfOk result (λ count. IfSome (told self.old) (λ file. ReadsAt file at buf.new count)) }
         ensures told { told self.new ≡ told self.old }
         ensures crash { LeavesNoMore (may_leave self.old) (may_leave self.new) }
-        ensures time { Elapses (clock self.old) (clock self.new) (left_since self.old) (left_since self.new) (may_leave self.new) }
+        ensures time { Elapses (clock self.old) (clock self.new)
+            (left_since self.old) (left_since self.new) (may_leave self.new) }
         ensures faults { CountsFault result (faults self.old) (faults self.new) };
 
     /// Writes the bytes at that place, over what stands there and past the end. After an error any part of it may
@@ -52,7 +54,8 @@ pub trait Disk {
         ensures written { OnOk result (told self.new ≡ option_map (overwritten at bytes.now) (told self.old)) }
         ensures part { OnErr result (Becomes (Torn at (length bytes.now)) (told self.old) (told self.new)) }
         ensures crash { Follows (Torn at (length bytes.now)) (may_leave self.old) (may_leave self.new) }
-        ensures time { Elapses (clock self.old) (clock self.new) (left_since self.old) (left_since self.new) (may_leave self.new) }
+        ensures time { Elapses (clock self.old) (clock self.new)
+            (left_since self.old) (left_since self.new) (may_leave self.new) }
         ensures faults { CountsFault result (faults self.old) (faults self.new) };
 
     /// Cuts the file to that length. After an error any part of it may be done. Until a sync, a crash may leave any
@@ -62,7 +65,8 @@ pub trait Disk {
         ensures cut { OnOk result (told self.new ≡ option_map (take to) (told self.old)) }
         ensures part { OnErr result (Becomes (PartlyCut to) (told self.old) (told self.new)) }
         ensures crash { Follows (PartlyCut to) (may_leave self.old) (may_leave self.new) }
-        ensures time { Elapses (clock self.old) (clock self.new) (left_since self.old) (left_since self.new) (may_leave self.new) }
+        ensures time { Elapses (clock self.old) (clock self.new)
+            (left_since self.old) (left_since self.new) (may_leave self.new) }
         ensures faults { CountsFault result (faults self.old) (faults self.new) };
 
     /// Where it answers `Ok`, a crash leaves what a read gives, until the next write or cut.
@@ -70,18 +74,21 @@ pub trait Disk {
         ensures durable { OnOk result (IfSome (told self.new) (λ file. Only file (may_leave self.new))) }
         ensures told { told self.new ≡ told self.old }
         ensures crash { LeavesNoMore (may_leave self.old) (may_leave self.new) }
-        ensures time { Elapses (clock self.old) (clock self.new) (left_since self.old) (left_since self.new) (may_leave self.new) }
+        ensures time { Elapses (clock self.old) (clock self.new)
+            (left_since self.old) (left_since self.new) (may_leave self.new) }
         ensures faults { CountsFault result (faults self.old) (faults self.new) };
 
     /// A crash may also lose nothing.
     ghost nothing_lost: { (disk : Self) → IfSome (told disk) (may_leave disk) };
 
     /// The present moment is one of those from an earlier time on.
-    ghost counts_now: { (disk : Self) (time : ℕ) (image : List ℕ) → time ≤ clock disk → may_leave disk image → left_since disk time image };
+    ghost counts_now: { (disk : Self) (time : ℕ) (image : List ℕ) → time ≤ clock disk
+        → may_leave disk image → left_since disk time image };
 
     /// From the present time on there is no other moment than this.
     ghost only_now: { (disk : Self) (image : List ℕ) → left_since disk (clock disk) image → may_leave disk image };
 
     /// The moments from a time on are among those from an earlier time on.
-    ghost earlier: { (disk : Self) (sooner time : ℕ) (image : List ℕ) → sooner ≤ time → left_since disk time image → left_since disk sooner image };
+    ghost earlier: { (disk : Self) (sooner time : ℕ) (image : List ℕ) → sooner ≤ time
+        → left_since disk time image → left_since disk sooner image };
 }

@@ -57,7 +57,8 @@ impl MemDisk {
     ghost use Rattle.std.specs.Prelude.{◌≡◌, ◌↔◌, IfOk, OnOk, OnErr};
     ghost use Rattle.acc_io.specs.Causes.{one_more};
     ghost use Rattle.acc_disk.specs.Standings.{IsImage, IsSettled};
-    ghost use Rattle.acc_disk.specs.MemDisks.{IsFresh, FailsAt, FailsNext, Begins, stored, call_count, sync_count, refused, standing_after, may_have_been_left};
+    ghost use Rattle.acc_disk.specs.MemDisks.{IsFresh, FailsAt, FailsNext, Begins};
+    ghost use Rattle.acc_disk.specs.MemDisks.{stored, call_count, sync_count, refused, standing_after, may_have_been_left};
 
     /// A disk that holds these bytes as synced. The calls whose numbers, from 1 on, stand in `fails`, and all calls
     /// from the number `from` on, answer `Failed` and do nothing.
@@ -115,7 +116,8 @@ impl MemDisk {
     pub fn image(&self, after: u64, pick: u64) -> Result<Vec<u8>, DiskMemory>
         requires { after ≤ call_count self.now }
         ensures allowed { IfOk result (λ image. IsImage (standing_after self.now after) image.items) }
-        ensures settled { IfOk result (λ image. IsSettled (standing_after self.now after) → image.items ≡ (standing_after self.now after).bytes) }
+        ensures settled { IfOk result (λ image. IsSettled (standing_after self.now after)
+            → image.items ≡ (standing_after self.now after).bytes) }
         ensures left { IfOk result (λ image. may_have_been_left self.now 0 image.items) }
     {
         let replay = self.history.replay(self.alloc, after)?;
@@ -156,7 +158,8 @@ impl Disk for MemDisk {
     ghost use Rattle.acc_disk.specs.Moments.{Elapses};
     ghost use Rattle.acc_disk.specs.Standings.{after_write, after_cut, IsImage};
     ghost use Rattle.acc_disk.specs.Laws.{left_now, left_only_now, left_earlier};
-    ghost use Rattle.acc_disk.specs.MemDisks.{standing, clock_of, told_by, may_be_left, may_have_been_left, fault_count, AnswersLook, AnswersChange, AnswersSync, MadeCall};
+    ghost use Rattle.acc_disk.specs.MemDisks.{standing, clock_of, told_by, may_be_left, may_have_been_left, fault_count};
+    ghost use Rattle.acc_disk.specs.MemDisks.{AnswersLook, AnswersChange, AnswersSync, MadeCall};
 
     ghost clock = { clock_of };
 
@@ -181,7 +184,8 @@ impl Disk for MemDisk {
         ensures count { IfOk result (λ count. IfSome (told_by self.old) (λ file. count ≡ length file)) }
         ensures told { told_by self.new ≡ told_by self.old }
         ensures crash { LeavesNoMore (may_be_left self.old) (may_be_left self.new) }
-        ensures time { Elapses (clock_of self.old) (clock_of self.new) (may_have_been_left self.old) (may_have_been_left self.new) (may_be_left self.new) }
+        ensures time { Elapses (clock_of self.old) (clock_of self.new)
+            (may_have_been_left self.old) (may_have_been_left self.new) (may_be_left self.new) }
         ensures faults { CountsFault result (fault_count self.old) (fault_count self.new) }
         ensures answer { AnswersLook self.old self.new result }
         ensures made { MadeCall self.old self.new }
@@ -195,7 +199,8 @@ impl Disk for MemDisk {
         ensures bytes { IfOk result (λ count. IfSome (told_by self.old) (λ file. ReadsAt file at buf.new count)) }
         ensures told { told_by self.new ≡ told_by self.old }
         ensures crash { LeavesNoMore (may_be_left self.old) (may_be_left self.new) }
-        ensures time { Elapses (clock_of self.old) (clock_of self.new) (may_have_been_left self.old) (may_have_been_left self.new) (may_be_left self.new) }
+        ensures time { Elapses (clock_of self.old) (clock_of self.new)
+            (may_have_been_left self.old) (may_have_been_left self.new) (may_be_left self.new) }
         ensures faults { CountsFault result (fault_count self.old) (fault_count self.new) }
         ensures answer { AnswersLook self.old self.new result }
         ensures made { MadeCall self.old self.new }
@@ -209,7 +214,8 @@ impl Disk for MemDisk {
         ensures written { OnOk result (told_by self.new ≡ option_map (overwritten at bytes.now) (told_by self.old)) }
         ensures part { OnErr result (Becomes (Torn at (length bytes.now)) (told_by self.old) (told_by self.new)) }
         ensures crash { Follows (Torn at (length bytes.now)) (may_be_left self.old) (may_be_left self.new) }
-        ensures time { Elapses (clock_of self.old) (clock_of self.new) (may_have_been_left self.old) (may_have_been_left self.new) (may_be_left self.new) }
+        ensures time { Elapses (clock_of self.old) (clock_of self.new)
+            (may_have_been_left self.old) (may_have_been_left self.new) (may_be_left self.new) }
         ensures faults { CountsFault result (fault_count self.old) (fault_count self.new) }
         ensures answer { AnswersChange (after_write at bytes.now) self.old self.new result }
         ensures made { MadeCall self.old self.new }
@@ -227,7 +233,8 @@ impl Disk for MemDisk {
         ensures cut { OnOk result (told_by self.new ≡ option_map (take to) (told_by self.old)) }
         ensures part { OnErr result (Becomes (PartlyCut to) (told_by self.old) (told_by self.new)) }
         ensures crash { Follows (PartlyCut to) (may_be_left self.old) (may_be_left self.new) }
-        ensures time { Elapses (clock_of self.old) (clock_of self.new) (may_have_been_left self.old) (may_have_been_left self.new) (may_be_left self.new) }
+        ensures time { Elapses (clock_of self.old) (clock_of self.new)
+            (may_have_been_left self.old) (may_have_been_left self.new) (may_be_left self.new) }
         ensures faults { CountsFault result (fault_count self.old) (fault_count self.new) }
         ensures answer { AnswersChange (after_cut to) self.old self.new result }
         ensures made { MadeCall self.old self.new }
@@ -242,7 +249,8 @@ impl Disk for MemDisk {
         ensures durable { OnOk result (IfSome (told_by self.new) (λ file. Only file (may_be_left self.new))) }
         ensures told { told_by self.new ≡ told_by self.old }
         ensures crash { LeavesNoMore (may_be_left self.old) (may_be_left self.new) }
-        ensures time { Elapses (clock_of self.old) (clock_of self.new) (may_have_been_left self.old) (may_have_been_left self.new) (may_be_left self.new) }
+        ensures time { Elapses (clock_of self.old) (clock_of self.new)
+            (may_have_been_left self.old) (may_have_been_left self.new) (may_be_left self.new) }
         ensures faults { CountsFault result (fault_count self.old) (fault_count self.new) }
         ensures answer { AnswersSync self.old self.new result }
         ensures made { MadeCall self.old self.new }

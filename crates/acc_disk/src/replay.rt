@@ -1,5 +1,6 @@
 // What stood of a file in memory at some moment, worked out from what was done to it.
-ghost use Rattle.std.specs.Prelude.{◌≡◌, ◌+◌, ◌≤◌, ◌<◌, ◌↔◌, ◌&&◌, nat_le, nat_lt, false, length, IsTrue, IfOk, OnOk};
+ghost use Rattle.std.specs.Prelude.{◌≡◌, ◌+◌, ◌≤◌, ◌<◌, ◌↔◌, ◌&&◌, nat_le, nat_lt};
+ghost use Rattle.std.specs.Prelude.{false, length, IsTrue, IfOk, OnOk};
 ghost use Rattle.acc_disk.specs.Standings.{Standing, settled, is_written, IsImage};
 ghost use Rattle.acc_disk.specs.Changes.{after_change};
 
@@ -22,7 +23,13 @@ pub(crate) struct Replay {
 impl Model for Replay {
     ghost Value = { Standing };
 
-    ghost view = { λ r. record { bytes = r.bytes.items; synced = r.synced.items; lowest = r.lowest; highest = r.highest; written = r.written.items } };
+    ghost view = { λ r. record {
+      bytes = r.bytes.items;
+      synced = r.synced.items;
+      lowest = r.lowest;
+      highest = r.highest;
+      written = r.written.items;
+    } };
 
     ghost invariant = { λ r. (r.lowest ≤ length r.synced.items) × (r.lowest ≤ r.highest) };
 }

@@ -42,22 +42,10 @@ fn reads_what_stands_there(rt: HostRuntime) -> Result<(), Fail> {
     let alloc = rt.alloc();
     let mut disk = MemDisk::new(alloc, b"abcdefghij", &[], None)?;
     assert_eq!(rt; disk.len()?, 10);
-    assert_eq!(rt;
-        bytes_from(alloc, &mut disk, 0)?.as_slice(),
-        b"abcdefgh".as_slice()
-    );
-    assert_eq!(rt;
-        bytes_from(alloc, &mut disk, 7)?.as_slice(),
-        b"hij".as_slice()
-    );
-    assert_eq!(rt;
-        bytes_from(alloc, &mut disk, 10)?.as_slice(),
-        b"".as_slice()
-    );
-    assert_eq!(rt;
-        bytes_from(alloc, &mut disk, 99)?.as_slice(),
-        b"".as_slice()
-    );
+    let reads: [(u64, &[u8]); 4] = [(0, b"abcdefgh"), (7, b"hij"), (10, b""), (99, b"")];
+    for (at, bytes) in &reads {
+        assert_eq!(rt; bytes_from(alloc, &mut disk, *at)?.as_slice(), *bytes);
+    }
     Ok(())
 }
 
@@ -66,7 +54,6 @@ fn writes_and_cuts(rt: HostRuntime) -> Result<(), Fail> {
     let mut disk = MemDisk::new(rt.alloc(), b"", &[], None)?;
     write(&mut disk, 0, b"abcde")?;
     write(&mut disk, 1, b"XY")?;
-    assert_eq!(rt; disk.bytes(), b"aXYde".as_slice());
     write(&mut disk, 4, b"Zz")?;
     assert_eq!(rt; disk.bytes(), b"aXYdZz".as_slice());
     cut(&mut disk, 2)?;
@@ -78,17 +65,18 @@ fn writes_and_cuts(rt: HostRuntime) -> Result<(), Fail> {
 #[test]
 fn listed_calls_fail(rt: HostRuntime) -> Result<(), Fail> {
     let mut disk = MemDisk::new(rt.alloc(), b"abc", &[2], Some(6))?;
-    assert_eq!(rt; write(&mut disk, 3, b"de"), Ok(()));
-    assert_eq!(rt; write(&mut disk, 0, b"Z"), Err(Failed));
-    assert_eq!(rt; disk.sync(), Ok(()));
-    assert_eq!(rt; disk.len(), Ok(5));
-    assert_eq!(rt; cut(&mut disk, 1), Ok(()));
-    assert_eq!(rt; disk.sync(), Err(Failed));
-    assert_eq!(rt; disk.len(), Err(Failed));
+    let answers = [
+        write(&mut disk, 3, b"de").is_ok(),
+        write(&mut disk, 0, b"Z").is_ok(),
+        disk.sync().is_ok(),
+        disk.len() == Ok(5),
+        cut(&mut disk, 1).is_ok(),
+        disk.sync().is_ok(),
+        disk.len().is_ok(),
+    ];
+    assert_eq!(rt; answers, [true, false, true, true, true, false, false]);
     assert_eq!(rt; disk.bytes(), b"a".as_slice());
-    assert_eq!(rt; disk.calls(), 7);
-    assert_eq!(rt; disk.synced(), 1);
-    assert_eq!(rt; disk.refused(), 0);
+    assert_eq!(rt; (disk.calls(), disk.synced(), disk.refused()), (7, 1, 0));
     Ok(())
 }
 
@@ -96,51 +84,36 @@ fn listed_calls_fail(rt: HostRuntime) -> Result<(), Fail> {
 #[test]
 fn a_calm_disk_has_one_image(rt: HostRuntime) -> Result<(), Fail> {
     let mut disk = MemDisk::new(rt.alloc(), b"abc", &[], None)?;
-    assert_eq!(rt; disk.len(), Ok(3));
+    disk.len()?;
     write(&mut disk, 1, b"XYZ")?;
     disk.sync()?;
-    assert_eq!(rt; disk.calls(), 3);
-    for pick in 0..64 {
-        assert_eq!(rt; image(&disk, 0, pick)?.as_slice(), b"abc".as_slice());
-        assert_eq!(rt; image(&disk, 1, pick)?.as_slice(), b"abc".as_slice());
-        assert_eq!(rt; image(&disk, 3, pick)?.as_slice(), b"aXYZ".as_slice());
+    let images: [(u64, &[u8]); 3] = [(0, b"abc"), (1, b"abc"), (3, b"aXYZ")];
+    for (after, bytes) in &images {
+        for pick in 0..64 {
+            assert_eq!(rt; image(&disk, *after, pick)?.as_slice(), *bytes);
+        }
     }
     Ok(())
 }
 
-// A write of three bytes at the second place of two: whole, lost, cut short and torn.
+// A write of three bytes at the second place of two, of which a crash leaves: nothing but the length; all; other
+// bytes; all but the end; nothing; the front; and all but the front.
 #[test]
 fn small_numbers_pick_plain_images(rt: HostRuntime) -> Result<(), Fail> {
     let mut disk = MemDisk::new(rt.alloc(), b"ab", &[], None)?;
     write(&mut disk, 1, b"XYZ")?;
-    assert_eq!(rt; disk.calls(), 1);
-    assert_eq!(rt;
-        image(&disk, 1, 0)?.as_slice(),
-        b"ab\0\0".as_slice(),
-        "lost, and yet lengthened"
-    );
-    assert_eq!(rt; image(&disk, 1, 1)?.as_slice(), b"aXYZ".as_slice(), "whole");
-    assert_eq!(rt;
-        image(&disk, 1, 2)?.as_slice(),
-        b"a\xff\xff\xff".as_slice(),
-        "other bytes"
-    );
-    assert_eq!(rt;
-        image(&disk, 1, 5)?.as_slice(),
-        b"aXY".as_slice(),
-        "cut short"
-    );
-    assert_eq!(rt; image(&disk, 1, 8)?.as_slice(), b"ab".as_slice(), "lost");
-    assert_eq!(rt;
-        image(&disk, 1, 24)?.as_slice(),
-        b"aX\0\0".as_slice(),
-        "torn behind the second place"
-    );
-    assert_eq!(rt;
-        image(&disk, 1, 25)?.as_slice(),
-        b"abYZ".as_slice(),
-        "torn, the other way round"
-    );
+    let images: [(u64, &[u8]); 7] = [
+        (0, b"ab\0\0"),
+        (1, b"aXYZ"),
+        (2, b"a\xff\xff\xff"),
+        (5, b"aXY"),
+        (8, b"ab"),
+        (24, b"aX\0\0"),
+        (25, b"abYZ"),
+    ];
+    for (pick, bytes) in &images {
+        assert_eq!(rt; image(&disk, 1, *pick)?.as_slice(), *bytes);
+    }
     Ok(())
 }
 
@@ -154,16 +127,18 @@ fn place_of(bytes: &[u8]) -> usize {
     })
 }
 
-// Marks each image among `picks`, which all have those bytes at the front and those at the end.
+// Marks each image that the numbers pick by their digits, from 0 up to that count. All have those bytes at the front
+// and those at the end.
 fn marked(
     rt: &impl Abort,
     disk: &MemDisk,
-    picks: u64,
+    count: u64,
     front: &[u8],
     end: &[u8],
     marks: &mut [bool],
 ) -> Result<(), Fail> {
-    for pick in 0..picks {
+    for number in 0..count {
+        let pick = number.wrapping_mul(4).wrapping_add(2);
         let image = image(disk, disk.calls(), pick)?;
         let rest = image.strip_prefix(front).ok_or("the front")?;
         let free = rest.strip_suffix(end).ok_or("the end")?;
@@ -186,7 +161,7 @@ fn each_image_of_a_write_inside(rt: HostRuntime) -> Result<(), Fail> {
     let mut disk = MemDisk::new(alloc, &[7, 8, 9], &[], None)?;
     write(&mut disk, 1, &[5])?;
     let mut marks = no_marks(alloc, 257)?;
-    marked(&rt, &disk, 4 * 256, &[7], &[9], &mut marks)?;
+    marked(&rt, &disk, 256, &[7], &[9], &mut marks)?;
     assert_eq!(rt;
         marks.iter().position(|mark| *mark),
         Some(1),
@@ -203,7 +178,7 @@ fn each_image_of_a_write_past_the_end(rt: HostRuntime) -> Result<(), Fail> {
     let mut disk = MemDisk::new(alloc, &[7], &[], None)?;
     write(&mut disk, 1, &[5])?;
     let mut marks = no_marks(alloc, 257)?;
-    marked(&rt, &disk, 4 * 2 * 256, &[7], &[], &mut marks)?;
+    marked(&rt, &disk, 2 * 256, &[7], &[], &mut marks)?;
     assert!(rt; marks.iter().all(|mark| *mark));
     Ok(())
 }
@@ -215,7 +190,7 @@ fn each_image_of_a_cut(rt: HostRuntime) -> Result<(), Fail> {
     let mut disk = MemDisk::new(alloc, &[7, 8], &[], None)?;
     cut(&mut disk, 1)?;
     let mut marks = no_marks(alloc, 257)?;
-    marked(&rt, &disk, 4 * 2 * 256, &[7], &[], &mut marks)?;
+    marked(&rt, &disk, 2 * 256, &[7], &[], &mut marks)?;
     assert!(rt; marks.iter().all(|mark| *mark));
     Ok(())
 }
@@ -230,73 +205,76 @@ fn each_image_of_two_calls(rt: HostRuntime) -> Result<(), Fail> {
     write(&mut disk, 1, &[5, 6])?;
     assert_eq!(rt; disk.sync(), Err(Failed));
     let mut marks = no_marks(alloc, 1 + 256 + 65536)?;
-    marked(&rt, &disk, 4 * 3 * 65536, &[7], &[], &mut marks)?;
+    marked(&rt, &disk, 3 * 65536, &[7], &[], &mut marks)?;
     assert!(rt; marks.iter().all(|mark| *mark));
     Ok(())
+}
+
+fn fill(disk: &mut FileDisk<HostRuntime>) -> Result<(), Failed> {
+    disk.write_at(0, b"abcde")?;
+    disk.write_at(3, b"XYZ")?;
+    disk.sync()
+}
+
+fn shorten(disk: &mut FileDisk<HostRuntime>) -> Result<(), Failed> {
+    disk.cut(4)?;
+    disk.sync()
 }
 
 #[test]
 fn a_real_file(rt: HostRuntime) -> Result<(), Fail> {
     let alloc = rt.alloc();
     let mut disk = FileDisk::new(&rt, String::from_str(alloc, "file")?);
-    assert!(rt; !fs::exists(&rt, "file")?);
-    assert_eq!(rt; disk.len(), Ok(0));
-    disk.write_at(0, b"abcde")?;
-    disk.write_at(3, b"XYZ")?;
-    disk.sync()?;
+    assert!(rt; !fs::exists(&rt, "file")?, "opened too early");
+    fill(&mut disk)?;
     assert_eq!(rt; disk.len(), Ok(6));
     assert_eq!(rt;
         bytes_from(alloc, &mut disk, 2)?.as_slice(),
         b"cXYZ".as_slice()
     );
-    assert_eq!(rt; bytes_from(alloc, &mut disk, 6)?.as_slice(), b"".as_slice());
-    disk.cut(4)?;
-    disk.sync()?;
+    shorten(&mut disk)?;
     assert_eq!(rt; fs::read(&rt, "file")?.as_slice(), b"abcX".as_slice());
-    let mut again = FileDisk::new(&rt, String::from_str(alloc, "file")?);
-    assert_eq!(rt;
-        bytes_from(alloc, &mut again, 0)?.as_slice(),
-        b"abcX".as_slice()
-    );
     Ok(())
 }
 
 #[test]
-fn a_folder_in_its_place(rt: HostRuntime) -> Result<(), Fail> {
+fn a_file_that_is_there(rt: HostRuntime) -> Result<(), Fail> {
     let alloc = rt.alloc();
+    fs::write(&rt, "file", b"abcX")?;
+    let mut disk = FileDisk::new(&rt, String::from_str(alloc, "file")?);
+    assert_eq!(rt;
+        bytes_from(alloc, &mut disk, 1)?.as_slice(),
+        b"bcX".as_slice()
+    );
+    assert_eq!(rt; bytes_from(alloc, &mut disk, 4)?.as_slice(), b"".as_slice());
+    Ok(())
+}
+
+fn writes_a_byte(rt: &HostRuntime, path: &str) -> Result<bool, Fail> {
+    let mut disk = FileDisk::new(rt, String::from_str(rt.alloc(), path)?);
+    Ok(disk.write_at(0, b"X").is_ok())
+}
+
+// No byte is written where a folder stands, in a folder that is absent, or into the machine's own file that is
+// always full.
+#[test]
+fn what_is_no_file(rt: HostRuntime) -> Result<(), Fail> {
     fs::create_dir(&rt, "folder")?;
-    let mut folder = FileDisk::new(&rt, String::from_str(alloc, "folder")?);
-    assert_eq!(rt; folder.len(), Err(Failed));
-    assert_eq!(rt; folder.sync(), Err(Failed));
-    let mut nowhere = FileDisk::new(&rt, String::from_str(alloc, "absent/file")?);
-    assert_eq!(rt; nowhere.write_at(0, b"a"), Err(Failed));
-    let mut inside = FileDisk::new(&rt, String::from_str(alloc, "folder/file")?);
-    assert_eq!(rt; inside.write_at(0, b"a"), Ok(()));
-    assert_eq!(rt; fs::read(&rt, "folder/file")?.as_slice(), b"a".as_slice());
+    for path in &["folder", "absent/file", "/dev/full"] {
+        assert!(rt; !writes_a_byte(&rt, path)?, "{path}");
+    }
+    assert!(rt; writes_a_byte(&rt, "folder/file")?);
     Ok(())
 }
 
 // A user who may write any file may write a read-only one too.
 #[test]
 fn a_read_only_file(rt: HostRuntime) -> Result<(), Fail> {
-    let alloc = rt.alloc();
     fs::write(&rt, "kept", b"abc")?;
     let mut permissions = fs::metadata(&rt, "kept")?.permissions();
     permissions.set_readonly(true);
     fs::set_permissions(&rt, "kept", permissions)?;
     let may_write = OpenOptions::new().write(true).open(&rt, "kept").is_ok();
-    let mut disk = FileDisk::new(&rt, String::from_str(alloc, "kept")?);
-    assert_eq!(rt; disk.write_at(0, b"X").is_ok(), may_write);
-    let kept: &[u8] = if may_write { b"Xbc" } else { b"abc" };
-    assert_eq!(rt; fs::read(&rt, "kept")?.as_slice(), kept);
-    Ok(())
-}
-
-// The machine's own file that is always full.
-#[test]
-fn a_full_file(rt: HostRuntime) -> Result<(), Fail> {
-    let mut disk = FileDisk::new(&rt, String::from_str(rt.alloc(), "/dev/full")?);
-    assert_eq!(rt; disk.write_at(0, b"X"), Err(Failed));
-    assert_eq!(rt; disk.cut(0), Err(Failed));
+    assert_eq!(rt; writes_a_byte(&rt, "kept")?, may_write);
     Ok(())
 }
