@@ -53,19 +53,10 @@ value_among (y ∷ values) (x ∷ all) left more short small e =
     let rest : map signed_decimal values ++ left ≡ map signed_decimal all ++ more = cc in
     value_among values all left more (omega arith) (second_so (is_small x) (list_all is_small all) small) rest
 
--- where no word is left, there are too few values
-pub too_few : (words : List (List ℕ)) (n count : ℕ) (values : List ℤ) → ValuesSoFar words [] n values → n < count → (all : List ℤ) (more : List (List ℕ)) → AreParameters count all → ¬ BeginWith words all more
-too_few words n count values h less all more parts e =
-    let v = value_among values all [] more (omega (arith, h.counted, parts.counted)) parts.small (sym h.read ∙ e) in absurd (let wrong : ◌≡◌ {A = List (List ℕ)} [] (signed_decimal v.0 ∷ v.1) = v.3 in cc)
-
 -- and a word that is no value refuses the words
 pub no_value : (words left : List (List ℕ)) (word : List ℕ) (n count : ℕ) (values : List ℤ) → ValuesSoFar words (word ∷ left) n values → n < count → ((v : ℤ) → IsSmall v → word ≢ signed_decimal v) → (all : List ℤ) (more : List (List ℕ)) → AreParameters count all → ¬ BeginWith words all more
 no_value words left word n count values h less other all more parts e =
     let v = value_among values all (word ∷ left) more (omega (arith, h.counted, parts.counted)) parts.small (sym h.read ∙ e) in other v.0 v.2 (let same : word ∷ left ≡ signed_decimal v.0 ∷ v.1 = v.3 in cc)
-
--- all values are read
-pub all_values : (words left : List (List ℕ)) (n : ℕ) (values : List ℤ) → ValuesSoFar words left n values → AreParameters n values
-all_values words left n values h = record { counted = h.counted; small = h.small }
 
 -- ---- a line
 
@@ -79,11 +70,6 @@ fitting kind call h =
     front true y z w g = refl
     front false y z w g = g
 
--- and one that has them, without a tape or an abort that is asked for, fits
-fits_kind : (kind : TxType) (call : Call) → AreParameters kind.params call.params → call.tape ≡ [] → call.ask ≡ None → call_fits (Some kind) call ≡ true
-fits_kind kind call parts no_tape no_ask =
-    both_true (both_true (both_true (both_true (eq-eqb (length call.params) kind.params parts.counted) parts.small) (ap (list_all is_small) no_tape)) (ap (λ (t : List ℤ). nat_le (length t) 4096) no_tape)) (ap ask_fits no_ask)
-
 -- what a call that a line asks for has, where the line's name is known
 asked : (d : Design) (line name : List ℕ) (left : List (List ℕ)) (ty count : ℕ) (call : Call) → words_of line ≡ name ∷ left → IsCalled d name ty count → IsCallLine d line call → AreParameters count call.params × (left ≡ map signed_decimal call.params)
 asked d line name left ty count call words called says =
@@ -94,48 +80,15 @@ asked d line name left ty count call words called says =
     let fits : call_fits (Some called.kind) call ≡ true = sym (ap (λ k. call_fits k call) found) ∙ says.fits in
     (subst (λ n. AreParameters n call.params) (sym called.counted) (fitting called.kind call fits), rest)
 
--- a line without a word asks for no call
-pub no_name : (d : Design) (line : List ℕ) (call : Call) → words_of line ≡ [] → ¬ IsCallLine d line call
-no_name d line call words says = let wrong : ◌≡◌ {A = List (List ℕ)} [] (says.name ∷ map signed_decimal call.params) = sym words ∙ says.spelled in absurd cc
-
--- nor does one whose first word names no type
-pub no_type : (d : Design) (line name : List ℕ) (left : List (List ℕ)) (call : Call) → words_of line ≡ name ∷ left → ((ty : ℕ) → ty < 2 ^ 32 → position (is_named name) d.types ≢ Some ty) → ¬ IsCallLine d line call
-no_type d line name left call words none says =
-    let same_name : says.name ≡ name = (let e = sym says.spelled ∙ words in cc) in
-    none call.ty says.numbered (ap (λ n. position (is_named n) d.types) (sym same_name) ∙ says.named)
-
 -- nor one whose other words don't begin with parameters
 pub no_parameters : (d : Design) (line name : List ℕ) (left : List (List ℕ)) (ty count : ℕ) (call : Call) → words_of line ≡ name ∷ left → IsCalled d name ty count → ((values : List ℤ) (more : List (List ℕ)) → AreParameters count values → ¬ BeginWith left values more) → ¬ IsCallLine d line call
 no_parameters d line name left ty count call words called none says =
     let a = asked d line name left ty count call words called says in
     none call.params [] a.0 (a.1 ∙ sym (append-nil (map signed_decimal call.params)))
 
--- nor one that has words behind those
-pub more_words : (d : Design) (line name word : List ℕ) (left more : List (List ℕ)) (ty count : ℕ) (values : List ℤ) (call : Call) → words_of line ≡ name ∷ left → IsCalled d name ty count → AreParameters count values → BeginWith left values (word ∷ more) → ¬ IsCallLine d line call
-more_words d line name word left more ty count values call words called parts begins says =
-    let a = asked d line name left ty count call words called says in
-    let e = simp (length-append, length-map) at (ap length (sym begins ∙ a.1)) in
-    absurd (omega (arith, e, a.0.counted, parts.counted))
-
--- and one that has none asks for the call of these parameters
-pub makes_call : (d : Design) (line name : List ℕ) (left : List (List ℕ)) (ty count : ℕ) (call : Call) → words_of line ≡ name ∷ left → IsCalled d name ty count → AreParameters count call.params → BeginWith left call.params [] → call.ty ≡ ty → call.tape ≡ [] → call.ask ≡ None → IsCallLine d line call
-makes_call d line name left ty count call words called parts begins is_ty no_tape no_ask = record {
-  name = name;
-  spelled = words ∙ ap (λ ws. name ∷ ws) (begins ∙ append-nil (map signed_decimal call.params));
-  named = called.named ∙ ap (λ t. Some t) (sym is_ty);
-  numbered = omega (arith, is_ty, called.numbered);
-  fits = ap (λ t. call_fits (slice_get d.types t) call) is_ty ∙ (ap (λ k. call_fits k call) called.found ∙ fits_kind called.kind call (subst (λ n. AreParameters n call.params) called.counted parts) no_tape no_ask);
-  no_tape = no_tape;
-  no_ask = no_ask;
-}
-
 -- a line says one call
 pub says_as_many : (d : Design) → SaysAsMany (SaysCall d)
 says_as_many d line xs ys h g = ap length h.alone ∙ sym (ap length g.alone)
-
--- a call that a line asks for stands behind the others
-pub one_call : (d : Design) (line : List ℕ) (old new : List Call) (call : Call) → IsCallLine d line call → new ≡ old ++ call ∷ [] → length old < most_calls → AddsSaid (SaysCall d) most_calls line old new
-one_call d line old new call says grown few = record { here = call ∷ []; parts = grown; said = record { call = call; alone = refl; asked = says }; few = omega (arith, ap length grown, length-append old (call ∷ []), few) }
 
 -- a line that asks for no call is refused
 pub no_call : (d : Design) (line : List ℕ) (n : ℕ) → ((call : Call) → ¬ IsCallLine d line call) → IsTooMuch (SaysCall d) most_calls line n
