@@ -1,23 +1,25 @@
 -- The words of a script's line, read one after the other.
-use Rattle.std.proofs.Common.{◌≡◌, ◌≢◌, ℕ, ◌+◌, ◌<◌, ◌^◌, true, false, Bool, List, [], ◌∷◌, ◌++◌, length, map, refl, sym, ap, subst, ◌∙◌, arith, append_assoc, length-append, ℤ, Some, None}
+use Rattle.std.proofs.Common.{◌≡◌, ◌≢◌, ℕ, ◌+◌, ◌<◌, ◌^◌, true, false, Bool, List, [], ◌∷◌, ◌++◌, length, map, refl, sym, ap, subst, ◌∙◌, arith, append_assoc, length-append, ℤ, Option, Some, None, pos, negsuc}
 use Rattle.std.specs.Prelude.{position, slice_get, ◌==◌, ◌&&◌, nat_le}
 use Rattle.std.specs.List.{list_all}
 use Rattle.std.specs.Fmt.{signed_decimal}
+use Rattle.std.specs.Int.Signed.{mag}
 use Rattle.std.specs.Cmp.{first_so, second_so}
 use Rattle.std.specs.Cmp.Derive.{both_true}
-use Rattle.std.proofs.lemmas.Bool.{eq-eqb, eqb-true}
+use Rattle.std.proofs.lemmas.Bool.{eqb-true}
+use Rattle.std.proofs.lemmas.Fmt.{signed_decimal_injective}
 use Rattle.std.proofs.lemmas.Bool.Decides.{nat_tests}
-use Rattle.std.proofs.lemmas.List.{append-nil, map-append, length-map}
+use Rattle.std.proofs.lemmas.List.{append-nil, map-append}
 use Rattle.acc_base.specs.declared.designs.Design.{Design}
 use Rattle.acc_base.specs.declared.designs.TxType.{TxType}
 use Rattle.acc_base.specs.declared.machines.Call.{Call}
 use Rattle.acc_base.specs.Machine.{call_fits, ask_fits}
 use Rattle.acc_base.specs.Numbers.{is_small, IsSmall}
 use Rattle.acc_script.specs.Pieces.{words_of}
-use Rattle.acc_script.specs.LineReadings.{IsTooMuch, AddsSaid}
+use Rattle.acc_script.specs.LineReadings.{IsTooMuch}
 use Rattle.acc_script.specs.CallLines.{is_named, IsCallLine, SaysCall, most_calls}
 use Rattle.acc_script.specs.CallParts.{IsCalled, AreParameters, BeginWith}
-use Rattle.acc_script.proofs.LineSteps.{SaysAsMany}
+use Rattle.acc_script.proofs.LineSteps.{SaysOne}
 
 -- The first n words are read as values, and others are left.
 pub record ValuesSoFar (words left : List (List ℕ)) (n : ℕ) (values : List ℤ) : Type 0 where
@@ -86,9 +88,44 @@ no_parameters d line name left ty count call words called none says =
     let a = asked d line name left ty count call words called says in
     none call.params [] a.0 (a.1 ∙ sym (append-nil (map signed_decimal call.params)))
 
--- a line says one call
-pub says_as_many : (d : Design) → SaysAsMany (SaysCall d)
-says_as_many d line xs ys h g = ap length h.alone ∙ sym (ap length g.alone)
+-- numbers within 2^45 of 0 are spelled in one way
+same_values : (xs ys : List ℤ) → list_all is_small xs ≡ true → list_all is_small ys ≡ true → map signed_decimal xs ≡ map signed_decimal ys → xs ≡ ys
+same_values [] [] p q e = refl
+same_values [] (y ∷ ys) p q e = cc
+same_values (x ∷ xs) [] p q e = cc
+same_values (x ∷ xs) (y ∷ ys) p q e =
+    let px = small_value x (first_so (is_small x) (list_all is_small xs) p) in
+    let py = small_value y (first_so (is_small y) (list_all is_small ys) q) in
+    let first : signed_decimal x ≡ signed_decimal y = cc in
+    let rest : map signed_decimal xs ≡ map signed_decimal ys = cc in
+    let a : x ≡ y = signed_decimal_injective x y (magnitude x px) (magnitude y py) first in
+    let b : xs ≡ ys = same_values xs ys (second_so (is_small x) (list_all is_small xs) p) (second_so (is_small y) (list_all is_small ys) q) rest in cc
+  where
+    magnitude : (z : ℤ) → IsSmall z → mag z < 2 ^ 63
+    magnitude (pos n) h = omega arith
+    magnitude (negsuc n) h = omega arith
+
+-- a line asks for one call
+one_call : (d : Design) (line : List ℕ) (a b : Call) → IsCallLine d line a → IsCallLine d line b → a ≡ b
+one_call d line a b h g =
+    let words : h.name ∷ map signed_decimal a.params ≡ g.name ∷ map signed_decimal b.params = sym h.spelled ∙ g.spelled in
+    let names : h.name ≡ g.name = cc in
+    let values : map signed_decimal a.params ≡ map signed_decimal b.params = cc in
+    let types : a.ty ≡ b.ty = (let e : Some a.ty ≡ Some b.ty = sym h.named ∙ (ap (λ n. position (is_named n) d.types) names ∙ g.named) in cc) in
+    let params : a.params ≡ b.params = same_values a.params b.params (small a h.fits) (small b g.fits) values in
+    let tapes : a.tape ≡ b.tape = h.no_tape ∙ sym g.no_tape in
+    let asks : a.ask ≡ b.ask = h.no_ask ∙ sym g.no_ask in
+    λ i. record { ty = types i; params = params i; tape = tapes i; ask = asks i }
+  where
+    small : (call : Call) → call_fits (slice_get d.types call.ty) call ≡ true → list_all is_small call.params ≡ true
+    small call fits = by (slice_get d.types call.ty) fits
+      where
+        by : (o : Option TxType) → call_fits o call ≡ true → list_all is_small call.params ≡ true
+        by None e = cc
+        by (Some kind) e = (fitting kind call e).small
+
+pub says_one : (d : Design) → SaysOne (SaysCall d)
+says_one d line xs ys h g = h.alone ∙ (ap (λ call. call ∷ []) (one_call d line h.call g.call h.asked g.asked) ∙ sym g.alone)
 
 -- a line that asks for no call is refused
 pub no_call : (d : Design) (line : List ℕ) (n : ℕ) → ((call : Call) → ¬ IsCallLine d line call) → IsTooMuch (SaysCall d) most_calls line n
