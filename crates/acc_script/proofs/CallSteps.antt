@@ -1,23 +1,25 @@
 -- The words of a script's line, read one after the other.
-use Rattle.std.proofs.Common.{◌≡◌, ◌≢◌, ℕ, ◌+◌, ◌<◌, ◌^◌, true, false, Bool, List, [], ◌∷◌, ◌++◌, length, map, refl, sym, ap, subst, ◌∙◌, arith, append_assoc, length-append, ℤ, Some, None}
+use Rattle.std.proofs.Common.{◌≡◌, ◌≢◌, ℕ, ◌+◌, ◌<◌, ◌^◌, true, false, Bool, List, [], ◌∷◌, ◌++◌, length, map, refl, sym, ap, subst, ◌∙◌, arith, append_assoc, length-append, ℤ, Option, Some, None, pos, negsuc}
 use Rattle.std.specs.Prelude.{position, slice_get, ◌==◌, ◌&&◌, nat_le}
 use Rattle.std.specs.List.{list_all}
 use Rattle.std.specs.Fmt.{signed_decimal}
+use Rattle.std.specs.Int.Signed.{mag}
 use Rattle.std.specs.Cmp.{first_so, second_so}
 use Rattle.std.specs.Cmp.Derive.{both_true}
-use Rattle.std.proofs.lemmas.Bool.{eq-eqb, eqb-true}
+use Rattle.std.proofs.lemmas.Bool.{eqb-true}
+use Rattle.std.proofs.lemmas.Fmt.{signed_decimal_injective}
 use Rattle.std.proofs.lemmas.Bool.Decides.{nat_tests}
-use Rattle.std.proofs.lemmas.List.{append-nil, map-append, length-map}
+use Rattle.std.proofs.lemmas.List.{append-nil, map-append}
 use Rattle.acc_base.specs.declared.designs.Design.{Design}
 use Rattle.acc_base.specs.declared.designs.TxType.{TxType}
 use Rattle.acc_base.specs.declared.machines.Call.{Call}
 use Rattle.acc_base.specs.Machine.{call_fits, ask_fits}
 use Rattle.acc_base.specs.Numbers.{is_small, IsSmall}
 use Rattle.acc_script.specs.Pieces.{words_of}
-use Rattle.acc_script.specs.LineReadings.{IsTooMuch, AddsSaid}
+use Rattle.acc_script.specs.LineReadings.{IsTooMuch}
 use Rattle.acc_script.specs.CallLines.{is_named, IsCallLine, SaysCall, most_calls}
 use Rattle.acc_script.specs.CallParts.{IsCalled, AreParameters, BeginWith}
-use Rattle.acc_script.proofs.LineSteps.{SaysAsMany}
+use Rattle.acc_script.proofs.LineSteps.{SaysOne}
 
 -- The first n words are read as values, and others are left.
 pub record ValuesSoFar (words left : List (List ℕ)) (n : ℕ) (values : List ℤ) : Type 0 where
@@ -53,19 +55,10 @@ value_among (y ∷ values) (x ∷ all) left more short small e =
     let rest : map signed_decimal values ++ left ≡ map signed_decimal all ++ more = cc in
     value_among values all left more (omega arith) (second_so (is_small x) (list_all is_small all) small) rest
 
--- where no word is left, there are too few values
-pub too_few : (words : List (List ℕ)) (n count : ℕ) (values : List ℤ) → ValuesSoFar words [] n values → n < count → (all : List ℤ) (more : List (List ℕ)) → AreParameters count all → ¬ BeginWith words all more
-too_few words n count values h less all more parts e =
-    let v = value_among values all [] more (omega (arith, h.counted, parts.counted)) parts.small (sym h.read ∙ e) in absurd (let wrong : ◌≡◌ {A = List (List ℕ)} [] (signed_decimal v.0 ∷ v.1) = v.3 in cc)
-
 -- and a word that is no value refuses the words
 pub no_value : (words left : List (List ℕ)) (word : List ℕ) (n count : ℕ) (values : List ℤ) → ValuesSoFar words (word ∷ left) n values → n < count → ((v : ℤ) → IsSmall v → word ≢ signed_decimal v) → (all : List ℤ) (more : List (List ℕ)) → AreParameters count all → ¬ BeginWith words all more
 no_value words left word n count values h less other all more parts e =
     let v = value_among values all (word ∷ left) more (omega (arith, h.counted, parts.counted)) parts.small (sym h.read ∙ e) in other v.0 v.2 (let same : word ∷ left ≡ signed_decimal v.0 ∷ v.1 = v.3 in cc)
-
--- all values are read
-pub all_values : (words left : List (List ℕ)) (n : ℕ) (values : List ℤ) → ValuesSoFar words left n values → AreParameters n values
-all_values words left n values h = record { counted = h.counted; small = h.small }
 
 -- ---- a line
 
@@ -79,11 +72,6 @@ fitting kind call h =
     front true y z w g = refl
     front false y z w g = g
 
--- and one that has them, without a tape or an abort that is asked for, fits
-fits_kind : (kind : TxType) (call : Call) → AreParameters kind.params call.params → call.tape ≡ [] → call.ask ≡ None → call_fits (Some kind) call ≡ true
-fits_kind kind call parts no_tape no_ask =
-    both_true (both_true (both_true (both_true (eq-eqb (length call.params) kind.params parts.counted) parts.small) (ap (list_all is_small) no_tape)) (ap (λ (t : List ℤ). nat_le (length t) 4096) no_tape)) (ap ask_fits no_ask)
-
 -- what a call that a line asks for has, where the line's name is known
 asked : (d : Design) (line name : List ℕ) (left : List (List ℕ)) (ty count : ℕ) (call : Call) → words_of line ≡ name ∷ left → IsCalled d name ty count → IsCallLine d line call → AreParameters count call.params × (left ≡ map signed_decimal call.params)
 asked d line name left ty count call words called says =
@@ -94,48 +82,50 @@ asked d line name left ty count call words called says =
     let fits : call_fits (Some called.kind) call ≡ true = sym (ap (λ k. call_fits k call) found) ∙ says.fits in
     (subst (λ n. AreParameters n call.params) (sym called.counted) (fitting called.kind call fits), rest)
 
--- a line without a word asks for no call
-pub no_name : (d : Design) (line : List ℕ) (call : Call) → words_of line ≡ [] → ¬ IsCallLine d line call
-no_name d line call words says = let wrong : ◌≡◌ {A = List (List ℕ)} [] (says.name ∷ map signed_decimal call.params) = sym words ∙ says.spelled in absurd cc
-
--- nor does one whose first word names no type
-pub no_type : (d : Design) (line name : List ℕ) (left : List (List ℕ)) (call : Call) → words_of line ≡ name ∷ left → ((ty : ℕ) → ty < 2 ^ 32 → position (is_named name) d.types ≢ Some ty) → ¬ IsCallLine d line call
-no_type d line name left call words none says =
-    let same_name : says.name ≡ name = (let e = sym says.spelled ∙ words in cc) in
-    none call.ty says.numbered (ap (λ n. position (is_named n) d.types) (sym same_name) ∙ says.named)
-
 -- nor one whose other words don't begin with parameters
 pub no_parameters : (d : Design) (line name : List ℕ) (left : List (List ℕ)) (ty count : ℕ) (call : Call) → words_of line ≡ name ∷ left → IsCalled d name ty count → ((values : List ℤ) (more : List (List ℕ)) → AreParameters count values → ¬ BeginWith left values more) → ¬ IsCallLine d line call
 no_parameters d line name left ty count call words called none says =
     let a = asked d line name left ty count call words called says in
     none call.params [] a.0 (a.1 ∙ sym (append-nil (map signed_decimal call.params)))
 
--- nor one that has words behind those
-pub more_words : (d : Design) (line name word : List ℕ) (left more : List (List ℕ)) (ty count : ℕ) (values : List ℤ) (call : Call) → words_of line ≡ name ∷ left → IsCalled d name ty count → AreParameters count values → BeginWith left values (word ∷ more) → ¬ IsCallLine d line call
-more_words d line name word left more ty count values call words called parts begins says =
-    let a = asked d line name left ty count call words called says in
-    let e = simp (length-append, length-map) at (ap length (sym begins ∙ a.1)) in
-    absurd (omega (arith, e, a.0.counted, parts.counted))
+-- numbers within 2^45 of 0 are spelled in one way
+same_values : (xs ys : List ℤ) → list_all is_small xs ≡ true → list_all is_small ys ≡ true → map signed_decimal xs ≡ map signed_decimal ys → xs ≡ ys
+same_values [] [] p q e = refl
+same_values [] (y ∷ ys) p q e = cc
+same_values (x ∷ xs) [] p q e = cc
+same_values (x ∷ xs) (y ∷ ys) p q e =
+    let px = small_value x (first_so (is_small x) (list_all is_small xs) p) in
+    let py = small_value y (first_so (is_small y) (list_all is_small ys) q) in
+    let first : signed_decimal x ≡ signed_decimal y = cc in
+    let rest : map signed_decimal xs ≡ map signed_decimal ys = cc in
+    let a : x ≡ y = signed_decimal_injective x y (magnitude x px) (magnitude y py) first in
+    let b : xs ≡ ys = same_values xs ys (second_so (is_small x) (list_all is_small xs) p) (second_so (is_small y) (list_all is_small ys) q) rest in cc
+  where
+    magnitude : (z : ℤ) → IsSmall z → mag z < 2 ^ 63
+    magnitude (pos n) h = omega arith
+    magnitude (negsuc n) h = omega arith
 
--- and one that has none asks for the call of these parameters
-pub makes_call : (d : Design) (line name : List ℕ) (left : List (List ℕ)) (ty count : ℕ) (call : Call) → words_of line ≡ name ∷ left → IsCalled d name ty count → AreParameters count call.params → BeginWith left call.params [] → call.ty ≡ ty → call.tape ≡ [] → call.ask ≡ None → IsCallLine d line call
-makes_call d line name left ty count call words called parts begins is_ty no_tape no_ask = record {
-  name = name;
-  spelled = words ∙ ap (λ ws. name ∷ ws) (begins ∙ append-nil (map signed_decimal call.params));
-  named = called.named ∙ ap (λ t. Some t) (sym is_ty);
-  numbered = omega (arith, is_ty, called.numbered);
-  fits = ap (λ t. call_fits (slice_get d.types t) call) is_ty ∙ (ap (λ k. call_fits k call) called.found ∙ fits_kind called.kind call (subst (λ n. AreParameters n call.params) called.counted parts) no_tape no_ask);
-  no_tape = no_tape;
-  no_ask = no_ask;
-}
+-- a line asks for one call
+one_call : (d : Design) (line : List ℕ) (a b : Call) → IsCallLine d line a → IsCallLine d line b → a ≡ b
+one_call d line a b h g =
+    let words : h.name ∷ map signed_decimal a.params ≡ g.name ∷ map signed_decimal b.params = sym h.spelled ∙ g.spelled in
+    let names : h.name ≡ g.name = cc in
+    let values : map signed_decimal a.params ≡ map signed_decimal b.params = cc in
+    let types : a.ty ≡ b.ty = (let e : Some a.ty ≡ Some b.ty = sym h.named ∙ (ap (λ n. position (is_named n) d.types) names ∙ g.named) in cc) in
+    let params : a.params ≡ b.params = same_values a.params b.params (small a h.fits) (small b g.fits) values in
+    let tapes : a.tape ≡ b.tape = h.no_tape ∙ sym g.no_tape in
+    let asks : a.ask ≡ b.ask = h.no_ask ∙ sym g.no_ask in
+    λ i. record { ty = types i; params = params i; tape = tapes i; ask = asks i }
+  where
+    small : (call : Call) → call_fits (slice_get d.types call.ty) call ≡ true → list_all is_small call.params ≡ true
+    small call fits = by (slice_get d.types call.ty) fits
+      where
+        by : (o : Option TxType) → call_fits o call ≡ true → list_all is_small call.params ≡ true
+        by None e = cc
+        by (Some kind) e = (fitting kind call e).small
 
--- a line says one call
-pub says_as_many : (d : Design) → SaysAsMany (SaysCall d)
-says_as_many d line xs ys h g = ap length h.alone ∙ sym (ap length g.alone)
-
--- a call that a line asks for stands behind the others
-pub one_call : (d : Design) (line : List ℕ) (old new : List Call) (call : Call) → IsCallLine d line call → new ≡ old ++ call ∷ [] → length old < most_calls → AddsSaid (SaysCall d) most_calls line old new
-one_call d line old new call says grown few = record { here = call ∷ []; parts = grown; said = record { call = call; alone = refl; asked = says }; few = omega (arith, ap length grown, length-append old (call ∷ []), few) }
+pub says_one : (d : Design) → SaysOne (SaysCall d)
+says_one d line xs ys h g = h.alone ∙ (ap (λ call. call ∷ []) (one_call d line h.call g.call h.asked g.asked) ∙ sym g.alone)
 
 -- a line that asks for no call is refused
 pub no_call : (d : Design) (line : List ℕ) (n : ℕ) → ((call : Call) → ¬ IsCallLine d line call) → IsTooMuch (SaysCall d) most_calls line n

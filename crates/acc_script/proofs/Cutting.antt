@@ -1,8 +1,8 @@
 -- The first piece of a text.
 use Rattle.std.proofs.Common.{◌≡◌, ℕ, ◌+◌, ◌≤◌, Bool, true, false, cond, List, [], ◌∷◌, length, take, drop, refl, ap, arith, suc, Option, Some, None}
 use Rattle.std.specs.Prelude.{◌==◌, not}
-use Rattle.std.specs.List.{prefix_len}
-use Rattle.acc_script.specs.Pieces.{pieces, pieces_left, onto_first}
+use Rattle.std.specs.List.{prefix_len, onto_first}
+use Rattle.acc_script.specs.Pieces.{pieces, pieces_left}
 
 -- how many bytes stand before the first byte c
 abbrev pub before : ℕ → List ℕ → ℕ

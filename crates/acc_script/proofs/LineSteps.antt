@@ -62,17 +62,30 @@ pub one_refused : {X : Type 0} (Line : List ℕ → List X → Type 0) (most : �
 one_refused Line most text left line n items h counts wrong =
     record { before = h.before; line = line; behind = left; parts = h.parts; number = ap (λ k. k + 1) h.number; items = items; said = h.said; few = h.few; counts = counts; wrong = wrong }
 
--- ---- what lines say is as long, however it is read
+-- ---- what lines say, where what each of them says is determined
 
-abbrev pub SaysAsMany : {X : Type 0} → (List ℕ → List X → Type 0) → Type 0
-SaysAsMany {X} Line = (line : List ℕ) (xs ys : List X) → Line line xs → Line line ys → length xs ≡ length ys
+abbrev pub SaysOne : {X : Type 0} → (List ℕ → List X → Type 0) → Type 0
+SaysOne {X} Line = (line : List ℕ) (xs ys : List X) → Line line xs → Line line ys → xs ≡ ys
+
+one_reading : {X : Type 0} (Line : List ℕ → List X → Type 0) → SaysOne Line → (lines : List (List ℕ)) (xs ys : List X) → AreSaid Line lines xs → AreSaid Line lines ys → xs ≡ ys
+one_reading Line same [] xs ys h g = h ∙ sym g
+one_reading {X} Line same (line ∷ lines) xs ys h g = by (is_skipped line) h g (one_reading Line same lines)
+  where
+    by : (b : Bool) → MatchBool b (AreSaid Line lines xs) (Says Line line (AreSaid Line lines) xs) → MatchBool b (AreSaid Line lines ys) (Says Line line (AreSaid Line lines) ys) → ((us vs : List X) → AreSaid Line lines us → AreSaid Line lines vs → us ≡ vs) → xs ≡ ys
+    by true p q ih = ih xs ys p q
+    by false p q ih =
+        p.parts ∙ (ap (λ us. us ++ p.behind) (same line p.here q.here p.said q.said) ∙ (ap (λ us. q.here ++ us) (ih p.behind q.behind p.rest q.rest) ∙ sym q.parts))
+
+-- a text says its items in one way
+pub one_said_by : {X : Type 0} (Line : List ℕ → List X → Type 0) → SaysOne Line → (most : ℕ) (text : List ℕ) (xs ys : List X) → IsSaid Line most text xs → IsSaid Line most text ys → xs ≡ ys
+one_said_by Line same most text xs ys h g = one_reading Line same (lines_of text) xs ys h.said g.said
 
 -- among all items there is room for some and for what a line may say
 abbrev Room : {X : Type 0} → (List ℕ → List X → Type 0) → List ℕ → List X → List X → Type 0
 Room {X} Line line items all = (here : List X) × Line line here × (length items + length here ≤ length all)
 
 -- lines, a line and more lines say no fewer items than the former do
-parted : {X : Type 0} (Line : List ℕ → List X → Type 0) → SaysAsMany Line → (before : List (List ℕ)) (line : List ℕ) (behind : List (List ℕ)) (items all : List X) → AreSaid Line before items → is_skipped line ≡ false → AreSaid Line (before ++ line ∷ behind) all → Room Line line items all
+parted : {X : Type 0} (Line : List ℕ → List X → Type 0) → SaysOne Line → (before : List (List ℕ)) (line : List ℕ) (behind : List (List ℕ)) (items all : List X) → AreSaid Line before items → is_skipped line ≡ false → AreSaid Line (before ++ line ∷ behind) all → Room Line line items all
 parted Line same [] line behind items all h counts whole =
     let w : Says Line line (AreSaid Line behind) all = rw counts at whole in
     (w.here, w.said, omega (arith, ap length h, ap length w.parts, length-append w.here w.behind))
@@ -82,10 +95,10 @@ parted {X} Line same (first ∷ before) line behind items all h counts whole = b
     by true g w ih = ih items all g w
     by false g w ih =
         let more = ih g.behind w.behind g.rest w.rest in
-        (more.0, more.1, omega (arith, same first g.here w.here g.said w.said, ap length g.parts, ap length w.parts, length-append g.here g.behind, length-append w.here w.behind, more.2))
+        (more.0, more.1, omega (arith, ap length (same first g.here w.here g.said w.said), ap length g.parts, ap length w.parts, length-append g.here g.behind, length-append w.here w.behind, more.2))
 
 -- a refused text says nothing
-pub refused_none : {X : Type 0} (Line : List ℕ → List X → Type 0) → SaysAsMany Line → (most : ℕ) (text : List ℕ) (n : ℕ) → Refuses Line most text n → (items : List X) → ¬ IsSaid Line most text items
+pub refused_none : {X : Type 0} (Line : List ℕ → List X → Type 0) → SaysOne Line → (most : ℕ) (text : List ℕ) (n : ℕ) → Refuses Line most text n → (items : List X) → ¬ IsSaid Line most text items
 refused_none Line same most text n r items whole =
     let p = parted Line same r.before r.line r.behind r.items items r.said r.counts (subst (λ ls. AreSaid Line ls items) r.parts whole.said) in
     absurd (omega (arith, r.wrong p.0 p.1, p.2, whole.few))

@@ -1,13 +1,14 @@
 -- The words of an order's line, read one after the other.
-use Rattle.std.proofs.Common.{◌≡◌, ◌≢◌, ℕ, suc, ◌<◌, ◌≤◌, List, [], ◌∷◌, ◌++◌, length, map, refl, sym, ap, ◌∙◌, arith, append_assoc, length-append}
+use Rattle.std.proofs.Common.{◌≡◌, ◌≢◌, ℕ, suc, ◌<◌, ◌≤◌, ◌^◌, List, [], ◌∷◌, ◌++◌, length, map, refl, sym, ap, ◌∙◌, arith, append_assoc, length-append}
 use Rattle.std.specs.Prelude.{All}
 use Rattle.std.specs.Fmt.{decimal}
-use Rattle.std.proofs.lemmas.List.{append-nil, map-append, length-map}
-use Rattle.std.proofs.lemmas.List.Elements.{All-append, All-nil, All-cons}
+use Rattle.std.proofs.lemmas.Fmt.{decimal_injective}
+use Rattle.std.proofs.lemmas.List.{append-nil, map-append}
+use Rattle.std.proofs.lemmas.List.Elements.{All-append, All-nil, All-cons, All-head, All-tail}
 use Rattle.acc_script.specs.Pieces.{words_of}
 use Rattle.acc_script.specs.LineReadings.{IsTooMuch, AddsSaid}
 use Rattle.acc_script.specs.OrderLines.{IsPlace, SaysPlaces, most_numbers}
-use Rattle.acc_script.proofs.LineSteps.{SaysAsMany}
+use Rattle.acc_script.proofs.LineSteps.{SaysOne}
 
 -- The first words of a line are read as numbers, which stand behind the old ones; the other words are left.
 pub record PlacesSoFar (places : ℕ) (line : List ℕ) (left : List (List ℕ)) (old new : List ℕ) : Type 0 where
@@ -55,7 +56,18 @@ pub too_many : (places : ℕ) (line word : List ℕ) (left : List (List ℕ)) (o
 too_many places line word left old new h full = λ xs says.
     let w = among places line word left old new xs h says in omega (arith, ap length h.parts, length-append old h.here, w.3, full)
 
--- a line says as many numbers as it has words
-pub says_as_many : (places : ℕ) → SaysAsMany (SaysPlaces places)
-says_as_many places line xs ys h g =
-    simp length-map at (ap length (sym h.spelled ∙ g.spelled))
+-- a line says its numbers in one way
+same_places : (places : ℕ) → places < 2 ^ 64 → (xs ys : List ℕ) → All (IsPlace places) xs → All (IsPlace places) ys → map decimal xs ≡ map decimal ys → xs ≡ ys
+same_places places fits [] [] p q e = refl
+same_places places fits [] (y ∷ ys) p q e = cc
+same_places places fits (x ∷ xs) [] p q e = cc
+same_places places fits (x ∷ xs) (y ∷ ys) p q e =
+    let px : IsPlace places x = All-head (IsPlace places) x xs p in
+    let py : IsPlace places y = All-head (IsPlace places) y ys q in
+    let first : decimal x ≡ decimal y = cc in
+    let rest : map decimal xs ≡ map decimal ys = cc in
+    let a : x ≡ y = decimal_injective x y (omega arith) (omega arith) first in
+    let b : xs ≡ ys = same_places places fits xs ys (All-tail (IsPlace places) x xs p) (All-tail (IsPlace places) y ys q) rest in cc
+
+pub says_one : (places : ℕ) → places < 2 ^ 64 → SaysOne (SaysPlaces places)
+says_one places fits line xs ys h g = same_places places fits xs ys h.within g.within (sym h.spelled ∙ g.spelled)

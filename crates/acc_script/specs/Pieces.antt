@@ -1,20 +1,15 @@
 -- Texts cut into lines, and lines into words.
-use Rattle.std.specs.Prelude.{ℕ, Bool, true, false, ◌==◌, ◌||◌, not, if◌then◌else◌, List, [], ◌∷◌, filter, Option, Some, None}
+use Rattle.std.specs.Prelude.{ℕ, Bool, true, false, ◌==◌, ◌||◌, not, List, [], ◌∷◌, filter, Option, Some, None}
+use Rattle.std.specs.List.{slice_split}
 
 -- whether there is nothing in it
 abbrev pub is_blank : {X : Type 0} → List X → Bool
 is_blank [] = true
 is_blank (x ∷ xs) = false
 
--- a byte in front of the first piece
-abbrev pub onto_first : ℕ → List (List ℕ) → List (List ℕ)
-onto_first b [] = (b ∷ []) ∷ []
-onto_first b (piece ∷ others) = (b ∷ piece) ∷ others
-
 -- what stands between the bytes c: a text without c is one piece, and n bytes c make n + 1 pieces
 abbrev pub pieces : ℕ → List ℕ → List (List ℕ)
-pieces c [] = [] ∷ []
-pieces c (b ∷ text) = if b == c then [] ∷ pieces c text else onto_first b (pieces c text)
+pieces c text = slice_split (λ b. b == c) text
 
 -- the lines of a text; a line feed at its end leaves an empty line behind it
 abbrev pub lines_of : List ℕ → List (List ℕ)

@@ -34,6 +34,7 @@ fn push_places(numbers: &mut Seq<u64>, places: u64, line: &[u8]) -> Result<(), L
 /// The numbers of an order over so many places, which are counted from 1. The cost is linear in the text.
 pub fn order(alloc: Global, places: u64, text: &[u8]) -> Result<Seq<u64>, ScriptError>
     ensures ok { IfOk result (IsOrder places text.now) }
+    ensures only { (numbers : List ℕ) → IsOrder places text.now numbers → IfOk result (λ found. found ≡ numbers) }
     ensures line { (n : ℕ) → result ≡ Err (ScriptError.Line n) → RefusesOrderLine places text.now n }
     ensures none { (n : ℕ) → result ≡ Err (ScriptError.Line n)
         → (numbers : List ℕ) → ¬ IsOrder places text.now numbers }

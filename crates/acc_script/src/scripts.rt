@@ -97,6 +97,7 @@ fn push_call(alloc: Global, calls: &mut Seq<Call>, d: &Design, line: &[u8]) -> R
 /// The calls of a script over a design, in order. The cost is linear in the text and, for each call, in the types of the design.
 pub fn calls(alloc: Global, d: &Design, text: &[u8]) -> Result<Seq<Call>, ScriptError>
     ensures ok { IfOk result (IsScript d.now text.now) }
+    ensures only { (asked : List Call) → IsScript d.now text.now asked → IfOk result (λ found. found ≡ asked) }
     ensures line { (n : ℕ) → result ≡ Err (ScriptError.Line n) → RefusesLine d.now text.now n }
     ensures none { (n : ℕ) → result ≡ Err (ScriptError.Line n)
         → (asked : List Call) → ¬ IsScript d.now text.now asked }
