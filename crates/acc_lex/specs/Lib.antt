@@ -1,1 +1,4 @@
+pub mod ByteKinds
+pub mod Runs
 pub mod Keywords
+pub mod Words
