@@ -1,0 +1,6 @@
+pub mod Scopes
+pub mod Sums
+pub mod Meanings
+pub mod Limits
+pub mod FormRules
+pub mod Texts

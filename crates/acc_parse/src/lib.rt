@@ -1,0 +1,4 @@
+//! The text of a design: reads it into the design that it stands for.
+#![tactic(auto)]
+
+pub mod errors;
