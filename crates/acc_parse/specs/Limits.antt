@@ -1,18 +1,6 @@
 -- The limits of a design's text.
 use Rattle.std.specs.Prelude.{ℕ, ◌^◌, Bool, true, ◌&&◌, nat_le, nat_lt, List, [], ◌∷◌, length, map, Option, Some, None}
 use Rattle.std.specs.List.{list_all}
-use Rattle.acc_base.specs.Numbers.{is_small}
-use Rattle.acc_base.specs.declared.forms.Lin.{Lin}
-use Rattle.acc_base.specs.declared.forms.LinRel.{LinRel}
-use Rattle.acc_base.specs.declared.steps.Read.{Read}
-use Rattle.acc_base.specs.declared.steps.Read.TheVariants as read
-use Rattle.acc_base.specs.declared.steps.Action.{Action}
-use Rattle.acc_base.specs.declared.steps.Action.TheVariants as action
-use Rattle.acc_base.specs.declared.steps.Path.{Path}
-use Rattle.acc_base.specs.declared.steps.Step.{Step}
-use Rattle.acc_base.specs.declared.designs.Point.{Point}
-use Rattle.acc_base.specs.declared.designs.TxType.{TxType}
-use Rattle.acc_base.specs.declared.designs.Design.{Design}
 use Rattle.acc_syntax.specs.declared.trees.Term.{Term}
 use Rattle.acc_syntax.specs.declared.trees.Term.TheVariants.{Constant, Plain, Product}
 use Rattle.acc_syntax.specs.declared.trees.SignedTerm.{SignedTerm}
@@ -117,42 +105,3 @@ is_table_kept t =
 abbrev pub is_text_kept : DesignTree → Bool
 is_text_kept d =
     is_at_most 64 d.tables && list_all is_table_kept d.tables && is_at_most 64 d.types && list_all is_type_kept d.types
-
--- ---- collected coefficients and constants: within 2^45 of 0
-
-abbrev pub is_lin_kept : Lin → Bool
-is_lin_kept l = list_all (λ (t : ℕ × _). is_small t.1) l.coeffs && is_small l.constant
-
-abbrev pub is_lin_rel_kept : LinRel → Bool
-is_lin_rel_kept r = is_lin_kept r.lin
-
--- the linear values of a read, and of an action
-abbrev pub lins_in_read : Read → List Lin
-lins_in_read (read.Let x l) = l ∷ []
-lins_in_read (read.Col x t k c) = k
-lins_in_read (read.Has x t k) = k
-lins_in_read _ = []
-
-abbrev pub lins_in_action : Action → List (List Lin)
-lins_in_action (action.Put t k vs) = k ∷ vs ∷ []
-lins_in_action (action.Del t k) = k ∷ []
-lins_in_action (action.Set t k c v) = k ∷ (v ∷ []) ∷ []
-lins_in_action (action.Add t k c v) = k ∷ (v ∷ []) ∷ []
-
-abbrev pub are_lins_kept : List Lin → Bool
-are_lins_kept ls = list_all is_lin_kept ls
-
-abbrev pub has_small_path : Path → Bool
-has_small_path p = list_all is_lin_rel_kept p.guard && list_all (λ a. list_all are_lins_kept (lins_in_action a)) p.actions
-
-abbrev pub has_small_step : Step → Bool
-has_small_step s = list_all (λ r. are_lins_kept (lins_in_read r)) s.reads && list_all has_small_path s.paths
-
-abbrev pub has_small_point : Point → Bool
-has_small_point p = has_small_step p.next && has_small_step p.undo
-
-abbrev pub has_small_type : TxType → Bool
-has_small_type x = list_all has_small_point x.points
-
-abbrev pub has_small_numbers : Design → Bool
-has_small_numbers d = list_all has_small_type d.types

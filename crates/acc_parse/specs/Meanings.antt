@@ -1,5 +1,6 @@
--- The design that a syntax tree stands for: each name is replaced by the number of what it names. None where a name isn't defined.
-use Rattle.std.specs.Prelude.{ℕ, List, [], ◌∷◌, length, map, Option, Some, None, option_and_then, option_map, slice_get, pos}
+-- The design that a syntax tree stands for: each name is replaced by the number of what it names. None where a name isn't defined, or a collected number leaves the range.
+use Rattle.std.specs.Prelude.{ℕ, List, [], ◌∷◌, length, map, Option, Some, None, option_and_then, option_map, slice_get, position, pos}
+use Rattle.std.specs.Str.{bytes_eq}
 use Rattle.acc_base.specs.declared.forms.Lin.{Lin}
 use Rattle.acc_base.specs.declared.forms.LinRel.{LinRel}
 use Rattle.acc_base.specs.declared.steps.Read.{Read}
@@ -46,7 +47,7 @@ abbrev pub RowName : Type 0
 RowName = ℕ × List Lin
 
 abbrev pub table_number : Scope → List ℕ → Option ℕ
-table_number s x = place_of x (map (λ t. t.name) s.tables)
+table_number s x = position (λ (t : TableTree). bytes_eq x t.name) s.tables
 
 abbrev pub row_of : Scope → Place → Option RowName
 row_of s p = option_and_then (λ t. option_map (λ key. (t, key)) (lins_of s.locals p.key)) (table_number s p.table)

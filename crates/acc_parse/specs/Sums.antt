@@ -1,8 +1,8 @@
 -- What a linear value stands for: its terms collected, in the order in which their variables first appear.
-use Rattle.std.specs.Prelude.{ℕ, Bool, true, false, not, ◌==◌, if◌then◌else◌, List, [], ◌∷◌, ◌++◌, length, map, filter, Option, Some, None, option_and_then, option_map, ℤ, pos, ◌-ℤ◌}
-use Rattle.std.specs.List.{filter_map}
+use Rattle.std.specs.Prelude.{ℕ, Bool, true, false, not, ◌&&◌, ◌==◌, if◌then◌else◌, List, [], ◌∷◌, ◌++◌, length, map, filter, Option, Some, None, option_and_then, option_map, ℤ, pos, ◌-ℤ◌}
+use Rattle.std.specs.List.{filter_map, list_all}
 use Rattle.std.specs.Ordering.{int_eq}
-use Rattle.acc_base.specs.Numbers.{total}
+use Rattle.acc_base.specs.Numbers.{total, is_small}
 use Rattle.acc_base.specs.declared.forms.Lin.{Lin}
 use Rattle.acc_base.specs.declared.forms.LinRel.{LinRel}
 use Rattle.acc_syntax.specs.declared.trees.Variable.{Variable}
@@ -78,9 +78,17 @@ collected terms = filter (λ t. not (int_eq t.1 (pos 0))) (map (λ x. (x, coeffi
 abbrev pub lin_by : List Part → Lin
 lin_by parts = record { coeffs = collected (filter_map with_variable parts); constant = total (map constant_in parts) }
 
+-- its coefficients and its constant are within 2^45 of 0
+abbrev pub is_lin_kept : Lin → Bool
+is_lin_kept l = list_all (λ (t : ℕ × ℤ). is_small t.1) l.coeffs && is_small l.constant
+
+-- what terms stand for; None where a collected number is not within 2^45 of 0
+abbrev pub kept_lin : List Part → Option Lin
+kept_lin parts = if is_lin_kept (lin_by parts) then Some (lin_by parts) else None
+
 -- the linear value that a sum stands for
 abbrev pub lin_of : List (List ℕ) → Sum → Option Lin
-lin_of locals s = option_map lin_by (parts_of locals s)
+lin_of locals s = option_and_then kept_lin (parts_of locals s)
 
 abbrev pub all_sums : Sums → List Sum
 all_sums ss = ss.first ∷ ss.others
@@ -93,11 +101,20 @@ lins_of locals ss = each_of (lin_of locals) (all_sums ss)
 abbrev pub difference : List Part → List Part → List Part
 difference a b = a ++ map negated b
 
-abbrev pub rel_by : Relation → List Part → List Part → LinRel
-rel_by AtMost a b = record { lin = lin_by (difference a b); equal = false }
-rel_by AtLeast a b = record { lin = lin_by (difference b a); equal = false }
-rel_by Equal a b = record { lin = lin_by (difference a b); equal = true }
+-- the terms that are compared with 0
+abbrev pub compared : Relation → List Part → List Part → List Part
+compared AtMost a b = difference a b
+compared AtLeast a b = difference b a
+compared Equal a b = difference a b
+
+abbrev pub is_equation : Relation → Bool
+is_equation AtMost = false
+is_equation AtLeast = false
+is_equation Equal = true
+
+abbrev pub rel_by : Relation → List Part → List Part → Option LinRel
+rel_by r a b = option_map (λ l. record { lin = l; equal = is_equation r }) (kept_lin (compared r a b))
 
 abbrev pub rel_of : List (List ℕ) → LinRelTree → Option LinRel
 rel_of locals r =
-    option_and_then (λ a. option_map (λ b. rel_by r.relation a b) (parts_of locals r.right)) (parts_of locals r.left)
+    option_and_then (λ a. option_and_then (λ b. rel_by r.relation a b) (parts_of locals r.right)) (parts_of locals r.left)

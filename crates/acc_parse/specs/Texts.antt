@@ -6,7 +6,7 @@ use Rattle.acc_syntax.specs.declared.trees.DesignTree.{DesignTree}
 use Rattle.acc_syntax.specs.Spelling.{spelled_design}
 use Rattle.acc_parse.specs.Scopes.{has_distinct_names}
 use Rattle.acc_parse.specs.Meanings.{design_of}
-use Rattle.acc_parse.specs.Limits.{is_text_kept, has_small_numbers}
+use Rattle.acc_parse.specs.Limits.{is_text_kept}
 use Rattle.acc_parse.specs.FormRules.{is_formed}
 
 -- the tree stands for the design, and keeps the rules on names, the limits and the form rules
@@ -14,7 +14,6 @@ pub record Means (tree : DesignTree) (d : Design) : Type 0 where
   pub design : design_of tree ≡ Some d
   pub distinct : has_distinct_names tree ≡ true
   pub kept : is_text_kept tree ≡ true
-  pub small : has_small_numbers d ≡ true
   pub formed : is_formed d ≡ true
 
 -- the words spell a tree that stands for the design

@@ -1,4 +1,8 @@
 //! Why a text is no design.
+ghost use Rattle.std.specs.Prelude.{◌≡◌};
+ghost use Rattle.acc_parse.specs.declared.errors.ParseError.TheVariants.{Memory};
+
+use std::alloc::{AllocError, AllocFailed};
 
 /// Why a text is no design.
 #[derive(Clone, Copy, Debug, PartialEq, Eq)]
@@ -7,4 +11,20 @@ pub enum ParseError {
     Refused,
     /// Want of memory.
     Memory,
+}
+
+impl From<AllocError> for ParseError {
+    ghost from_gives = { λ _ e. e ≡ Memory };
+
+    fn from(_failed: AllocError) -> Self {
+        ParseError::Memory
+    }
+}
+
+impl<T: Drop> From<AllocFailed<T>> for ParseError {
+    ghost from_gives = { λ _ e. e ≡ Memory };
+
+    fn from(_failed: AllocFailed<T>) -> Self {
+        ParseError::Memory
+    }
 }

@@ -2,3 +2,6 @@
 #![tactic(auto)]
 
 pub mod errors;
+
+mod bounds;
+mod names;
