@@ -5,3 +5,4 @@ pub mod errors;
 
 mod bounds;
 mod names;
+mod values;

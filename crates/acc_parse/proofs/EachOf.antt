@@ -1,0 +1,65 @@
+-- What is made of each item of a list, item by item.
+use Rattle.std.proofs.Common.{◌≡◌, ℕ, ◌+◌, ◌<◌, List, [], ◌∷◌, ◌++◌, length, get_or, take, drop, Option, Some, None, refl, ap, sym, ◌∙◌}
+use Rattle.std.specs.Prelude.{option_and_then, option_map}
+use Rattle.std.proofs.lemmas.List.{take_more, drop_more, take-append-drop}
+use Rattle.acc_parse.specs.Sums.{each_of}
+
+-- what is made of a list, and then of another
+abbrev then_all : {Y : Type 0} → Option (List Y) → Option (List Y) → Option (List Y)
+then_all a b = option_and_then (λ ys. option_map (λ zs. ys ++ zs) b) a
+
+front : {Y : Type 0} (o : Option Y) (a b : Option (List Y)) → option_and_then (λ y. option_map (λ ys. y ∷ ys) (then_all a b)) o ≡ then_all (option_and_then (λ y. option_map (λ ys. y ∷ ys) a) o) b
+front None a b = refl
+front (Some y) None b = refl
+front (Some y) (Some ys) None = refl
+front (Some y) (Some ys) (Some zs) = refl
+
+back : {Y : Type 0} (a : Option (List Y)) → a ≡ then_all (Some []) a
+back None = refl
+back (Some ys) = refl
+
+front_none : {Y : Type 0} (o : Option Y) → option_and_then (λ y. option_map (λ ys. y ∷ ys) None) o ≡ None
+front_none None = refl
+front_none (Some y) = refl
+
+module _ {X Y : Type 0} (f : X → Option Y) where
+  pub each_of-append : (xs zs : List X) → each_of f (xs ++ zs) ≡ then_all (each_of f xs) (each_of f zs)
+  each_of-append [] zs = back (each_of f zs)
+  each_of-append (x ∷ xs) zs =
+      ap (λ a. option_and_then (λ y. option_map (λ ys. y ∷ ys) a) (f x)) (each_of-append xs zs) ∙ front (f x) (each_of f xs) (each_of f zs)
+
+  one : (x : X) (y : Y) → f x ≡ Some y → each_of f (x ∷ []) ≡ Some (y ∷ [])
+  one x y e = ap (λ o. option_and_then (λ z. option_map (λ ys. z ∷ ys) (Some [])) o) e
+
+  none : (x : X) (xs : List X) → f x ≡ None → each_of f (x ∷ xs) ≡ None
+  none x xs e = ap (λ o. option_and_then (λ z. option_map (λ ys. z ∷ ys) (each_of f xs)) o) e
+
+  -- one more item
+  pub each_of_push : (xs : List X) (x : X) (ys : List Y) (y : Y) → each_of f xs ≡ Some ys → f x ≡ Some y → each_of f (xs ++ x ∷ []) ≡ Some (ys ++ y ∷ [])
+  each_of_push xs x ys y h e =
+      each_of-append xs (x ∷ []) ∙ (ap (λ a. then_all a (each_of f (x ∷ []))) h ∙ ap (λ b. then_all (Some ys) b) (one x y e))
+
+  pub each_of_more : (xs : List X) (i : ℕ) (x : X) (ys : List Y) (y : Y) → i < length xs → x ≡ get_or xs i x → each_of f (take i xs) ≡ Some ys → f x ≡ Some y → each_of f (take (i + 1) xs) ≡ Some (ys ++ y ∷ [])
+  each_of_more xs i x ys y within here h e =
+      ap (each_of f) (take_more xs i x within ∙ ap (λ z. take i xs ++ z ∷ []) (sym here)) ∙ each_of_push (take i xs) x ys y h e
+
+  none_front : (x : X) (xs : List X) → each_of f xs ≡ None → each_of f (x ∷ xs) ≡ None
+  none_front x xs e = ap (λ a. option_and_then (λ y. option_map (λ ys. y ∷ ys) a) (f x)) e ∙ front_none (f x)
+
+  none_among : (xs zs : List X) → each_of f zs ≡ None → each_of f (xs ++ zs) ≡ None
+  none_among [] zs e = e
+  none_among (x ∷ xs) zs e = none_front x (xs ++ zs) (none_among xs zs e)
+
+  -- one of the items of which nothing is made
+  pub each_of_none : (xs : List X) (i : ℕ) (x : X) → i < length xs → x ≡ get_or xs i x → f x ≡ None → each_of f xs ≡ None
+  each_of_none xs i x within here e =
+      let rest : drop i xs ≡ x ∷ drop (i + 1) xs = drop_more xs i x within ∙ ap (λ z. z ∷ drop (i + 1) xs) (sym here) in
+      ap (each_of f) (sym (take-append-drop i xs)) ∙ none_among (take i xs) (drop i xs) (ap (each_of f) rest ∙ none x (drop (i + 1) xs) e)
+
+  -- the same, behind a first item
+  pub each_of_more_after : (first : X) (xs : List X) (i : ℕ) (x : X) (ys : List Y) (y : Y) → i < length xs → x ≡ get_or xs i x → each_of f (first ∷ take i xs) ≡ Some ys → f x ≡ Some y → each_of f (first ∷ take (i + 1) xs) ≡ Some (ys ++ y ∷ [])
+  each_of_more_after first xs i x ys y within here h e =
+      ap (λ zs. each_of f (first ∷ zs)) (take_more xs i x within ∙ ap (λ z. take i xs ++ z ∷ []) (sym here)) ∙ each_of_push (first ∷ take i xs) x ys y h e
+
+  pub each_of_none_after : (first : X) (xs : List X) (i : ℕ) (x : X) → i < length xs → x ≡ get_or xs i x → f x ≡ None → each_of f (first ∷ xs) ≡ None
+  each_of_none_after first xs i x within here e = none_front first xs (each_of_none xs i x within here e)
