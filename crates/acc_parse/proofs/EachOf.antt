@@ -23,7 +23,7 @@ front_none None = refl
 front_none (Some y) = refl
 
 module _ {X Y : Type 0} (f : X → Option Y) where
-  pub each_of-append : (xs zs : List X) → each_of f (xs ++ zs) ≡ then_all (each_of f xs) (each_of f zs)
+  each_of-append : (xs zs : List X) → each_of f (xs ++ zs) ≡ then_all (each_of f xs) (each_of f zs)
   each_of-append [] zs = back (each_of f zs)
   each_of-append (x ∷ xs) zs =
       ap (λ a. option_and_then (λ y. option_map (λ ys. y ∷ ys) a) (f x)) (each_of-append xs zs) ∙ front (f x) (each_of f xs) (each_of f zs)
@@ -34,14 +34,9 @@ module _ {X Y : Type 0} (f : X → Option Y) where
   none : (x : X) (xs : List X) → f x ≡ None → each_of f (x ∷ xs) ≡ None
   none x xs e = ap (λ o. option_and_then (λ z. option_map (λ ys. z ∷ ys) (each_of f xs)) o) e
 
-  -- one more item
-  pub each_of_push : (xs : List X) (x : X) (ys : List Y) (y : Y) → each_of f xs ≡ Some ys → f x ≡ Some y → each_of f (xs ++ x ∷ []) ≡ Some (ys ++ y ∷ [])
+  each_of_push : (xs : List X) (x : X) (ys : List Y) (y : Y) → each_of f xs ≡ Some ys → f x ≡ Some y → each_of f (xs ++ x ∷ []) ≡ Some (ys ++ y ∷ [])
   each_of_push xs x ys y h e =
       each_of-append xs (x ∷ []) ∙ (ap (λ a. then_all a (each_of f (x ∷ []))) h ∙ ap (λ b. then_all (Some ys) b) (one x y e))
-
-  pub each_of_more : (xs : List X) (i : ℕ) (x : X) (ys : List Y) (y : Y) → i < length xs → x ≡ get_or xs i x → each_of f (take i xs) ≡ Some ys → f x ≡ Some y → each_of f (take (i + 1) xs) ≡ Some (ys ++ y ∷ [])
-  each_of_more xs i x ys y within here h e =
-      ap (each_of f) (take_more xs i x within ∙ ap (λ z. take i xs ++ z ∷ []) (sym here)) ∙ each_of_push (take i xs) x ys y h e
 
   none_front : (x : X) (xs : List X) → each_of f xs ≡ None → each_of f (x ∷ xs) ≡ None
   none_front x xs e = ap (λ a. option_and_then (λ y. option_map (λ ys. y ∷ ys) a) (f x)) e ∙ front_none (f x)
@@ -50,16 +45,28 @@ module _ {X Y : Type 0} (f : X → Option Y) where
   none_among [] zs e = e
   none_among (x ∷ xs) zs e = none_front x (xs ++ zs) (none_among xs zs e)
 
+  next_item : (items : List X) (i : ℕ) (x : X) → i < length items → x ≡ get_or items i x → take (i + 1) items ≡ take i items ++ x ∷ []
+  next_item items i x within here = take_more items i x within ∙ ap (λ z. take i items ++ z ∷ []) (sym here)
+
+  -- a step of a loop over xs: one more item, of which y is made
+  pub each_of_step : (xs items : List X) (i : ℕ) (x : X) (ys new : List Y) (y : Y) → items ≡ xs → i < length items → x ≡ get_or items i x → each_of f (take i xs) ≡ Some ys → f x ≡ Some y → new ≡ ys ++ y ∷ [] → each_of f (take (i + 1) xs) ≡ Some new
+  each_of_step xs items i x ys new y same within here h e is =
+      let so_far : each_of f (take i items) ≡ Some ys = ap (λ zs. each_of f (take i zs)) same ∙ h in
+      let more : each_of f (take (i + 1) items) ≡ Some (ys ++ y ∷ []) = ap (each_of f) (next_item items i x within here) ∙ each_of_push (take i items) x ys y so_far e in
+      ap (λ zs. each_of f (take (i + 1) zs)) (sym same) ∙ (more ∙ ap Some (sym is))
+
   -- one of the items of which nothing is made
-  pub each_of_none : (xs : List X) (i : ℕ) (x : X) → i < length xs → x ≡ get_or xs i x → f x ≡ None → each_of f xs ≡ None
-  each_of_none xs i x within here e =
-      let rest : drop i xs ≡ x ∷ drop (i + 1) xs = drop_more xs i x within ∙ ap (λ z. z ∷ drop (i + 1) xs) (sym here) in
-      ap (each_of f) (sym (take-append-drop i xs)) ∙ none_among (take i xs) (drop i xs) (ap (each_of f) rest ∙ none x (drop (i + 1) xs) e)
+  pub each_of_none : (xs items : List X) (i : ℕ) (x : X) → items ≡ xs → i < length items → x ≡ get_or items i x → f x ≡ None → each_of f xs ≡ None
+  each_of_none xs items i x same within here e =
+      let rest : drop i items ≡ x ∷ drop (i + 1) items = drop_more items i x within ∙ ap (λ z. z ∷ drop (i + 1) items) (sym here) in
+      ap (each_of f) (sym same) ∙ (ap (each_of f) (sym (take-append-drop i items)) ∙ none_among (take i items) (drop i items) (ap (each_of f) rest ∙ none x (drop (i + 1) items) e))
 
   -- the same, behind a first item
-  pub each_of_more_after : (first : X) (xs : List X) (i : ℕ) (x : X) (ys : List Y) (y : Y) → i < length xs → x ≡ get_or xs i x → each_of f (first ∷ take i xs) ≡ Some ys → f x ≡ Some y → each_of f (first ∷ take (i + 1) xs) ≡ Some (ys ++ y ∷ [])
-  each_of_more_after first xs i x ys y within here h e =
-      ap (λ zs. each_of f (first ∷ zs)) (take_more xs i x within ∙ ap (λ z. take i xs ++ z ∷ []) (sym here)) ∙ each_of_push (first ∷ take i xs) x ys y h e
+  pub each_of_step_after : (first : X) (xs items : List X) (i : ℕ) (x : X) (ys new : List Y) (y : Y) → items ≡ xs → i < length items → x ≡ get_or items i x → each_of f (first ∷ take i xs) ≡ Some ys → f x ≡ Some y → new ≡ ys ++ y ∷ [] → each_of f (first ∷ take (i + 1) xs) ≡ Some new
+  each_of_step_after first xs items i x ys new y same within here h e is =
+      let so_far : each_of f (first ∷ take i items) ≡ Some ys = ap (λ zs. each_of f (first ∷ take i zs)) same ∙ h in
+      let more : each_of f (first ∷ take (i + 1) items) ≡ Some (ys ++ y ∷ []) = ap (λ zs. each_of f (first ∷ zs)) (next_item items i x within here) ∙ each_of_push (first ∷ take i items) x ys y so_far e in
+      ap (λ zs. each_of f (first ∷ take (i + 1) zs)) (sym same) ∙ (more ∙ ap Some (sym is))
 
-  pub each_of_none_after : (first : X) (xs : List X) (i : ℕ) (x : X) → i < length xs → x ≡ get_or xs i x → f x ≡ None → each_of f (first ∷ xs) ≡ None
-  each_of_none_after first xs i x within here e = none_front first xs (each_of_none xs i x within here e)
+  pub each_of_none_after : (first : X) (xs items : List X) (i : ℕ) (x : X) → items ≡ xs → i < length items → x ≡ get_or items i x → f x ≡ None → each_of f (first ∷ xs) ≡ None
+  each_of_none_after first xs items i x same within here e = none_front first xs (each_of_none xs items i x same within here e)

@@ -1,1 +1,2 @@
 pub mod EachOf
+pub mod Exits

@@ -29,11 +29,50 @@ pub fn variable(locals: &[Text], x: &Variable) -> Option<u32>
 fn part(locals: &[Text], term: &Term) -> Option<Part>
     requires few { length locals.now < 2 ^ 32 }
     requires kept { IsTrue (is_term_kept term.now) }
-    ensures { result ≡ part_of locals.now term.now }
+    ensures value { result ≡ part_of locals.now term.now }
+    ensures small { IfSome result (λ p. IsSmall p.1) }
 {
     match term {
         Term::Constant(n) => Some((None, *n as i64)),
         Term::Plain(x) => Some((Some(variable(locals, x)?), 1)),
         Term::Product(n, x) => Some((Some(variable(locals, x)?), *n as i64)),
     }
+}
+
+fn negated(part: Part) -> Part
+    requires { IsSmall part.1 }
+    ensures value { result ≡ negated part }
+    ensures small { IsSmall result.1 }
+{
+    (part.0, 0 - part.1)
+}
+
+/// A term behind a sign, if its variable is defined.
+fn signed_part(locals: &[Text], minus: bool, term: &Term) -> Result<Part, ParseError>
+    requires few { length locals.now < 2 ^ 32 }
+    requires kept { IsTrue (is_term_kept term.now) }
+    ensures ok { IfOk result (λ p. signed_part locals.now (record { minus = minus; term = term.now }) ≡ Some p) }
+    ensures refused { result ≡ Err ParseError.Refused → signed_part locals.now (record { minus = minus; term = term.now }) ≡ None }
+    ensures small { IfOk result (λ p. IsSmall p.1) }
+{
+    let plain = part(locals, term).ok_or(ParseError::Refused)?;
+    Ok(if minus { negated(plain) } else { plain })
+}
+
+/// The terms of a sum, if their variables are defined.
+fn parts(alloc: Global, locals: &[Text], sum: &Sum) -> Result<Seq<Part>, ParseError>
+    requires few { length locals.now < 2 ^ 32 }
+    requires kept { IsTrue (is_sum_kept sum.now) }
+    ensures ok { IfOk result (λ ps. parts_of locals.now sum.now ≡ Some ps) }
+    ensures refused { result ≡ Err ParseError.Refused → parts_of locals.now sum.now ≡ None }
+    ensures small { IfOk result (λ ps. All (λ p. IsSmall p.1) ps) }
+{
+    let mut parts = Seq::new(alloc);
+    let first = signed_part(locals, sum.minus, &sum.first)?;
+    parts.push(first)?;
+    for term in sum.others.as_slice() {
+        let next = signed_part(locals, term.minus, &term.term)?;
+        parts.push(next)?;
+    }
+    Ok(parts)
 }
