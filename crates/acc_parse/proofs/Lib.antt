@@ -1,2 +1,3 @@
 pub mod EachOf
 pub mod Exits
+pub mod Totals

@@ -1,5 +1,6 @@
 pub mod Scopes
 pub mod Sums
+pub mod Additions
 pub mod Meanings
 pub mod Limits
 pub mod FormRules

@@ -71,9 +71,17 @@ constant_in (Some x, n) = pos 0
 abbrev pub coefficient : List (ℕ × ℤ) → ℕ → ℤ
 coefficient terms x = total (map (λ t. t.1) (filter (λ t. t.0 == x) terms))
 
+-- one term a variable
+abbrev pub totals : List (ℕ × ℤ) → List (ℕ × ℤ)
+totals terms = map (λ x. (x, coefficient terms x)) (firsts (map (λ t. t.0) terms))
+
+-- a term that is not zero
+abbrev pub is_left : ℕ × ℤ → Bool
+is_left t = not (int_eq t.1 (pos 0))
+
 -- one term a variable, without those that are zero
 abbrev pub collected : List (ℕ × ℤ) → List (ℕ × ℤ)
-collected terms = filter (λ t. not (int_eq t.1 (pos 0))) (map (λ x. (x, coefficient terms x)) (firsts (map (λ t. t.0) terms)))
+collected terms = filter is_left (totals terms)
 
 abbrev pub lin_by : List Part → Lin
 lin_by parts = record { coeffs = collected (filter_map with_variable parts); constant = total (map constant_in parts) }
