@@ -1,3 +1,4 @@
 pub mod EachOf
 pub mod Exits
 pub mod Totals
+pub mod Placed

@@ -4,5 +4,6 @@
 pub mod errors;
 
 mod bounds;
+mod collecting;
 mod names;
 mod values;

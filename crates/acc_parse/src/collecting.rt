@@ -1,0 +1,51 @@
+//! Terms, collected: one a variable, in the order in which the variables first appear.
+ghost use Rattle.std.specs.Prelude.{◌≡◌, ◌<◌, ◌≤◌, ◌+◌, ◌^◌, ◌==◌, length, map, position, All, Some, None, IfOk, IfSome, OnOk, ◌+ℤ◌, unsigned_abs};
+ghost use Rattle.std.specs.List.{filter_map};
+ghost use Rattle.acc_base.specs.Numbers.{IsSmall, total};
+ghost use Rattle.acc_parse.specs.Sums.{with_variable, constant_in, totals};
+ghost use Rattle.acc_parse.specs.Additions.{with_term};
+
+use std::alloc::{AllocError, Global};
+
+/// A term: its variable's number, or none for a constant, and its number.
+pub type Part = (Option<u32>, i64);
+
+fn widened(n: i64) -> i128
+    ensures { result ≡ n }
+{
+    i128::from(n)
+}
+
+/// A sum and one more number, which always fits.
+fn plus(sum: i128, n: i64) -> i128
+    requires sum { unsigned_abs sum ≤ 2 ^ 120 }
+    requires small { IsSmall n }
+    ensures value { result ≡ sum +ℤ n }
+    ensures bound { unsigned_abs result ≤ unsigned_abs sum + 2 ^ 45 }
+{
+    sum + widened(n)
+}
+
+/// The place of a variable among the sums.
+fn index_of(x: u32, sums: &[(u32, i128)]) -> Option<usize>
+    ensures value { result ≡ position (λ t. t.0 == x) sums.now }
+    ensures within { IfSome result (λ i. i < length sums.now) }
+{
+    sums.iter().position(|t| t.0 == x)
+}
+
+/// Adds a term to the sum of its variable. The cost is that of going over the sums.
+fn add_term(sums: &mut Vec<(u32, i128)>, x: u32, n: i64) -> Result<(), AllocError>
+    requires room { All (λ t. unsigned_abs t.1 ≤ 2 ^ 120) sums.old.items }
+    requires small { IsSmall n }
+    ensures { OnOk result (sums.new.items ≡ with_term x n sums.old.items) }
+{
+    match index_of(x, sums.as_slice()) {
+        Some(i) => {
+            let sum = plus(sums[i].1, n);
+            sums[i] = (x, sum);
+        }
+        None => sums.push((x, widened(n)))?,
+    }
+    Ok(())
+}
