@@ -22,6 +22,10 @@ front_none : {Y : Type 0} (o : Option Y) → option_and_then (λ y. option_map (
 front_none None = refl
 front_none (Some y) = refl
 
+-- the items so far, and one more
+pub next_item : {X : Type 0} (items : List X) (i : ℕ) (x : X) → i < length items → x ≡ get_or items i x → take (i + 1) items ≡ take i items ++ x ∷ []
+next_item items i x within here = take_more items i x within ∙ ap (λ z. take i items ++ z ∷ []) (sym here)
+
 module _ {X Y : Type 0} (f : X → Option Y) where
   each_of-append : (xs zs : List X) → each_of f (xs ++ zs) ≡ then_all (each_of f xs) (each_of f zs)
   each_of-append [] zs = back (each_of f zs)
@@ -44,9 +48,6 @@ module _ {X Y : Type 0} (f : X → Option Y) where
   none_among : (xs zs : List X) → each_of f zs ≡ None → each_of f (xs ++ zs) ≡ None
   none_among [] zs e = e
   none_among (x ∷ xs) zs e = none_front x (xs ++ zs) (none_among xs zs e)
-
-  next_item : (items : List X) (i : ℕ) (x : X) → i < length items → x ≡ get_or items i x → take (i + 1) items ≡ take i items ++ x ∷ []
-  next_item items i x within here = take_more items i x within ∙ ap (λ z. take i items ++ z ∷ []) (sym here)
 
   -- a step of a loop over xs: one more item, of which y is made
   pub each_of_step : (xs items : List X) (i : ℕ) (x : X) (ys new : List Y) (y : Y) → items ≡ xs → i < length items → x ≡ get_or items i x → each_of f (take i xs) ≡ Some ys → f x ≡ Some y → new ≡ ys ++ y ∷ [] → each_of f (take (i + 1) xs) ≡ Some new

@@ -1,15 +1,15 @@
 -- Terms that are collected one by one.
-use Rattle.std.proofs.Common.{◌≡◌, ℕ, ◌+◌, ◌<◌, Bool, true, false, cond, List, [], ◌∷◌, ◌++◌, length, get_or, set, map, Option, Some, None, refl, ap, sym, ◌∙◌, subst, arith, ℤ, pos, ◌+ℤ◌, if◌then◌else◌, ◌==◌, not, ◌||◌, inl, inr}
-use Rattle.std.specs.Prelude.{filter, position}
-use Rattle.std.specs.List.{list_any, position_or_len}
+use Rattle.std.proofs.Common.{◌≡◌, ℕ, ◌+◌, ◌<◌, Bool, true, false, cond, List, [], ◌∷◌, ◌++◌, length, get_or, take, map, Option, Some, None, refl, ap, sym, ◌∙◌, subst, arith, ℤ, pos, ◌+ℤ◌, if◌then◌else◌, ◌==◌, not, ◌||◌, inl, inr}
+use Rattle.std.specs.Prelude.{◌≤◌, filter, All, unsigned_abs}
+use Rattle.std.specs.List.{list_any, filter_map}
 use Rattle.std.proofs.lemmas.Int.{ints}
 use Rattle.std.proofs.lemmas.Bool.Decides.{nat_tests}
 use Rattle.std.proofs.lemmas.Bool.{cases_Bool, eqb-true, or_parts}
-use Rattle.std.proofs.lemmas.List.{map-append, append-nil}
-use Rattle.std.proofs.lemmas.List.Elements.{filter-append}
+use Rattle.std.proofs.lemmas.List.{map-append, map_more, take_more, append-nil}
+use Rattle.std.proofs.lemmas.List.Elements.{filter-append, filter_map-append, All-head, All-tail, All-cons, All-nil, All-weaker}
 use Rattle.acc_base.specs.Numbers.{total}
-use Rattle.acc_parse.specs.Sums.{firsts, coefficient, totals}
-use Rattle.acc_parse.specs.Additions.{with_term}
+use Rattle.acc_parse.specs.Sums.{Part, with_variable, firsts, coefficient, totals}
+use Rattle.acc_parse.specs.Additions.{with_term, with_part}
 
 pub total-append : (xs ys : List ℤ) → total (xs ++ ys) ≡ total xs +ℤ total ys
 total-append [] ys = omega (arith, ints)
@@ -183,3 +183,43 @@ push_cases terms x n false e = new_total (coefficient terms) (coefficient (terms
 -- one more term
 pub totals-push : (terms : List (ℕ × ℤ)) (x : ℕ) (n : ℤ) → totals (terms ++ (x, n) ∷ []) ≡ with_term x n (totals terms)
 totals-push terms x n = push_cases terms x n (has x (keys terms)) refl
+
+-- ---- a step of a loop over the terms
+
+pub total_more : {X : Type 0} (f : X → ℤ) (xs : List X) (i : ℕ) (d : X) → i < length xs → total (map f (take (i + 1) xs)) ≡ total (map f (take i xs)) +ℤ f (get_or xs i d)
+total_more f xs i d within =
+    let e = ap total (map_more f xs i d within) in
+    let t = total-append (map f (take i xs)) (f (get_or xs i d) ∷ []) in omega (arith, ints)
+
+one_part : (parts : List Part) (p : Part) → totals (filter_map with_variable (parts ++ p ∷ [])) ≡ with_part p (totals (filter_map with_variable parts))
+one_part parts (None, n) =
+    ap totals (filter_map-append with_variable parts ((None, n) ∷ []) ∙ append-nil (filter_map with_variable parts))
+one_part parts (Some x, n) =
+    ap totals (filter_map-append with_variable parts ((Some x, n) ∷ [])) ∙ totals-push (filter_map with_variable parts) x n
+
+pub totals_more : (parts : List Part) (i : ℕ) (d : Part) → i < length parts → totals (filter_map with_variable (take (i + 1) parts)) ≡ with_part (get_or parts i d) (totals (filter_map with_variable (take i parts)))
+totals_more parts i d within =
+    ap (λ ys. totals (filter_map with_variable ys)) (take_more parts i d within) ∙ one_part (take i parts) (get_or parts i d)
+
+-- ---- how large a sum can be
+
+larger : (m k : ℕ) (a b : ℤ) → unsigned_abs a ≤ m → unsigned_abs b ≤ k → unsigned_abs (a +ℤ b) ≤ m + k
+larger m k a b p q = omega (arith, ints)
+
+abbrev pub AtMost : ℕ → ℕ × ℤ → Type 0
+AtMost m t = unsigned_abs t.1 ≤ m
+
+bound_step : (m k x : ℕ) (n : ℤ) (t : ℕ × ℤ) (ts : List (ℕ × ℤ)) (b : Bool) → (t.0 == x) ≡ b → unsigned_abs n ≤ k → All (AtMost m) (t ∷ ts) → All (AtMost (m + k)) (with_term x n ts) → All (AtMost (m + k)) (if b then ((t.0, t.1 +ℤ n) ∷ ts) else (t ∷ with_term x n ts))
+bound_step m k x n t ts true e small all h =
+    All-cons (AtMost (m + k)) (t.0, t.1 +ℤ n) ts (larger m k t.1 n (All-head (AtMost m) t ts all) small) (All-weaker (AtMost m) (AtMost (m + k)) (λ u p. omega arith) ts (All-tail (AtMost m) t ts all))
+bound_step m k x n t ts false e small all h =
+    let p = All-head (AtMost m) t ts all in All-cons (AtMost (m + k)) t (with_term x n ts) (omega arith) h
+
+bound-with_term : (m k x : ℕ) (n : ℤ) (ts : List (ℕ × ℤ)) → unsigned_abs n ≤ k → All (AtMost m) ts → All (AtMost (m + k)) (with_term x n ts)
+bound-with_term m k x n [] small all = All-cons (AtMost (m + k)) (x, n) [] (omega arith) (All-nil (AtMost (m + k)))
+bound-with_term m k x n (t ∷ ts) small all =
+    bound_step m k x n t ts (t.0 == x) refl small all (bound-with_term m k x n ts small (All-tail (AtMost m) t ts all))
+
+pub bound-with_part : (m k : ℕ) (p : Part) (ts : List (ℕ × ℤ)) → unsigned_abs p.1 ≤ k → All (AtMost m) ts → All (AtMost (m + k)) (with_part p ts)
+bound-with_part m k (None, n) ts small all = All-weaker (AtMost m) (AtMost (m + k)) (λ u p. omega arith) ts all
+bound-with_part m k (Some x, n) ts small all = bound-with_term m k x n ts small all

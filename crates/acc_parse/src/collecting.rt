@@ -3,7 +3,7 @@ ghost use Rattle.std.specs.Prelude.{◌≡◌, ◌<◌, ◌≤◌, ◌+◌, ◌^
 ghost use Rattle.std.specs.List.{filter_map};
 ghost use Rattle.acc_base.specs.Numbers.{IsSmall, total};
 ghost use Rattle.acc_parse.specs.Sums.{with_variable, constant_in, totals};
-ghost use Rattle.acc_parse.specs.Additions.{with_term};
+ghost use Rattle.acc_parse.specs.Additions.{with_term, with_part};
 
 use std::alloc::{AllocError, Global};
 
@@ -48,4 +48,52 @@ fn add_term(sums: &mut Vec<(u32, i128)>, x: u32, n: i64) -> Result<(), AllocErro
         None => sums.push((x, widened(n)))?,
     }
     Ok(())
+}
+
+/// Adds a term to the sum of its variable, if it has one.
+fn add_part(sums: &mut Vec<(u32, i128)>, part: &Part) -> Result<(), AllocError>
+    requires room { All (λ t. unsigned_abs t.1 ≤ 2 ^ 120) sums.old.items }
+    requires small { IsSmall part.now.1 }
+    ensures { OnOk result (sums.new.items ≡ with_part part.now sums.old.items) }
+{
+    match part.0 {
+        None => Ok(()),
+        Some(x) => add_term(sums, x, part.1),
+    }
+}
+
+/// What a term adds to the constant.
+fn constant_in(part: &Part) -> i64
+    requires { IsSmall part.now.1 }
+    ensures value { result ≡ constant_in part.now }
+    ensures small { IsSmall result }
+{
+    match part.0 {
+        None => part.1,
+        Some(_) => 0,
+    }
+}
+
+/// The sum of the constant terms.
+fn constant(parts: &[Part]) -> i128
+    requires { All (λ p. IsSmall p.1) parts.now }
+    ensures { result ≡ total (map constant_in parts.now) }
+{
+    let mut sum = 0;
+    for part in parts {
+        sum = plus(sum, constant_in(part));
+    }
+    sum
+}
+
+/// The sums of the variables. The cost is the number of terms times that of different variables.
+fn totals(alloc: Global, parts: &[Part]) -> Result<Vec<(u32, i128)>, AllocError>
+    requires { All (λ p. IsSmall p.1) parts.now }
+    ensures { IfOk result (λ v. v.items ≡ totals (filter_map with_variable parts.now)) }
+{
+    let mut sums = Vec::new(alloc);
+    for part in parts {
+        add_part(&mut sums, part)?;
+    }
+    Ok(sums)
 }
