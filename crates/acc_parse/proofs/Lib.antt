@@ -2,3 +2,4 @@ pub mod EachOf
 pub mod Exits
 pub mod Totals
 pub mod Placed
+pub mod Filtered

@@ -1,11 +1,16 @@
 //! Terms, collected: one a variable, in the order in which the variables first appear.
-ghost use Rattle.std.specs.Prelude.{◌≡◌, ◌<◌, ◌≤◌, ◌+◌, ◌^◌, ◌==◌, length, map, position, All, Some, None, IfOk, IfSome, OnOk, ◌+ℤ◌, unsigned_abs};
-ghost use Rattle.std.specs.List.{filter_map};
-ghost use Rattle.acc_base.specs.Numbers.{IsSmall, total};
-ghost use Rattle.acc_parse.specs.Sums.{with_variable, constant_in, totals};
+ghost use Rattle.std.specs.Prelude.{◌≡◌, ◌<◌, ◌≤◌, ◌+◌, ◌^◌, ◌==◌, true, false, length, map, filter, position, All, Some, None, Err, IfOk, IfSome, OnOk, ◌+ℤ◌, unsigned_abs};
+ghost use Rattle.std.specs.List.{filter_map, list_all};
+ghost use Rattle.acc_base.specs.Numbers.{IsSmall, is_small, total};
+ghost use Rattle.acc_parse.specs.Sums.{with_variable, constant_in, totals, is_left, kept_lin};
 ghost use Rattle.acc_parse.specs.Additions.{with_term, with_part};
 
 use std::alloc::{AllocError, Global};
+
+use acc_base::forms::Lin;
+use acc_base::sequences::Seq;
+
+use crate::errors::ParseError;
 
 /// A term: its variable's number, or none for a constant, and its number.
 pub type Part = (Option<u32>, i64);
@@ -96,4 +101,44 @@ fn totals(alloc: Global, parts: &[Part]) -> Result<Vec<(u32, i128)>, AllocError>
         add_part(&mut sums, part)?;
     }
     Ok(sums)
+}
+
+/// A collected number, refused where it is not within 2^45 of 0.
+fn kept_number(n: i128) -> Result<i64, ParseError>
+    ensures ok { IfOk result (λ m. m ≡ n) }
+    ensures kept { OnOk result (is_small n ≡ true) }
+    ensures refused { result ≡ Err ParseError.Refused → is_small n ≡ false }
+{
+    const LARGEST: i128 = 1 << 45;
+    if n < -LARGEST || LARGEST < n {
+        return Err(ParseError::Refused);
+    }
+    Ok(n as i64)
+}
+
+/// The sums that are not zero, refused where one is not within 2^45 of 0.
+fn coefficients(alloc: Global, sums: &[(u32, i128)]) -> Result<Seq<(u32, i64)>, ParseError>
+    ensures ok { IfOk result (λ ts. ts ≡ filter is_left sums.now) }
+    ensures kept { IfOk result (λ ts. list_all (λ t. is_small t.1) ts ≡ true) }
+    ensures refused { result ≡ Err ParseError.Refused → list_all (λ t. is_small t.1) (filter is_left sums.now) ≡ false }
+{
+    let mut terms = Seq::new(alloc);
+    for (x, sum) in sums {
+        if *sum != 0 {
+            terms.push((*x, kept_number(*sum)?))?;
+        }
+    }
+    Ok(terms)
+}
+
+/// What terms stand for, refused where a collected number is not within 2^45 of 0.
+pub fn collected(alloc: Global, parts: &[Part]) -> Result<Lin, ParseError>
+    requires { All (λ p. IsSmall p.1) parts.now }
+    ensures ok { IfOk result (λ l. kept_lin parts.now ≡ Some l) }
+    ensures refused { result ≡ Err ParseError.Refused → kept_lin parts.now ≡ None }
+{
+    let sums = totals(alloc, parts)?;
+    let coeffs = coefficients(alloc, sums.as_slice())?;
+    let constant = kept_number(constant(parts))?;
+    Ok(Lin { coeffs, constant })
 }
