@@ -5,3 +5,4 @@ pub mod Meanings
 pub mod Limits
 pub mod FormRules
 pub mod Texts
+pub mod Surroundings

@@ -5,5 +5,7 @@ pub mod errors;
 
 mod bounds;
 mod collecting;
+mod definitions;
 mod names;
+mod rows;
 mod values;
