@@ -16,7 +16,7 @@ use crate::names::{place, table_place};
 use crate::values::lins;
 
 /// A row: its table's number, and its key.
-type RowName = (u32, Seq<Lin>);
+pub type RowName = (u32, Seq<Lin>);
 
 /// The row that is written.
 pub fn row(alloc: Global, definitions: &Definitions, row: &Place) -> Result<RowName, ParseError>
@@ -27,4 +27,26 @@ pub fn row(alloc: Global, definitions: &Definitions, row: &Place) -> Result<RowN
     let table = table_place(&row.table, definitions.tables).ok_or(ParseError::Refused)?;
     let key = lins(alloc, definitions.locals, &row.key)?;
     Ok((table, key))
+}
+
+/// The number of a table's column.
+fn column(definitions: &Definitions, table: u32, name: &Text) -> Option<u32>
+    ensures { result ≡ column_number (scope_in definitions.now) table name.now }
+{
+    let table = definitions.tables.get(table as usize)?;
+    place(name, table.columns.as_slice())
+}
+
+/// A row, and a column's number.
+pub type CellName = (RowName, u32);
+
+/// The cell that is written.
+pub fn cell(alloc: Global, definitions: &Definitions, cell: &Cell) -> Result<CellName, ParseError>
+    requires { IsTrue (are_sums_kept cell.now.place.key) }
+    ensures ok { IfOk result (λ c. cell_of (scope_in definitions.now) cell.now ≡ Some c) }
+    ensures refused { result ≡ Err ParseError.Refused → cell_of (scope_in definitions.now) cell.now ≡ None }
+{
+    let row = row(alloc, definitions, &cell.place)?;
+    let column = column(definitions, row.0, &cell.column).ok_or(ParseError::Refused)?;
+    Ok((row, column))
 }
