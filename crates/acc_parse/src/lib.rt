@@ -8,4 +8,5 @@ mod collecting;
 mod definitions;
 mod names;
 mod rows;
+mod steps;
 mod values;
