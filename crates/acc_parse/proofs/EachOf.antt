@@ -1,7 +1,10 @@
 -- What is made of each item of a list, item by item.
-use Rattle.std.proofs.Common.{◌≡◌, ℕ, ◌+◌, ◌<◌, List, [], ◌∷◌, ◌++◌, length, get_or, take, drop, Option, Some, None, refl, ap, sym, ◌∙◌}
+use Rattle.std.proofs.Common.{◌≡◌, ℕ, Bool, true, ◌+◌, ◌<◌, List, [], ◌∷◌, ◌++◌, length, get_or, take, drop, Option, Some, None, refl, ap, sym, ◌∙◌}
 use Rattle.std.specs.Prelude.{option_and_then, option_map}
 use Rattle.std.proofs.lemmas.List.{take_more, drop_more, take-append-drop}
+use Rattle.std.specs.List.{list_all}
+use Rattle.std.proofs.lemmas.Bool.{and_parts}
+use Rattle.std.proofs.lemmas.List.Recursion.{and_at}
 use Rattle.acc_parse.specs.Sums.{each_of}
 
 -- what is made of a list, and then of another
@@ -71,3 +74,12 @@ module _ {X Y : Type 0} (f : X → Option Y) where
 
   pub each_of_none_after : (first : X) (xs items : List X) (i : ℕ) (x : X) → items ≡ xs → i < length items → x ≡ get_or items i x → f x ≡ None → each_of f (first ∷ xs) ≡ None
   each_of_none_after first xs items i x same within here e = none_front first xs (each_of_none xs items i x same within here e)
+
+-- an item of a list that passes a test
+pub passing_item : {X : Type 0} (p : X → Bool) (xs items : List X) (i : ℕ) (x : X) → items ≡ xs → i < length items → x ≡ get_or items i x → list_all p xs ≡ true → p x ≡ true
+passing_item p xs items i x same within here h =
+    ap p here ∙ and_at (list_all p) p refl (λ _ _. refl) items i x within (ap (list_all p) same ∙ h)
+
+-- the same, where the list has a first item
+pub passing_other : {X : Type 0} (p : X → Bool) (first : X) (xs items : List X) (i : ℕ) (x : X) → items ≡ xs → i < length items → x ≡ get_or items i x → list_all p (first ∷ xs) ≡ true → p x ≡ true
+passing_other p first xs items i x same within here h = passing_item p xs items i x same within here (and_parts (p first) (list_all p xs) h).1

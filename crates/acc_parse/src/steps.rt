@@ -93,3 +93,93 @@ fn target(definitions: &Definitions, tree: &TargetTree) -> Option<Target>
         TargetTree::Refuse(n) => Some(Target::Refuse(*n as u32)),
     }
 }
+
+/// The relations of a guard.
+fn guard(alloc: Global, definitions: &Definitions, tree: &LinRels) -> Result<Seq<LinRel>, ParseError>
+    requires { IsTrue (is_guard_kept (Some tree.now)) }
+    ensures ok { IfOk result (λ rs. guard_of (scope_in definitions.now) (Some tree.now) ≡ Some rs) }
+    ensures refused { result ≡ Err ParseError.Refused → guard_of (scope_in definitions.now) (Some tree.now) ≡ None }
+{
+    let mut rels = Seq::new(alloc);
+    let first = rel(alloc, definitions.locals, &tree.first)?;
+    rels.push(first)?;
+    for other in tree.others.as_slice() {
+        let next = rel(alloc, definitions.locals, other)?;
+        rels.push(next)?;
+    }
+    Ok(rels)
+}
+
+/// The actions of a path.
+fn actions(alloc: Global, definitions: &Definitions, trees: &[ActionTree]) -> Result<Seq<Action>, ParseError>
+    requires { IsTrue (list_all is_action_kept trees.now) }
+    ensures ok { IfOk result (λ ys. each_of (action_of (scope_in definitions.now)) trees.now ≡ Some ys) }
+    ensures refused { result ≡ Err ParseError.Refused → each_of (action_of (scope_in definitions.now)) trees.now ≡ None }
+{
+    let mut actions = Seq::new(alloc);
+    for tree in trees {
+        let next = action(alloc, definitions, tree)?;
+        actions.push(next)?;
+    }
+    Ok(actions)
+}
+
+/// The path that is written.
+fn path(alloc: Global, definitions: &Definitions, tree: &PathTree) -> Result<Path, ParseError>
+    requires { IsTrue (is_path_kept tree.now) }
+    ensures ok { IfOk result (λ p. path_of (scope_in definitions.now) tree.now ≡ Some p) }
+    ensures refused { result ≡ Err ParseError.Refused → path_of (scope_in definitions.now) tree.now ≡ None }
+{
+    let guard = match &tree.guard {
+        None => Seq::new(alloc),
+        Some(rels) => guard(alloc, definitions, rels)?,
+    };
+    let actions = actions(alloc, definitions, tree.actions.as_slice())?;
+    let target = target(definitions, &tree.target).ok_or(ParseError::Refused)?;
+    Ok(Path {
+        guard,
+        actions,
+        target,
+    })
+}
+
+/// The paths of a step.
+fn paths(alloc: Global, definitions: &Definitions, tree: &StepTree) -> Result<Seq<Path>, ParseError>
+    requires { IsTrue (list_all is_path_kept (paths_in tree.now)) }
+    ensures ok { IfOk result (λ ps. each_of (path_of (scope_in definitions.now)) (paths_in tree.now) ≡ Some ps) }
+    ensures refused { result ≡ Err ParseError.Refused → each_of (path_of (scope_in definitions.now)) (paths_in tree.now) ≡ None }
+{
+    let mut paths = Seq::new(alloc);
+    let first = path(alloc, definitions, &tree.first)?;
+    paths.push(first)?;
+    for other in tree.others.as_slice() {
+        let next = path(alloc, definitions, other)?;
+        paths.push(next)?;
+    }
+    Ok(paths)
+}
+
+/// The reads of a step.
+fn reads(alloc: Global, definitions: &Definitions, trees: &[ReadTree]) -> Result<Seq<Read>, ParseError>
+    requires { IsTrue (list_all is_read_kept trees.now) }
+    ensures ok { IfOk result (λ ys. each_of (read_of (scope_in definitions.now)) trees.now ≡ Some ys) }
+    ensures refused { result ≡ Err ParseError.Refused → each_of (read_of (scope_in definitions.now)) trees.now ≡ None }
+{
+    let mut reads = Seq::new(alloc);
+    for tree in trees {
+        let next = read(alloc, definitions, tree)?;
+        reads.push(next)?;
+    }
+    Ok(reads)
+}
+
+/// The step that is written.
+pub fn step(alloc: Global, definitions: &Definitions, tree: &StepTree) -> Result<Step, ParseError>
+    requires { IsTrue (is_step_kept tree.now) }
+    ensures ok { IfOk result (λ s. step_of (scope_in definitions.now) tree.now ≡ Some s) }
+    ensures refused { result ≡ Err ParseError.Refused → step_of (scope_in definitions.now) tree.now ≡ None }
+{
+    let reads = reads(alloc, definitions, tree.reads.as_slice())?;
+    let paths = paths(alloc, definitions, tree)?;
+    Ok(Step { reads, paths })
+}
