@@ -3,3 +3,4 @@ pub mod Exits
 pub mod Totals
 pub mod Placed
 pub mod Filtered
+pub mod Typed

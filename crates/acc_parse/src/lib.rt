@@ -9,4 +9,5 @@ mod definitions;
 mod names;
 mod rows;
 mod steps;
+mod types;
 mod values;
