@@ -4,3 +4,4 @@ pub mod Totals
 pub mod Placed
 pub mod Filtered
 pub mod Typed
+pub mod LastPath

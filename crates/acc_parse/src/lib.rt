@@ -8,6 +8,7 @@ mod collecting;
 mod definitions;
 mod names;
 mod rows;
+mod rules;
 mod steps;
 mod types;
 mod values;
