@@ -1,47 +1,60 @@
 -- The words that the grammar fixes: none of them is a name.
-use Rattle.std.specs.Prelude.{ℕ, List, Option, Some, None, codes, if◌then◌else◌}
+use Rattle.std.specs.Prelude.{ℕ, List, [], ◌∷◌, Option, Some, None, codes, length, filter, ◌==◌, if◌then◌else◌}
 use Rattle.std.specs.Str.{bytes_eq}
 use Rattle.acc_lex.specs.declared.words.Sign.{Sign}
 use Rattle.acc_lex.specs.declared.words.Sign.TheVariants as sign
 
+-- each with the sign that it is
+abbrev pub keywords : List (List ℕ × Sign)
+keywords =
+    (codes "table", sign.Table) ∷
+    (codes "private", sign.Private) ∷
+    (codes "always", sign.Always) ∷
+    (codes "type", sign.Type) ∷
+    (codes "limit", sign.Limit) ∷
+    (codes "returns", sign.Returns) ∷
+    (codes "local", sign.Local) ∷
+    (codes "ensures", sign.Ensures) ∷
+    (codes "repairs", sign.Repairs) ∷
+    (codes "point", sign.Point) ∷
+    (codes "variant", sign.Variant) ∷
+    (codes "holds", sign.Holds) ∷
+    (codes "next", sign.Next) ∷
+    (codes "undo", sign.Undo) ∷
+    (codes "let", sign.Let) ∷
+    (codes "get", sign.Get) ∷
+    (codes "has", sign.Has) ∷
+    (codes "count", sign.Count) ∷
+    (codes "sum", sign.Sum) ∷
+    (codes "least", sign.Least) ∷
+    (codes "greatest", sign.Greatest) ∷
+    (codes "take", sign.Take) ∷
+    (codes "mul", sign.Mul) ∷
+    (codes "div", sign.Div) ∷
+    (codes "path", sign.Path) ∷
+    (codes "put", sign.Put) ∷
+    (codes "del", sign.Del) ∷
+    (codes "set", sign.Set) ∷
+    (codes "add", sign.Add) ∷
+    (codes "goto", sign.Goto) ∷
+    (codes "commit", sign.Commit) ∷
+    (codes "undone", sign.Undone) ∷
+    (codes "refuse", sign.Refuse) ∷
+    (codes "entry", sign.Entry) ∷
+    (codes "by", sign.By) ∷
+    (codes "hint", sign.Hint) ∷
+    (codes "forall", sign.Forall) ∷
+    (codes "self", sign.Oneself) ∷ []
+
+-- the sign of the first word of a table that is this one
+abbrev pub sign_in : List (List ℕ × Sign) → List ℕ → Option Sign
+sign_in [] w = None
+sign_in (k ∷ ks) w = if bytes_eq w k.0 then Some k.1 else sign_in ks w
+
+-- the sign that a word is, if it is no name
 unfoldable pub keyword_of : List ℕ → Option Sign
-keyword_of w =
-    if bytes_eq w (codes "table") then Some sign.Table
-    else (if bytes_eq w (codes "private") then Some sign.Private
-    else (if bytes_eq w (codes "always") then Some sign.Always
-    else (if bytes_eq w (codes "type") then Some sign.Type
-    else (if bytes_eq w (codes "limit") then Some sign.Limit
-    else (if bytes_eq w (codes "returns") then Some sign.Returns
-    else (if bytes_eq w (codes "local") then Some sign.Local
-    else (if bytes_eq w (codes "ensures") then Some sign.Ensures
-    else (if bytes_eq w (codes "repairs") then Some sign.Repairs
-    else (if bytes_eq w (codes "point") then Some sign.Point
-    else (if bytes_eq w (codes "variant") then Some sign.Variant
-    else (if bytes_eq w (codes "holds") then Some sign.Holds
-    else (if bytes_eq w (codes "next") then Some sign.Next
-    else (if bytes_eq w (codes "undo") then Some sign.Undo
-    else (if bytes_eq w (codes "let") then Some sign.Let
-    else (if bytes_eq w (codes "get") then Some sign.Get
-    else (if bytes_eq w (codes "has") then Some sign.Has
-    else (if bytes_eq w (codes "count") then Some sign.Count
-    else (if bytes_eq w (codes "sum") then Some sign.Sum
-    else (if bytes_eq w (codes "least") then Some sign.Least
-    else (if bytes_eq w (codes "greatest") then Some sign.Greatest
-    else (if bytes_eq w (codes "take") then Some sign.Take
-    else (if bytes_eq w (codes "mul") then Some sign.Mul
-    else (if bytes_eq w (codes "div") then Some sign.Div
-    else (if bytes_eq w (codes "path") then Some sign.Path
-    else (if bytes_eq w (codes "put") then Some sign.Put
-    else (if bytes_eq w (codes "del") then Some sign.Del
-    else (if bytes_eq w (codes "set") then Some sign.Set
-    else (if bytes_eq w (codes "add") then Some sign.Add
-    else (if bytes_eq w (codes "goto") then Some sign.Goto
-    else (if bytes_eq w (codes "commit") then Some sign.Commit
-    else (if bytes_eq w (codes "undone") then Some sign.Undone
-    else (if bytes_eq w (codes "refuse") then Some sign.Refuse
-    else (if bytes_eq w (codes "entry") then Some sign.Entry
-    else (if bytes_eq w (codes "by") then Some sign.By
-    else (if bytes_eq w (codes "hint") then Some sign.Hint
-    else (if bytes_eq w (codes "forall") then Some sign.Forall
-    else (if bytes_eq w (codes "self") then Some sign.Oneself
-    else None)))))))))))))))))))))))))))))))))))))
+keyword_of w = sign_in keywords w
+
+-- the keywords of one length
+abbrev pub keywords_of : ℕ → List (List ℕ × Sign)
+keywords_of n = filter (λ k. length k.0 == n) keywords

@@ -4,7 +4,7 @@ use Rattle.acc_lex.specs.declared.words.Word.{Word}
 use Rattle.acc_lex.specs.declared.words.Word.TheVariants as word
 use Rattle.acc_lex.specs.Keywords.{keyword_of}
 use Rattle.acc_lex.specs.ByteKinds.{is_letter, is_inner}
-use Rattle.acc_lex.specs.Runs.{IsRun}
+use Rattle.acc_grammar.specs.Runs.{IsRun}
 
 -- words that a text can have: a name is a letter and then letters, digits and _, and none of the words that the grammar fixes
 abbrev pub CanSpell : Word → Type 0
