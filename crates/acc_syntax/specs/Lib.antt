@@ -1,1 +1,6 @@
 pub mod Spelling
+pub mod Texts
+pub mod WordReaders
+pub mod ValueReaders
+pub mod StatementReaders
+pub mod DesignReaders

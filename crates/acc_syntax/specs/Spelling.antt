@@ -52,6 +52,10 @@ number n = word.Number n ∷ []
 abbrev pub names : Names → List Word
 names ns = name ns.first ++ joined name ns.others
 
+-- a comma, and a further part of a list
+abbrev pub further : {T : Type 0} → (T → List Word) → T → List Word
+further spell t = just sign.Comma ++ spell t
+
 -- ---- linear values
 
 -- NAME, or `self`
@@ -73,13 +77,9 @@ signed_term s = (if s.minus then just sign.Minus else just sign.Plus) ++ term s.
 abbrev pub sum : Sum → List Word
 sum s = (if s.minus then just sign.Minus else []) ++ (term s.first ++ joined signed_term s.others)
 
--- a comma, and a further value
-abbrev pub next_sum : Sum → List Word
-next_sum s = just sign.Comma ++ sum s
-
 -- values, with commas between them
 abbrev pub sums : Sums → List Word
-sums s = sum s.first ++ joined next_sum s.others
+sums s = sum s.first ++ joined (further sum) s.others
 
 -- TABLE [ key ]
 abbrev pub place : Place → List Word
@@ -101,14 +101,10 @@ relation_sign relation.Equal = sign.Equal
 abbrev pub lin_rel : LinRelTree → List Word
 lin_rel r = sum r.left ++ (just (relation_sign r.relation) ++ sum r.right)
 
--- a comma, and a further relation
-abbrev pub next_lin_rel : LinRelTree → List Word
-next_lin_rel r = just sign.Comma ++ lin_rel r
-
 -- a guard, which may be left out
 abbrev pub guard : Option LinRels → List Word
 guard None = []
-guard (Some rs) = lin_rel rs.first ++ joined next_lin_rel rs.others
+guard (Some rs) = lin_rel rs.first ++ joined (further lin_rel) rs.others
 
 -- ---- statements: each has its end
 
@@ -156,21 +152,26 @@ path p = just sign.Path ++ (guard p.guard ++ (just sign.End ++ (joined action_st
 abbrev pub step : StepTree → List Word
 step s = joined read_statement s.reads ++ (path s.first ++ joined path s.others)
 
+-- next or undo, and its step
+abbrev pub side : Sign → StepTree → List Word
+side s st = just s ++ (just sign.End ++ step st)
+
 -- point NAME, next and a step, undo and a step
 abbrev pub point : PointTree → List Word
-point p =
-    just sign.Point ++ (name p.name ++ (just sign.End ++ (
-    just sign.Next ++ (just sign.End ++ (step p.next ++ (
-    just sign.Undo ++ (just sign.End ++ step p.undo)))))))
+point p = just sign.Point ++ (name p.name ++ (just sign.End ++ (side sign.Next p.next ++ side sign.Undo p.undo)))
+
+-- limit INT
+abbrev pub limit : ℕ → List Word
+limit n = just sign.Limit ++ (number n ++ just sign.End)
 
 -- type NAME { parameter }, limit INT, [ returns names ], [ local names ], one or more points
 abbrev pub type_words : TypeTree → List Word
 type_words t =
     just sign.Type ++ (name t.name ++ (joined name t.params ++ (just sign.End ++ (
-    just sign.Limit ++ (number t.limit ++ (just sign.End ++ (
+    limit t.limit ++ (
     names_statement sign.Returns t.returns ++ (
     names_statement sign.Local t.locals ++ (
-    point t.first ++ joined point t.others)))))))))
+    point t.first ++ joined point t.others)))))))
 
 -- ---- the whole text
 

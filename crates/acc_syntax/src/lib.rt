@@ -1,4 +1,10 @@
 //! The words of a design's text, read into a syntax tree: exactly what the grammar spells, and exactly where it stops.
 #![tactic(auto)]
 
+pub mod designs;
+mod parsers;
+mod statements;
+#[cfg(test)]
+mod tests;
 pub mod trees;
+mod values;

@@ -1,0 +1,14 @@
+pub mod Combinators
+pub mod Faults
+pub mod WordLaws
+pub mod KindLaws
+pub mod SumLaws
+pub mod RowLaws
+pub mod GuardLaws
+pub mod TableLaws
+pub mod ReadLaws
+pub mod ActionLaws
+pub mod TargetLaws
+pub mod StepLaws
+pub mod TypeLaws
+pub mod WholeLaws

@@ -1,0 +1,87 @@
+-- Reading paths, steps, points, types and the whole design.
+use Rattle.std.specs.Prelude.{ℕ, List, Ok}
+use Rattle.acc_grammar.specs.Readers.{◌>>=◌, many}
+use Rattle.acc_lex.specs.declared.words.Sign.{Sign}
+use Rattle.acc_lex.specs.declared.words.Sign.TheVariants as sign
+use Rattle.acc_lex.specs.declared.words.Word.{Word}
+use Rattle.acc_syntax.specs.declared.trees.PathTree.{PathTree}
+use Rattle.acc_syntax.specs.declared.trees.StepTree.{StepTree}
+use Rattle.acc_syntax.specs.declared.trees.PointTree.{PointTree}
+use Rattle.acc_syntax.specs.declared.trees.TypeTree.{TypeTree}
+use Rattle.acc_syntax.specs.declared.trees.DesignTree.{DesignTree}
+use Rattle.acc_syntax.specs.declared.designs.TypeHead.{TypeHead}
+use Rattle.acc_syntax.specs.WordReaders.{Outcome, comes, is_name, sign_at, name_at, number_at, end_at}
+use Rattle.acc_syntax.specs.ValueReaders.{guard_at}
+use Rattle.acc_syntax.specs.StatementReaders.{table_at, starts_table, read_at, starts_read, action_at, starts_action, target_at, names_statement_at}
+
+-- a path
+unfoldable pub path_at : List Word → Outcome PathTree
+path_at ws = do
+  k ← sign_at sign.Path ws
+  g ← guard_at k.1
+  e ← sign_at sign.End g.1
+  acts ← many starts_action action_at e.1
+  t ← target_at acts.1
+  Ok (record { guard = g.0; actions = acts.0; target = t.0 }, t.1)
+
+-- a step
+unfoldable pub step_at : List Word → Outcome StepTree
+step_at ws = do
+  rs ← many starts_read read_at ws
+  p ← path_at rs.1
+  ps ← many (comes sign.Path) path_at p.1
+  Ok (record { reads = rs.0; first = p.0; others = ps.0 }, ps.1)
+
+-- `next` or `undo`, and its step
+unfoldable pub side_at : Sign → List Word → Outcome StepTree
+side_at s ws = do
+  k ← sign_at s ws
+  e ← sign_at sign.End k.1
+  st ← step_at e.1
+  Ok (st.0, st.1)
+
+-- a point
+unfoldable pub point_at : List Word → Outcome PointTree
+point_at ws = do
+  k ← sign_at sign.Point ws
+  x ← name_at k.1
+  e ← sign_at sign.End x.1
+  n ← side_at sign.Next e.1
+  u ← side_at sign.Undo n.1
+  Ok (record { name = x.0; next = n.0; undo = u.0 }, u.1)
+
+-- limit INT
+unfoldable pub limit_at : List Word → Outcome ℕ
+limit_at ws = do
+  k ← sign_at sign.Limit ws
+  n ← number_at k.1
+  e ← sign_at sign.End n.1
+  Ok (n.0, e.1)
+
+-- what a type begins with, up to its limit
+unfoldable pub type_head_at : List Word → Outcome TypeHead
+type_head_at ws = do
+  k ← sign_at sign.Type ws
+  x ← name_at k.1
+  xs ← many is_name name_at x.1
+  e ← sign_at sign.End xs.1
+  n ← limit_at e.1
+  Ok (record { name = x.0; params = xs.0; limit = n.0 }, n.1)
+
+-- a type
+unfoldable pub type_at : List Word → Outcome TypeTree
+type_at ws = do
+  h ← type_head_at ws
+  rs ← names_statement_at sign.Returns h.1
+  ls ← names_statement_at sign.Local rs.1
+  p ← point_at ls.1
+  ps ← many (comes sign.Point) point_at p.1
+  Ok (record { name = h.0.name; params = h.0.params; limit = h.0.limit; returns = rs.0; locals = ls.0; first = p.0; others = ps.0 }, ps.1)
+
+-- a design, and the end of the words
+unfoldable pub design_at : List Word → Outcome DesignTree
+design_at ws = do
+  ts ← many starts_table table_at ws
+  ys ← many (comes sign.Type) type_at ts.1
+  o ← end_at ys.1
+  Ok (record { tables = ts.0; types = ys.0 }, o.1)

@@ -1,0 +1,195 @@
+//! Reading paths, steps, points, types and whole designs.
+ghost use Rattle.std.specs.Prelude.{◌≡◌, IsOkUnless};
+ghost use Rattle.acc_grammar.specs.Readers.{many};
+ghost use Rattle.acc_grammar.specs.Answers.{Gives};
+ghost use Rattle.acc_syntax.specs.declared.trees.DesignTree.{DesignTree};
+ghost use Rattle.acc_syntax.specs.Spelling.{spelled_design};
+ghost use Rattle.acc_syntax.specs.Texts.{Answers};
+ghost use Rattle.acc_syntax.specs.WordReaders.{comes};
+ghost use Rattle.acc_syntax.specs.DesignReaders.{path_at, step_at, side_at, point_at, limit_at, type_head_at, type_at, design_at};
+
+use crate::parsers::Parser;
+use crate::trees::{DesignTree, PathTree, PointTree, StepTree, TypeTree};
+use acc_base::sequences::{Seq, Text};
+use acc_grammar::faults::Fault;
+use acc_lex::words::{Sign, Word};
+use std::alloc::Global;
+
+/// Why there is no tree of some words.
+#[derive(Debug, Drop)]
+pub enum SyntaxError {
+    /// There was no memory for the tree.
+    Memory,
+    /// The words are no design: this is the place, from 0, of the first word with which no design goes on,
+    /// or the number of the words, where they only end too early.
+    At(usize),
+}
+
+/// What a type begins with.
+#[derive(Drop)]
+struct TypeHead {
+    name: Text,
+    params: Seq<Text>,
+    limit: u64,
+}
+
+impl Parser<'_> {
+    #[tactic(auto, unfolding(crate::specs::DesignReaders::path_at))]
+    fn path(&mut self) -> Result<PathTree, Fault>
+        ensures { Gives result self.new.words.now (path_at self.old.words.now) }
+    {
+        self.sign(Sign::Path)?;
+        let guard = self.guard()?;
+        self.sign(Sign::End)?;
+        let actions = self.actions()?;
+        let target = self.target()?;
+        Ok(PathTree {
+            guard,
+            actions,
+            target,
+        })
+    }
+
+    fn paths(&mut self) -> Result<Seq<PathTree>, Fault>
+        ensures { Gives result self.new.words.now (many (comes Sign.Path) path_at self.old.words.now) }
+    {
+        let mut paths = Seq::new(self.alloc);
+        while self.comes(Sign::Path) {
+            let path = self.path()?;
+            paths.push(path)?;
+        }
+        Ok(paths)
+    }
+
+    #[tactic(auto, unfolding(crate::specs::DesignReaders::step_at))]
+    fn step(&mut self) -> Result<StepTree, Fault>
+        ensures { Gives result self.new.words.now (step_at self.old.words.now) }
+    {
+        let reads = self.reads()?;
+        let first = self.path()?;
+        let others = self.paths()?;
+        Ok(StepTree {
+            reads,
+            first,
+            others,
+        })
+    }
+
+    /// `next` or `undo`, and its step.
+    #[tactic(auto, unfolding(crate::specs::DesignReaders::side_at))]
+    fn side(&mut self, sign: Sign) -> Result<StepTree, Fault>
+        ensures { Gives result self.new.words.now (side_at sign self.old.words.now) }
+    {
+        self.sign(sign)?;
+        self.sign(Sign::End)?;
+        self.step()
+    }
+
+    #[tactic(auto, unfolding(crate::specs::DesignReaders::point_at))]
+    fn point(&mut self) -> Result<PointTree, Fault>
+        ensures { Gives result self.new.words.now (point_at self.old.words.now) }
+    {
+        self.sign(Sign::Point)?;
+        let name = self.name()?;
+        self.sign(Sign::End)?;
+        let next = self.side(Sign::Next)?;
+        let undo = self.side(Sign::Undo)?;
+        Ok(PointTree { name, next, undo })
+    }
+
+    fn points(&mut self) -> Result<Seq<PointTree>, Fault>
+        ensures { Gives result self.new.words.now (many (comes Sign.Point) point_at self.old.words.now) }
+    {
+        let mut points = Seq::new(self.alloc);
+        while self.comes(Sign::Point) {
+            let point = self.point()?;
+            points.push(point)?;
+        }
+        Ok(points)
+    }
+
+    #[tactic(auto, unfolding(crate::specs::DesignReaders::limit_at))]
+    fn limit(&mut self) -> Result<u64, Fault>
+        ensures { Gives result self.new.words.now (limit_at self.old.words.now) }
+    {
+        self.sign(Sign::Limit)?;
+        let limit = self.number()?;
+        self.sign(Sign::End)?;
+        Ok(limit)
+    }
+
+    #[tactic(auto, unfolding(crate::specs::DesignReaders::type_head_at))]
+    fn type_head(&mut self) -> Result<TypeHead, Fault>
+        ensures { Gives result self.new.words.now (type_head_at self.old.words.now) }
+    {
+        self.sign(Sign::Type)?;
+        let name = self.name()?;
+        let params = self.names()?;
+        self.sign(Sign::End)?;
+        let limit = self.limit()?;
+        Ok(TypeHead {
+            name,
+            params,
+            limit,
+        })
+    }
+
+    #[tactic(auto, unfolding(crate::specs::DesignReaders::type_at))]
+    fn type_tree(&mut self) -> Result<TypeTree, Fault>
+        ensures { Gives result self.new.words.now (type_at self.old.words.now) }
+    {
+        let head = self.type_head()?;
+        let returns = self.names_statement(Sign::Returns)?;
+        let locals = self.names_statement(Sign::Local)?;
+        let first = self.point()?;
+        let others = self.points()?;
+        Ok(TypeTree {
+            name: head.name,
+            params: head.params,
+            limit: head.limit,
+            returns,
+            locals,
+            first,
+            others,
+        })
+    }
+
+    fn types(&mut self) -> Result<Seq<TypeTree>, Fault>
+        ensures { Gives result self.new.words.now (many (comes Sign.Type) type_at self.old.words.now) }
+    {
+        let mut types = Seq::new(self.alloc);
+        while self.comes(Sign::Type) {
+            let tree = self.type_tree()?;
+            types.push(tree)?;
+        }
+        Ok(types)
+    }
+
+    #[tactic(auto, unfolding(crate::specs::DesignReaders::design_at))]
+    fn design(&mut self) -> Result<DesignTree, Fault>
+        ensures { Gives result self.new.words.now (design_at self.old.words.now) }
+    {
+        let tables = self.tables()?;
+        let types = self.types()?;
+        self.end()?;
+        Ok(DesignTree { tables, types })
+    }
+}
+
+/// The tree of a design's words, in time linear in their number and in the bytes of the names.
+#[tactic(auto, using(crate::proofs::WholeLaws::one_tree))]
+pub fn syntax(alloc: Global, words: &[Word]) -> Result<DesignTree, SyntaxError>
+    // The tree is spelled by the words; a place is that of the first word with which no design goes on.
+    ensures answers { Answers words.now result }
+    // No other tree is spelled by the same words.
+    ensures unique { (t u : DesignTree) → spelled_design t ≡ spelled_design u → t ≡ u }
+    // What is spelled by some tree is answered with a tree, unless memory runs out.
+    ensures only { (t : DesignTree) → words.now ≡ spelled_design t → IsOkUnless result SyntaxError.Memory }
+{
+    let mut parser = Parser { alloc, words };
+    match parser.design() {
+        Ok(design) => Ok(design),
+        Err(Fault::Memory) => Err(SyntaxError::Memory),
+        Err(Fault::Syntax) => Err(SyntaxError::At(words.len() - parser.words.len())),
+    }
+}

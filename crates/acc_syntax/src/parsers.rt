@@ -1,0 +1,106 @@
+//! A parser of words: what comes next, and reading one word.
+ghost use Rattle.std.specs.Prelude.{◌≡◌};
+ghost use Rattle.acc_grammar.specs.Readers.{many};
+ghost use Rattle.acc_grammar.specs.Answers.{Gives};
+ghost use Rattle.acc_syntax.specs.WordReaders.{comes, is_name, is_number, is_word, sign_at, name_at, number_at, end_at};
+
+use acc_base::sequences::{Seq, Text, copied};
+use acc_grammar::faults::Fault;
+use acc_lex::words::{Sign, Word};
+use std::alloc::Global;
+
+/// The words that are left. Where a method answers that the words are no text, they begin with the first that doesn't fit.
+#[derive(Drop)]
+pub(crate) struct Parser<'a> {
+    pub(crate) alloc: Global,
+    pub(crate) words: &'a [Word],
+}
+
+impl Parser<'_> {
+    pub(crate) fn comes(&self, sign: Sign) -> bool
+        ensures { result ≡ comes sign self.now.words.now }
+    {
+        match self.words.first() {
+            Some(Word::Sign(s)) => *s == sign,
+            _ => false,
+        }
+    }
+
+    pub(crate) fn is_name(&self) -> bool
+        ensures { result ≡ is_name self.now.words.now }
+    {
+        matches!(self.words.first(), Some(Word::Name(_)))
+    }
+
+    pub(crate) fn is_number(&self) -> bool
+        ensures { result ≡ is_number self.now.words.now }
+    {
+        matches!(self.words.first(), Some(Word::Number(_)))
+    }
+
+    fn is_word(&self) -> bool
+        ensures { result ≡ is_word self.now.words.now }
+    {
+        !self.words.is_empty()
+    }
+
+    #[tactic(auto, unfolding(crate::specs::WordReaders::sign_at))]
+    pub(crate) fn sign(&mut self, sign: Sign) -> Result<(), Fault>
+        ensures { Gives result self.new.words.now (sign_at sign self.old.words.now) }
+    {
+        if !self.comes(sign) {
+            return Err(Fault::Syntax);
+        }
+        self.words = &self.words[1..];
+        Ok(())
+    }
+
+    #[tactic(auto, unfolding(crate::specs::WordReaders::name_at))]
+    pub(crate) fn name(&mut self) -> Result<Text, Fault>
+        ensures { Gives result self.new.words.now (name_at self.old.words.now) }
+    {
+        match self.words {
+            [Word::Name(name), rest @ ..] => {
+                let name = copied(name)?;
+                self.words = rest;
+                Ok(name)
+            }
+            _ => Err(Fault::Syntax),
+        }
+    }
+
+    #[tactic(auto, unfolding(crate::specs::WordReaders::number_at))]
+    pub(crate) fn number(&mut self) -> Result<u64, Fault>
+        ensures { Gives result self.new.words.now (number_at self.old.words.now) }
+    {
+        match self.words {
+            [Word::Number(number), rest @ ..] => {
+                self.words = rest;
+                Ok(*number)
+            }
+            _ => Err(Fault::Syntax),
+        }
+    }
+
+    #[tactic(auto, unfolding(crate::specs::WordReaders::end_at))]
+    pub(crate) fn end(&self) -> Result<(), Fault>
+        ensures { Gives result self.now.words.now (end_at self.now.words.now) }
+    {
+        if self.is_word() {
+            return Err(Fault::Syntax);
+        }
+        Ok(())
+    }
+
+    /// Names, as long as one comes.
+    pub(crate) fn names(&mut self) -> Result<Seq<Text>, Fault>
+        ensures { Gives result self.new.words.now (many is_name name_at self.old.words.now) }
+    {
+        let mut names = Seq::new(self.alloc);
+        while self.is_name() {
+            let name = self.name()?;
+            names.push(name)?;
+        }
+        Ok(names)
+    }
+}

@@ -1,0 +1,342 @@
+use crate::designs::{SyntaxError, syntax};
+use crate::trees::{
+    ActionTree, Cell, DesignTree, Place, ReadTree, Relation, Sum, TargetTree, Term, Variable,
+};
+use acc_base::sequences::{Seq, Text};
+use acc_lex::words::{Sign, Word};
+use std::alloc::{AllocError, Global};
+use std::test::Fail;
+
+const SIGNS: [(&str, Sign); 37] = [
+    ("table", Sign::Table),
+    ("private", Sign::Private),
+    ("type", Sign::Type),
+    ("limit", Sign::Limit),
+    ("returns", Sign::Returns),
+    ("local", Sign::Local),
+    ("point", Sign::Point),
+    ("next", Sign::Next),
+    ("undo", Sign::Undo),
+    ("let", Sign::Let),
+    ("get", Sign::Get),
+    ("has", Sign::Has),
+    ("count", Sign::Count),
+    ("path", Sign::Path),
+    ("put", Sign::Put),
+    ("del", Sign::Del),
+    ("set", Sign::Set),
+    ("add", Sign::Add),
+    ("goto", Sign::Goto),
+    ("commit", Sign::Commit),
+    ("undone", Sign::Undone),
+    ("refuse", Sign::Refuse),
+    ("self", Sign::Oneself),
+    ("[", Sign::Open),
+    ("]", Sign::Close),
+    (",", Sign::Comma),
+    (".", Sign::Dot),
+    (":", Sign::Colon),
+    ("=", Sign::Equal),
+    ("<=", Sign::AtMost),
+    (">=", Sign::AtLeast),
+    ("=>", Sign::Implies),
+    ("+", Sign::Plus),
+    ("-", Sign::Minus),
+    ("*", Sign::Times),
+    (";", Sign::End),
+    ("forall", Sign::Forall),
+];
+
+/// Three tables, and two types of which the second has two points: money that moves between accounts.
+const TRANSFER: &str = "table BANK 1 total ; table ACC 2 bal ; private DUE 2 amt ;
+    type fund b a amt ; limit 1 ; local p q ;
+    point start ; next ; has p = ACC [ b , a ] ; has q = BANK [ b ] ;
+    path p = 0 , q = 0 ; put BANK [ b ] amt ; put ACC [ b , a ] amt ; commit ;
+    path p = 0 , q = 1 ; put ACC [ b , a ] amt ; add BANK [ b ] . total amt ; commit ;
+    path p = 1 , q = 1 ; add ACC [ b , a ] . bal amt ; add BANK [ b ] . total amt ; commit ;
+    path ; refuse 1 ;
+    undo ; path ; undone ;
+    type move b x y amt ; limit 2 ; returns amt ; local p q ;
+    point start ; next ; has p = ACC [ b , x ] ; has q = ACC [ b , y ] ;
+    path p = 1 , q = 1 , amt >= 1 ; add ACC [ b , x ] . bal - amt ; put DUE [ b , self ] amt ; goto mid ;
+    path ; refuse 1 ;
+    undo ; path ; undone ;
+    point mid ; next ; path ; add ACC [ b , y ] . bal amt ; del DUE [ b , self ] ; commit ;
+    undo ; path ; add ACC [ b , x ] . bal amt ; del DUE [ b , self ] ; undone ;";
+
+/// Texts by themselves, each with a `^` before the word at which it stops, if it does.
+const TEXTS: [&str; 22] = [
+    "",
+    "table A 1 ; private B 6 c d ;",
+    "table ^ ;",
+    "table ^ self 1 ;",
+    "table A ^ ;",
+    "table A 1 c ^ 2 ;",
+    "table A 1 c ^",
+    "table A 1 ; ^ ;",
+    "table A 1 ; ^ limit 1 ;",
+    "type ^ 1 ;",
+    "type t ; ^ point p ;",
+    "type t ; limit ^ n ;",
+    "type t ; limit 1 ; returns ^ ;",
+    "type t ; limit 1 ; local p ; ^ returns q ;",
+    "type t ; limit 1 ; local p ^ , q ;",
+    "type t ; limit 1 ; ^ type u ;",
+    "type t ; limit 1 ; point ^ ;",
+    "type t ; limit 1 ; point p ; ^ undo ;",
+    "type t ; limit 1 ; point p ; next ^ path ;",
+    "type t ; limit 1 ; point p ; next ; ^ undo ;",
+    "type t ; limit 1 ; point p ; next ; path ; commit ; ^ point q ;",
+    "type t ; limit 1 ; point p ; next ; path ; commit ; undo ; path ; undone ; ^ table B 1 ;",
+];
+
+/// What may stand in a step, each with a `^` before the word at which it stops, if it does.
+const STEPS: [&str; 35] = [
+    "let self = - 2 * self + 3 - a ; get x = A [ k , - 1 ] . c ; path a <= b , 1 >= 2 , a = b ; put A [ 1 ] ; commit ;",
+    "path ; goto p ; path ; undone ; path ; refuse 255 ;",
+    "path ; commit ; ^ let x = 1 ;",
+    "let ^ 1 = 1 ;",
+    "let x ^ 1 ;",
+    "let x = ^ ;",
+    "let x = 2 * ^ 3 ;",
+    "let x = a ^ * 3 ;",
+    "let x = - ^ - 1 ;",
+    "let x = 1 + ^ ;",
+    "let x = a ^ b ;",
+    "let x = 1 ^ , 2 ;",
+    "get x = A ^ . c ;",
+    "get x = A [ k ] ^ ;",
+    "get x = A [ k ] ^ , c ;",
+    "get x = A [ k ] . ^ 1 ;",
+    "has x = A [ ^ ] ;",
+    "has x = A [ 1 , ^ ] ;",
+    "has x = A [ k ] ^ . c ;",
+    "has x ^ <= A [ k ] ;",
+    "^ count x = A [ k ] ;",
+    "path a ^ ;",
+    "path a = b , ^ ;",
+    "path a = b ^ = c ;",
+    "path ^ = b ;",
+    "path ; ^ path ;",
+    "path ; put A [ 1 ] 2 ^ 3 ; commit ;",
+    "path ; put A [ 1 ] 2 , ^ ;",
+    "path ; del A [ 1 ] ^ . c ;",
+    "path ; set A [ 1 ] ^ 5 ;",
+    "path ; add A [ 1 ] . c ^ ;",
+    "path ; goto ^ ;",
+    "path ; refuse ^ a ;",
+    "path ; commit ^ 1 ;",
+    "path ; commit ; ^ put A [ 1 ] ;",
+];
+
+fn word_of(alloc: Global, token: &str) -> Result<Word, AllocError> {
+    if let Some((_, sign)) = SIGNS.iter().find(|pair| pair.0 == token) {
+        return Ok(Word::Sign(*sign));
+    }
+    if let Ok(number) = token.parse::<u64>() {
+        return Ok(Word::Number(number));
+    }
+    Ok(Word::Name(Seq::from_vec(token.as_bytes().to_vec(alloc)?)))
+}
+
+/// Adds the words of a text in which spaces part all words, and says at which of them a `^` stands.
+fn add_words(
+    alloc: Global,
+    text: &str,
+    words: &mut Vec<Word>,
+) -> Result<Option<usize>, AllocError> {
+    let mut mark = None;
+    for token in text.split_whitespace() {
+        if token == "^" {
+            mark = Some(words.len());
+        } else {
+            words.push(word_of(alloc, token)?)?;
+        }
+    }
+    Ok(mark)
+}
+
+/// Where the words stop, if they do.
+fn stop_of(alloc: Global, words: &[Word]) -> Result<Option<usize>, AllocError> {
+    match syntax(alloc, words) {
+        Ok(_) => Ok(None),
+        Err(SyntaxError::At(place)) => Ok(Some(place)),
+        Err(SyntaxError::Memory) => Err(AllocError),
+    }
+}
+
+#[test]
+fn texts_stop_where_marked(rt: HostRuntime) -> Result<(), Fail> {
+    for text in TEXTS {
+        let mut words = Vec::new(rt.alloc());
+        let mark = add_words(rt.alloc(), text, &mut words)?;
+        assert_eq!(rt; stop_of(rt.alloc(), words.as_slice())?, mark, "{text}");
+    }
+    Ok(())
+}
+
+#[test]
+fn steps_stop_where_marked(rt: HostRuntime) -> Result<(), Fail> {
+    for text in STEPS {
+        let mut words = Vec::new(rt.alloc());
+        add_words(
+            rt.alloc(),
+            "type t ; limit 1 ; point p ; next ;",
+            &mut words,
+        )?;
+        let mark = add_words(rt.alloc(), text, &mut words)?;
+        add_words(rt.alloc(), "undo ; path ; undone ;", &mut words)?;
+        assert_eq!(rt; stop_of(rt.alloc(), words.as_slice())?, mark, "{text}");
+    }
+    Ok(())
+}
+
+/// The tree of a text, in which no place is marked.
+fn tree_of(alloc: Global, text: &str) -> Result<DesignTree, Fail> {
+    let mut words = Vec::new(alloc);
+    add_words(alloc, text, &mut words)?;
+    Ok(syntax(alloc, words.as_slice())?)
+}
+
+fn part<T>(items: &Seq<T>, place: usize) -> Result<&T, Fail> {
+    Ok(items.as_slice().get(place).ok_or("too few parts")?)
+}
+
+fn are(names: &Seq<Text>, wanted: &[&str]) -> bool {
+    names.len() == wanted.len()
+        && names
+            .as_slice()
+            .iter()
+            .zip(wanted)
+            .all(|(name, want)| is(name, want))
+}
+
+fn is(name: &Text, wanted: &str) -> bool {
+    name.as_slice() == wanted.as_bytes()
+}
+
+fn is_variable(sum: &Sum, minus: bool, wanted: &str) -> bool {
+    sum.minus == minus
+        && sum.others.is_empty()
+        && matches!(&sum.first, Term::Plain(Variable::Named(name)) if is(name, wanted))
+}
+
+fn is_number(sum: &Sum, wanted: u64) -> bool {
+    !sum.minus && sum.others.is_empty() && matches!(sum.first, Term::Constant(n) if n == wanted)
+}
+
+/// Whether it is the row of `b` and another variable.
+fn is_row(place: &Place, table: &str, second: &str) -> bool {
+    is(&place.table, table)
+        && is_variable(&place.key.first, false, "b")
+        && place.key.others.len() == 1
+        && matches!(place.key.others.as_slice().first(), Some(sum) if is_variable(sum, false, second))
+}
+
+fn is_cell(cell: &Cell, table: &str, second: &str, column: &str) -> bool {
+    is_row(&cell.place, table, second) && is(&cell.column, column)
+}
+
+#[test]
+fn tables_of_transfer(rt: HostRuntime) -> Result<(), Fail> {
+    let design = tree_of(rt.alloc(), TRANSFER)?;
+    assert_eq!(rt; design.tables.len(), 3);
+    assert_eq!(rt; design.types.len(), 2);
+    let bank = part(&design.tables, 0)?;
+    assert!(rt; !bank.private && is(&bank.name, "BANK") && bank.width == 1);
+    assert!(rt; are(&bank.columns, ["total"].as_slice()));
+    let due = part(&design.tables, 2)?;
+    assert!(rt; due.private && is(&due.name, "DUE") && due.width == 2);
+    assert!(rt; are(&due.columns, ["amt"].as_slice()));
+    Ok(())
+}
+
+#[test]
+fn first_type_of_transfer(rt: HostRuntime) -> Result<(), Fail> {
+    let design = tree_of(rt.alloc(), TRANSFER)?;
+    let fund = part(&design.types, 0)?;
+    assert!(rt; is(&fund.name, "fund") && fund.limit == 1 && fund.returns.is_none());
+    assert!(rt; are(&fund.params, ["b", "a", "amt"].as_slice()));
+    assert!(rt;
+        matches!(&fund.locals, Some(names) if is(&names.first, "p") && are(&names.others, ["q"].as_slice()))
+    );
+    assert_eq!(rt; fund.others.len(), 0);
+    let next = &fund.first.next;
+    assert_eq!(rt; next.reads.len(), 2);
+    assert!(rt;
+        matches!(part(&next.reads, 0)?, ReadTree::Has(Variable::Named(p), row) if is(p, "p") && is_row(row, "ACC", "a"))
+    );
+    assert!(rt;
+        matches!(&next.first.guard, Some(rels) if is_variable(&rels.first.left, false, "p") && is_number(&rels.first.right, 0) && rels.others.len() == 1)
+    );
+    assert_eq!(rt; next.first.actions.len(), 2);
+    assert!(rt;
+        matches!(part(&next.first.actions, 1)?, ActionTree::Put(row, Some(values)) if is_row(row, "ACC", "a") && is_variable(&values.first, false, "amt"))
+    );
+    assert!(rt; matches!(next.first.target, TargetTree::Commit));
+    assert_eq!(rt; next.others.len(), 3);
+    let last = part(&next.others, 2)?;
+    assert!(rt; last.guard.is_none() && last.actions.is_empty());
+    assert!(rt; matches!(last.target, TargetTree::Refuse(1)));
+    assert!(rt; matches!(fund.first.undo.first.target, TargetTree::Undone));
+    Ok(())
+}
+
+#[test]
+fn second_type_of_transfer(rt: HostRuntime) -> Result<(), Fail> {
+    let design = tree_of(rt.alloc(), TRANSFER)?;
+    let transfer = part(&design.types, 1)?;
+    assert!(rt;
+        matches!(&transfer.returns, Some(names) if is(&names.first, "amt") && names.others.is_empty())
+    );
+    assert!(rt; is(&transfer.first.name, "start"));
+    assert_eq!(rt; transfer.others.len(), 1);
+    let path = &transfer.first.next.first;
+    assert!(rt;
+        matches!(part(&path.actions, 0)?, ActionTree::Add(cell, value) if is_cell(cell, "ACC", "x", "bal") && is_variable(value, true, "amt"))
+    );
+    assert!(rt; matches!(&path.target, TargetTree::Goto(point) if is(point, "mid")));
+    let mid = part(&transfer.others, 0)?;
+    assert!(rt; is(&mid.name, "mid") && mid.undo.reads.is_empty() && mid.undo.others.is_empty());
+    assert_eq!(rt; mid.undo.first.actions.len(), 2);
+    assert!(rt;
+        matches!(part(&mid.undo.first.actions, 1)?, ActionTree::Del(row) if is(&row.table, "DUE"))
+    );
+    Ok(())
+}
+
+#[test]
+fn values_and_relations(rt: HostRuntime) -> Result<(), Fail> {
+    let design = tree_of(
+        rt.alloc(),
+        "type t ; limit 1 ; point p ; next ;
+        let self = - 2 * self + 3 - a ; path a <= b , a >= b , a = b ; set A [ k , - 1 ] . c a ; commit ;
+        undo ; path ; undone ;",
+    )?;
+    let step = &part(&design.types, 0)?.first.next;
+    let ReadTree::Let(Variable::Oneself, sum) = part(&step.reads, 0)? else {
+        return Err("no `let self`")?;
+    };
+    assert!(rt; sum.minus && matches!(sum.first, Term::Product(2, Variable::Oneself)));
+    assert_eq!(rt; sum.others.len(), 2);
+    let three = part(&sum.others, 0)?;
+    assert!(rt; !three.minus && matches!(three.term, Term::Constant(3)));
+    let a = part(&sum.others, 1)?;
+    assert!(rt; a.minus && matches!(&a.term, Term::Plain(Variable::Named(name)) if is(name, "a")));
+    let Some(rels) = &step.first.guard else {
+        return Err("no guard")?;
+    };
+    assert!(rt;
+        matches!(rels.first.relation, Relation::AtMost)
+            && is_variable(&rels.first.right, false, "b")
+    );
+    assert!(rt; matches!(part(&rels.others, 0)?.relation, Relation::AtLeast));
+    assert!(rt; matches!(part(&rels.others, 1)?.relation, Relation::Equal));
+    let ActionTree::Set(cell, value) = part(&step.first.actions, 0)? else {
+        return Err("no `set`")?;
+    };
+    assert!(rt; is(&cell.column, "c") && is_variable(value, false, "a"));
+    let second = part(&cell.place.key.others, 0)?;
+    assert!(rt; second.minus && matches!(second.first, Term::Constant(1)));
+    Ok(())
+}
