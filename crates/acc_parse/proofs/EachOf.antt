@@ -1,9 +1,10 @@
 -- What is made of each item of a list, item by item.
-use Rattle.std.proofs.Common.{◌≡◌, ℕ, Bool, true, ◌+◌, ◌<◌, List, [], ◌∷◌, ◌++◌, length, get_or, take, drop, Option, Some, None, refl, ap, sym, ◌∙◌}
-use Rattle.std.specs.Prelude.{option_and_then, option_map}
+use Rattle.std.proofs.Common.{◌≡◌, ℕ, suc, Bool, true, ◌&&◌, ◌+◌, ◌<◌, List, [], ◌∷◌, ◌++◌, length, get_or, take, drop, Option, Some, None, refl, ap, sym, subst, ◌∙◌}
+use Rattle.std.specs.Prelude.{option_and_then, option_map, All}
 use Rattle.std.proofs.lemmas.List.{take_more, drop_more, take-append-drop}
 use Rattle.std.specs.List.{list_all}
 use Rattle.std.proofs.lemmas.Bool.{and_parts}
+use Rattle.std.proofs.lemmas.List.Elements.{All-nil, All-cons}
 use Rattle.std.proofs.lemmas.List.Recursion.{and_at}
 use Rattle.acc_parse.specs.Sums.{each_of}
 
@@ -74,6 +75,50 @@ module _ {X Y : Type 0} (f : X → Option Y) where
 
   pub each_of_none_after : (first : X) (xs items : List X) (i : ℕ) (x : X) → items ≡ xs → i < length items → x ≡ get_or items i x → f x ≡ None → each_of f (first ∷ xs) ≡ None
   each_of_none_after first xs items i x same within here e = none_front first xs (each_of_none xs items i x same within here e)
+
+-- ---- what holds of each that is made
+
+module _ {X Y : Type 0} (f : X → Option Y) where
+  length_step : (xs : List X) (o : Option Y) (a : Option (List Y)) (ys : List Y) → ((zs : List Y) → a ≡ Some zs → length zs ≡ length xs) → option_and_then (λ y. option_map (λ zs. y ∷ zs) a) o ≡ Some ys → length ys ≡ suc (length xs)
+  length_step xs None a ys h e = absurd (cc)
+  length_step xs (Some y) None ys h e = absurd (cc)
+  length_step xs (Some y) (Some zs) ys h e =
+      let same : y ∷ zs ≡ ys = cc in ap length (sym same) ∙ ap suc (h zs refl)
+
+  -- as many are made
+  pub each_of-length : (xs : List X) (ys : List Y) → each_of f xs ≡ Some ys → length ys ≡ length xs
+  each_of-length [] ys e = let same : [] ≡ ys = cc in ap length (sym same)
+  each_of-length (x ∷ xs) ys e = length_step xs (f x) (each_of f xs) ys (each_of-length xs) e
+
+  module _ (p : X → Bool) (q : Y → Bool) (Q : Y → Type 0) (good : (x : X) (y : Y) → p x ≡ true → q y ≡ true → f x ≡ Some y → Q y) where
+    made_step : (x : X) (xs : List X) (o : Option Y) (a : Option (List Y)) (ys : List Y) → f x ≡ o → p x ≡ true → ((zs : List Y) → list_all q zs ≡ true → a ≡ Some zs → All Q zs) → list_all q ys ≡ true → option_and_then (λ y. option_map (λ zs. y ∷ zs) a) o ≡ Some ys → All Q ys
+    made_step x xs None a ys g k h t e = absurd (cc)
+    made_step x xs (Some y) None ys g k h t e = absurd (cc)
+    made_step x xs (Some y) (Some zs) ys g k h t e =
+        let same : y ∷ zs ≡ ys = cc in
+        let tests = and_parts (q y) (list_all q zs) (ap (list_all q) same ∙ t) in
+        subst (All Q) same (All-cons Q y zs (good x y k tests.0 g) (h zs tests.1 refl))
+
+    -- each that is made of one that passes p, and passes q itself
+    pub each_made : (xs : List X) (ys : List Y) → list_all p xs ≡ true → list_all q ys ≡ true → each_of f xs ≡ Some ys → All Q ys
+    each_made [] ys k t e = let same : [] ≡ ys = cc in subst (All Q) same (All-nil Q)
+    each_made (x ∷ xs) ys k t e =
+        let tests = and_parts (p x) (list_all p xs) k in
+        made_step x xs (f x) (each_of f xs) ys refl tests.0 (λ zs t' e'. each_made xs zs tests.1 t' e') t e
+
+pub all_pass : {X : Type 0} (xs : List X) → list_all (λ _. true) xs ≡ true
+all_pass [] = refl
+all_pass (x ∷ xs) = all_pass xs
+
+-- each that is made
+pub all_made : {X Y : Type 0} (f : X → Option Y) (Q : Y → Type 0) → ((x : X) (y : Y) → f x ≡ Some y → Q y) → (xs : List X) (ys : List Y) → each_of f xs ≡ Some ys → All Q ys
+all_made f Q good xs ys e =
+    each_made f (λ _. true) (λ _. true) Q (λ x y _ _ g. good x y g) xs ys (all_pass xs) (all_pass ys) e
+
+-- each that is made of one that passes p
+pub all_kept : {X Y : Type 0} (f : X → Option Y) (p : X → Bool) (Q : Y → Type 0) → ((x : X) (y : Y) → p x ≡ true → f x ≡ Some y → Q y) → (xs : List X) (ys : List Y) → list_all p xs ≡ true → each_of f xs ≡ Some ys → All Q ys
+all_kept f p Q good xs ys k e =
+    each_made f p (λ _. true) Q (λ x y k' _ g. good x y k' g) xs ys k (all_pass ys) e
 
 -- an item of a list that passes a test
 pub passing_item : {X : Type 0} (p : X → Bool) (xs items : List X) (i : ℕ) (x : X) → items ≡ xs → i < length items → x ≡ get_or items i x → list_all p xs ≡ true → p x ≡ true

@@ -5,3 +5,5 @@ pub mod Placed
 pub mod Filtered
 pub mod Typed
 pub mod LastPath
+pub mod Short
+pub mod Playable

@@ -17,7 +17,7 @@ total-append (x ∷ xs) ys = let h = total-append xs ys in omega (arith, ints)
 
 -- ---- which numbers come first
 
-abbrev has : ℕ → List ℕ → Bool
+abbrev pub has : ℕ → List ℕ → Bool
 has x xs = list_any (λ y. y == x) xs
 
 abbrev others : ℕ → List ℕ → List ℕ
