@@ -36,13 +36,13 @@ use Rattle.acc_syntax.specs.declared.trees.StepTree.{StepTree}
 use Rattle.acc_syntax.specs.declared.trees.PointTree.{PointTree}
 use Rattle.acc_syntax.specs.declared.trees.TypeTree.{TypeTree}
 use Rattle.acc_syntax.specs.declared.trees.DesignTree.{DesignTree}
-use Rattle.acc_parse.specs.Scopes.{locals_of, points_in}
+use Rattle.acc_parse.specs.Scopes.{place_of, listed_or_none, locals_of, points_in}
 use Rattle.acc_parse.specs.Sums.{each_of, variable_of, lin_of, all_sums, lins_of, rel_of}
-use Rattle.acc_parse.specs.Meanings.{Scope, RowName, CellName, table_number, row_of, column_number, cell_of, read_of, values_of, action_of, target_of, guard_of, path_of, paths_in, step_of, point_of, scope_of, type_of, table_of, design_of}
+use Rattle.acc_parse.specs.Meanings.{Scope, RowName, CellName, table_number, row_of, column_number, cell_of, read_of, values_of, action_of, target_of, guard_of, path_of, paths_in, step_of, zero, point_of, scope_of, type_of, table_of, design_of}
 use Rattle.acc_parse.specs.Limits.{is_at_most, is_short_name, is_guard_kept, is_action_kept, is_target_kept, is_path_kept, is_read_kept, is_step_kept, is_point_kept, is_type_kept, is_table_kept, is_text_kept}
 use Rattle.acc_parse.specs.FormRules.{has_width, has_columns, is_read_whole, is_action_whole, assigns_local, may_end, refuses_plainly, ends_unguarded, is_path_formed, is_step_formed, is_point_formed, is_type_formed, is_formed}
-use Rattle.acc_parse.specs.Texts.{Means}
 use Rattle.acc_parse.proofs.EachOf.{each_of-length, each_made, all_made, all_pass}
+use Rattle.acc_parse.proofs.Typed.{points_kept}
 use Rattle.acc_parse.proofs.Short.{short_lin, short_rel}
 
 -- ---- what made an option's value
@@ -194,3 +194,74 @@ module _ (tables : List Table) (fits : All Fits tables) (s : Scope) (few : lengt
         few = at_most (action_of s) 16 p.actions actions.0 (and_parts (is_guard_kept p.guard) (is_at_most 16 p.actions) counts.0).1 actions.1;
         target = can_end side to.0 whole.1;
       })
+
+  can_step : (x : TxType) (st : StepTree) (y : Step) → is_step_kept st ≡ true → is_step_formed tables x side y ≡ true → step_of s st ≡ Some y → CanStep side y
+  can_step x st y kept formed e =
+      let reads = then_made (λ reads. option_map (λ paths. record { reads = reads; paths = paths }) (each_of (path_of s) (paths_in st))) (each_of (read_of s) st.reads) y e in
+      let paths = made_by (λ paths. record { reads = reads.0; paths = paths }) (each_of (path_of s) (paths_in st)) y reads.2 in
+      let guarded = and_parts (list_all (is_read_whole tables) reads.0 && list_all (assigns_local x) reads.0 && list_all (is_path_formed tables side) paths.0) (ends_unguarded paths.0) (ap (is_step_formed tables x side) paths.2 ∙ formed) in
+      let ended = and_parts (list_all (is_read_whole tables) reads.0 && list_all (assigns_local x) reads.0) (list_all (is_path_formed tables side) paths.0) guarded.0 in
+      let whole = and_parts (list_all (is_read_whole tables) reads.0) (list_all (assigns_local x) reads.0) ended.0 in
+      let bounds = and_parts (is_at_most 32 st.reads && list_all is_read_kept st.reads && is_at_most 16 (paths_in st)) (list_all is_path_kept (paths_in st)) kept in
+      let counts = and_parts (is_at_most 32 st.reads && list_all is_read_kept st.reads) (is_at_most 16 (paths_in st)) bounds.0 in
+      let few_paths = at_most (path_of s) 16 (paths_in st) paths.0 counts.1 paths.1 in
+      subst (CanStep side) paths.2 (record {
+        reads = each_made (read_of s) (λ _. true) (is_read_whole tables) CanRead (λ r z _ w g. can_read tables fits s few r z w g) st.reads reads.0 (all_pass st.reads) whole.0 reads.1;
+        paths = each_made (path_of s) is_path_kept (is_path_formed tables side) (CanGo side) can_go (paths_in st) paths.0 bounds.1 ended.1 paths.1;
+        few = omega arith;
+      })
+
+-- ---- points, types, the design
+
+abbrev point_by : PointTree → Step → Step → Point
+point_by p next undo =
+    record { name = p.name; clauses = []; next = next; undo = undo; variant = zero }
+
+runnable_point : (tables : List Table) → All Fits tables → (s : Scope) → length s.locals ≤ 48 → (x : TxType) (p : PointTree) (y : Point) → is_point_kept p ≡ true → is_point_formed tables x y ≡ true → point_of s p ≡ Some y → IsRunnablePoint y
+runnable_point tables fits s few x p y kept formed e =
+    let next = then_made (λ next. option_map (point_by p next) (step_of s p.undo)) (step_of s p.next) y e in
+    let undo = made_by (point_by p next.0) (step_of s p.undo) y next.2 in
+    let parts = and_parts (is_step_formed tables x Next next.0) (is_step_formed tables x Undo undo.0) (ap (is_point_formed tables x) undo.2 ∙ formed) in
+    let bounds = and_parts (is_short_name p.name && is_step_kept p.next) (is_step_kept p.undo) kept in
+    let forward = and_parts (is_short_name p.name) (is_step_kept p.next) bounds.0 in
+    subst IsRunnablePoint undo.2 (record {
+      next = can_step tables fits s few Next x p.next next.0 forward.1 parts.0 next.1;
+      undo = can_step tables fits s few Undo x p.undo undo.0 bounds.1 parts.1 undo.1;
+    })
+
+abbrev type_by : TypeTree → List ℕ → List Point → TxType
+type_by t returns points =
+    record { name = t.name; params = length t.params; locals = locals_of t; points = points; posts = []; repairs = []; returns = returns; limit = t.limit }
+
+few_locals : (t : TypeTree) → is_type_kept t ≡ true → length (locals_of t) ≤ 48
+few_locals t h =
+    let a = and_parts (is_short_name t.name && is_at_most 48 (locals_of t) && list_all is_short_name (locals_of t) && nat_lt t.limit (2 ^ 32) && is_at_most 32 (points_in t)) (list_all is_point_kept (points_in t)) h in
+    let b = and_parts (is_short_name t.name && is_at_most 48 (locals_of t) && list_all is_short_name (locals_of t) && nat_lt t.limit (2 ^ 32)) (is_at_most 32 (points_in t)) a.0 in
+    let c = and_parts (is_short_name t.name && is_at_most 48 (locals_of t) && list_all is_short_name (locals_of t)) (nat_lt t.limit (2 ^ 32)) b.0 in
+    let d = and_parts (is_short_name t.name && is_at_most 48 (locals_of t)) (list_all is_short_name (locals_of t)) c.0 in
+    leb-true (length (locals_of t)) 48 (and_parts (is_short_name t.name) (is_at_most 48 (locals_of t)) d.0).1
+
+runnable_type : (trees : List TableTree) → All Fits (map table_of trees) → (t : TypeTree) (x : TxType) → is_type_kept t ≡ true → is_type_formed (map table_of trees) x ≡ true → type_of trees t ≡ Some x → IsRunnableType x
+runnable_type trees fits t x kept formed e =
+    let tables = map table_of trees in
+    let returns = then_made (λ returns. option_map (type_by t returns) (each_of (point_of (scope_of trees t)) (points_in t))) (each_of (λ y. place_of y (locals_of t)) (listed_or_none t.returns)) x e in
+    let points = made_by (type_by t returns.0) (each_of (point_of (scope_of trees t)) (points_in t)) x returns.2 in
+    let made = type_by t returns.0 points.0 in
+    let parts = and_parts (nat_le 1 t.limit && nat_le t.limit 65536) (list_all (is_point_formed tables made) points.0) (ap (is_type_formed tables) points.2 ∙ formed) in
+    subst IsRunnableType points.2 (record {
+      points = each_made (point_of (scope_of trees t)) is_point_kept (is_point_formed tables made) IsRunnablePoint (runnable_point tables fits (scope_of trees t) (few_locals t kept) made) (points_in t) points.0 (points_kept t kept) parts.1 points.1;
+      few = few_locals t kept;
+    })
+
+abbrev design_by : DesignTree → List TxType → Design
+design_by tree types =
+    record { tables = map table_of tree.tables; always = []; types = types; entries = []; hints = [] }
+
+-- every step of the design can be taken
+pub runnable_design : (tree : DesignTree) (d : Design) → is_text_kept tree ≡ true → is_formed d ≡ true → design_of tree ≡ Some d → IsRunnable d
+runnable_design tree d kept formed e =
+    let types = made_by (design_by tree) (each_of (type_of tree.tables) tree.types) d e in
+    let bounds = and_parts (is_at_most 64 tree.tables && list_all is_table_kept tree.tables && is_at_most 64 tree.types) (list_all is_type_kept tree.types) kept in
+    let counts = and_parts (is_at_most 64 tree.tables && list_all is_table_kept tree.tables) (is_at_most 64 tree.types) bounds.0 in
+    let fits = fits_tables tree.tables (and_parts (is_at_most 64 tree.tables) (list_all is_table_kept tree.tables) counts.0).1 in
+    subst IsRunnable types.2 (each_made (type_of tree.tables) is_type_kept (is_type_formed (map table_of tree.tables)) IsRunnableType (runnable_type tree.tables fits) tree.types types.0 bounds.1 (ap is_formed types.2 ∙ formed) types.1)

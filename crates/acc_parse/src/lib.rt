@@ -6,6 +6,7 @@ pub mod errors;
 mod bounds;
 mod collecting;
 mod definitions;
+pub mod designs;
 mod names;
 mod rows;
 mod rules;
