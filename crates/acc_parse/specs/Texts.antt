@@ -2,6 +2,7 @@
 use Rattle.std.specs.Prelude.{◌≡◌, ℕ, true, List, Some}
 use Rattle.acc_base.specs.declared.designs.Design.{Design}
 use Rattle.acc_lex.specs.declared.words.Word.{Word}
+use Rattle.acc_lex.specs.Texts.{IsLexed}
 use Rattle.acc_syntax.specs.declared.trees.DesignTree.{DesignTree}
 use Rattle.acc_syntax.specs.Spelling.{spelled_design}
 use Rattle.acc_parse.specs.Scopes.{has_distinct_names}
@@ -21,3 +22,9 @@ pub record AreWordsOf (words : List Word) (d : Design) : Type 0 where
   pub tree : DesignTree
   pub spelled : words ≡ spelled_design tree
   pub meant : Means tree d
+
+-- the bytes are words of the design
+pub record IsDesignText (text : List ℕ) (d : Design) : Type 0 where
+  pub words : List Word
+  pub lexed : IsLexed text words
+  pub meant : AreWordsOf words d

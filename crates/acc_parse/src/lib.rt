@@ -8,6 +8,7 @@ mod collecting;
 mod definitions;
 pub mod designs;
 mod names;
+pub mod parsers;
 mod rows;
 mod rules;
 mod steps;
