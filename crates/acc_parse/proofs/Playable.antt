@@ -1,5 +1,5 @@
 -- A design that a text stands for can be played.
-use Rattle.std.proofs.Common.{◌≡◌, ℕ, suc, ◌+◌, ◌<◌, ◌≤◌, ◌^◌, Bool, true, false, List, [], ◌∷◌, ◌&&◌, length, map, Option, Some, None, refl, ap, sym, subst, ◌∙◌, arith, nat_lt, nat_le}
+use Rattle.std.proofs.Common.{length-append, ◌≡◌, ℕ, suc, ◌+◌, ◌<◌, ◌≤◌, ◌^◌, Bool, true, false, List, [], ◌∷◌, ◌&&◌, length, map, Option, Some, None, refl, ap, sym, subst, ◌∙◌, arith, nat_lt, nat_le}
 use Rattle.std.specs.Prelude.{All, option_map, option_and_then, slice_get, slice_index_or}
 use Rattle.std.specs.List.{list_all}
 use Rattle.std.proofs.lemmas.Bool.{and_parts, leb-true, eqb-true}
@@ -251,6 +251,7 @@ runnable_type trees fits t x kept formed e =
     subst IsRunnableType points.2 (record {
       points = each_made (point_of (scope_of trees t)) is_point_kept (is_point_formed tables made) IsRunnablePoint (runnable_point tables fits (scope_of trees t) (few_locals t kept) made) (points_in t) points.0 (points_kept t kept) parts.1 points.1;
       few = few_locals t kept;
+      params = omega (arith, length-append t.params (listed_or_none t.locals));
     })
 
 abbrev design_by : DesignTree → List TxType → Design

@@ -24,6 +24,7 @@ use std::mem;
 /// A machine over a design. Contracts see the design and the state after the events so far.
 ///
 /// A transaction is found in constant time; a turn costs what its step's look-ups and writes cost.
+#[derive(Drop)]
 pub struct Machine<'a, S: Store> {
     alloc: Global,
     design: &'a Design,
@@ -312,6 +313,7 @@ impl<'a, S: Store> Machine<'a, S> {
         ensures number { IfOk result (λ t. t ≡ next_number self.old.world) }
         ensures err { OnErr result (self.new.world ≡ self.old.world) }
         ensures design { self.new.design ≡ self.old.design }
+        ensures count { length self.new.world.events ≤ length self.old.world.events + 1 }
     {
         let t = self.transactions.len() as u64 + 1;
         let frame = first_frame(self.alloc, self.design, t, call)?;
@@ -335,6 +337,7 @@ impl<'a, S: Store> Machine<'a, S> {
         ensures turn { IfOk result (IsTurned self.old.design self.old.world self.new.world t) }
         ensures err { OnErr result (self.new.world ≡ self.old.world) }
         ensures design { self.new.design ≡ self.old.design }
+        ensures count { length self.new.world.events ≤ length self.old.world.events + 1 }
     {
         let place = place_of(t);
         let Some(change) = next_change(

@@ -1,0 +1,4 @@
+pub mod FilesLemmas
+pub mod RowsLemmas
+pub mod Mentioning
+pub mod SaidLemmas

@@ -1,0 +1,8 @@
+use Rattle.acc_cli.proofs.RowsLemmas.{causes_of}
+use Rattle.acc_cli.proofs.top.acc.Goals as goal
+
+pub returns-clause-answered : goal.returns-clause-answered
+returns-clause-answered g c = record { status = c.play-ended.result.status; coded = c.code.ensures; holds = c.play-ended.ensures }
+
+pub returns-clause-causes : goal.returns-clause-causes
+returns-clause-causes g c = record { status = c.play-ended.result.status; coded = c.code.ensures; holds = causes_of _ _ _ _ _ _ _ _ _ c.play-ended.ensures }

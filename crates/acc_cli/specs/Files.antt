@@ -1,0 +1,29 @@
+-- Files that are read in order, up to the first that is refused.
+use Rattle.std.specs.Prelude.{◌≡◌, ℕ, List, [], ◌∷◌, ◌++◌, codes}
+use Rattle.acc_io.specs.Shelves.{Told, IsFile, IsRefused}
+use Rattle.acc_io.specs.declared.shelf.ShelfError.{ShelfError}
+use Rattle.acc_io.specs.declared.shelf.ShelfError.TheVariants.{Failed, Absent, Long, Memory}
+use Rattle.acc_base.specs.Lines.{line}
+
+-- each name has its file, as far as that is told
+abbrev pub AreFiles : (List ℕ → Told) → List (List ℕ) → List (List ℕ) → Type 0
+AreFiles held [] [] = Unit {0}
+AreFiles held [] (file ∷ files) = ⊥
+AreFiles held (name ∷ names) [] = ⊥
+AreFiles held (name ∷ names) (file ∷ files) = IsFile (held name) file × AreFiles held names files
+
+-- the name is the first of the names whose file is refused, and why
+pub record IsFirstRefused (held : List ℕ → Told) (fault missed : Type 0) (names : List (List ℕ)) (name : List ℕ) (error : ShelfError) : Type 0 where
+  pub before : List (List ℕ)
+  pub files : List (List ℕ)
+  pub after : List (List ℕ)
+  pub place : names ≡ before ++ name ∷ after
+  pub read : AreFiles held before files
+  pub refused : IsRefused (held name) fault missed error
+
+-- what is printed of a file that isn't given
+abbrev pub SaysRefused : List ℕ → ShelfError → List ℕ → Type 0
+SaysRefused name Failed text = text ≡ line (codes "fault read " ++ name)
+SaysRefused name Absent text = text ≡ line (codes "absent " ++ name)
+SaysRefused name (Long n) text = text ≡ line (codes "long " ++ name)
+SaysRefused name Memory text = ⊥

@@ -1,0 +1,10 @@
+pub mod Words
+pub mod Files
+pub mod Text
+pub mod Status
+pub mod PlayFiles
+pub mod Outcome
+pub mod Meant
+pub mod Answered
+pub mod Rows
+pub mod Stages

@@ -1,0 +1,63 @@
+-- The command play: a script's calls, in the order that is given, on the plain machine of a design.
+use Rattle.std.specs.Prelude.{◌≡◌, ◌⊎◌, ℕ, List, length, Some, codes}
+use Rattle.acc_base.specs.declared.designs.Design.{Design}
+use Rattle.acc_base.specs.declared.machines.Call.{Call}
+use Rattle.acc_base.specs.Plays.{Play, Told, played}
+use Rattle.acc_base.specs.Lines.{line, play_text}
+use Rattle.acc_parse.specs.Texts.{IsDesignText}
+use Rattle.acc_script.specs.CallLines.{IsScript}
+use Rattle.acc_script.specs.OrderLines.{IsOrder}
+use Rattle.acc_cli.specs.declared.status.Ending.TheVariants.{Done, Refused, Script}
+use Rattle.acc_cli.specs.Text.{Said, Says}
+
+-- what is said of the play of these calls in this order: its lines, and the history whose lines they are
+pub record SaysPlay (d : Design) (calls : List Call) (order : List ℕ) (said : Said) : Type 0 where
+  pub told : List Told
+  pub play : Play
+  pub is_played : played d calls order ≡ Some (told, play)
+  pub ending : said.ending ≡ Done
+  pub text : said.text ≡ play_text d calls told play
+  pub history : said.history ≡ play.world.events
+
+-- the order is refused
+pub record RefusesOrder (calls : List Call) (order : List ℕ) (said : Said) : Type 0 where
+  pub none : (numbers : List ℕ) → ¬ IsOrder (length calls) order numbers
+  pub says : Says Script (line (codes "refused order")) said
+
+-- the order has these numbers, and the calls are played in it
+pub record PlaysOrder (d : Design) (calls : List Call) (order : List ℕ) (said : Said) : Type 0 where
+  pub numbers : List ℕ
+  pub is_order : IsOrder (length calls) order numbers
+  pub says : SaysPlay d calls numbers said
+
+abbrev pub SaysOfOrder : Design → List Call → List ℕ → Said → Type 0
+SaysOfOrder d calls order said = RefusesOrder calls order said ⊎ PlaysOrder d calls order said
+
+-- the script is refused
+pub record RefusesScript (d : Design) (script : List ℕ) (said : Said) : Type 0 where
+  pub none : (calls : List Call) → ¬ IsScript d script calls
+  pub says : Says Script (line (codes "refused script")) said
+
+-- the script has these calls, and then the order decides
+pub record PlaysScript (d : Design) (script order : List ℕ) (said : Said) : Type 0 where
+  pub calls : List Call
+  pub is_script : IsScript d script calls
+  pub says : SaysOfOrder d calls order said
+
+abbrev pub SaysOfScript : Design → List ℕ → List ℕ → Said → Type 0
+SaysOfScript d script order said = RefusesScript d script said ⊎ PlaysScript d script order said
+
+-- the design is refused
+pub record RefusesDesign (design : List ℕ) (said : Said) : Type 0 where
+  pub none : (d : Design) → ¬ IsDesignText design d
+  pub says : Says Refused (line (codes "refused design")) said
+
+-- the text is that of this design, and then the script decides
+pub record PlaysDesign (design script order : List ℕ) (said : Said) : Type 0 where
+  pub d : Design
+  pub is_text : IsDesignText design d
+  pub says : SaysOfScript d script order said
+
+-- the order of the refusals: the design, the script, the order
+abbrev pub PlaysFiles : List ℕ → List ℕ → List ℕ → Said → Type 0
+PlaysFiles design script order said = RefusesDesign design said ⊎ PlaysDesign design script order said

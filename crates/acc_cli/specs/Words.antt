@@ -1,0 +1,23 @@
+-- The forms of the command line.
+use Rattle.std.specs.Prelude.{ℕ, List, [], ◌∷◌, length, take, drop, Bool, false, ◌&&◌, ◌==◌, if◌then◌else◌, Option, Some, None, codes}
+use Rattle.std.specs.Str.{bytes_eq}
+use Rattle.acc_cli.specs.declared.words.Command.{Command}
+use Rattle.acc_cli.specs.declared.words.Command.TheVariants as command
+
+-- a verb and this many words behind it
+abbrev pub is_form : List ℕ → ℕ → List (List ℕ) → Bool
+is_form verb count [] = false
+is_form verb count (first ∷ rest) = bytes_eq first verb && (length rest == count)
+
+-- the command that the words ask for: `play DESIGN SCRIPT ORDER`
+unfoldable pub command_of : List (List ℕ) → Option Command
+command_of words =
+    if is_form (codes "play") 3 words then Some command.Play else
+    None
+
+-- how many files a command reads: the first words behind the verb name them
+unfoldable pub file_count : Command → ℕ
+file_count command.Play = 3
+
+abbrev pub files_of : Command → List (List ℕ) → List (List ℕ)
+files_of c words = take (file_count c) (drop 1 words)

@@ -1,0 +1,94 @@
+//! What each command makes of its files.
+ghost use Rattle.std.specs.Prelude.{◌≡◌, map, length, IfOk};
+ghost use Rattle.acc_base.specs.Lines.{line};
+ghost use Rattle.acc_base.specs.Runnable.{IsRunnable};
+ghost use Rattle.acc_cli.specs.Words.{file_count};
+ghost use Rattle.acc_cli.specs.Meant.{Means};
+ghost use Rattle.acc_cli.specs.Text.{Says};
+ghost use Rattle.acc_cli.specs.Outcome.{said_of};
+ghost use Rattle.acc_cli.specs.Stages.{AllFit};
+ghost use Rattle.acc_cli.specs.PlayFiles.{PlaysFiles, SaysOfScript, SaysOfOrder};
+
+use crate::plays::play;
+use crate::status::Ending;
+use crate::words::Command;
+use acc_base::designs::Design;
+use acc_base::machines::{Call, Event};
+use acc_base::sequences::Seq;
+use acc_parse::errors::ParseError;
+use acc_parse::parsers::parse;
+use acc_script::{ScriptError, calls, order};
+use std::alloc::{AllocError, Global};
+
+/// How a command ends, the text to print, and the events of its machine.
+#[derive(Drop)]
+pub struct Outcome {
+    pub ending: Ending,
+    pub text: Vec<u8>,
+    pub history: Seq<Event>,
+}
+
+/// An answer of one line.
+fn one_line(alloc: Global, ending: Ending, text: &str) -> Result<Outcome, AllocError>
+    ensures { IfOk result (λ a. Says ending (line text.now) (said_of a)) }
+{
+    let text = format!(in alloc; "{text}\n")?.into_bytes();
+    Ok(Outcome {
+        ending,
+        text,
+        history: Seq::new(alloc),
+    })
+}
+
+/// Plays the calls in the order that the file gives.
+fn play_order(alloc: Global, d: &Design, asked: &[Call], file: &[u8]) -> Result<Outcome, AllocError>
+    requires runnable { IsRunnable d.now }
+    requires fit { AllFit d.now asked.now }
+    ensures { IfOk result (λ a. SaysOfOrder d.now asked.now file.now (said_of a)) }
+{
+    match order(alloc, asked.len() as u64, file) {
+        Ok(places) => play(alloc, d, asked, places.as_slice()),
+        Err(ScriptError::Line(_)) => one_line(alloc, Ending::Script, "refused order"),
+        Err(ScriptError::Memory) => Err(AllocError),
+    }
+}
+
+/// Plays the calls of a script.
+fn play_script(alloc: Global, d: &Design, script: &[u8], file: &[u8]) -> Result<Outcome, AllocError>
+    requires runnable { IsRunnable d.now }
+    ensures { IfOk result (λ a. SaysOfScript d.now script.now file.now (said_of a)) }
+{
+    match calls(alloc, d, script) {
+        Ok(asked) => play_order(alloc, d, asked.as_slice(), file),
+        Err(ScriptError::Line(_)) => one_line(alloc, Ending::Script, "refused script"),
+        Err(ScriptError::Memory) => Err(AllocError),
+    }
+}
+
+/// Plays a script's calls in the order that is given, on the plain machine of a design.
+fn play_files(
+    alloc: Global,
+    design: &[u8],
+    script: &[u8],
+    file: &[u8],
+) -> Result<Outcome, AllocError>
+    ensures { IfOk result (λ a. PlaysFiles design.now script.now file.now (said_of a)) }
+{
+    match parse(alloc, design) {
+        Ok(d) => play_script(alloc, &d, script, file),
+        Err(ParseError::Refused) => one_line(alloc, Ending::Refused, "refused design"),
+        Err(ParseError::Memory) => Err(AllocError),
+    }
+}
+
+/// The answer of a command to its files.
+#[tactic(auto, unfolding(crate::specs::Words::file_count, crate::specs::Meant::Means))]
+pub fn run(alloc: Global, command: Command, files: &[Vec<u8>]) -> Result<Outcome, AllocError>
+    requires { length files.now ≡ file_count command }
+    ensures { IfOk result (λ a. Means command (map (λ v. v.items) files.now) (said_of a)) }
+{
+    match (command, files) {
+        (Command::Play, [design, script, order]) => play_files(alloc, design, script, order),
+        _ => unreachable!(),
+    }
+}

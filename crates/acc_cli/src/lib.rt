@@ -1,0 +1,17 @@
+//! The program as one call: the words of the command line, a shelf and a sink go in, a status comes out.
+#![tactic(auto)]
+
+mod commands;
+mod files;
+mod plays;
+mod status;
+mod top;
+mod words;
+
+pub use commands::Outcome;
+pub use status::{Ending, Status};
+pub use top::{Played, acc};
+pub use words::Command;
+
+#[cfg(test)]
+mod tests;

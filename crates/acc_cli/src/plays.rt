@@ -1,0 +1,158 @@
+//! Calls that are played in an order, and the lines of it.
+ghost use Rattle.std.specs.Prelude.{◌≡◌, ◌≤◌, ◌+◌, ◌*◌, ◌<◌, ◌^◌, ◌++◌, length, vec_len, All, Some, IfOk, OnOk, codes};
+ghost use Rattle.std.specs.List.{flat_map, range_with_len};
+ghost use Rattle.std.specs.Fmt.{decimal};
+ghost use Rattle.acc_base.specs.Plays.{number_of, has_begun, Turns, IsStuck, IsOver};
+ghost use Rattle.acc_base.specs.Lines.{reply_line, line};
+ghost use Rattle.acc_base.specs.Runnable.{IsRunnable};
+ghost use Rattle.acc_plain.specs.Turned.{IsUnfinished};
+ghost use Rattle.acc_script.specs.OrderLines.{IsPlace};
+ghost use Rattle.acc_cli.specs.Outcome.{said_of};
+ghost use Rattle.acc_cli.specs.PlayFiles.{SaysPlay};
+ghost use Rattle.acc_cli.specs.Stages.{play_of, AllFit, IsStage, TakesTurn, Mentions};
+
+use crate::commands::Outcome;
+use crate::status::Ending;
+use acc_base::designs::Design;
+use acc_base::machines::{Call, Transaction};
+use acc_plain::{Machine, PlainError};
+use acc_script::{
+    push_events, push_over, push_rest, push_stuck, push_turn, push_unbegun, push_unfinished,
+};
+use acc_store::MapStore;
+use std::alloc::{AllocError, Global};
+
+/// The machine, the number of each place's transaction, and the lines so far.
+#[derive(Drop)]
+pub struct Stage<'a> {
+    pub machine: Machine<'a, MapStore>,
+    pub numbers: Vec<Option<u64>>,
+    pub text: Vec<u8>,
+}
+
+/// The number of a place's transaction; a place that hasn't begun begins.
+fn number(stage: &mut Stage, d: &Design, calls: &[Call], place: u64) -> Result<u64, PlainError>
+    requires stage { IsStage d.now calls.now stage.old }
+    requires fit { AllFit d.now calls.now }
+    requires place { IsPlace (length calls.now) place }
+    requires room { length stage.old.machine.world.events < 2 ^ 30 }
+    ensures begun { OnOk result (has_begun d.now calls.now (play_of stage.old) place (number_of (play_of stage.old) place) ≡ Some (play_of stage.new)) }
+    ensures number { IfOk result (λ t. number_of (play_of stage.new) place ≡ Some t) }
+    ensures stage { IsStage d.now calls.now stage.new }
+    ensures text { stage.new.text.items ≡ stage.old.text.items }
+    ensures count { length stage.new.machine.world.events ≤ length stage.old.machine.world.events + 1 }
+{
+    let at = (place - 1) as usize;
+    if let Some(t) = stage.numbers[at] {
+        return Ok(t);
+    }
+    let t = stage.machine.begin(&calls[at])?;
+    stage.numbers[at] = Some(t);
+    Ok(t)
+}
+
+/// Gives an unfinished transaction its turn, and writes the line of it.
+fn take_open_turn(stage: &mut Stage, d: &Design, place: u64, t: u64) -> Result<(), AllocError>
+    requires design { stage.old.machine.design ≡ d.now }
+    requires unfinished { IsUnfinished t stage.old.machine.world }
+    requires room { length stage.old.machine.world.events < 2 ^ 30 }
+    ensures turn { OnOk result (TakesTurn d.now place t stage.old stage.new) }
+    ensures design { stage.new.machine.design ≡ d.now }
+    ensures numbers { stage.new.numbers.items ≡ stage.old.numbers.items }
+    ensures count { length stage.new.machine.world.events ≤ length stage.old.machine.world.events + 1 }
+{
+    match stage.machine.turn(t) {
+        Ok(Some(turn)) => push_turn(&mut stage.text, d, place, turn),
+        Ok(None) => push_stuck(&mut stage.text, place),
+        Err(PlainError::Memory) => Err(AllocError),
+    }
+}
+
+/// Gives a transaction its turn, if it hasn't ended, and writes the line of it.
+fn take_turn(stage: &mut Stage, d: &Design, place: u64, t: u64) -> Result<(), AllocError>
+    requires design { stage.old.machine.design ≡ d.now }
+    requires room { length stage.old.machine.world.events < 2 ^ 30 }
+    ensures turn { OnOk result (TakesTurn d.now place t stage.old stage.new) }
+    ensures design { stage.new.machine.design ≡ d.now }
+    ensures numbers { stage.new.numbers.items ≡ stage.old.numbers.items }
+    ensures count { length stage.new.machine.world.events ≤ length stage.old.machine.world.events + 1 }
+{
+    match stage.machine.transaction(t) {
+        Some(Transaction::Ended(_)) => push_over(&mut stage.text, place),
+        None => push_stuck(&mut stage.text, place),
+        Some(_) => take_open_turn(stage, d, place, t),
+    }
+}
+
+/// Mentions a place: it begins where it hasn't, and takes its turn.
+fn mention(stage: &mut Stage, d: &Design, calls: &[Call], place: u64) -> Result<(), AllocError>
+    requires stage { IsStage d.now calls.now stage.old }
+    requires fit { AllFit d.now calls.now }
+    requires place { IsPlace (length calls.now) place }
+    requires room { length stage.old.machine.world.events + 1 < 2 ^ 30 }
+    ensures mention { OnOk result (Mentions d.now calls.now place stage.old stage.new) }
+    ensures stage { IsStage d.now calls.now stage.new }
+    ensures count { length stage.new.machine.world.events ≤ length stage.old.machine.world.events + 2 }
+{
+    match number(stage, d, calls, place) {
+        Ok(t) => take_turn(stage, d, place, t),
+        Err(PlainError::Memory) => Err(AllocError),
+    }
+}
+
+/// Writes the reply line of each place.
+fn push_replies(stage: &mut Stage) -> Result<(), AllocError>
+    ensures text { OnOk result (stage.new.text.items ≡ stage.old.text.items ++ flat_map (reply_line (play_of stage.old)) (range_with_len 1 (length stage.old.numbers.items))) }
+    ensures play { play_of stage.new ≡ play_of stage.old }
+{
+    for at in 0..stage.numbers.len() {
+        push_reply(stage, at as u64 + 1)?;
+    }
+    Ok(())
+}
+
+/// Writes the reply line of a place.
+fn push_reply(stage: &mut Stage, place: u64) -> Result<(), AllocError>
+    requires place { IsPlace (length stage.old.numbers.items) place }
+    ensures text { OnOk result (stage.new.text.items ≡ stage.old.text.items ++ reply_line (play_of stage.old) place) }
+    ensures play { play_of stage.new ≡ play_of stage.old }
+{
+    match stage.numbers[(place - 1) as usize] {
+        None => push_unbegun(&mut stage.text, place),
+        Some(t) => match stage.machine.transaction(t) {
+            Some(x) => push_rest(&mut stage.text, place, x),
+            None => push_unfinished(&mut stage.text, place),
+        },
+    }
+}
+
+/// Plays the calls in the order, and tells the lines and the events.
+pub fn play(alloc: Global, d: &Design, calls: &[Call], order: &[u64]) -> Result<Outcome, AllocError>
+    requires runnable { IsRunnable d.now }
+    requires fit { AllFit d.now calls.now }
+    requires places { All (IsPlace (length calls.now)) order.now }
+    requires few { length order.now ≤ 2 ^ 20 }
+    ensures { IfOk result (λ a. SaysPlay d.now calls.now order.now (said_of a)) }
+{
+    let mut stage = Stage {
+        machine: Machine::new(alloc, d, MapStore::new(alloc)),
+        numbers: vec![in alloc; None; calls.len()]?,
+        text: Vec::new(alloc),
+    };
+    for place in order {
+        mention(&mut stage, d, calls, *place)?;
+    }
+    push_replies(&mut stage)?;
+    let Stage {
+        machine,
+        numbers: _,
+        mut text,
+    } = stage;
+    let (_, history) = machine.into_parts();
+    push_events(&mut text, history.len() as u64)?;
+    Ok(Outcome {
+        ending: Ending::Done,
+        text,
+        history,
+    })
+}

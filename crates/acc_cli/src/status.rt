@@ -1,0 +1,45 @@
+//! How a command ends, and how the program does.
+ghost use Rattle.std.specs.Prelude.{◌≡◌};
+ghost use Rattle.acc_cli.specs.Status.{code_of};
+
+/// How a command ends whose files were given.
+#[derive(Clone, Copy, Debug, PartialEq, Eq)]
+pub enum Ending {
+    Done,
+    /// The design is refused.
+    Refused,
+    /// The script or the order is refused.
+    Script,
+}
+
+/// How the program ends.
+#[derive(Clone, Copy, Debug, PartialEq, Eq)]
+pub enum Status {
+    /// The words are no form.
+    Usage,
+    /// A file isn't given.
+    File,
+    /// The sink failed.
+    Sink,
+    /// Memory ran out.
+    Memory,
+    /// The command ran.
+    Ran(Ending),
+}
+
+impl Status {
+    /// The number that the process ends with.
+    pub fn code(self) -> u8
+        ensures { result ≡ code_of self }
+    {
+        match self {
+            Status::Ran(Ending::Done) => 0,
+            Status::Usage => 1,
+            Status::Ran(Ending::Refused) => 2,
+            Status::Ran(Ending::Script) => 3,
+            Status::File => 6,
+            Status::Sink => 7,
+            Status::Memory => 9,
+        }
+    }
+}

@@ -1,0 +1,127 @@
+// The top call.
+ghost use Rattle.std.specs.Prelude.{◌≡◌, ◌≤◌, map, string_bytes, IfOk};
+ghost use Rattle.acc_io.specs.Causes.{Rose};
+ghost use Rattle.acc_cli.specs.Files.{SaysRefused};
+ghost use Rattle.acc_base.specs.Lines.{line};
+ghost use Rattle.acc_cli.specs.Outcome.{reply_of};
+ghost use Rattle.acc_cli.specs.Meant.{Meant};
+ghost use Rattle.acc_cli.specs.Answered.{Answered};
+ghost use Rattle.acc_cli.specs.Rows.{HasCauses};
+ghost use Rattle.acc_cli.specs.Status.{IsCoded};
+
+use crate::status::{Ending, Status};
+use crate::{commands, files, words};
+use acc_base::machines::Event;
+use acc_base::sequences::Seq;
+use acc_io::{Shelf, ShelfError, Sink, write_all};
+use std::alloc::{AllocError, Global};
+
+/// How the program ended: its status, from 0 to 9, and the events of the machine whose lines it printed, oldest first.
+#[derive(Drop)]
+pub struct Played {
+    pub status: u8,
+    pub history: Seq<Event>,
+}
+
+// How the program ends, by name.
+#[derive(Drop)]
+struct Ended {
+    status: Status,
+    history: Seq<Event>,
+}
+
+// What the program is to answer and to print.
+#[derive(Drop)]
+struct Answer {
+    status: Status,
+    text: Vec<u8>,
+    history: Seq<Event>,
+}
+
+// What is printed of a file that isn't given.
+fn refusal_text(alloc: Global, name: &str, error: ShelfError) -> Result<Vec<u8>, AllocError>
+    ensures { IfOk result (λ text. SaysRefused name.now error text.items) }
+{
+    let text = match error {
+        ShelfError::Failed => format!(in alloc; "fault read {name}\n")?,
+        ShelfError::Absent => format!(in alloc; "absent {name}\n")?,
+        ShelfError::Long(_) => format!(in alloc; "long {name}\n")?,
+        ShelfError::Memory => return Err(AllocError),
+    };
+    Ok(text.into_bytes())
+}
+
+// The answer to a command line.
+fn decide<H: Shelf>(alloc: Global, words: &[String], shelf: &mut H) -> Result<Answer, AllocError>
+    ensures { IfOk result (λ a. Meant (H.held shelf.old) (Rose (H.faults shelf.old) (H.faults shelf.new))
+        (Rose (H.absences shelf.old) (H.absences shelf.new)) (map string_bytes words.now) (reply_of a)) }
+{
+    let Some(command) = words::command_of(words) else {
+        return Ok(Answer {
+            status: Status::Usage,
+            text: b"usage\n".to_vec(alloc)?,
+            history: Seq::new(alloc),
+        });
+    };
+    let names = &words[1..=words::file_count(command)];
+    match files::read_all(alloc, shelf, names) {
+        Ok(files) => {
+            let outcome = commands::run(alloc, command, &files)?;
+            Ok(Answer {
+                status: Status::Ran(outcome.ending),
+                text: outcome.text,
+                history: outcome.history,
+            })
+        }
+        Err(refusal) => Ok(Answer {
+            status: Status::File,
+            text: refusal_text(alloc, refusal.name, refusal.error)?,
+            history: Seq::new(alloc),
+        }),
+    }
+}
+
+// Answers a command line, by one clause.
+fn play<H: Shelf, K: Sink>(alloc: Global, words: &[String], shelf: &mut H, out: &mut K) -> Ended
+    ensures { Answered
+        (Meant (H.held shelf.old) (Rose (H.faults shelf.old) (H.faults shelf.new))
+        (Rose (H.absences shelf.old) (H.absences shelf.new)) (map string_bytes words.now))
+        (K.bytes out.old) (K.bytes out.new) (Rose (K.faults out.old) (K.faults out.new)) result.status result.history }
+{
+    let Ok(answer) = decide(alloc, words, shelf) else {
+        return Ended {
+            status: Status::Memory,
+            history: Seq::new(alloc),
+        };
+    };
+    let written = write_all(out, &answer.text);
+    if answer.status == Status::Ran(Ending::Done) && written.is_err() {
+        return Ended {
+            status: Status::Sink,
+            history: answer.history,
+        };
+    }
+    Ended {
+        status: answer.status,
+        history: answer.history,
+    }
+}
+
+/// Answers a command line: reads the files that it names, plays them, prints the text whole, and tells the status and the history.
+///
+/// The text is made before its first byte is written. Want of memory (status 9) may come at any time, and then nothing was printed.
+pub fn acc<H: Shelf, K: Sink>(alloc: Global, words: &[String], shelf: &mut H, out: &mut K) -> Played
+    ensures answered { IsCoded result.status (λ status. Answered
+        (Meant (H.held shelf.old) (Rose (H.faults shelf.old) (H.faults shelf.new))
+        (Rose (H.absences shelf.old) (H.absences shelf.new)) (map string_bytes words.now))
+        (K.bytes out.old) (K.bytes out.new) (Rose (K.faults out.old) (K.faults out.new)) status result.history) }
+    ensures causes { IsCoded result.status (λ status. HasCauses (H.held shelf.old)
+        (Rose (H.faults shelf.old) (H.faults shelf.new)) (Rose (H.absences shelf.old) (H.absences shelf.new))
+        (map string_bytes words.now) (Rose (K.faults out.old) (K.faults out.new)) status) }
+{
+    let ended = play(alloc, words, shelf, out);
+    Played {
+        status: ended.status.code(),
+        history: ended.history,
+    }
+}

@@ -1,0 +1,44 @@
+//! The forms of the command line.
+ghost use Rattle.std.specs.Prelude.{◌≡◌, ◌+◌, map, length, string_bytes, IsTrue, IfSome};
+ghost use Rattle.acc_cli.specs.Words.{is_form, command_of, file_count};
+
+/// What the program is asked to do.
+#[derive(Clone, Copy, Debug, PartialEq, Eq)]
+pub enum Command {
+    /// `play DESIGN SCRIPT ORDER`
+    Play,
+}
+
+/// Whether the words are this verb and so many words behind it.
+fn is_form(words: &[String], verb: &str, count: usize) -> bool
+    ensures form { result ≡ is_form verb.now count (map string_bytes words.now) }
+    ensures length { IsTrue result → length words.now ≡ count + 1 }
+{
+    match words {
+        [first, rest @ ..] => first.as_str() == verb && rest.len() == count,
+        [] => false,
+    }
+}
+
+/// The command that the words ask for.
+#[tactic(auto, unfolding(crate::specs::Words::command_of, crate::specs::Words::file_count))]
+pub fn command_of(words: &[String]) -> Option<Command>
+    ensures command { result ≡ command_of (map string_bytes words.now) }
+    ensures length { IfSome result (λ command. length words.now ≡ file_count command + 1) }
+{
+    if is_form(words, "play", 3) {
+        Some(Command::Play)
+    } else {
+        None
+    }
+}
+
+/// How many of the words behind the verb name files.
+#[tactic(auto, unfolding(crate::specs::Words::file_count))]
+pub fn file_count(command: Command) -> usize
+    ensures { result ≡ file_count command }
+{
+    match command {
+        Command::Play => 3,
+    }
+}
