@@ -2,6 +2,7 @@ use crate::acc;
 use acc_base::machines::Event;
 use acc_io::{MemShelf, MemSink};
 use std::alloc::{AllocError, Global};
+use std::process::Abort;
 use std::test::Fail;
 
 const KEEP: &str =
@@ -82,8 +83,8 @@ fn shelf(alloc: Global, fails: &[u64], files: &[(&str, &str)]) -> Result<MemShel
     Ok(shelf)
 }
 
-fn plays(
-    rt: &HostRuntime,
+fn plays<R: Abort + AllocGlobal>(
+    rt: &R,
     design: &str,
     script: &str,
     order: &str,

@@ -5,12 +5,10 @@ ghost use Rattle.acc_base.specs.Numbers.{IsSmall, is_small, total};
 ghost use Rattle.acc_parse.specs.Sums.{with_variable, constant_in, totals, is_left, kept_lin};
 ghost use Rattle.acc_parse.specs.Additions.{with_term, with_part};
 
-use std::alloc::{AllocError, Global};
-
+use crate::errors::ParseError;
 use acc_base::forms::Lin;
 use acc_base::sequences::Seq;
-
-use crate::errors::ParseError;
+use std::alloc::{AllocError, Global};
 
 /// A term: its variable's number, or none for a constant, and its number.
 pub type Part = (Option<u32>, i64);

@@ -1,12 +1,11 @@
 //! The text of a design: reads it into the design that it stands for.
 #![tactic(auto)]
 
-pub mod errors;
-
 mod bounds;
 mod collecting;
 mod definitions;
 pub mod designs;
+pub mod errors;
 mod names;
 pub mod parsers;
 mod rows;

@@ -8,17 +8,15 @@ ghost use Rattle.acc_syntax.specs.declared.trees.DesignTree.{DesignTree as TreeV
 ghost use Rattle.acc_syntax.specs.Spelling.{spelled_design};
 ghost use Rattle.acc_parse.specs.Texts.{IsDesignText};
 
-use std::alloc::Global;
-
+use crate::designs::design;
+use crate::errors::ParseError;
 use acc_base::designs::Design;
 use acc_base::sequences::Seq;
 use acc_lex::lexers::{LexError, lex};
 use acc_lex::words::Word;
 use acc_syntax::designs::{SyntaxError, syntax};
 use acc_syntax::trees::DesignTree;
-
-use crate::designs::design;
-use crate::errors::ParseError;
+use std::alloc::Global;
 
 /// The words of a text.
 fn words_of(alloc: Global, text: &[u8]) -> Result<Seq<Word>, ParseError>

@@ -4,16 +4,14 @@ ghost use Rattle.acc_parse.specs.Surroundings.{scope_in};
 ghost use Rattle.acc_parse.specs.Meanings.{row_of, column_number, cell_of};
 ghost use Rattle.acc_parse.specs.Limits.{are_sums_kept};
 
-use std::alloc::Global;
-
-use acc_base::forms::Lin;
-use acc_base::sequences::{Seq, Text};
-use acc_syntax::trees::{Cell, Place};
-
 use crate::definitions::Definitions;
 use crate::errors::ParseError;
 use crate::names::{place, table_place};
 use crate::values::lins;
+use acc_base::forms::Lin;
+use acc_base::sequences::{Seq, Text};
+use acc_syntax::trees::{Cell, Place};
+use std::alloc::Global;
 
 /// A row: its table's number, and its key.
 pub type RowName = (u32, Seq<Lin>);

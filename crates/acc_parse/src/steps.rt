@@ -6,18 +6,16 @@ ghost use Rattle.acc_parse.specs.Sums.{each_of, rel_of};
 ghost use Rattle.acc_parse.specs.Meanings.{read_of, values_of, action_of, target_of, guard_of, path_of, step_of, paths_in};
 ghost use Rattle.acc_parse.specs.Limits.{is_read_kept, are_values_kept, is_action_kept, is_target_kept, is_guard_kept, is_path_kept, is_step_kept};
 
-use std::alloc::Global;
-
-use acc_base::forms::{Lin, LinRel};
-use acc_base::sequences::Seq;
-use acc_base::steps::{Action, Path, Read, Step, Target};
-use acc_syntax::trees::{ActionTree, LinRels, PathTree, ReadTree, StepTree, Sums, TargetTree};
-
 use crate::definitions::Definitions;
 use crate::errors::ParseError;
 use crate::names::place;
 use crate::rows::{cell, row};
 use crate::values::{lin, lins, rel, variable};
+use acc_base::forms::{Lin, LinRel};
+use acc_base::sequences::Seq;
+use acc_base::steps::{Action, Path, Read, Step, Target};
+use acc_syntax::trees::{ActionTree, LinRels, PathTree, ReadTree, StepTree, Sums, TargetTree};
+use std::alloc::Global;
 
 /// The read that is written.
 fn read(alloc: Global, definitions: &Definitions, tree: &ReadTree) -> Result<Read, ParseError>
@@ -44,7 +42,11 @@ fn read(alloc: Global, definitions: &Definitions, tree: &ReadTree) -> Result<Rea
 }
 
 /// The values of a row's columns.
-fn values(alloc: Global, definitions: &Definitions, tree: &Option<Sums>) -> Result<Seq<Lin>, ParseError>
+fn values(
+    alloc: Global,
+    definitions: &Definitions,
+    tree: &Option<Sums>,
+) -> Result<Seq<Lin>, ParseError>
     requires { IsTrue (are_values_kept tree.now) }
     ensures ok { IfOk result (λ ls. values_of (scope_in definitions.now) tree.now ≡ Some ls) }
     ensures refused { result ≡ Err ParseError.Refused → values_of (scope_in definitions.now) tree.now ≡ None }
@@ -95,7 +97,11 @@ fn target(definitions: &Definitions, tree: &TargetTree) -> Option<Target>
 }
 
 /// The relations of a guard.
-fn guard(alloc: Global, definitions: &Definitions, tree: &LinRels) -> Result<Seq<LinRel>, ParseError>
+fn guard(
+    alloc: Global,
+    definitions: &Definitions,
+    tree: &LinRels,
+) -> Result<Seq<LinRel>, ParseError>
     requires { IsTrue (is_guard_kept (Some tree.now)) }
     ensures ok { IfOk result (λ rs. guard_of (scope_in definitions.now) (Some tree.now) ≡ Some rs) }
     ensures refused { result ≡ Err ParseError.Refused → guard_of (scope_in definitions.now) (Some tree.now) ≡ None }
@@ -111,7 +117,11 @@ fn guard(alloc: Global, definitions: &Definitions, tree: &LinRels) -> Result<Seq
 }
 
 /// The actions of a path.
-fn actions(alloc: Global, definitions: &Definitions, trees: &[ActionTree]) -> Result<Seq<Action>, ParseError>
+fn actions(
+    alloc: Global,
+    definitions: &Definitions,
+    trees: &[ActionTree],
+) -> Result<Seq<Action>, ParseError>
     requires { IsTrue (list_all is_action_kept trees.now) }
     ensures ok { IfOk result (λ ys. each_of (action_of (scope_in definitions.now)) trees.now ≡ Some ys) }
     ensures refused { result ≡ Err ParseError.Refused → each_of (action_of (scope_in definitions.now)) trees.now ≡ None }
@@ -160,7 +170,11 @@ fn paths(alloc: Global, definitions: &Definitions, tree: &StepTree) -> Result<Se
 }
 
 /// The reads of a step.
-fn reads(alloc: Global, definitions: &Definitions, trees: &[ReadTree]) -> Result<Seq<Read>, ParseError>
+fn reads(
+    alloc: Global,
+    definitions: &Definitions,
+    trees: &[ReadTree],
+) -> Result<Seq<Read>, ParseError>
     requires { IsTrue (list_all is_read_kept trees.now) }
     ensures ok { IfOk result (λ ys. each_of (read_of (scope_in definitions.now)) trees.now ≡ Some ys) }
     ensures refused { result ≡ Err ParseError.Refused → each_of (read_of (scope_in definitions.now)) trees.now ≡ None }

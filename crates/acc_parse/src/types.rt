@@ -7,18 +7,16 @@ ghost use Rattle.acc_parse.specs.Sums.{each_of};
 ghost use Rattle.acc_parse.specs.Meanings.{point_of, type_of, table_of, design_of};
 ghost use Rattle.acc_parse.specs.Limits.{is_table_kept, is_point_kept, is_type_kept, is_text_kept};
 
-use std::alloc::{AllocError, Global};
-
+use crate::definitions::Definitions;
+use crate::errors::ParseError;
+use crate::names::{listed_or_none, locals, place, point_names};
+use crate::steps::step;
 use acc_base::designs::{Design, Point, TxType};
 use acc_base::forms::Lin;
 use acc_base::sequences::{Seq, Text, copied};
 use acc_base::tables::Table;
 use acc_syntax::trees::{DesignTree, Names, PointTree, TableTree, TypeTree};
-
-use crate::definitions::Definitions;
-use crate::errors::ParseError;
-use crate::names::{listed_or_none, locals, place, point_names};
-use crate::steps::step;
+use std::alloc::{AllocError, Global};
 
 /// The point that is written; it has no assertion, and its variant is 0.
 fn point(alloc: Global, definitions: &Definitions, tree: &PointTree) -> Result<Point, ParseError>
@@ -42,7 +40,11 @@ fn point(alloc: Global, definitions: &Definitions, tree: &PointTree) -> Result<P
 }
 
 /// The points of a type.
-fn points(alloc: Global, definitions: &Definitions, tree: &TypeTree) -> Result<Seq<Point>, ParseError>
+fn points(
+    alloc: Global,
+    definitions: &Definitions,
+    tree: &TypeTree,
+) -> Result<Seq<Point>, ParseError>
     requires { IsTrue (list_all is_point_kept (points_in tree.now)) }
     ensures ok { IfOk result (λ ps. each_of (point_of (scope_in definitions.now)) (points_in tree.now) ≡ Some ps) }
     ensures refused { result ≡ Err ParseError.Refused → each_of (point_of (scope_in definitions.now)) (points_in tree.now) ≡ None }

@@ -4,15 +4,13 @@ ghost use Rattle.acc_base.specs.Numbers.{IsSmall};
 ghost use Rattle.acc_parse.specs.Sums.{variable_of, part_of, negated, signed_part, parts_of, lin_of, lins_of, difference, compared, is_equation, rel_of};
 ghost use Rattle.acc_parse.specs.Limits.{is_term_kept, is_sum_kept, are_sums_kept, is_rel_kept};
 
-use std::alloc::{AllocError, Global};
-
-use acc_base::forms::{Lin, LinRel};
-use acc_base::sequences::{Seq, Text};
-use acc_syntax::trees::{LinRelTree, Relation, Sum, Sums, Term, Variable};
-
 use crate::collecting::{Part, collected};
 use crate::errors::ParseError;
 use crate::names::place;
+use acc_base::forms::{Lin, LinRel};
+use acc_base::sequences::{Seq, Text};
+use acc_syntax::trees::{LinRelTree, Relation, Sum, Sums, Term, Variable};
+use std::alloc::{AllocError, Global};
 
 /// The number of a variable: a local's place, and for `self` the number of locals.
 pub fn variable(locals: &[Text], x: &Variable) -> Option<u32>

@@ -9,7 +9,9 @@ mod orders;
 mod scripts;
 
 pub use errors::ScriptError;
-pub use lines::{push_events, push_over, push_rest, push_stuck, push_turn, push_unbegun, push_unfinished};
+pub use lines::{
+    push_events, push_over, push_rest, push_stuck, push_turn, push_unbegun, push_unfinished,
+};
 pub use orders::order;
 pub use scripts::calls;
 

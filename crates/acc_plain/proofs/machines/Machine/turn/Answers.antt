@@ -113,4 +113,3 @@ returns-clause-turn g c =
     let read : c.index-2.result.now ≡ after = c.index-2.ensures ∙ ap (λ (ts : List Transaction). get_or ts c.place_of-place.result c.index-2.result.now) replaced ∙ get_or-set_same w.transactions c.place_of-place.result after c.index-2.result.now within in
     let told = c.said.ensures made.event c.cause_in-cause.ensures ∙ ap (said made.event) read in
     subst (λ (z : Running). turn_of z.design z.world c.args.t ≡ Some (c.said.result, record { rows = g.S.Store.rows c.log_writes.new.store; transactions = c.replace.new.transactions.items; events = c.log_writes.new.events.items })) c.self.view_is (turned_so d w c.args.t r made change (g.S.Store.rows c.log_writes.new.store) c.replace.new.transactions.items c.log_writes.new.events.items rows_left set_to c.in_ok-log_writes.ensures.events c.said.result told)
-
