@@ -17,7 +17,6 @@ pub points_kept : (t : TypeTree) → is_type_kept t ≡ true → list_all is_poi
 points_kept t h =
     (and_parts (is_short_name t.name && is_at_most 48 (locals_of t) && list_all is_short_name (locals_of t) && nat_lt t.limit (2 ^ 32) && is_at_most 32 (points_in t)) (list_all is_point_kept (points_in t)) h).1
 
-
 -- the type of what is returned and of the points, where both are made
 abbrev whole : TypeTree → Option (List ℕ) → Option (List Point) → Option TxType
 whole t a b =

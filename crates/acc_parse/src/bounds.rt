@@ -1,5 +1,5 @@
-//! Whether a syntax tree keeps the limits on a design's text: how many parts each part has, how long a name is, and
-//! how large a number that is written.
+//! Whether a syntax tree keeps the limits on a design's text: how many parts each part has, how long
+//! a name is, and how large a number that is written.
 ghost use Rattle.std.specs.Prelude.{◌≡◌, ◌&&◌};
 ghost use Rattle.std.specs.List.{list_all};
 ghost use Rattle.acc_parse.specs.Scopes.{listed_or_none, locals_of, points_in};
@@ -7,8 +7,8 @@ ghost use Rattle.acc_parse.specs.Limits.{is_at_most, is_short_name, is_number_ke
 
 use acc_base::sequences::Text;
 use acc_syntax::trees::{
-    ActionTree, DesignTree, LinRelTree, LinRels, Names, PathTree, PointTree, ReadTree, SignedTerm, StepTree, Sum, Sums, TableTree, TargetTree,
-    Term, TypeTree,
+    ActionTree, DesignTree, LinRelTree, LinRels, Names, PathTree, PointTree, ReadTree, SignedTerm,
+    StepTree, Sum, Sums, TableTree, TargetTree, Term, TypeTree,
 };
 
 /// The greatest number that may be written.
@@ -84,7 +84,9 @@ fn is_guard_kept(guard: &Option<LinRels>) -> bool
     match guard {
         None => true,
         Some(rels) => {
-            rels.others.len() < 16 && is_rel_kept(&rels.first) && all_rels_kept(rels.others.as_slice())
+            rels.others.len() < 16
+                && is_rel_kept(&rels.first)
+                && all_rels_kept(rels.others.as_slice())
         }
     }
 }
@@ -212,7 +214,11 @@ fn are_points_kept(t: &TypeTree) -> bool
 fn is_type_kept(t: &TypeTree) -> bool
     ensures { result ≡ is_type_kept t.now }
 {
-    is_short_name(&t.name) && are_few_locals(t) && are_short_locals(t) && t.limit < 1 << 32 && are_points_kept(t)
+    is_short_name(&t.name)
+        && are_few_locals(t)
+        && are_short_locals(t)
+        && t.limit < 1 << 32
+        && are_points_kept(t)
 }
 
 fn all_types_kept(types: &[TypeTree]) -> bool
@@ -224,7 +230,11 @@ fn all_types_kept(types: &[TypeTree]) -> bool
 fn is_table_kept(t: &TableTree) -> bool
     ensures { result ≡ is_table_kept t.now }
 {
-    is_short_name(&t.name) && 1 <= t.width && t.width <= 6 && t.columns.len() <= 12 && all_short_names(t.columns.as_slice())
+    is_short_name(&t.name)
+        && 1 <= t.width
+        && t.width <= 6
+        && t.columns.len() <= 12
+        && all_short_names(t.columns.as_slice())
 }
 
 fn all_tables_kept(tables: &[TableTree]) -> bool

@@ -5,12 +5,10 @@ ghost use Rattle.acc_base.specs.Numbers.{IsSmall, is_small, total};
 ghost use Rattle.acc_parse.specs.Sums.{with_variable, constant_in, totals, is_left, kept_lin};
 ghost use Rattle.acc_parse.specs.Additions.{with_term, with_part};
 
-use std::alloc::{AllocError, Global};
-
+use crate::errors::ParseError;
 use acc_base::forms::Lin;
 use acc_base::sequences::Seq;
-
-use crate::errors::ParseError;
+use std::alloc::{AllocError, Global};
 
 /// A term: its variable's number, or none for a constant, and its number.
 pub type Part = (Option<u32>, i64);
@@ -120,7 +118,8 @@ fn kept_number(n: i128) -> Result<i64, ParseError>
 fn coefficients(alloc: Global, sums: &[(u32, i128)]) -> Result<Seq<(u32, i64)>, ParseError>
     ensures ok { IfOk result (λ ts. ts ≡ filter is_left sums.now) }
     ensures kept { IfOk result (λ ts. list_all (λ t. is_small t.1) ts ≡ true) }
-    ensures refused { result ≡ Err ParseError.Refused → list_all (λ t. is_small t.1) (filter is_left sums.now) ≡ false }
+    ensures refused { result ≡ Err ParseError.Refused
+        → list_all (λ t. is_small t.1) (filter is_left sums.now) ≡ false }
 {
     let mut terms = Seq::new(alloc);
     for (x, sum) in sums {

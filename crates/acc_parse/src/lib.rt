@@ -1,16 +1,22 @@
 //! The text of a design: reads it into the design that it stands for.
 #![tactic(auto)]
 
-pub mod errors;
-
 mod bounds;
 mod collecting;
 mod definitions;
-pub mod designs;
+mod designs;
+mod errors;
 mod names;
-pub mod parsers;
+mod parsers;
 mod rows;
 mod rules;
 mod steps;
 mod types;
 mod values;
+
+pub use designs::design;
+pub use errors::ParseError;
+pub use parsers::parse;
+
+#[cfg(test)]
+mod tests;

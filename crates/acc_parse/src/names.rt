@@ -4,10 +4,9 @@ ghost use Rattle.std.specs.List.{list_all, list_any};
 ghost use Rattle.std.specs.Str.{bytes_eq};
 ghost use Rattle.acc_parse.specs.Scopes.{place_of, locals_of, point_names, listed, listed_or_none, are_distinct, are_distinct_in, has_distinct_names, table_names, type_names};
 
-use std::alloc::{AllocError, Global};
-
 use acc_base::sequences::{Seq, Text, copied};
 use acc_syntax::trees::{DesignTree, Names, TableTree, TypeTree};
+use std::alloc::{AllocError, Global};
 
 fn index_of(name: &Text, names: &[Text]) -> Option<usize>
     ensures value { result ≡ place_of name.now names.now }
@@ -159,8 +158,10 @@ pub fn has_distinct_names(alloc: Global, tree: &DesignTree) -> Result<bool, Allo
 {
     let tables = table_names(alloc, tree.tables.as_slice())?;
     let types = type_names(alloc, tree.types.as_slice())?;
-    Ok(are_distinct(tables.as_slice())
-        && all_distinct_columns(tree.tables.as_slice())
-        && are_distinct(types.as_slice())
-        && all_distinct_in(alloc, tree.types.as_slice())?)
+    Ok(
+        are_distinct(tables.as_slice())
+            && all_distinct_columns(tree.tables.as_slice())
+            && are_distinct(types.as_slice())
+            && all_distinct_in(alloc, tree.types.as_slice())?,
+    )
 }

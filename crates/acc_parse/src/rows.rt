@@ -4,16 +4,14 @@ ghost use Rattle.acc_parse.specs.Surroundings.{scope_in};
 ghost use Rattle.acc_parse.specs.Meanings.{row_of, column_number, cell_of};
 ghost use Rattle.acc_parse.specs.Limits.{are_sums_kept};
 
-use std::alloc::Global;
-
-use acc_base::forms::Lin;
-use acc_base::sequences::{Seq, Text};
-use acc_syntax::trees::{Cell, Place};
-
 use crate::definitions::Definitions;
 use crate::errors::ParseError;
 use crate::names::{place, table_place};
 use crate::values::lins;
+use acc_base::forms::Lin;
+use acc_base::sequences::{Seq, Text};
+use acc_syntax::trees::{Cell, Place};
+use std::alloc::Global;
 
 /// A row: its table's number, and its key.
 pub type RowName = (u32, Seq<Lin>);
@@ -22,7 +20,8 @@ pub type RowName = (u32, Seq<Lin>);
 pub fn row(alloc: Global, definitions: &Definitions, row: &Place) -> Result<RowName, ParseError>
     requires { IsTrue (are_sums_kept row.now.key) }
     ensures ok { IfOk result (λ r. row_of (scope_in definitions.now) row.now ≡ Some r) }
-    ensures refused { result ≡ Err ParseError.Refused → row_of (scope_in definitions.now) row.now ≡ None }
+    ensures refused { result ≡ Err ParseError.Refused
+        → row_of (scope_in definitions.now) row.now ≡ None }
 {
     let table = table_place(&row.table, definitions.tables).ok_or(ParseError::Refused)?;
     let key = lins(alloc, definitions.locals, &row.key)?;
@@ -44,7 +43,8 @@ pub type CellName = (RowName, u32);
 pub fn cell(alloc: Global, definitions: &Definitions, cell: &Cell) -> Result<CellName, ParseError>
     requires { IsTrue (are_sums_kept cell.now.place.key) }
     ensures ok { IfOk result (λ c. cell_of (scope_in definitions.now) cell.now ≡ Some c) }
-    ensures refused { result ≡ Err ParseError.Refused → cell_of (scope_in definitions.now) cell.now ≡ None }
+    ensures refused { result ≡ Err ParseError.Refused
+        → cell_of (scope_in definitions.now) cell.now ≡ None }
 {
     let row = row(alloc, definitions, &cell.place)?;
     let column = column(definitions, row.0, &cell.column).ok_or(ParseError::Refused)?;

@@ -42,7 +42,8 @@ fn is_action_whole(tables: &[Table], action: &Action) -> bool
 {
     match action {
         Action::Put(table, key, values) => {
-            has_width(tables, *table, key.as_slice()) && has_columns(tables, *table, values.as_slice())
+            has_width(tables, *table, key.as_slice())
+                && has_columns(tables, *table, values.as_slice())
         }
         Action::Del(table, key) => has_width(tables, *table, key.as_slice()),
         Action::Set(table, key, _, _) => has_width(tables, *table, key.as_slice()),
@@ -117,7 +118,9 @@ fn all_actions_whole(tables: &[Table], actions: &[Action]) -> bool
 fn is_path_formed(tables: &[Table], side: Side, path: &Path) -> bool
     ensures { result ≡ is_path_formed tables.now side path.now }
 {
-    all_actions_whole(tables, path.actions.as_slice()) && may_end(side, path.target) && refuses_plainly(path)
+    all_actions_whole(tables, path.actions.as_slice())
+        && may_end(side, path.target)
+        && refuses_plainly(path)
 }
 
 fn all_reads_whole(tables: &[Table], reads: &[Read]) -> bool
@@ -150,7 +153,8 @@ fn is_step_formed(tables: &[Table], x: &TxType, side: Side, step: &Step) -> bool
 fn is_point_formed(tables: &[Table], x: &TxType, point: &Point) -> bool
     ensures { result ≡ is_point_formed tables.now x.now point.now }
 {
-    is_step_formed(tables, x, Side::Next, &point.next) && is_step_formed(tables, x, Side::Undo, &point.undo)
+    is_step_formed(tables, x, Side::Next, &point.next)
+        && is_step_formed(tables, x, Side::Undo, &point.undo)
 }
 
 fn all_points_formed(tables: &[Table], x: &TxType, points: &[Point]) -> bool

@@ -6,24 +6,23 @@ ghost use Rattle.acc_parse.specs.Sums.{each_of, rel_of};
 ghost use Rattle.acc_parse.specs.Meanings.{read_of, values_of, action_of, target_of, guard_of, path_of, step_of, paths_in};
 ghost use Rattle.acc_parse.specs.Limits.{is_read_kept, are_values_kept, is_action_kept, is_target_kept, is_guard_kept, is_path_kept, is_step_kept};
 
-use std::alloc::Global;
-
-use acc_base::forms::{Lin, LinRel};
-use acc_base::sequences::Seq;
-use acc_base::steps::{Action, Path, Read, Step, Target};
-use acc_syntax::trees::{ActionTree, LinRels, PathTree, ReadTree, StepTree, Sums, TargetTree};
-
 use crate::definitions::Definitions;
 use crate::errors::ParseError;
 use crate::names::place;
 use crate::rows::{cell, row};
 use crate::values::{lin, lins, rel, variable};
+use acc_base::forms::{Lin, LinRel};
+use acc_base::sequences::Seq;
+use acc_base::steps::{Action, Path, Read, Step, Target};
+use acc_syntax::trees::{ActionTree, LinRels, PathTree, ReadTree, StepTree, Sums, TargetTree};
+use std::alloc::Global;
 
 /// The read that is written.
 fn read(alloc: Global, definitions: &Definitions, tree: &ReadTree) -> Result<Read, ParseError>
     requires { IsTrue (is_read_kept tree.now) }
     ensures ok { IfOk result (λ r. read_of (scope_in definitions.now) tree.now ≡ Some r) }
-    ensures refused { result ≡ Err ParseError.Refused → read_of (scope_in definitions.now) tree.now ≡ None }
+    ensures refused { result ≡ Err ParseError.Refused
+        → read_of (scope_in definitions.now) tree.now ≡ None }
 {
     match tree {
         ReadTree::Let(x, value) => {
@@ -44,10 +43,15 @@ fn read(alloc: Global, definitions: &Definitions, tree: &ReadTree) -> Result<Rea
 }
 
 /// The values of a row's columns.
-fn values(alloc: Global, definitions: &Definitions, tree: &Option<Sums>) -> Result<Seq<Lin>, ParseError>
+fn values(
+    alloc: Global,
+    definitions: &Definitions,
+    tree: &Option<Sums>,
+) -> Result<Seq<Lin>, ParseError>
     requires { IsTrue (are_values_kept tree.now) }
     ensures ok { IfOk result (λ ls. values_of (scope_in definitions.now) tree.now ≡ Some ls) }
-    ensures refused { result ≡ Err ParseError.Refused → values_of (scope_in definitions.now) tree.now ≡ None }
+    ensures refused { result ≡ Err ParseError.Refused
+        → values_of (scope_in definitions.now) tree.now ≡ None }
 {
     match tree {
         None => Ok(Seq::new(alloc)),
@@ -59,7 +63,8 @@ fn values(alloc: Global, definitions: &Definitions, tree: &Option<Sums>) -> Resu
 fn action(alloc: Global, definitions: &Definitions, tree: &ActionTree) -> Result<Action, ParseError>
     requires { IsTrue (is_action_kept tree.now) }
     ensures ok { IfOk result (λ a. action_of (scope_in definitions.now) tree.now ≡ Some a) }
-    ensures refused { result ≡ Err ParseError.Refused → action_of (scope_in definitions.now) tree.now ≡ None }
+    ensures refused { result ≡ Err ParseError.Refused
+        → action_of (scope_in definitions.now) tree.now ≡ None }
 {
     match tree {
         ActionTree::Put(place, tree) => {
@@ -95,10 +100,15 @@ fn target(definitions: &Definitions, tree: &TargetTree) -> Option<Target>
 }
 
 /// The relations of a guard.
-fn guard(alloc: Global, definitions: &Definitions, tree: &LinRels) -> Result<Seq<LinRel>, ParseError>
+fn guard(
+    alloc: Global,
+    definitions: &Definitions,
+    tree: &LinRels,
+) -> Result<Seq<LinRel>, ParseError>
     requires { IsTrue (is_guard_kept (Some tree.now)) }
     ensures ok { IfOk result (λ rs. guard_of (scope_in definitions.now) (Some tree.now) ≡ Some rs) }
-    ensures refused { result ≡ Err ParseError.Refused → guard_of (scope_in definitions.now) (Some tree.now) ≡ None }
+    ensures refused { result ≡ Err ParseError.Refused
+        → guard_of (scope_in definitions.now) (Some tree.now) ≡ None }
 {
     let mut rels = Seq::new(alloc);
     let first = rel(alloc, definitions.locals, &tree.first)?;
@@ -111,10 +121,16 @@ fn guard(alloc: Global, definitions: &Definitions, tree: &LinRels) -> Result<Seq
 }
 
 /// The actions of a path.
-fn actions(alloc: Global, definitions: &Definitions, trees: &[ActionTree]) -> Result<Seq<Action>, ParseError>
+fn actions(
+    alloc: Global,
+    definitions: &Definitions,
+    trees: &[ActionTree],
+) -> Result<Seq<Action>, ParseError>
     requires { IsTrue (list_all is_action_kept trees.now) }
-    ensures ok { IfOk result (λ ys. each_of (action_of (scope_in definitions.now)) trees.now ≡ Some ys) }
-    ensures refused { result ≡ Err ParseError.Refused → each_of (action_of (scope_in definitions.now)) trees.now ≡ None }
+    ensures ok { IfOk result
+        (λ ys. each_of (action_of (scope_in definitions.now)) trees.now ≡ Some ys) }
+    ensures refused { result ≡ Err ParseError.Refused
+        → each_of (action_of (scope_in definitions.now)) trees.now ≡ None }
 {
     let mut actions = Seq::new(alloc);
     for tree in trees {
@@ -128,7 +144,8 @@ fn actions(alloc: Global, definitions: &Definitions, trees: &[ActionTree]) -> Re
 fn path(alloc: Global, definitions: &Definitions, tree: &PathTree) -> Result<Path, ParseError>
     requires { IsTrue (is_path_kept tree.now) }
     ensures ok { IfOk result (λ p. path_of (scope_in definitions.now) tree.now ≡ Some p) }
-    ensures refused { result ≡ Err ParseError.Refused → path_of (scope_in definitions.now) tree.now ≡ None }
+    ensures refused { result ≡ Err ParseError.Refused
+        → path_of (scope_in definitions.now) tree.now ≡ None }
 {
     let guard = match &tree.guard {
         None => Seq::new(alloc),
@@ -146,8 +163,10 @@ fn path(alloc: Global, definitions: &Definitions, tree: &PathTree) -> Result<Pat
 /// The paths of a step.
 fn paths(alloc: Global, definitions: &Definitions, tree: &StepTree) -> Result<Seq<Path>, ParseError>
     requires { IsTrue (list_all is_path_kept (paths_in tree.now)) }
-    ensures ok { IfOk result (λ ps. each_of (path_of (scope_in definitions.now)) (paths_in tree.now) ≡ Some ps) }
-    ensures refused { result ≡ Err ParseError.Refused → each_of (path_of (scope_in definitions.now)) (paths_in tree.now) ≡ None }
+    ensures ok { IfOk result
+        (λ ps. each_of (path_of (scope_in definitions.now)) (paths_in tree.now) ≡ Some ps) }
+    ensures refused { result ≡ Err ParseError.Refused
+        → each_of (path_of (scope_in definitions.now)) (paths_in tree.now) ≡ None }
 {
     let mut paths = Seq::new(alloc);
     let first = path(alloc, definitions, &tree.first)?;
@@ -160,10 +179,16 @@ fn paths(alloc: Global, definitions: &Definitions, tree: &StepTree) -> Result<Se
 }
 
 /// The reads of a step.
-fn reads(alloc: Global, definitions: &Definitions, trees: &[ReadTree]) -> Result<Seq<Read>, ParseError>
+fn reads(
+    alloc: Global,
+    definitions: &Definitions,
+    trees: &[ReadTree],
+) -> Result<Seq<Read>, ParseError>
     requires { IsTrue (list_all is_read_kept trees.now) }
-    ensures ok { IfOk result (λ ys. each_of (read_of (scope_in definitions.now)) trees.now ≡ Some ys) }
-    ensures refused { result ≡ Err ParseError.Refused → each_of (read_of (scope_in definitions.now)) trees.now ≡ None }
+    ensures ok { IfOk result
+        (λ ys. each_of (read_of (scope_in definitions.now)) trees.now ≡ Some ys) }
+    ensures refused { result ≡ Err ParseError.Refused
+        → each_of (read_of (scope_in definitions.now)) trees.now ≡ None }
 {
     let mut reads = Seq::new(alloc);
     for tree in trees {
@@ -177,7 +202,8 @@ fn reads(alloc: Global, definitions: &Definitions, trees: &[ReadTree]) -> Result
 pub fn step(alloc: Global, definitions: &Definitions, tree: &StepTree) -> Result<Step, ParseError>
     requires { IsTrue (is_step_kept tree.now) }
     ensures ok { IfOk result (λ s. step_of (scope_in definitions.now) tree.now ≡ Some s) }
-    ensures refused { result ≡ Err ParseError.Refused → step_of (scope_in definitions.now) tree.now ≡ None }
+    ensures refused { result ≡ Err ParseError.Refused
+        → step_of (scope_in definitions.now) tree.now ≡ None }
 {
     let reads = reads(alloc, definitions, tree.reads.as_slice())?;
     let paths = paths(alloc, definitions, tree)?;

@@ -7,24 +7,23 @@ ghost use Rattle.acc_parse.specs.Sums.{each_of};
 ghost use Rattle.acc_parse.specs.Meanings.{point_of, type_of, table_of, design_of};
 ghost use Rattle.acc_parse.specs.Limits.{is_table_kept, is_point_kept, is_type_kept, is_text_kept};
 
-use std::alloc::{AllocError, Global};
-
+use crate::definitions::Definitions;
+use crate::errors::ParseError;
+use crate::names::{listed_or_none, locals, place, point_names};
+use crate::steps::step;
 use acc_base::designs::{Design, Point, TxType};
 use acc_base::forms::Lin;
 use acc_base::sequences::{Seq, Text, copied};
 use acc_base::tables::Table;
 use acc_syntax::trees::{DesignTree, Names, PointTree, TableTree, TypeTree};
-
-use crate::definitions::Definitions;
-use crate::errors::ParseError;
-use crate::names::{listed_or_none, locals, place, point_names};
-use crate::steps::step;
+use std::alloc::{AllocError, Global};
 
 /// The point that is written; it has no assertion, and its variant is 0.
 fn point(alloc: Global, definitions: &Definitions, tree: &PointTree) -> Result<Point, ParseError>
     requires { IsTrue (is_point_kept tree.now) }
     ensures ok { IfOk result (λ p. point_of (scope_in definitions.now) tree.now ≡ Some p) }
-    ensures refused { result ≡ Err ParseError.Refused → point_of (scope_in definitions.now) tree.now ≡ None }
+    ensures refused { result ≡ Err ParseError.Refused
+        → point_of (scope_in definitions.now) tree.now ≡ None }
 {
     let next = step(alloc, definitions, &tree.next)?;
     let undo = step(alloc, definitions, &tree.undo)?;
@@ -42,10 +41,16 @@ fn point(alloc: Global, definitions: &Definitions, tree: &PointTree) -> Result<P
 }
 
 /// The points of a type.
-fn points(alloc: Global, definitions: &Definitions, tree: &TypeTree) -> Result<Seq<Point>, ParseError>
+fn points(
+    alloc: Global,
+    definitions: &Definitions,
+    tree: &TypeTree,
+) -> Result<Seq<Point>, ParseError>
     requires { IsTrue (list_all is_point_kept (points_in tree.now)) }
-    ensures ok { IfOk result (λ ps. each_of (point_of (scope_in definitions.now)) (points_in tree.now) ≡ Some ps) }
-    ensures refused { result ≡ Err ParseError.Refused → each_of (point_of (scope_in definitions.now)) (points_in tree.now) ≡ None }
+    ensures ok { IfOk result
+        (λ ps. each_of (point_of (scope_in definitions.now)) (points_in tree.now) ≡ Some ps) }
+    ensures refused { result ≡ Err ParseError.Refused
+        → each_of (point_of (scope_in definitions.now)) (points_in tree.now) ≡ None }
 {
     let mut points = Seq::new(alloc);
     let first = point(alloc, definitions, &tree.first)?;
@@ -61,7 +66,8 @@ fn points(alloc: Global, definitions: &Definitions, tree: &TypeTree) -> Result<S
 fn returned(alloc: Global, names: &[Text], locals: &[Text]) -> Result<Seq<u32>, ParseError>
     requires { length locals.now < 2 ^ 32 }
     ensures ok { IfOk result (λ xs. each_of (λ x. place_of x locals.now) names.now ≡ Some xs) }
-    ensures refused { result ≡ Err ParseError.Refused → each_of (λ x. place_of x locals.now) names.now ≡ None }
+    ensures refused { result ≡ Err ParseError.Refused
+        → each_of (λ x. place_of x locals.now) names.now ≡ None }
 {
     let mut returns = Seq::new(alloc);
     for name in names {
@@ -130,7 +136,8 @@ fn types(alloc: Global, tables: &[TableTree], trees: &[TypeTree]) -> Result<Seq<
     requires tables_kept { list_all is_table_kept tables.now ≡ true }
     requires kept { IsTrue (list_all is_type_kept trees.now) }
     ensures ok { IfOk result (λ xs. each_of (type_of tables.now) trees.now ≡ Some xs) }
-    ensures refused { result ≡ Err ParseError.Refused → each_of (type_of tables.now) trees.now ≡ None }
+    ensures refused { result ≡ Err ParseError.Refused
+        → each_of (type_of tables.now) trees.now ≡ None }
 {
     let mut types = Seq::new(alloc);
     for tree in trees {

@@ -4,15 +4,13 @@ ghost use Rattle.acc_base.specs.Numbers.{IsSmall};
 ghost use Rattle.acc_parse.specs.Sums.{variable_of, part_of, negated, signed_part, parts_of, lin_of, lins_of, difference, compared, is_equation, rel_of};
 ghost use Rattle.acc_parse.specs.Limits.{is_term_kept, is_sum_kept, are_sums_kept, is_rel_kept};
 
-use std::alloc::{AllocError, Global};
-
-use acc_base::forms::{Lin, LinRel};
-use acc_base::sequences::{Seq, Text};
-use acc_syntax::trees::{LinRelTree, Relation, Sum, Sums, Term, Variable};
-
 use crate::collecting::{Part, collected};
 use crate::errors::ParseError;
 use crate::names::place;
+use acc_base::forms::{Lin, LinRel};
+use acc_base::sequences::{Seq, Text};
+use acc_syntax::trees::{LinRelTree, Relation, Sum, Sums, Term, Variable};
+use std::alloc::{AllocError, Global};
 
 /// The number of a variable: a local's place, and for `self` the number of locals.
 pub fn variable(locals: &[Text], x: &Variable) -> Option<u32>
@@ -50,8 +48,10 @@ fn negated(part: Part) -> Part
 fn signed_part(locals: &[Text], minus: bool, term: &Term) -> Result<Part, ParseError>
     requires few { length locals.now < 2 ^ 32 }
     requires kept { IsTrue (is_term_kept term.now) }
-    ensures ok { IfOk result (λ p. signed_part locals.now (record { minus = minus; term = term.now }) ≡ Some p) }
-    ensures refused { result ≡ Err ParseError.Refused → signed_part locals.now (record { minus = minus; term = term.now }) ≡ None }
+    ensures ok { IfOk result
+        (λ p. signed_part locals.now (record { minus = minus; term = term.now }) ≡ Some p) }
+    ensures refused { result ≡ Err ParseError.Refused
+        → signed_part locals.now (record { minus = minus; term = term.now }) ≡ None }
     ensures small { IfOk result (λ p. IsSmall p.1) }
 {
     let plain = part(locals, term).ok_or(ParseError::Refused)?;

@@ -15,4 +15,4 @@ loop-part-preserved c =
     let whole = to_z-of_z w128 c.plus-sum.result (record { sfits = c.plus-sum.type_inv }) in
     let same = to_z-of_z w64 c.constant_in.result (record { sfits = c.constant_in.type_inv }) in
     let more = total_more constant_in c.args.parts.now c.loop-part.part-index (None, pos 0) c.loop-part-test.true in
-    record { so_far = omega (arith, ints); bound = omega (arith, ints); }
+    record { so_far = omega (arith, ints); bound = omega (arith, ints) }

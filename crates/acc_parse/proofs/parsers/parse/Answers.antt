@@ -28,3 +28,10 @@ returns-clause-refused c =
     let same = c.in_ok-words.ensures.only t.words t.lexed in
     let tree = c.in_ok-tree.ensures.only t.meant.tree (c.as_slice.ensures ∙ (same ∙ t.meant.spelled)) in
     c.design.ensures.refused r d (subst (λ (u : DesignTree). Means u d) (sym tree) t.meant.meant)
+
+pub returns-clause-only : goal.returns-clause-only
+returns-clause-only c =
+    λ d t.
+    let same = c.in_ok-words.ensures.only t.words t.lexed in
+    let tree = c.in_ok-tree.ensures.only t.meant.tree (c.as_slice.ensures ∙ (same ∙ t.meant.spelled)) in
+    c.design.ensures.only d (subst (λ (u : DesignTree). Means u d) (sym tree) t.meant.meant)
