@@ -1,7 +1,6 @@
-use Rattle.std.proofs.Common.{◌≡◌, ◌∙◌, sym, subst}
+use Rattle.std.proofs.Common.{◌∙◌, sym, subst}
 use Rattle.acc_syntax.specs.declared.trees.DesignTree.{DesignTree}
-use Rattle.acc_syntax.specs.Spelling.{spelled_design}
-use Rattle.acc_parse.specs.Texts.{IsDesignText, Means}
+use Rattle.acc_parse.specs.Texts.{Means}
 use Rattle.acc_parse.proofs.Exits.{handed_on}
 use Rattle.acc_parse.proofs.parsers.parse.Goals as goal
 
