@@ -15,8 +15,7 @@ use crate::words::Command;
 use acc_base::designs::Design;
 use acc_base::machines::{Call, Event};
 use acc_base::sequences::Seq;
-use acc_parse::errors::ParseError;
-use acc_parse::parsers::parse;
+use acc_parse::{ParseError, parse};
 use acc_script::{ScriptError, calls, order};
 use std::alloc::{AllocError, Global};
 

@@ -1,6 +1,6 @@
 -- A term that is added at the place of its variable.
-use Rattle.std.proofs.Common.{◌≡◌, ℕ, suc, ◌+◌, ◌<◌, Bool, true, false, cond, List, [], ◌∷◌, ◌++◌, length, get_or, set, Option, Some, None, refl, ap, sym, ◌∙◌, subst, arith, ℤ, ◌+ℤ◌, if◌then◌else◌, ◌==◌, not, nat_lt, one-add}
-use Rattle.std.specs.Prelude.{position, option_map, All, ◌≤◌, ◌^◌, unsigned_abs}
+use Rattle.std.proofs.Common.{◌≡◌, ℕ, suc, ◌+◌, Bool, true, false, cond, List, [], ◌∷◌, ◌++◌, length, get_or, set, Option, Some, None, refl, ap, sym, ◌∙◌, arith, ℤ, ◌+ℤ◌, if◌then◌else◌, ◌==◌, not, nat_lt, one-add}
+use Rattle.std.specs.Prelude.{position, option_map}
 use Rattle.std.specs.List.{position_or_len}
 use Rattle.std.proofs.lemmas.Bool.Decides.{nat_tests}
 use Rattle.std.proofs.lemmas.Bool.{eqb-true}

@@ -1,5 +1,5 @@
 -- The type that is made of its parts.
-use Rattle.std.proofs.Common.{◌≡◌, ℕ, true, List, [], Option, Some, None, length, ap, sym, ◌∙◌, refl}
+use Rattle.std.proofs.Common.{◌≡◌, ℕ, true, List, [], Option, Some, None, length, ap, ◌∙◌, refl}
 use Rattle.std.specs.Prelude.{option_and_then, option_map, ◌&&◌, nat_lt, ◌^◌}
 use Rattle.std.specs.List.{list_all}
 use Rattle.std.proofs.lemmas.Bool.{and_parts}
@@ -9,7 +9,7 @@ use Rattle.acc_syntax.specs.declared.trees.TableTree.{TableTree}
 use Rattle.acc_syntax.specs.declared.trees.TypeTree.{TypeTree}
 use Rattle.acc_parse.specs.Scopes.{place_of, listed_or_none, locals_of, points_in, point_names}
 use Rattle.acc_parse.specs.Sums.{each_of}
-use Rattle.acc_parse.specs.Meanings.{Scope, scope_of, point_of, type_of}
+use Rattle.acc_parse.specs.Meanings.{scope_of, point_of, type_of}
 use Rattle.acc_parse.specs.Limits.{is_at_most, is_short_name, is_point_kept, is_type_kept}
 
 -- the points of a type that keeps the limits keep them

@@ -1,5 +1,5 @@
 -- The limits of a design's text.
-use Rattle.std.specs.Prelude.{ℕ, ◌^◌, Bool, true, ◌&&◌, nat_le, nat_lt, List, [], ◌∷◌, length, map, Option, Some, None}
+use Rattle.std.specs.Prelude.{ℕ, ◌^◌, Bool, true, ◌&&◌, nat_le, nat_lt, List, ◌∷◌, length, Option, Some, None}
 use Rattle.std.specs.List.{list_all}
 use Rattle.acc_syntax.specs.declared.trees.Term.{Term}
 use Rattle.acc_syntax.specs.declared.trees.Term.TheVariants.{Constant, Plain, Product}

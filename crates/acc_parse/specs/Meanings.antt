@@ -31,7 +31,7 @@ use Rattle.acc_syntax.specs.declared.trees.StepTree.{StepTree}
 use Rattle.acc_syntax.specs.declared.trees.PointTree.{PointTree}
 use Rattle.acc_syntax.specs.declared.trees.TypeTree.{TypeTree}
 use Rattle.acc_syntax.specs.declared.trees.DesignTree.{DesignTree}
-use Rattle.acc_parse.specs.Scopes.{place_of, listed_or_none, locals_of, points_in, point_names, table_names}
+use Rattle.acc_parse.specs.Scopes.{place_of, listed_or_none, locals_of, points_in, point_names}
 use Rattle.acc_parse.specs.Sums.{each_of, variable_of, lin_of, lins_of, rel_of}
 
 -- what can be named within a type: the tables, the type's locals and its points

@@ -1,9 +1,8 @@
 -- Names: what each stands for where it is used, and where one is given twice.
-use Rattle.std.specs.Prelude.{◌≡◌, ℕ, ◌+◌, Bool, true, false, not, ◌&&◌, List, [], ◌∷◌, ◌++◌, length, map, Option, Some, None, option_and_then, position}
+use Rattle.std.specs.Prelude.{ℕ, Bool, true, not, ◌&&◌, List, [], ◌∷◌, ◌++◌, map, Option, Some, None, position}
 use Rattle.std.specs.List.{list_all, list_any}
 use Rattle.std.specs.Str.{bytes_eq}
 use Rattle.acc_syntax.specs.declared.trees.Names.{Names}
-use Rattle.acc_syntax.specs.declared.trees.TableTree.{TableTree}
 use Rattle.acc_syntax.specs.declared.trees.PointTree.{PointTree}
 use Rattle.acc_syntax.specs.declared.trees.TypeTree.{TypeTree}
 use Rattle.acc_syntax.specs.declared.trees.DesignTree.{DesignTree}

@@ -1,5 +1,5 @@
-//! Whether a syntax tree keeps the limits on a design's text: how many parts each part has, how long a name is, and
-//! how large a number that is written.
+//! Whether a syntax tree keeps the limits on a design's text: how many parts each part has, how long
+//! a name is, and how large a number that is written.
 ghost use Rattle.std.specs.Prelude.{◌≡◌, ◌&&◌};
 ghost use Rattle.std.specs.List.{list_all};
 ghost use Rattle.acc_parse.specs.Scopes.{listed_or_none, locals_of, points_in};

@@ -118,7 +118,8 @@ fn kept_number(n: i128) -> Result<i64, ParseError>
 fn coefficients(alloc: Global, sums: &[(u32, i128)]) -> Result<Seq<(u32, i64)>, ParseError>
     ensures ok { IfOk result (λ ts. ts ≡ filter is_left sums.now) }
     ensures kept { IfOk result (λ ts. list_all (λ t. is_small t.1) ts ≡ true) }
-    ensures refused { result ≡ Err ParseError.Refused → list_all (λ t. is_small t.1) (filter is_left sums.now) ≡ false }
+    ensures refused { result ≡ Err ParseError.Refused
+        → list_all (λ t. is_small t.1) (filter is_left sums.now) ≡ false }
 {
     let mut terms = Seq::new(alloc);
     for (x, sum) in sums {

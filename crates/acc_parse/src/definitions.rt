@@ -6,8 +6,8 @@ ghost use Rattle.acc_parse.specs.Limits.{is_table_kept};
 use acc_base::sequences::Text;
 use acc_syntax::trees::TableTree;
 
-/// What can be named within a type: the tables, the type's locals and its points. Each has fewer than 2^32 names, and
-/// the tables keep the limits.
+/// What can be named within a type: the tables, the type's locals and its points. Each has fewer than
+/// 2^32 names, and the tables keep the limits.
 #[derive(Drop)]
 pub struct Definitions<'a> {
     pub tables: &'a [TableTree],

@@ -1,4 +1,5 @@
-//! The design that a syntax tree stands for, if it keeps the rules on names, the limits and the form rules.
+//! The design that a syntax tree stands for, if it keeps the rules on names, the limits and the form
+//! rules.
 ghost use Rattle.std.specs.Prelude.{◌≡◌, Err, IfOk};
 ghost use Rattle.acc_base.specs.declared.designs.Design.{Design as DesignValue};
 ghost use Rattle.acc_base.specs.Runnable.{IsRunnable};
@@ -13,12 +14,14 @@ use acc_base::designs::Design;
 use acc_syntax::trees::DesignTree;
 use std::alloc::Global;
 
-/// The design that a syntax tree stands for. The cost is that of going over the tree; each name is looked up among at
-/// most 64, and each term among the sums of its value's variables, of which there are at most 49.
+/// The design that a syntax tree stands for. The cost is that of going over the tree; each name is
+/// looked up among at most 64, and each term among the sums of its value's variables, of which there
+/// are at most 49.
 pub fn design(alloc: Global, tree: &DesignTree) -> Result<Design, ParseError>
     ensures ok { IfOk result (λ d. Means tree.now d) }
     ensures refused { result ≡ Err ParseError.Refused → (d : DesignValue) → ¬ Means tree.now d }
-
+    // A tree stands for one design at most.
+    ensures only { (d : DesignValue) → Means tree.now d → IfOk result (λ found. found ≡ d) }
     // Every step of it can be taken.
     ensures runnable { IfOk result IsRunnable }
 {

@@ -4,12 +4,19 @@
 mod bounds;
 mod collecting;
 mod definitions;
-pub mod designs;
-pub mod errors;
+mod designs;
+mod errors;
 mod names;
-pub mod parsers;
+mod parsers;
 mod rows;
 mod rules;
 mod steps;
 mod types;
 mod values;
+
+pub use designs::design;
+pub use errors::ParseError;
+pub use parsers::parse;
+
+#[cfg(test)]
+mod tests;

@@ -21,7 +21,8 @@ use std::alloc::Global;
 /// The words of a text.
 fn words_of(alloc: Global, text: &[u8]) -> Result<Seq<Word>, ParseError>
     ensures ok { IfOk result (IsLexed text.now) }
-    ensures only { (words : List WordValue) → IsLexed text.now words → MatchResult result (λ found. found ≡ words) (λ e. e ≡ ParseError.Memory) }
+    ensures only { (words : List WordValue) → IsLexed text.now words
+        → MatchResult result (λ found. found ≡ words) (λ e. e ≡ ParseError.Memory) }
 {
     match lex(alloc, text) {
         Ok(words) => Ok(words),
@@ -33,7 +34,8 @@ fn words_of(alloc: Global, text: &[u8]) -> Result<Seq<Word>, ParseError>
 /// The tree that is spelled by words.
 fn tree_of(alloc: Global, words: &[Word]) -> Result<DesignTree, ParseError>
     ensures ok { IfOk result (λ t. words.now ≡ spelled_design t) }
-    ensures only { (t : TreeValue) → words.now ≡ spelled_design t → MatchResult result (λ found. found ≡ t) (λ e. e ≡ ParseError.Memory) }
+    ensures only { (t : TreeValue) → words.now ≡ spelled_design t
+        → MatchResult result (λ found. found ≡ t) (λ e. e ≡ ParseError.Memory) }
 {
     match syntax(alloc, words) {
         Ok(tree) => Ok(tree),
@@ -42,12 +44,14 @@ fn tree_of(alloc: Global, words: &[Word]) -> Result<DesignTree, ParseError>
     }
 }
 
-/// The design of a text. The cost is that of going over the text; each name is looked up among at most 64, and each
-/// term among the sums of its value's variables, of which there are at most 49.
+/// The design of a text. The cost is that of going over the text; each name is looked up among at
+/// most 64, and each term among the sums of its value's variables, of which there are at most 49.
 pub fn parse(alloc: Global, text: &[u8]) -> Result<Design, ParseError>
     ensures ok { IfOk result (IsDesignText text.now) }
-    ensures refused { result ≡ Err ParseError.Refused → (d : DesignValue) → ¬ IsDesignText text.now d }
-
+    ensures refused { result ≡ Err ParseError.Refused → (d : DesignValue)
+        → ¬ IsDesignText text.now d }
+    // A text is the text of one design at most.
+    ensures only { (d : DesignValue) → IsDesignText text.now d → IfOk result (λ found. found ≡ d) }
     // Every step of it can be taken.
     ensures runnable { IfOk result IsRunnable }
 {

@@ -20,7 +20,8 @@ pub type RowName = (u32, Seq<Lin>);
 pub fn row(alloc: Global, definitions: &Definitions, row: &Place) -> Result<RowName, ParseError>
     requires { IsTrue (are_sums_kept row.now.key) }
     ensures ok { IfOk result (λ r. row_of (scope_in definitions.now) row.now ≡ Some r) }
-    ensures refused { result ≡ Err ParseError.Refused → row_of (scope_in definitions.now) row.now ≡ None }
+    ensures refused { result ≡ Err ParseError.Refused
+        → row_of (scope_in definitions.now) row.now ≡ None }
 {
     let table = table_place(&row.table, definitions.tables).ok_or(ParseError::Refused)?;
     let key = lins(alloc, definitions.locals, &row.key)?;
@@ -42,7 +43,8 @@ pub type CellName = (RowName, u32);
 pub fn cell(alloc: Global, definitions: &Definitions, cell: &Cell) -> Result<CellName, ParseError>
     requires { IsTrue (are_sums_kept cell.now.place.key) }
     ensures ok { IfOk result (λ c. cell_of (scope_in definitions.now) cell.now ≡ Some c) }
-    ensures refused { result ≡ Err ParseError.Refused → cell_of (scope_in definitions.now) cell.now ≡ None }
+    ensures refused { result ≡ Err ParseError.Refused
+        → cell_of (scope_in definitions.now) cell.now ≡ None }
 {
     let row = row(alloc, definitions, &cell.place)?;
     let column = column(definitions, row.0, &cell.column).ok_or(ParseError::Refused)?;

@@ -21,7 +21,8 @@ use std::alloc::Global;
 fn read(alloc: Global, definitions: &Definitions, tree: &ReadTree) -> Result<Read, ParseError>
     requires { IsTrue (is_read_kept tree.now) }
     ensures ok { IfOk result (λ r. read_of (scope_in definitions.now) tree.now ≡ Some r) }
-    ensures refused { result ≡ Err ParseError.Refused → read_of (scope_in definitions.now) tree.now ≡ None }
+    ensures refused { result ≡ Err ParseError.Refused
+        → read_of (scope_in definitions.now) tree.now ≡ None }
 {
     match tree {
         ReadTree::Let(x, value) => {
@@ -49,7 +50,8 @@ fn values(
 ) -> Result<Seq<Lin>, ParseError>
     requires { IsTrue (are_values_kept tree.now) }
     ensures ok { IfOk result (λ ls. values_of (scope_in definitions.now) tree.now ≡ Some ls) }
-    ensures refused { result ≡ Err ParseError.Refused → values_of (scope_in definitions.now) tree.now ≡ None }
+    ensures refused { result ≡ Err ParseError.Refused
+        → values_of (scope_in definitions.now) tree.now ≡ None }
 {
     match tree {
         None => Ok(Seq::new(alloc)),
@@ -61,7 +63,8 @@ fn values(
 fn action(alloc: Global, definitions: &Definitions, tree: &ActionTree) -> Result<Action, ParseError>
     requires { IsTrue (is_action_kept tree.now) }
     ensures ok { IfOk result (λ a. action_of (scope_in definitions.now) tree.now ≡ Some a) }
-    ensures refused { result ≡ Err ParseError.Refused → action_of (scope_in definitions.now) tree.now ≡ None }
+    ensures refused { result ≡ Err ParseError.Refused
+        → action_of (scope_in definitions.now) tree.now ≡ None }
 {
     match tree {
         ActionTree::Put(place, tree) => {
@@ -104,7 +107,8 @@ fn guard(
 ) -> Result<Seq<LinRel>, ParseError>
     requires { IsTrue (is_guard_kept (Some tree.now)) }
     ensures ok { IfOk result (λ rs. guard_of (scope_in definitions.now) (Some tree.now) ≡ Some rs) }
-    ensures refused { result ≡ Err ParseError.Refused → guard_of (scope_in definitions.now) (Some tree.now) ≡ None }
+    ensures refused { result ≡ Err ParseError.Refused
+        → guard_of (scope_in definitions.now) (Some tree.now) ≡ None }
 {
     let mut rels = Seq::new(alloc);
     let first = rel(alloc, definitions.locals, &tree.first)?;
@@ -123,8 +127,10 @@ fn actions(
     trees: &[ActionTree],
 ) -> Result<Seq<Action>, ParseError>
     requires { IsTrue (list_all is_action_kept trees.now) }
-    ensures ok { IfOk result (λ ys. each_of (action_of (scope_in definitions.now)) trees.now ≡ Some ys) }
-    ensures refused { result ≡ Err ParseError.Refused → each_of (action_of (scope_in definitions.now)) trees.now ≡ None }
+    ensures ok { IfOk result
+        (λ ys. each_of (action_of (scope_in definitions.now)) trees.now ≡ Some ys) }
+    ensures refused { result ≡ Err ParseError.Refused
+        → each_of (action_of (scope_in definitions.now)) trees.now ≡ None }
 {
     let mut actions = Seq::new(alloc);
     for tree in trees {
@@ -138,7 +144,8 @@ fn actions(
 fn path(alloc: Global, definitions: &Definitions, tree: &PathTree) -> Result<Path, ParseError>
     requires { IsTrue (is_path_kept tree.now) }
     ensures ok { IfOk result (λ p. path_of (scope_in definitions.now) tree.now ≡ Some p) }
-    ensures refused { result ≡ Err ParseError.Refused → path_of (scope_in definitions.now) tree.now ≡ None }
+    ensures refused { result ≡ Err ParseError.Refused
+        → path_of (scope_in definitions.now) tree.now ≡ None }
 {
     let guard = match &tree.guard {
         None => Seq::new(alloc),
@@ -156,8 +163,10 @@ fn path(alloc: Global, definitions: &Definitions, tree: &PathTree) -> Result<Pat
 /// The paths of a step.
 fn paths(alloc: Global, definitions: &Definitions, tree: &StepTree) -> Result<Seq<Path>, ParseError>
     requires { IsTrue (list_all is_path_kept (paths_in tree.now)) }
-    ensures ok { IfOk result (λ ps. each_of (path_of (scope_in definitions.now)) (paths_in tree.now) ≡ Some ps) }
-    ensures refused { result ≡ Err ParseError.Refused → each_of (path_of (scope_in definitions.now)) (paths_in tree.now) ≡ None }
+    ensures ok { IfOk result
+        (λ ps. each_of (path_of (scope_in definitions.now)) (paths_in tree.now) ≡ Some ps) }
+    ensures refused { result ≡ Err ParseError.Refused
+        → each_of (path_of (scope_in definitions.now)) (paths_in tree.now) ≡ None }
 {
     let mut paths = Seq::new(alloc);
     let first = path(alloc, definitions, &tree.first)?;
@@ -176,8 +185,10 @@ fn reads(
     trees: &[ReadTree],
 ) -> Result<Seq<Read>, ParseError>
     requires { IsTrue (list_all is_read_kept trees.now) }
-    ensures ok { IfOk result (λ ys. each_of (read_of (scope_in definitions.now)) trees.now ≡ Some ys) }
-    ensures refused { result ≡ Err ParseError.Refused → each_of (read_of (scope_in definitions.now)) trees.now ≡ None }
+    ensures ok { IfOk result
+        (λ ys. each_of (read_of (scope_in definitions.now)) trees.now ≡ Some ys) }
+    ensures refused { result ≡ Err ParseError.Refused
+        → each_of (read_of (scope_in definitions.now)) trees.now ≡ None }
 {
     let mut reads = Seq::new(alloc);
     for tree in trees {
@@ -191,7 +202,8 @@ fn reads(
 pub fn step(alloc: Global, definitions: &Definitions, tree: &StepTree) -> Result<Step, ParseError>
     requires { IsTrue (is_step_kept tree.now) }
     ensures ok { IfOk result (λ s. step_of (scope_in definitions.now) tree.now ≡ Some s) }
-    ensures refused { result ≡ Err ParseError.Refused → step_of (scope_in definitions.now) tree.now ≡ None }
+    ensures refused { result ≡ Err ParseError.Refused
+        → step_of (scope_in definitions.now) tree.now ≡ None }
 {
     let reads = reads(alloc, definitions, tree.reads.as_slice())?;
     let paths = paths(alloc, definitions, tree)?;

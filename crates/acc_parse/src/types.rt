@@ -22,7 +22,8 @@ use std::alloc::{AllocError, Global};
 fn point(alloc: Global, definitions: &Definitions, tree: &PointTree) -> Result<Point, ParseError>
     requires { IsTrue (is_point_kept tree.now) }
     ensures ok { IfOk result (λ p. point_of (scope_in definitions.now) tree.now ≡ Some p) }
-    ensures refused { result ≡ Err ParseError.Refused → point_of (scope_in definitions.now) tree.now ≡ None }
+    ensures refused { result ≡ Err ParseError.Refused
+        → point_of (scope_in definitions.now) tree.now ≡ None }
 {
     let next = step(alloc, definitions, &tree.next)?;
     let undo = step(alloc, definitions, &tree.undo)?;
@@ -46,8 +47,10 @@ fn points(
     tree: &TypeTree,
 ) -> Result<Seq<Point>, ParseError>
     requires { IsTrue (list_all is_point_kept (points_in tree.now)) }
-    ensures ok { IfOk result (λ ps. each_of (point_of (scope_in definitions.now)) (points_in tree.now) ≡ Some ps) }
-    ensures refused { result ≡ Err ParseError.Refused → each_of (point_of (scope_in definitions.now)) (points_in tree.now) ≡ None }
+    ensures ok { IfOk result
+        (λ ps. each_of (point_of (scope_in definitions.now)) (points_in tree.now) ≡ Some ps) }
+    ensures refused { result ≡ Err ParseError.Refused
+        → each_of (point_of (scope_in definitions.now)) (points_in tree.now) ≡ None }
 {
     let mut points = Seq::new(alloc);
     let first = point(alloc, definitions, &tree.first)?;
@@ -63,7 +66,8 @@ fn points(
 fn returned(alloc: Global, names: &[Text], locals: &[Text]) -> Result<Seq<u32>, ParseError>
     requires { length locals.now < 2 ^ 32 }
     ensures ok { IfOk result (λ xs. each_of (λ x. place_of x locals.now) names.now ≡ Some xs) }
-    ensures refused { result ≡ Err ParseError.Refused → each_of (λ x. place_of x locals.now) names.now ≡ None }
+    ensures refused { result ≡ Err ParseError.Refused
+        → each_of (λ x. place_of x locals.now) names.now ≡ None }
 {
     let mut returns = Seq::new(alloc);
     for name in names {
@@ -132,7 +136,8 @@ fn types(alloc: Global, tables: &[TableTree], trees: &[TypeTree]) -> Result<Seq<
     requires tables_kept { list_all is_table_kept tables.now ≡ true }
     requires kept { IsTrue (list_all is_type_kept trees.now) }
     ensures ok { IfOk result (λ xs. each_of (type_of tables.now) trees.now ≡ Some xs) }
-    ensures refused { result ≡ Err ParseError.Refused → each_of (type_of tables.now) trees.now ≡ None }
+    ensures refused { result ≡ Err ParseError.Refused
+        → each_of (type_of tables.now) trees.now ≡ None }
 {
     let mut types = Seq::new(alloc);
     for tree in trees {

@@ -48,8 +48,10 @@ fn negated(part: Part) -> Part
 fn signed_part(locals: &[Text], minus: bool, term: &Term) -> Result<Part, ParseError>
     requires few { length locals.now < 2 ^ 32 }
     requires kept { IsTrue (is_term_kept term.now) }
-    ensures ok { IfOk result (λ p. signed_part locals.now (record { minus = minus; term = term.now }) ≡ Some p) }
-    ensures refused { result ≡ Err ParseError.Refused → signed_part locals.now (record { minus = minus; term = term.now }) ≡ None }
+    ensures ok { IfOk result
+        (λ p. signed_part locals.now (record { minus = minus; term = term.now }) ≡ Some p) }
+    ensures refused { result ≡ Err ParseError.Refused
+        → signed_part locals.now (record { minus = minus; term = term.now }) ≡ None }
     ensures small { IfOk result (λ p. IsSmall p.1) }
 {
     let plain = part(locals, term).ok_or(ParseError::Refused)?;

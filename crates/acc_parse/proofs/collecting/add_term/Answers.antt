@@ -1,4 +1,4 @@
-use Rattle.std.proofs.Common.{arith, ◌≡◌, sym, ◌∙◌, ap, set, ℤ, pos, ◌+ℤ◌, ◌<◌, ◌≤◌, ◌^◌, ◌++◌, ◌∷◌, [], get_or, length, subst, Some, None, ℕ}
+use Rattle.std.proofs.Common.{arith, ◌≡◌, sym, ◌∙◌, ap, ℤ, ◌<◌, ◌≤◌, ◌^◌, ◌++◌, ◌∷◌, [], length, subst, Some, None, ℕ}
 use Rattle.std.specs.Prelude.{unsigned_abs, position}
 use Rattle.std.specs.Int.{w64, w128}
 use Rattle.std.proofs.lemmas.Int.{ints, to_z-of_z}

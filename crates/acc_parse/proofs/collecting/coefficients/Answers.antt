@@ -1,4 +1,4 @@
-use Rattle.std.proofs.Common.{arith, rules, pos, ℤ, ◌≡◌, true, false, ap, sym, ◌∙◌}
+use Rattle.std.proofs.Common.{arith, rules, pos, ◌≡◌, true, ap, sym, ◌∙◌}
 use Rattle.std.specs.Prelude.{FitsSigned, slice_index_or}
 use Rattle.std.specs.Int.{w128}
 use Rattle.std.proofs.lemmas.Int.{ints, to_z-of_z}

@@ -1,4 +1,4 @@
-use Rattle.std.proofs.Common.{◌≡◌, ℕ, ◌+◌, ◌*◌, ◌^◌, ◌∙◌, ap, sym, subst, arith, None, List, ℤ, pos, ◌≤◌}
+use Rattle.std.proofs.Common.{◌≡◌, ℕ, ◌+◌, ◌*◌, ◌^◌, ◌∙◌, ap, sym, subst, arith, None, List, ℤ, pos}
 use Rattle.std.specs.Prelude.{All, slice_index_or}
 use Rattle.acc_parse.specs.Additions.{with_part}
 use Rattle.acc_parse.proofs.Totals.{AtMost, totals_more, bound-with_part}

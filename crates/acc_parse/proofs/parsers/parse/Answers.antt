@@ -1,7 +1,6 @@
-use Rattle.std.proofs.Common.{◌≡◌, ◌∙◌, sym, subst}
+use Rattle.std.proofs.Common.{◌∙◌, sym, subst}
 use Rattle.acc_syntax.specs.declared.trees.DesignTree.{DesignTree}
-use Rattle.acc_syntax.specs.Spelling.{spelled_design}
-use Rattle.acc_parse.specs.Texts.{IsDesignText, Means}
+use Rattle.acc_parse.specs.Texts.{Means}
 use Rattle.acc_parse.proofs.Exits.{handed_on}
 use Rattle.acc_parse.proofs.parsers.parse.Goals as goal
 
@@ -28,3 +27,10 @@ returns-clause-refused c =
     let same = c.in_ok-words.ensures.only t.words t.lexed in
     let tree = c.in_ok-tree.ensures.only t.meant.tree (c.as_slice.ensures ∙ (same ∙ t.meant.spelled)) in
     c.design.ensures.refused r d (subst (λ (u : DesignTree). Means u d) (sym tree) t.meant.meant)
+
+pub returns-clause-only : goal.returns-clause-only
+returns-clause-only c =
+    λ d t.
+    let same = c.in_ok-words.ensures.only t.words t.lexed in
+    let tree = c.in_ok-tree.ensures.only t.meant.tree (c.as_slice.ensures ∙ (same ∙ t.meant.spelled)) in
+    c.design.ensures.only d (subst (λ (u : DesignTree). Means u d) (sym tree) t.meant.meant)

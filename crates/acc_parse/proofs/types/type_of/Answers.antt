@@ -1,4 +1,4 @@
-use Rattle.std.proofs.Common.{◌≡◌, ◌∙◌, sym, ap, Some}
+use Rattle.std.proofs.Common.{◌∙◌, sym, Some}
 use Rattle.acc_parse.proofs.Typed.{points_kept, returned_is, points_are, unmade_returns, unmade_points, made}
 use Rattle.acc_parse.proofs.Exits.{handed_on}
 use Rattle.acc_parse.proofs.types.type_of.Goals as goal

@@ -1,9 +1,9 @@
-use Rattle.std.proofs.Common.{◌≡◌, ◌++◌, ◌∷◌, [], ◌∙◌, List, ap, sym, subst, None, pos, map, take, append_assoc}
+use Rattle.std.proofs.Common.{◌++◌, ◌∷◌, [], ◌∙◌, List, ap, sym, subst, None, pos, map, take, append_assoc}
 use Rattle.std.specs.Prelude.{slice_index_or, All}
 use Rattle.std.proofs.lemmas.List.{map_more}
 use Rattle.std.proofs.lemmas.List.Elements.{All-push}
 use Rattle.acc_base.specs.Numbers.{IsSmall}
-use Rattle.acc_parse.specs.Sums.{Part, difference, negated}
+use Rattle.acc_parse.specs.Sums.{Part, negated}
 use Rattle.acc_parse.proofs.values.difference.Goals as goal
 
 pub loop-part-preserved : goal.loop-part-preserved
