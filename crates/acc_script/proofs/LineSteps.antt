@@ -13,10 +13,6 @@ pub record SoFar {X : Type 0} (Line : List ℕ → List X → Type 0) (most : �
   pub said : AreSaid Line before items
   pub few : length items ≤ most
 
--- before the first line
-pub none_read : {X : Type 0} (Line : List ℕ → List X → Type 0) (most : ℕ) (all : List (List ℕ)) → SoFar Line most all all 0 []
-none_read Line most all = record { before = []; parts = refl; number = refl; said = refl; few = omega arith }
-
 -- lines and then a line
 skip_behind : {X : Type 0} (Line : List ℕ → List X → Type 0) (before : List (List ℕ)) (line : List ℕ) (items : List X) → AreSaid Line before items → is_skipped line ≡ true → AreSaid Line (before ++ line ∷ []) items
 skip_behind Line [] line items h skip = rw skip h
