@@ -8,6 +8,8 @@ use Rattle.std.specs.Cmp.{first_so, second_so}
 use Rattle.std.proofs.lemmas.Bool.{eqb-true}
 use Rattle.std.proofs.lemmas.Fmt.{signed_decimal_injective}
 use Rattle.std.proofs.lemmas.List.{append-nil}
+use Rattle.std.specs.Prelude.{All}
+use Rattle.std.proofs.lemmas.List.Elements.{All-cons, All-nil, All-same}
 use Rattle.acc_base.specs.declared.designs.Design.{Design}
 use Rattle.acc_base.specs.declared.designs.TxType.{TxType}
 use Rattle.acc_base.specs.declared.machines.Call.{Call}
@@ -16,7 +18,7 @@ use Rattle.acc_base.specs.Numbers.{is_small, IsSmall}
 use Rattle.acc_base.proofs.Smalls.{small_is}
 use Rattle.acc_script.specs.Pieces.{words_of}
 use Rattle.acc_script.specs.LineReadings.{IsTooMuch}
-use Rattle.acc_script.specs.CallLines.{is_named, IsCallLine, SaysCall, most_calls}
+use Rattle.acc_script.specs.CallLines.{is_named, FitsType, IsCallLine, SaysCall, most_calls}
 use Rattle.acc_script.specs.CallParts.{IsCalled, AreParameters, BeginWith}
 use Rattle.acc_script.proofs.LineSteps.{SaysOne}
 
@@ -109,3 +111,7 @@ says_one d line xs ys h g = h.alone ∙ (ap (λ call. call ∷ []) (one_call d l
 -- a line that asks for no call is refused
 pub no_call : (d : Design) (line : List ℕ) (n : ℕ) → ((call : Call) → ¬ IsCallLine d line call) → IsTooMuch (SaysCall d) most_calls line n
 no_call d line n none = λ here says. absurd (none says.call says.asked)
+
+-- each call that a line says fits its type
+pub says_fitting : (d : Design) (line : List ℕ) (calls : List Call) → SaysCall d line calls → All (FitsType d) calls
+says_fitting d line calls h = All-same (FitsType d) calls (h.call ∷ []) h.alone (All-cons (FitsType d) h.call [] h.asked.fits (All-nil (FitsType d)))
