@@ -1,23 +1,24 @@
 -- The words of a script's line, read one after the other.
-use Rattle.std.proofs.Common.{◌≡◌, ◌≢◌, ℕ, ◌+◌, ◌<◌, ◌^◌, true, false, Bool, List, [], ◌∷◌, ◌++◌, length, map, refl, sym, ap, subst, ◌∙◌, arith, append_assoc, length-append, ℤ, Option, Some, None, pos, negsuc}
+use Rattle.std.proofs.Common.{◌≡◌, ◌≢◌, ℕ, ◌<◌, ◌^◌, true, false, Bool, List, [], ◌∷◌, ◌++◌, length, map, refl, sym, ap, subst, ◌∙◌, arith, ℤ, Option, Some, None, pos, negsuc}
 use Rattle.std.specs.Prelude.{position, slice_get, ◌==◌, ◌&&◌, nat_le}
 use Rattle.std.specs.List.{list_all}
 use Rattle.std.specs.Fmt.{signed_decimal}
 use Rattle.std.specs.Int.Signed.{mag}
 use Rattle.std.specs.Cmp.{first_so, second_so}
-use Rattle.std.specs.Cmp.Derive.{both_true}
 use Rattle.std.proofs.lemmas.Bool.{eqb-true}
 use Rattle.std.proofs.lemmas.Fmt.{signed_decimal_injective}
-use Rattle.std.proofs.lemmas.Bool.Decides.{nat_tests}
-use Rattle.std.proofs.lemmas.List.{append-nil, map-append}
+use Rattle.std.proofs.lemmas.List.{append-nil}
+use Rattle.std.specs.Prelude.{All}
+use Rattle.std.proofs.lemmas.List.Elements.{All-cons, All-nil, All-same}
 use Rattle.acc_base.specs.declared.designs.Design.{Design}
 use Rattle.acc_base.specs.declared.designs.TxType.{TxType}
 use Rattle.acc_base.specs.declared.machines.Call.{Call}
 use Rattle.acc_base.specs.Machine.{call_fits, ask_fits}
 use Rattle.acc_base.specs.Numbers.{is_small, IsSmall}
+use Rattle.acc_base.proofs.Smalls.{small_is}
 use Rattle.acc_script.specs.Pieces.{words_of}
 use Rattle.acc_script.specs.LineReadings.{IsTooMuch}
-use Rattle.acc_script.specs.CallLines.{is_named, IsCallLine, SaysCall, most_calls}
+use Rattle.acc_script.specs.CallLines.{is_named, FitsType, IsCallLine, SaysCall, most_calls}
 use Rattle.acc_script.specs.CallParts.{IsCalled, AreParameters, BeginWith}
 use Rattle.acc_script.proofs.LineSteps.{SaysOne}
 
@@ -27,35 +28,15 @@ pub record ValuesSoFar (words left : List (List ℕ)) (n : ℕ) (values : List �
   pub counted : length values ≡ n
   pub small : list_all is_small values ≡ true
 
-pub none_read : (words : List (List ℕ)) → ValuesSoFar words words 0 []
-none_read words = record { read = refl; counted = refl; small = refl }
-
-small_test : (v : ℤ) → IsSmall v → is_small v ≡ true
-small_test v h = grind (arith, nat_tests)
-
-small_value : (v : ℤ) → is_small v ≡ true → IsSmall v
-small_value v h = grind (arith, nat_tests)
-
-all_small : (xs : List ℤ) (v : ℤ) → list_all is_small xs ≡ true → is_small v ≡ true → list_all is_small (xs ++ v ∷ []) ≡ true
-all_small [] v h g = both_true g refl
-all_small (x ∷ xs) v h g = both_true (first_so (is_small x) (list_all is_small xs) h) (all_small xs v (second_so (is_small x) (list_all is_small xs) h) g)
-
-pub one_read : (words left : List (List ℕ)) (word : List ℕ) (n : ℕ) (values : List ℤ) (v : ℤ) → ValuesSoFar words (word ∷ left) n values → IsSmall v → word ≡ signed_decimal v → ValuesSoFar words left (n + 1) (values ++ v ∷ [])
-one_read words left word n values v h small spelled = record {
-  read = h.read ∙ (ap (λ w. map signed_decimal values ++ w ∷ left) spelled ∙ (sym (append_assoc (map signed_decimal values) (map signed_decimal (v ∷ [])) left) ∙ ap (λ ws. ws ++ left) (sym (map-append signed_decimal values (v ∷ [])))));
-  counted = simp length-append (omega arith);
-  small = all_small values v h.small (small_test v small);
-}
-
 -- what stands behind the words of some values begins with the word of a further one
 value_among : (values all : List ℤ) (left more : List (List ℕ)) → length values < length all → list_all is_small all ≡ true → map signed_decimal values ++ left ≡ map signed_decimal all ++ more → (v : ℤ) × (rest : List (List ℕ)) × IsSmall v × (left ≡ signed_decimal v ∷ rest)
 value_among values [] left more short small e = absurd (omega arith)
-value_among [] (x ∷ all) left more short small e = (x, map signed_decimal all ++ more, small_value x (first_so (is_small x) (list_all is_small all) small), e)
+value_among [] (x ∷ all) left more short small e = (x, map signed_decimal all ++ more, small_is x (first_so (is_small x) (list_all is_small all) small), e)
 value_among (y ∷ values) (x ∷ all) left more short small e =
     let rest : map signed_decimal values ++ left ≡ map signed_decimal all ++ more = cc in
     value_among values all left more (omega arith) (second_so (is_small x) (list_all is_small all) small) rest
 
--- and a word that is no value refuses the words
+-- a word that is no value refuses the words
 pub no_value : (words left : List (List ℕ)) (word : List ℕ) (n count : ℕ) (values : List ℤ) → ValuesSoFar words (word ∷ left) n values → n < count → ((v : ℤ) → IsSmall v → word ≢ signed_decimal v) → (all : List ℤ) (more : List (List ℕ)) → AreParameters count all → ¬ BeginWith words all more
 no_value words left word n count values h less other all more parts e =
     let v = value_among values all (word ∷ left) more (omega (arith, h.counted, parts.counted)) parts.small (sym h.read ∙ e) in other v.0 v.2 (let same : word ∷ left ≡ signed_decimal v.0 ∷ v.1 = v.3 in cc)
@@ -82,7 +63,7 @@ asked d line name left ty count call words called says =
     let fits : call_fits (Some called.kind) call ≡ true = sym (ap (λ k. call_fits k call) found) ∙ says.fits in
     (subst (λ n. AreParameters n call.params) (sym called.counted) (fitting called.kind call fits), rest)
 
--- nor one whose other words don't begin with parameters
+-- a line whose other words don't begin with parameters asks for no call
 pub no_parameters : (d : Design) (line name : List ℕ) (left : List (List ℕ)) (ty count : ℕ) (call : Call) → words_of line ≡ name ∷ left → IsCalled d name ty count → ((values : List ℤ) (more : List (List ℕ)) → AreParameters count values → ¬ BeginWith left values more) → ¬ IsCallLine d line call
 no_parameters d line name left ty count call words called none says =
     let a = asked d line name left ty count call words called says in
@@ -94,8 +75,8 @@ same_values [] [] p q e = refl
 same_values [] (y ∷ ys) p q e = cc
 same_values (x ∷ xs) [] p q e = cc
 same_values (x ∷ xs) (y ∷ ys) p q e =
-    let px = small_value x (first_so (is_small x) (list_all is_small xs) p) in
-    let py = small_value y (first_so (is_small y) (list_all is_small ys) q) in
+    let px = small_is x (first_so (is_small x) (list_all is_small xs) p) in
+    let py = small_is y (first_so (is_small y) (list_all is_small ys) q) in
     let first : signed_decimal x ≡ signed_decimal y = cc in
     let rest : map signed_decimal xs ≡ map signed_decimal ys = cc in
     let a : x ≡ y = signed_decimal_injective x y (magnitude x px) (magnitude y py) first in
@@ -131,6 +112,6 @@ says_one d line xs ys h g = h.alone ∙ (ap (λ call. call ∷ []) (one_call d l
 pub no_call : (d : Design) (line : List ℕ) (n : ℕ) → ((call : Call) → ¬ IsCallLine d line call) → IsTooMuch (SaysCall d) most_calls line n
 no_call d line n none = λ here says. absurd (none says.call says.asked)
 
--- and so is any that is one too many
-pub too_many : (d : Design) (line : List ℕ) (n : ℕ) → n ≡ most_calls → IsTooMuch (SaysCall d) most_calls line n
-too_many d line n full = λ here says. omega (arith, ap length says.alone, full)
+-- each call that a line says fits its type
+pub says_fitting : (d : Design) (line : List ℕ) (calls : List Call) → SaysCall d line calls → All (FitsType d) calls
+says_fitting d line calls h = All-same (FitsType d) calls (h.call ∷ []) h.alone (All-cons (FitsType d) h.call [] h.asked.fits (All-nil (FitsType d)))

@@ -2,6 +2,8 @@
 use Rattle.std.proofs.Common.{◌≡◌, ℕ, ◌+◌, ◌≤◌, Bool, true, false, cond, List, [], ◌∷◌, length, take, drop, refl, ap, arith, suc, Option, Some, None}
 use Rattle.std.specs.Prelude.{◌==◌, not}
 use Rattle.std.specs.List.{prefix_len, onto_first}
+use Rattle.std.proofs.lemmas.List.Sums.{count_by-le-length}
+use Rattle.std.proofs.lemmas.List.Splits.{length-slice_split}
 use Rattle.acc_script.specs.Pieces.{pieces, pieces_left}
 
 -- how many bytes stand before the first byte c
@@ -29,13 +31,5 @@ cut_by c n text piece back count front rest = let e = pieces_cut c text in cc
 
 -- a text has at most one piece more than bytes
 pub length_pieces : (c : ℕ) (text : List ℕ) → length (pieces c text) ≤ length text + 1
-length_pieces c [] = omega arith
-length_pieces c (b ∷ text) = by (b == c) (pieces c text) (length_pieces c text)
-  where
-    onto : (ps : List (List ℕ)) → length (onto_first b ps) ≤ length ps + 1
-    onto [] = omega arith
-    onto (p ∷ ps) = omega arith
-
-    by : (t : Bool) (ps : List (List ℕ)) → length ps ≤ length text + 1 → length (cond t ([] ∷ ps) (onto_first b ps)) ≤ suc (length text) + 1
-    by true ps h = omega arith
-    by false ps h = omega (arith, onto ps)
+length_pieces c text =
+    omega (arith, length-slice_split (λ (b : ℕ). b == c) text, count_by-le-length (λ (b : ℕ). b == c) text)

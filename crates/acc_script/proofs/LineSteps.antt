@@ -1,6 +1,8 @@
 -- Lines that are read one after the other.
 use Rattle.std.proofs.Common.{◌≡◌, ℕ, ◌+◌, ◌≤◌, Bool, true, false, List, [], ◌∷◌, ◌++◌, length, refl, sym, ap, subst, ◌∙◌, arith, append_assoc, length-append, MatchBool}
 use Rattle.std.proofs.lemmas.List.{append-nil}
+use Rattle.std.specs.Prelude.{All}
+use Rattle.std.proofs.lemmas.List.Elements.{All-append, All-nil, All-same}
 use Rattle.acc_script.specs.Pieces.{lines_of, is_skipped}
 use Rattle.acc_script.proofs.Cutting.{length_pieces}
 use Rattle.acc_script.specs.LineReadings.{Says, AreSaid, IsSaid, IsTooMuch, Refuses, AddsSaid}
@@ -12,10 +14,6 @@ pub record SoFar {X : Type 0} (Line : List ℕ → List X → Type 0) (most : �
   pub number : n ≡ length before
   pub said : AreSaid Line before items
   pub few : length items ≤ most
-
--- before the first line
-pub none_read : {X : Type 0} (Line : List ℕ → List X → Type 0) (most : ℕ) (all : List (List ℕ)) → SoFar Line most all all 0 []
-none_read Line most all = record { before = []; parts = refl; number = refl; said = refl; few = omega arith }
 
 -- lines and then a line
 skip_behind : {X : Type 0} (Line : List ℕ → List X → Type 0) (before : List (List ℕ)) (line : List ℕ) (items : List X) → AreSaid Line before items → is_skipped line ≡ true → AreSaid Line (before ++ line ∷ []) items
@@ -61,6 +59,18 @@ all_read Line most text n items h = record { said = subst (λ ls. AreSaid Line l
 pub one_refused : {X : Type 0} (Line : List ℕ → List X → Type 0) (most : ℕ) (text : List ℕ) (left : List (List ℕ)) (line : List ℕ) (n : ℕ) (items : List X) → SoFar Line most (lines_of text) (line ∷ left) n items → is_skipped line ≡ false → IsTooMuch Line most line (length items) → Refuses Line most text (n + 1)
 one_refused Line most text left line n items h counts wrong =
     record { before = h.before; line = line; behind = left; parts = h.parts; number = ap (λ k. k + 1) h.number; items = items; said = h.said; few = h.few; counts = counts; wrong = wrong }
+
+-- what holds of all that a line may say, holds of all that lines say
+holds_of_said : {X : Type 0} (Line : List ℕ → List X → Type 0) (P : X → Type 0) → ((line : List ℕ) (xs : List X) → Line line xs → All P xs) → (lines : List (List ℕ)) (items : List X) → AreSaid Line lines items → All P items
+holds_of_said Line P each [] items h = All-same P items [] h (All-nil P)
+holds_of_said {X} Line P each (line ∷ lines) items h = by (is_skipped line) h (holds_of_said Line P each lines)
+  where
+    by : (b : Bool) → MatchBool b (AreSaid Line lines items) (Says Line line (AreSaid Line lines) items) → ((xs : List X) → AreSaid Line lines xs → All P xs) → All P items
+    by true g ih = ih items g
+    by false g ih = All-same P items (g.here ++ g.behind) g.parts (All-append P g.here g.behind (each line g.here g.said) (ih g.behind g.rest))
+
+pub holds_of_all : {X : Type 0} (Line : List ℕ → List X → Type 0) (P : X → Type 0) → ((line : List ℕ) (xs : List X) → Line line xs → All P xs) → (most : ℕ) (text : List ℕ) (items : List X) → IsSaid Line most text items → All P items
+holds_of_all Line P each most text items h = holds_of_said Line P each (lines_of text) items h.said
 
 -- ---- what lines say, where what each of them says is determined
 

@@ -3,10 +3,10 @@ use Rattle.std.proofs.Common.{◌≡◌, ◌≢◌, ℕ, suc, ◌<◌, ◌≤◌
 use Rattle.std.specs.Prelude.{All}
 use Rattle.std.specs.Fmt.{decimal}
 use Rattle.std.proofs.lemmas.Fmt.{decimal_injective}
-use Rattle.std.proofs.lemmas.List.{append-nil, map-append}
+use Rattle.std.proofs.lemmas.List.{map-append}
 use Rattle.std.proofs.lemmas.List.Elements.{All-append, All-nil, All-cons, All-head, All-tail}
 use Rattle.acc_script.specs.Pieces.{words_of}
-use Rattle.acc_script.specs.LineReadings.{IsTooMuch, AddsSaid}
+use Rattle.acc_script.specs.LineReadings.{IsTooMuch}
 use Rattle.acc_script.specs.OrderLines.{IsPlace, SaysPlaces, most_numbers}
 use Rattle.acc_script.proofs.LineSteps.{SaysOne}
 
@@ -18,9 +18,6 @@ pub record PlacesSoFar (places : ℕ) (line : List ℕ) (left : List (List ℕ))
   pub within : All (IsPlace places) here
   pub few : length new ≤ most_numbers
 
-pub none_read : (places : ℕ) (line : List ℕ) (old : List ℕ) → length old ≤ most_numbers → PlacesSoFar places line (words_of line) old old
-none_read places line old few = record { here = []; parts = sym (append-nil old); words = refl; within = All-nil _; few = few }
-
 pub one_read : (places : ℕ) (line word : List ℕ) (left : List (List ℕ)) (old new : List ℕ) (k : ℕ) → PlacesSoFar places line (word ∷ left) old new → IsPlace places k → word ≡ decimal k → length new < most_numbers → PlacesSoFar places line left old (new ++ k ∷ [])
 one_read places line word left old new k h place spelled few = record {
   here = h.here ++ k ∷ [];
@@ -29,9 +26,6 @@ one_read places line word left old new k h place spelled few = record {
   within = All-append (IsPlace places) h.here (k ∷ []) h.within (All-cons (IsPlace places) k [] place (All-nil _));
   few = simp length-append (omega arith);
 }
-
-pub all_read : (places : ℕ) (line old new : List ℕ) → PlacesSoFar places line [] old new → AddsSaid (SaysPlaces places) most_numbers line old new
-all_read places line old new h = record { here = h.here; parts = h.parts; said = record { spelled = h.words ∙ append-nil (map decimal h.here); within = h.within }; few = h.few }
 
 -- a word behind those of some numbers is that of a further number
 word_among : (here xs : List ℕ) (word : List ℕ) (left : List (List ℕ)) (P : ℕ → Type 0) → All P xs → map decimal here ++ word ∷ left ≡ map decimal xs → (k : ℕ) × P k × (word ≡ decimal k) × (length here < length xs)

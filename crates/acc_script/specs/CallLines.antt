@@ -17,13 +17,17 @@ most_calls = 2 ^ 20
 abbrev pub is_named : List ℕ → TxType → Bool
 is_named name x = bytes_eq x.name name
 
+-- the call's type is in the design, and the call is as that wants it
+abbrev pub FitsType : Design → Call → Type 0
+FitsType d call = call_fits (slice_get d.types call.ty) call ≡ true
+
 -- A line asks for a call: its words are the name of the call's type, which is the first type of that name, and the parameters. The call fits its type, has no tape, and asks for no abort. A type's number is below 2^32.
 pub record IsCallLine (d : Design) (line : List ℕ) (call : Call) : Type 0 where
   pub name : List ℕ
   pub spelled : words_of line ≡ name ∷ map signed_decimal call.params
   pub named : position (is_named name) d.types ≡ Some call.ty
   pub numbered : call.ty < 2 ^ 32
-  pub fits : call_fits (slice_get d.types call.ty) call ≡ true
+  pub fits : FitsType d call
   pub no_tape : call.tape ≡ []
   pub no_ask : call.ask ≡ None
 

@@ -1,7 +1,7 @@
 //! Orders: the numbers of places.
-ghost use Rattle.std.specs.Prelude.{◌≡◌, ℕ, ◌≤◌, List, length, IfOk, OnOk};
+ghost use Rattle.std.specs.Prelude.{◌≡◌, ℕ, ◌≤◌, List, All, length, IfOk, OnOk};
 ghost use Rattle.acc_script.specs.LineReadings.{AddsSaid, IsTooMuch};
-ghost use Rattle.acc_script.specs.OrderLines.{SaysPlaces, IsOrder, RefusesOrderLine, most_numbers};
+ghost use Rattle.acc_script.specs.OrderLines.{IsPlace, SaysPlaces, IsOrder, RefusesOrderLine, most_numbers};
 
 use crate::cuts::{Pieces, Words, is_skipped};
 use crate::errors::{LineError, ScriptError};
@@ -35,6 +35,7 @@ fn push_places(numbers: &mut Seq<u64>, places: u64, line: &[u8]) -> Result<(), L
 pub fn order(alloc: Global, places: u64, text: &[u8]) -> Result<Seq<u64>, ScriptError>
     ensures ok { IfOk result (IsOrder places text.now) }
     ensures only { (numbers : List ℕ) → IsOrder places text.now numbers → IfOk result (λ found. found ≡ numbers) }
+    ensures within { IfOk result (All (IsPlace places)) }
     ensures line { (n : ℕ) → result ≡ Err (ScriptError.Line n) → RefusesOrderLine places text.now n }
     ensures none { (n : ℕ) → result ≡ Err (ScriptError.Line n)
         → (numbers : List ℕ) → ¬ IsOrder places text.now numbers }

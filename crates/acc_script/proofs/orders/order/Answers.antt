@@ -1,8 +1,8 @@
 use Rattle.std.proofs.Common.{◌≡◌, ◌+◌, Err, ap, ◌∙◌, sym, arith}
 use Rattle.acc_script.specs.Pieces.{lines_of}
-use Rattle.acc_script.specs.OrderLines.{SaysPlaces, most_numbers}
+use Rattle.acc_script.specs.OrderLines.{IsPlace, SaysPlaces, most_numbers}
 use Rattle.acc_script.specs.declared.errors.ScriptError.TheVariants as script_error
-use Rattle.acc_script.proofs.LineSteps.{next_number, one_skipped, one_said, one_refused, refused_none, all_read, one_said_by}
+use Rattle.acc_script.proofs.LineSteps.{next_number, one_skipped, one_said, one_refused, refused_none, all_read, one_said_by, holds_of_all}
 use Rattle.acc_script.proofs.OrderSteps.{says_one}
 use Rattle.acc_script.proofs.Refusals.{named_line}
 use Rattle.acc_script.proofs.orders.order.Goals as goal
@@ -28,3 +28,7 @@ loop-line-preserved c =
 pub returns-clause-only : goal.returns-clause-only
 returns-clause-only c = λ numbers whole.
     one_said_by (SaysPlaces c.args.places) (says_one c.args.places c.ranges.places.fits) most_numbers c.args.text.now c.loop-line.numbers numbers (all_read (SaysPlaces c.args.places) most_numbers c.args.text.now c.loop-line.count c.loop-line.numbers (rw c.in_default.ensures.0 at c.loop-line.invariant)) whole
+
+pub returns-clause-within : goal.returns-clause-within
+returns-clause-within c =
+    holds_of_all (SaysPlaces c.args.places) (IsPlace c.args.places) (λ line xs says. says.within) most_numbers c.args.text.now c.loop-line.numbers (all_read (SaysPlaces c.args.places) most_numbers c.args.text.now c.loop-line.count c.loop-line.numbers (rw c.in_default.ensures.0 at c.loop-line.invariant))

@@ -1,9 +1,9 @@
 use Rattle.std.proofs.Common.{◌≡◌, ◌+◌, Err, ap, ◌∙◌, sym, arith}
 use Rattle.acc_script.specs.Pieces.{lines_of}
-use Rattle.acc_script.specs.CallLines.{SaysCall, most_calls}
+use Rattle.acc_script.specs.CallLines.{FitsType, SaysCall, most_calls}
 use Rattle.acc_script.specs.declared.errors.ScriptError.TheVariants as script_error
-use Rattle.acc_script.proofs.LineSteps.{next_number, one_skipped, one_said, one_refused, refused_none, all_read, one_said_by}
-use Rattle.acc_script.proofs.CallSteps.{says_one}
+use Rattle.acc_script.proofs.LineSteps.{next_number, one_skipped, one_said, one_refused, refused_none, all_read, one_said_by, holds_of_all}
+use Rattle.acc_script.proofs.CallSteps.{says_one, says_fitting}
 use Rattle.acc_script.proofs.Refusals.{named_line}
 use Rattle.acc_script.proofs.scripts.calls.Goals as goal
 
@@ -28,3 +28,7 @@ loop-line-preserved c =
 pub returns-clause-only : goal.returns-clause-only
 returns-clause-only c = λ asked whole.
     one_said_by (SaysCall c.args.d.now) (says_one c.args.d.now) most_calls c.args.text.now c.loop-line.calls asked (all_read (SaysCall c.args.d.now) most_calls c.args.text.now c.loop-line.count c.loop-line.calls (rw c.in_default.ensures.0 at c.loop-line.invariant)) whole
+
+pub returns-clause-fits : goal.returns-clause-fits
+returns-clause-fits c =
+    holds_of_all (SaysCall c.args.d.now) (FitsType c.args.d.now) (says_fitting c.args.d.now) most_calls c.args.text.now c.loop-line.calls (all_read (SaysCall c.args.d.now) most_calls c.args.text.now c.loop-line.count c.loop-line.calls (rw c.in_default.ensures.0 at c.loop-line.invariant))
