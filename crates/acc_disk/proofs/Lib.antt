@@ -7,3 +7,4 @@ pub mod MadeCalls
 pub mod Untold
 pub mod Runs
 pub mod Ranges
+pub mod Models

@@ -1,16 +1,14 @@
 -- What each call leaves of the numbers and of the moments before it.
-use Rattle.std.proofs.Common.{◌≡◌, ℕ, ◌<◌, ◌≤◌, leb, true, List, [], ◌∷◌, ◌++◌, length, take, sym, ◌∙◌, ap, subst, arith, IsTrue, nat_le}
-use Rattle.std.proofs.lemmas.List.{take-append-le}
+use Rattle.std.proofs.Common.{◌≡◌, ℕ, ◌<◌, ◌≤◌, List, [], ◌∷◌, ◌++◌, length, take, ◌∙◌, ap, subst, arith, IsTrue, nat_le}
 use Rattle.std.proofs.lemmas.Bool.Decides.{nat_tests}
 use Rattle.std.specs.List.{list_all, prefix_len}
 use Rattle.std.proofs.lemmas.List.Sums.{prefix_len-le-length}
 use Rattle.acc_disk.specs.Standings.{Standing, settled}
 use Rattle.acc_disk.specs.Changes.{after_all}
-use Rattle.acc_disk.specs.Histories.{present, past_standing, standing_by, IsUnchanged, Advances}
+use Rattle.acc_disk.specs.Histories.{past_standing, IsUnchanged, Advances}
 use Rattle.acc_disk.specs.Laws.{past_standing-all}
 use Rattle.acc_disk.specs.MemDisks.{Begins, MadeCall, call_count, next_call, standing, standing_after}
 use Rattle.acc_disk.specs.declared.history.Recorded.{Recorded}
-use Rattle.acc_disk.specs.declared.history.History.{History}
 use Rattle.acc_disk.specs.declared.mem_disk.MemDisk.{MemDisk}
 use Rattle.acc_disk.proofs.Times.{past_standing-advanced}
 

@@ -1,7 +1,7 @@
 -- The numbers of the calls that a history notes.
-use Rattle.std.proofs.Common.{◌≡◌, ◌≤◌, ℕ, leb, Bool, true, false, List, [], ◌∷◌, ◌++◌, refl, arith, IsTrue, nat_le}
+use Rattle.std.proofs.Common.{◌≤◌, ℕ, List, [], ◌∷◌, arith, IsTrue, nat_le}
 use Rattle.std.proofs.lemmas.Bool.Decides.{nat_tests}
-use Rattle.std.specs.List.{list_all, prefix_len}
+use Rattle.std.specs.List.{list_all}
 use Rattle.acc_disk.specs.declared.history.Recorded.{Recorded}
 
 -- numbers up to a count are numbers up to a later one

@@ -3,14 +3,14 @@ use Rattle.std.proofs.Common.{◌≡◌, ◌⊎◌, ⊎_elim, ℕ, ◌+◌, ◌<
 use Rattle.std.proofs.lemmas.List.{places}
 use Rattle.std.proofs.lemmas.Bool.Decides.{nat_tests}
 use Rattle.std.proofs.lemmas.List.Folds.{list_any-append}
-use Rattle.acc_disk.specs.Standings.{Standing, settled, after_write, after_cut, is_written, IsImage, IsInOrder}
+use Rattle.acc_disk.specs.Standings.{Standing, settled, after_write, after_cut, is_written, IsInOrder}
 use Rattle.acc_disk.proofs.Steps.{length-overwritten, overwritten_below, overwritten_above}
 
 -- a place that no write covered lies before the last of them or behind it
-apart : (at count i : ℕ) (written : List (ℕ × ℕ)) → is_written (written ++ (at, count) ∷ []) i ≡ false → (i < at) ⊎ (at + count ≤ i)
+pub apart : (at count i : ℕ) (written : List (ℕ × ℕ)) → is_written (written ++ (at, count) ∷ []) i ≡ false → (i < at) ⊎ (at + count ≤ i)
 apart at count i written un = grind (arith, nat_tests, list_any-append)
 
-unwritten_before : (at count i : ℕ) (written : List (ℕ × ℕ)) → is_written (written ++ (at, count) ∷ []) i ≡ false → is_written written i ≡ false
+pub unwritten_before : (at count i : ℕ) (written : List (ℕ × ℕ)) → is_written (written ++ (at, count) ∷ []) i ≡ false → is_written written i ≡ false
 unwritten_before at count i written un = grind (arith, nat_tests, list_any-append)
 
 pub settled_in_order : (bytes : List ℕ) → IsInOrder (settled bytes)

@@ -1,5 +1,5 @@
 -- What stays of a file that was written or cut in part, as its front and its end.
-use Rattle.std.proofs.Common.{◌≡◌, ℕ, ◌+◌, ◌-◌, ◌<◌, ◌≤◌, min, max, List, ◌++◌, length, get_or, take, drop, refl, sym, ◌∙◌, ap, subst, arith}
+use Rattle.std.proofs.Common.{◌≡◌, ℕ, ◌+◌, ◌<◌, ◌≤◌, List, ◌++◌, length, take, drop, refl, sym, ◌∙◌, ap, arith}
 use Rattle.std.proofs.lemmas.List.{places, ext_get_or, get_or-take, get_or-drop, length-take-le, length-drop, take_at, drop_at, append_assoc}
 use Rattle.acc_disk.specs.Crashes.{overwritten, HoldsAt, Torn, PartlyCut}
 

@@ -1,5 +1,5 @@
 -- One more change joins those of a file in memory.
-use Rattle.std.proofs.Common.{◌+◌, ◌<◌, ◌≤◌, nat_le, take, cond, arith, ◌≡◌, Bool, true, false, List, [], ◌∷◌, ◌++◌, ℕ, ap, ◌∙◌, refl, sym, subst}
+use Rattle.std.proofs.Common.{◌<◌, ◌≤◌, nat_le, take, cond, arith, ◌≡◌, Bool, true, false, List, [], ◌∷◌, ◌++◌, ℕ, ap, ◌∙◌, refl, sym, subst}
 use Rattle.std.proofs.lemmas.Bool.Decides.{nat_tests}
 use Rattle.std.specs.List.{prefix_len}
 use Rattle.acc_disk.specs.Standings.{Standing, settled, IsInOrder}

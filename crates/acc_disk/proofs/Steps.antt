@@ -1,14 +1,13 @@
 -- Each step keeps a standing in order, and what a crash may leave after it comes by that step from what it might
 -- have left before.
-use Rattle.std.proofs.Common.{◌≡◌, ℕ, ◌+◌, ◌-◌, ◌<◌, ◌≤◌, ltb, leb, ◌&&◌, min, max, Bool, true, false, cond, List, [], ◌∷◌, ◌++◌, map, length, get_or, take, drop, refl, sym, ◌∙◌, ap, subst, arith, rules}
+use Rattle.std.proofs.Common.{◌≡◌, ℕ, ◌+◌, ◌<◌, ◌≤◌, ltb, min, max, false, cond, List, [], ◌∷◌, ◌++◌, map, length, get_or, take, sym, ◌∙◌, arith, rules}
 use Rattle.std.proofs.lemmas.List.{places, same_lists}
-use Rattle.std.proofs.lemmas.Grind.{common_steps}
 use Rattle.std.proofs.lemmas.Bool.Decides.{nat_tests}
 use Rattle.std.proofs.lemmas.List.Folds.{list_any-append}
 use Rattle.std.specs.List.{range_with_len}
 use Rattle.std.proofs.lemmas.List.FromFn.{length-map-range_with_len, get_or-map-range_with_len}
 use Rattle.acc_disk.specs.Crashes.{overwritten, Torn, PartlyCut, Follows}
-use Rattle.acc_disk.specs.Standings.{Standing, settled, after_write, after_cut, after_sync, is_written, IsImage, IsInOrder}
+use Rattle.acc_disk.specs.Standings.{Standing, after_write, after_cut, is_written, IsImage, IsInOrder}
 
 -- overwritten, by length and by place
 pub length-overwritten : (at : ℕ) (bytes file : List ℕ) → at ≤ length file → length (overwritten at bytes file) ≡ max (length file) (at + length bytes)

@@ -1,17 +1,13 @@
 -- How time goes on over a history.
-use Rattle.std.proofs.Common.{◌≡◌, ◌⊎◌, inl, inr, ℕ, ◌+◌, ◌<◌, ◌≤◌, leb, Bool, true, false, cond, List, [], ◌∷◌, ◌++◌, length, take, refl, sym, ◌∙◌, ap, subst, arith, IsTrue, nat_le, length-append}
+use Rattle.std.proofs.Common.{◌≡◌, ◌⊎◌, inl, inr, ℕ, ◌+◌, ◌≤◌, List, [], ◌∷◌, length, take, refl, sym, ◌∙◌, ap, subst, arith, length-append}
 use Rattle.std.proofs.lemmas.List.{take-append-le, ext_get_or}
-use Rattle.std.proofs.lemmas.Bool.Decides.{nat_tests}
-use Rattle.std.specs.List.{list_all, prefix_len}
-use Rattle.std.proofs.lemmas.List.Sums.{prefix_len-le-length}
 use Rattle.acc_disk.specs.Crashes.{Torn, PartlyCut, Follows, Only}
 use Rattle.acc_disk.specs.Moments.{Elapses}
 use Rattle.acc_disk.specs.Standings.{Standing, settled, after_write, after_cut, after_sync, IsImage}
 use Rattle.acc_disk.specs.Changes.{after_all}
-use Rattle.acc_disk.specs.Histories.{present, past_standing, standing_by, change_count, LeftSince, IsUnchanged, Advances}
-use Rattle.acc_disk.specs.Laws.{past_standing-all, left_now}
+use Rattle.acc_disk.specs.Histories.{present, past_standing, change_count, LeftSince, IsUnchanged, Advances}
+use Rattle.acc_disk.specs.Laws.{past_standing-all}
 use Rattle.acc_disk.proofs.Steps.{write_follows, cut_follows}
-use Rattle.acc_disk.specs.declared.history.Recorded.{Recorded}
 use Rattle.acc_disk.specs.declared.history.History.{History}
 
 -- what stood when so many changes were done is the same in a history that is unchanged

@@ -1,5 +1,5 @@
 -- Of a disk that tells nothing a crash may leave any bytes, before a call and after it.
-use Rattle.std.proofs.Common.{ℕ, List, refl, arith}
+use Rattle.std.proofs.Common.{ℕ, refl, arith}
 use Rattle.acc_disk.specs.Crashes.{Torn, PartlyCut, Follows}
 
 pub any_after_write : (at count : ℕ) → Follows (Torn at count) (λ image. Unit {0}) (λ image. Unit {0})

@@ -1,5 +1,5 @@
 -- What stands after the calls that changed a file in memory.
-use Rattle.std.specs.Prelude.{ℕ, List, [], ◌∷◌}
+use Rattle.std.specs.Prelude.{List, [], ◌∷◌}
 use Rattle.acc_disk.specs.declared.history.Change.{Change}
 use Rattle.acc_disk.specs.declared.history.Change.TheVariants.{Wrote, Cut, Synced}
 use Rattle.acc_disk.specs.declared.history.Recorded.{Recorded}

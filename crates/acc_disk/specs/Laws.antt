@@ -1,8 +1,8 @@
 -- What holds of the moments of a history, for the laws of a disk.
 use Rattle.std.specs.Prelude.{◌≡◌, ◌≤◌, ℕ, List}
-use Rattle.std.proofs.Common.{◌∙◌, sym, subst, ap, arith}
+use Rattle.std.proofs.Common.{sym, subst, ap, arith}
 use Rattle.std.proofs.lemmas.List.{take_all}
-use Rattle.acc_disk.specs.Standings.{Standing, settled, IsImage}
+use Rattle.acc_disk.specs.Standings.{settled, IsImage}
 use Rattle.acc_disk.specs.Changes.{after_all}
 use Rattle.acc_disk.specs.Histories.{present, past_standing, change_count, LeftSince}
 use Rattle.acc_disk.specs.declared.history.History.{History}

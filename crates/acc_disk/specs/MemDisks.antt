@@ -126,6 +126,7 @@ pub record MadeCall (old new : MemDisk) : Type 0 where
 -- no call was made yet, these bytes stand there as synced, and the calls will go by these lists
 pub record IsFresh (bytes fails : List ℕ) (from : Option ℕ) (disk : MemDisk) : Type 0 where
   pub stands : standing disk ≡ settled bytes
+  pub at_first : standing_after disk 0 ≡ settled bytes
   pub fails_listed : disk.fails.items ≡ fails
   pub fails_from : disk.from ≡ from
   pub calls : call_count disk ≡ 0

@@ -14,8 +14,8 @@ enum Kind {
     Mixed,
 }
 
-// A length between two bounds, and a way to draw the bytes. Each length and each bytes are drawn by some number, as
-// far as 64 bits reach, and small numbers draw the longest files and the plainest bytes.
+// A length between two bounds, and a way to draw the bytes. Each length with any bytes is drawn by some number, as far
+// as 64 bits reach, and small numbers draw the longest files and the plainest bytes.
 #[derive(Drop)]
 pub(crate) struct Draw {
     kind: Kind,

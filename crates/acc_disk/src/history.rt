@@ -109,7 +109,7 @@ impl History {
         Ok(())
     }
 
-    // What stood when so many calls were done. It costs all that was written before.
+    // What stood when so many calls were done. It costs all bytes that were written before.
     pub(crate) fn replay(&self, alloc: Global, calls: u64) -> Result<Replay, AllocError>
         ensures { IfOk result (λ replay. replay ≡ standing_by self.now calls) }
     {

@@ -14,6 +14,8 @@ use std::alloc::{AllocError, Global};
 ///
 /// The calls that are to fail answer `Failed` and do nothing, and so does one whose growth is refused. Its count of
 /// faults is the number of the calls that were to fail, and then the number of its growths that were refused.
+///
+/// Each call costs a walk over the list of those that are to fail; a read and a write cost their bytes besides.
 #[derive(Drop)]
 pub struct MemDisk {
     alloc: Global,
@@ -112,7 +114,10 @@ impl MemDisk {
 
     /// Bytes that a crash may have left when that many calls were done. Where nothing was unsynced then, they are
     /// those that stood there. The number `pick` chooses among them: small numbers choose what is cut short, lost or
-    /// torn in the plainest ways, and larger ones each length and each bytes, as far as 64 bits reach.
+    /// torn in the plainest ways, and larger ones each length with any bytes, as far as 64 bits reach.
+    ///
+    /// It costs all bytes that were written before, and for each byte of the answer a look at each range that was
+    /// written since the last sync.
     pub fn image(&self, after: u64, pick: u64) -> Result<Vec<u8>, DiskMemory>
         requires { after ≤ call_count self.now }
         ensures allowed { IfOk result (λ image. IsImage (standing_after self.now after) image.items) }

@@ -1,5 +1,5 @@
-use Rattle.std.proofs.Common.{◌≡◌, ◌≤◌, List, [], ◌∷◌, ◌++◌, length, take, sym, ap, ◌∙◌, subst, refl, rules, arith}
-use Rattle.acc_disk.specs.Standings.{settled, IsInOrder, after_cut}
+use Rattle.std.proofs.Common.{◌≤◌, length, take, sym, ap, ◌∙◌, subst, refl, arith}
+use Rattle.acc_disk.specs.Standings.{settled, IsInOrder}
 use Rattle.acc_disk.specs.Changes.{after_all}
 use Rattle.acc_disk.specs.declared.history.Recorded.{Recorded}
 use Rattle.acc_disk.specs.declared.history.Change.TheVariants.{Cut}

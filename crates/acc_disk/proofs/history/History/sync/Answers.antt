@@ -1,4 +1,4 @@
-use Rattle.std.proofs.Common.{refl}
+use Rattle.std.proofs.Common.{ℕ, List, refl}
 use Rattle.std.specs.Result.{is_ok}
 use Rattle.acc_disk.specs.declared.history.Recorded.{Recorded}
 use Rattle.acc_disk.specs.declared.history.Change.TheVariants.{Synced}
@@ -17,9 +17,9 @@ returns-clause-ok c =
     let old = c.args.self.now in
     let last : Recorded = record { number = c.args.number; change = Synced } in
     record {
-      start = refl;
+      start = refl {A = List ℕ};
       last = last;
-      number_is = refl;
+      number_is = refl {A = ℕ};
       past = c.in_ok-push.ensures.items;
       steps = stands_after old.start.items old.past.items c.push.new.self.items last c.in_ok-push.ensures.items;
     }

@@ -1,4 +1,4 @@
-use Rattle.std.proofs.Common.{◌≡◌, ◌≤◌, List, length, sym, ap, ◌∙◌, subst, refl, arith}
+use Rattle.std.proofs.Common.{◌≤◌, length, sym, ap, ◌∙◌, subst, refl, arith}
 use Rattle.acc_disk.specs.Crashes.{overwritten}
 use Rattle.acc_disk.specs.Standings.{settled, IsInOrder, after_write}
 use Rattle.acc_disk.specs.Changes.{after_all}

@@ -1,4 +1,4 @@
-use Rattle.std.proofs.Common.{◌≡◌, refl, rules, subst}
+use Rattle.std.proofs.Common.{refl, rules, subst}
 use Rattle.acc_disk.specs.Standings.{after_write}
 use Rattle.acc_disk.specs.Histories.{IsUnchanged, Advances}
 use Rattle.acc_disk.proofs.Times.{unchanged, goes_on, left_by_write}
