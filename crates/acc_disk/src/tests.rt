@@ -224,8 +224,8 @@ fn shorten(disk: &mut FileDisk<HostRuntime>) -> Result<(), Failed> {
 #[test]
 fn a_real_file(rt: HostRuntime) -> Result<(), Fail> {
     let alloc = rt.alloc();
-    let mut disk = FileDisk::new(&rt, String::from_str(alloc, "file")?);
-    assert!(rt; !fs::exists(&rt, "file")?, "opened too early");
+    let mut disk = FileDisk::new(&rt, String::from_str(alloc, "new")?);
+    assert!(rt; !fs::exists(&rt, "new")?, "opened too early");
     fill(&mut disk)?;
     assert_eq!(rt; disk.len(), Ok(6));
     assert_eq!(rt;
@@ -233,7 +233,7 @@ fn a_real_file(rt: HostRuntime) -> Result<(), Fail> {
         b"cXYZ".as_slice()
     );
     shorten(&mut disk)?;
-    assert_eq!(rt; fs::read(&rt, "file")?.as_slice(), b"abcX".as_slice());
+    assert_eq!(rt; fs::read(&rt, "new")?.as_slice(), b"abcX".as_slice());
     Ok(())
 }
 
