@@ -1,4 +1,4 @@
--- What a design has to keep so that its steps can be taken: the form rules and limits on which running it rests.
+-- What a design has to keep so that the machine can run it: the form rules and limits on which that rests.
 use Rattle.std.specs.Prelude.{◌≤◌, ◌<◌, ◌^◌, List, length, All, pos, ◌<ℤ◌, ⊤}
 use Rattle.acc_base.specs.declared.forms.Lin.{Lin}
 use Rattle.acc_base.specs.declared.forms.LinRel.{LinRel}
@@ -80,7 +80,7 @@ pub record IsRunnableType (x : TxType) : Type 0 where
   pub few : length x.locals ≤ 48
   pub params : x.params ≤ length x.locals
 
--- every step of the design can be taken
+-- every step keeps them; whether one of its paths is open is not asked
 abbrev pub IsRunnable : Design → Type 0
 IsRunnable d = All IsRunnableType d.types
 

@@ -44,12 +44,12 @@ IsRefused-later None fault missed fault' missed' (Long n) f m h = (h.0, m h.1)
 IsRefused-later (Some file) fault missed fault' missed' (Long n) f m h = h
 IsRefused-later told fault missed fault' missed' Memory f m h = tt
 
-Rose-since : (first before now : ℕ) → first ≤ before → Rose before now → Rose first now
-Rose-since first before now le rose = omega (arith, le, rose)
+Rose-since : (first before now : ℕ) → before ≡ first → Rose before now → Rose first now
+Rose-since first before now same rose = subst (λ b. Rose b now) same rose
 
 -- the files before this one are given, and this one is refused
 pub IsFirstRefused-here : (held held' : List ℕ → Told) (names : List (String Global)) (files : List (Vec ℕ Global)) (i : ℕ) (name : String Global) (e : ShelfError) (f0 f1 f2 m0 m1 m2 : ℕ)
-    → held' ≡ held → f0 ≤ f1 → m0 ≤ m1 → i < length names → name ≡ get_or names i name
+    → held' ≡ held → f1 ≡ f0 → m1 ≡ m0 → i < length names → name ≡ get_or names i name
     → AreFiles held (map string_bytes (take i names)) (map (λ v. v.items) files) → IsRefused (held' (string_bytes name)) (Rose f1 f2) (Rose m1 m2) e
     → IsFirstRefused held (Rose f0 f2) (Rose m0 m2) (map string_bytes names) (string_bytes name) e
 IsFirstRefused-here held held' names files i name e f0 f1 f2 m0 m1 m2 same faults absences lt is read refused =

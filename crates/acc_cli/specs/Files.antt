@@ -12,6 +12,10 @@ AreFiles held [] (file ∷ files) = ⊥
 AreFiles held (name ∷ names) [] = ⊥
 AreFiles held (name ∷ names) (file ∷ files) = IsFile (held name) file × AreFiles held names files
 
+-- no read failed, and no file was missed: the counts are as before
+abbrev pub AllGiven : (faults faults' absences absences' : ℕ) → Type 0
+AllGiven faults faults' absences absences' = (faults' ≡ faults) × (absences' ≡ absences)
+
 -- the name is the first of the names whose file is refused, and why
 pub record IsFirstRefused (held : List ℕ → Told) (fault missed : Type 0) (names : List (List ℕ)) (name : List ℕ) (error : ShelfError) : Type 0 where
   pub before : List (List ℕ)

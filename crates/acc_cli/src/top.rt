@@ -1,7 +1,9 @@
 // The top call.
 ghost use Rattle.std.specs.Prelude.{◌≡◌, ◌≤◌, map, string_bytes, IfOk};
 ghost use Rattle.acc_io.specs.Causes.{Rose};
-ghost use Rattle.acc_cli.specs.Files.{SaysRefused};
+ghost use Rattle.acc_cli.specs.Files.{AllGiven, SaysRefused};
+ghost use Rattle.acc_cli.specs.declared.status.Ending.TheVariants.{Done};
+ghost use Rattle.acc_cli.specs.declared.status.Status.TheVariants.{Ran};
 ghost use Rattle.acc_base.specs.Lines.{line};
 ghost use Rattle.acc_cli.specs.Outcome.{reply_of};
 ghost use Rattle.acc_cli.specs.Meant.{Meant};
@@ -53,7 +55,11 @@ fn refusal_text(alloc: Global, name: &str, error: ShelfError) -> Result<Vec<u8>,
 
 // The answer to a command line.
 fn decide<H: Shelf>(alloc: Global, words: &[String], shelf: &mut H) -> Result<Answer, AllocError>
-    ensures { IfOk result (λ a. Meant (H.held shelf.old) (Rose (H.faults shelf.old) (H.faults shelf.new))
+    ensures held { H.held shelf.new ≡ H.held shelf.old }
+    ensures faults { H.faults shelf.old ≤ H.faults shelf.new }
+    ensures absences { H.absences shelf.old ≤ H.absences shelf.new }
+    ensures clean { IfOk result (λ a. a.status ≡ Ran Done → AllGiven (H.faults shelf.old) (H.faults shelf.new) (H.absences shelf.old) (H.absences shelf.new)) }
+    ensures meant { IfOk result (λ a. Meant (H.held shelf.old) (Rose (H.faults shelf.old) (H.faults shelf.new))
         (Rose (H.absences shelf.old) (H.absences shelf.new)) (map string_bytes words.now) (reply_of a)) }
 {
     let Some(command) = words::command_of(words) else {
@@ -81,9 +87,15 @@ fn decide<H: Shelf>(alloc: Global, words: &[String], shelf: &mut H) -> Result<An
     }
 }
 
-// Answers a command line, by one clause.
+// Answers a command line.
 fn play<H: Shelf, K: Sink>(alloc: Global, words: &[String], shelf: &mut H, out: &mut K) -> Ended
-    ensures { Answered
+    ensures held { H.held shelf.new ≡ H.held shelf.old }
+    ensures faults { H.faults shelf.old ≤ H.faults shelf.new }
+    ensures absences { H.absences shelf.old ≤ H.absences shelf.new }
+    ensures sink_faults { K.faults out.old ≤ K.faults out.new }
+    ensures clean { result.status ≡ Ran Done → AllGiven (H.faults shelf.old) (H.faults shelf.new) (H.absences shelf.old) (H.absences shelf.new)
+        × (K.faults out.new ≡ K.faults out.old) }
+    ensures answered { Answered
         (Meant (H.held shelf.old) (Rose (H.faults shelf.old) (H.faults shelf.new))
         (Rose (H.absences shelf.old) (H.absences shelf.new)) (map string_bytes words.now))
         (K.bytes out.old) (K.bytes out.new) (Rose (K.faults out.old) (K.faults out.new)) result.status result.history }
@@ -118,6 +130,14 @@ pub fn acc<H: Shelf, K: Sink>(alloc: Global, words: &[String], shelf: &mut H, ou
     ensures causes { IsCoded result.status (λ status. HasCauses (H.held shelf.old)
         (Rose (H.faults shelf.old) (H.faults shelf.new)) (Rose (H.absences shelf.old) (H.absences shelf.new))
         (map string_bytes words.now) (Rose (K.faults out.old) (K.faults out.new)) status) }
+    // Status 0 comes only where each read gave its file and no write failed.
+    ensures clean { result.status ≡ 0 → AllGiven (H.faults shelf.old) (H.faults shelf.new) (H.absences shelf.old) (H.absences shelf.new)
+        × (K.faults out.new ≡ K.faults out.old) }
+    // The files are as before, and no count falls.
+    ensures held { H.held shelf.new ≡ H.held shelf.old }
+    ensures faults { H.faults shelf.old ≤ H.faults shelf.new }
+    ensures absences { H.absences shelf.old ≤ H.absences shelf.new }
+    ensures sink_faults { K.faults out.old ≤ K.faults out.new }
 {
     let ended = play(alloc, words, shelf, out);
     Played {

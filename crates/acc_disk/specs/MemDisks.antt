@@ -129,5 +129,6 @@ pub record IsFresh (bytes fails : List ℕ) (from : Option ℕ) (disk : MemDisk)
   pub at_first : standing_after disk 0 ≡ settled bytes
   pub fails_listed : disk.fails.items ≡ fails
   pub fails_from : disk.from ≡ from
+  pub clock : clock_of disk ≡ 0
   pub calls : call_count disk ≡ 0
   pub counts : HasCounts disk 0 0 0

@@ -38,6 +38,7 @@ pub trait Disk {
         ensures faults { CountsFault result (faults self.old) (faults self.new) };
 
     /// Reads the bytes from that place on into the buffer, as many as fit in it or are there, and tells how many.
+    /// After `Failed` the buffer may hold anything.
     fn read(&mut self, at: u64, buf: &mut [u8]) -> Result<usize, Failed>
         ensures bound { IfOk result (λ count. count ≤ length buf.old) }
         ensures bytes { IfOk result (λ count. IfSome (told self.old) (λ file. ReadsAt file at buf.new count)) }

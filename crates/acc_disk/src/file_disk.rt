@@ -36,26 +36,32 @@ impl<'a, R: Files> FileDisk<'a, R> {
     }
 }
 
-// A new file, whose name the folder is to keep.
 fn created<R: Files>(rt: &R, path: &str) -> io::Result<R::File> {
-    let file = OpenOptions::new()
+    OpenOptions::new()
         .read(true)
         .write(true)
         .create_new(true)
-        .open(rt, path)?;
+        .open(rt, path)
+}
+
+// Has the folder keep the file's name.
+fn keep_name<R: Files>(rt: &R, path: &str) -> io::Result<()> {
     let folder = match Path::new(path).parent() {
         Some(folder) if !folder.as_str().is_empty() => folder.as_str(),
         _ => ".",
     };
-    fs::open(rt, folder)?.sync_all()?;
-    Ok(file)
+    fs::open(rt, folder)?.sync_all()
 }
 
+// The file, made where it is absent. Its name is kept before it is used, also where an earlier call or program made it
+// and could not do so.
 fn opened<R: Files>(rt: &R, path: &str) -> io::Result<R::File> {
-    match OpenOptions::new().read(true).write(true).open(rt, path) {
-        Err(error) if error.kind() == ErrorKind::NotFound => created(rt, path),
-        outcome => outcome,
-    }
+    let file = match OpenOptions::new().read(true).write(true).open(rt, path) {
+        Err(error) if error.kind() == ErrorKind::NotFound => created(rt, path)?,
+        outcome => outcome?,
+    };
+    keep_name(rt, path)?;
+    Ok(file)
 }
 
 // The file, opened where it isn't yet.

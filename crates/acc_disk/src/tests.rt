@@ -221,9 +221,18 @@ fn shorten(disk: &mut FileDisk<HostRuntime>) -> Result<(), Failed> {
     disk.sync()
 }
 
+// Removes a file that an earlier run of the tests left in this folder.
+fn remove(rt: &HostRuntime, path: &str) -> Result<(), Fail> {
+    if fs::exists(rt, path)? {
+        fs::remove_file(rt, path)?;
+    }
+    Ok(())
+}
+
 #[test]
 fn a_real_file(rt: HostRuntime) -> Result<(), Fail> {
     let alloc = rt.alloc();
+    remove(&rt, "new")?;
     let mut disk = FileDisk::new(&rt, String::from_str(alloc, "new")?);
     assert!(rt; !fs::exists(&rt, "new")?, "opened too early");
     fill(&mut disk)?;
@@ -259,7 +268,7 @@ fn writes_a_byte(rt: &HostRuntime, path: &str) -> Result<bool, Fail> {
 // always full.
 #[test]
 fn what_is_no_file(rt: HostRuntime) -> Result<(), Fail> {
-    fs::create_dir(&rt, "folder")?;
+    fs::create_dir_all(&rt, "folder")?;
     for path in &["folder", "absent/file", "/dev/full"] {
         assert!(rt; !writes_a_byte(&rt, path)?, "{path}");
     }
@@ -270,6 +279,7 @@ fn what_is_no_file(rt: HostRuntime) -> Result<(), Fail> {
 // A user who may write any file may write a read-only one too.
 #[test]
 fn a_read_only_file(rt: HostRuntime) -> Result<(), Fail> {
+    remove(&rt, "kept")?;
     fs::write(&rt, "kept", b"abc")?;
     let mut permissions = fs::metadata(&rt, "kept")?.permissions();
     permissions.set_readonly(true);

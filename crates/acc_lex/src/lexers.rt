@@ -20,7 +20,7 @@ use std::alloc::Global;
 /// Why bytes are no design's text.
 #[derive(Clone, Copy, Debug, PartialEq, Eq)]
 pub enum LexError {
-    /// On this line, counted from 1, stands the first byte with which no text goes on.
+    /// On this line, counted from 1, stands the first byte with which no text goes on, or the text ends too early.
     Bad(u64),
     /// Memory ran out; nothing is said of the text.
     Memory,

@@ -22,7 +22,7 @@ pub fn design(alloc: Global, tree: &DesignTree) -> Result<Design, ParseError>
     ensures refused { result ≡ Err ParseError.Refused → (d : DesignValue) → ¬ Means tree.now d }
     // A tree stands for one design at most.
     ensures only { (d : DesignValue) → Means tree.now d → IfOk result (λ found. found ≡ d) }
-    // Every step of it can be taken.
+    // The machine can run it.
     ensures runnable { IfOk result IsRunnable }
 {
     if !is_text_kept(tree) || !has_distinct_names(alloc, tree)? {

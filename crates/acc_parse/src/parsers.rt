@@ -52,7 +52,7 @@ pub fn parse(alloc: Global, text: &[u8]) -> Result<Design, ParseError>
         → ¬ IsDesignText text.now d }
     // A text is the text of one design at most.
     ensures only { (d : DesignValue) → IsDesignText text.now d → IfOk result (λ found. found ≡ d) }
-    // Every step of it can be taken.
+    // The machine can run it.
     ensures runnable { IfOk result IsRunnable }
 {
     let words = words_of(alloc, text)?;

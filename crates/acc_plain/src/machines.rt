@@ -10,6 +10,7 @@ ghost use Rattle.acc_base.specs.declared.machines.Transaction.{Transaction as Th
 ghost use Rattle.acc_store.specs.Bounds.{AreWithin};
 ghost use Rattle.acc_store.specs.Rows.{written, IsNarrow, SumsFit};
 ghost use Rattle.acc_plain.specs.Change.{left_by, IsNextChange};
+ghost use Rattle.acc_plain.specs.Reached.{IsReached};
 ghost use Rattle.acc_plain.specs.Turned.{cause_in, IsUnfinished, IsTurned};
 
 use crate::changes::{Becomes, Change, PlainError, forward_change, undo_change};
@@ -283,9 +284,10 @@ impl<'a, S: Store> Machine<'a, S> {
         self.transactions.get(place as usize)
     }
 
-    /// The events so far, oldest first.
+    /// The events so far, oldest first. They are a run of the plain machine, and the machine's state is the one after it.
     pub fn events(&self) -> &[Event]
-        ensures { result.now ≡ self.now.world.events }
+        ensures events { result.now ≡ self.now.world.events }
+        ensures run { IsReached self.now.design self.now.world }
     {
         self.events.as_slice()
     }
@@ -305,7 +307,8 @@ impl<'a, S: Store> Machine<'a, S> {
         (store, Seq::from_vec(events))
     }
 
-    /// Begins a call. It answers the new transaction's number, which is one above all before.
+    /// Begins a call, where there are fewer than 2^30 events. It answers the new transaction's number, which is one above
+    /// all before.
     pub fn begin(&mut self, call: &Call) -> Result<u64, PlainError>
         requires fits { call_fits (slice_get self.old.design.types call.now.ty) call.now ≡ true }
         requires room { length self.old.world.events < 2 ^ 30 }
@@ -330,7 +333,8 @@ impl<'a, S: Store> Machine<'a, S> {
     /// Gives an unfinished transaction its next turn, by the plain machine's rules: it turns where it was asked to,
     /// where its limit is reached, where a number of its step leaves ±2^45 or where its step refuses; else it takes its step.
     ///
-    /// It answers nothing where the transaction is being undone and a number of its undo step leaves ±2^45; then nothing changes.
+    /// It answers nothing where the transaction is being undone and a number of its undo step leaves ±2^45; then nothing
+    /// changes. There are to be fewer than 2^30 events.
     pub fn turn(&mut self, t: u64) -> Result<Option<Turn>, PlainError>
         requires unfinished { IsUnfinished t self.old.world }
         requires room { length self.old.world.events < 2 ^ 30 }

@@ -74,7 +74,8 @@ pub trait Store {
         requires short { length prefix.now ≤ 6 }
         ensures { result ≡ greatest_of (rows self.now) table prefix.now };
 
-    /// Does all writes, one after the other, or none where memory runs out.
+    /// Does all writes, one after the other, or none where memory runs out. The parts of a key that is put lie within
+    /// 2^45 of 0.
     ///
     /// Afterwards the absolute values of each column have to add up to at most 2^120.
     fn apply(&mut self, writes: &[Write]) -> Result<(), StoreError>
