@@ -13,3 +13,5 @@ pub mod Cells
 pub mod Equality
 pub mod Pairs
 pub mod FormEquality
+pub mod Truth
+pub mod Assertions
