@@ -15,3 +15,7 @@ pub mod Pairs
 pub mod FormEquality
 pub mod Truth
 pub mod Assertions
+pub mod UnknownEquality
+pub mod Bounded
+pub mod Sums
+pub mod Worths
