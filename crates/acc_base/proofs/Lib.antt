@@ -8,3 +8,7 @@ pub mod ActionRuns
 pub mod ReadRuns
 pub mod EffectParts
 pub mod Runnables
+pub mod SumSteps
+pub mod SumLoops
+pub mod Products
+pub mod SumLaws

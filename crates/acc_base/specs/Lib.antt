@@ -13,3 +13,9 @@ pub mod Cells
 pub mod Equality
 pub mod Pairs
 pub mod FormEquality
+pub mod Truth
+pub mod Assertions
+pub mod UnknownEquality
+pub mod Bounded
+pub mod Sums
+pub mod Worths

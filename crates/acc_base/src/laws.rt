@@ -1,6 +1,8 @@
-//! What the definitions say of small runs, worked by hand.
-ghost use Rattle.std.specs.Prelude.{◌≡◌, Some, [], ◌∷◌, codes};
+//! What the definitions say of small runs and forms, worked by hand, and of sums of forms.
+ghost use Rattle.std.specs.Prelude.{◌≡◌, Some, [], ◌∷◌, codes, pos, negsuc};
 ghost use Rattle.acc_base.specs.Cells.{played_cells, three_calls, lines_of, cell_row};
+ghost use Rattle.acc_base.specs.Truth.{form_value};
+ghost use Rattle.acc_base.specs.Worths.{trial, SumsAddUp};
 
 /// Two counters read a cell before either writes it: one of the two is lost.
 pub fn an_update_is_lost()
@@ -15,4 +17,15 @@ pub fn a_counter_refuses()
 /// What refused is compensated at its next turn, and is over then.
 pub fn a_refusal_is_compensated()
     ensures { played_cells three_calls (2 ∷ 2 ∷ 2 ∷ []) ≡ Some (lines_of (codes "2 turned refused 1" ∷ codes "2 ended" ∷ codes "2 over" ∷ codes "1 unbegun" ∷ codes "2 compensated refused 1" ∷ codes "3 unbegun" ∷ codes "events 3" ∷ []), []) }
+{}
+
+/// With 7 in cell 1 the trial form is worth 2 + 3 - 7 + 1 at 1, and 1 at 2, where there is no cell.
+pub fn a_form_is_worth()
+    ensures one { form_value (cell_row 1 7 ∷ []) (pos 1 ∷ []) trial ≡ negsuc 0 }
+    ensures two { form_value (cell_row 1 7 ∷ []) (pos 2 ∷ []) trial ≡ pos 1 }
+{}
+
+/// A sum of forms is worth what the forms are worth together.
+pub fn sums_add_up()
+    ensures { SumsAddUp }
 {}

@@ -5,7 +5,11 @@ pub mod designs;
 pub mod forms;
 pub mod laws;
 pub mod machines;
+pub mod numbers;
 pub mod sequences;
 pub mod sequents;
 pub mod steps;
+pub mod sums;
 pub mod tables;
+#[cfg(test)]
+mod tests;
