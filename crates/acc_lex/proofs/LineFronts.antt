@@ -59,9 +59,9 @@ pub fed_both : (f b : List ℕ) (v w : List Word) → IsFed f → IsLexed f v �
 fed_both f b v w h k l = elim (fed_cases f h) [
   | inl e ↦ subst (λ (z : List ℕ). IsLexed (z ++ b) (v ++ w)) (sym e) (subst (λ (z : List Word). IsLexed b (z ++ w)) (sym (no_words f v e k)) l)
   | inr s ↦ (
-    let first = without_feed s.0 v (subst (λ (z : List ℕ). IsLexed z v) s.1 k) in
-    let is : s.0 ++ (10 ∷ b) ≡ f ++ b = sym (append_assoc s.0 (10 ∷ []) b) ∙ ap (λ (z : List ℕ). z ++ b) (sym s.1) in
-    subst (λ (z : List ℕ). IsLexed z (v ++ w)) is (lexed_both s.0 b v w first l))
+      let first = without_feed s.0 v (subst (λ (z : List ℕ). IsLexed z v) s.1 k) in
+      let is : s.0 ++ (10 ∷ b) ≡ f ++ b = sym (append_assoc s.0 (10 ∷ []) b) ∙ ap (λ (z : List ℕ). z ++ b) (sym s.1) in
+      subst (λ (z : List ℕ). IsLexed z (v ++ w)) is (lexed_both s.0 b v w first l))
 ]
 
 -- what stands behind whole lines, and the words of both
@@ -82,13 +82,13 @@ fed_parted f b words h k = elim (fed_cases f h) [
     whole = refl;
   }
   | inr s ↦ (
-    let is : f ++ b ≡ s.0 ++ (10 ∷ b) = ap (λ (z : List ℕ). z ++ b) s.1 ∙ append_assoc s.0 (10 ∷ []) b in
-    let c = lexed_cut s.0 b words (subst (λ (z : List ℕ). IsLexed z words) is k) in
-    record {
-      front = c.front;
-      back = c.back;
-      first = subst (λ (z : List ℕ). IsLexed z c.front) (sym s.1) (with_feed s.0 c.front c.first);
-      second = c.second;
-      whole = c.whole;
-    })
+      let is : f ++ b ≡ s.0 ++ (10 ∷ b) = ap (λ (z : List ℕ). z ++ b) s.1 ∙ append_assoc s.0 (10 ∷ []) b in
+      let c = lexed_cut s.0 b words (subst (λ (z : List ℕ). IsLexed z words) is k) in
+      record {
+        front = c.front;
+        back = c.back;
+        first = subst (λ (z : List ℕ). IsLexed z c.front) (sym s.1) (with_feed s.0 c.front c.first);
+        second = c.second;
+        whole = c.whole;
+      })
 ]
