@@ -7,3 +7,4 @@ pub mod WholeTexts
 pub mod LineFeeds
 pub mod StatementWords
 pub mod WrittenWords
+pub mod LineFronts

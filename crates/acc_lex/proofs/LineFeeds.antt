@@ -113,7 +113,7 @@ pub record IsCut (a b : List ℕ) (words : List Word) : Type 0 where
   pub second : IsLexed b back
   pub whole : words ≡ front ++ back
 
-one_line : (l : Line) → IsLine l → IsLexed (line_bytes l) (line_words l)
+pub one_line : (l : Line) → IsLine l → IsLexed (line_bytes l) (line_words l)
 one_line l h = record { lines = (l, []); fit = (h, tt); spelled = sym (append-nil (line_bytes l)); mean = sym (append-nil (line_words l)) }
 
 -- a line, and behind it what the further lines are cut into

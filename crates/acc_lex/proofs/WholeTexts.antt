@@ -21,7 +21,7 @@ found text lines rest h =
     let k = lines_exact.takes text lines rest h in
     record { lines = lines; fit = k.1; spelled = k.0 ∙ ap (λ (z : List ℕ). lines_bytes lines ++ z) (nothing_left rest k.2) ∙ append-nil (lines_bytes lines); mean = refl }
 
-is_read : (text : List ℕ) (words : List Word) (l : IsLexed text words) → lines_at text ≡ Ok (l.lines, [])
+pub is_read : (text : List ℕ) (words : List Word) (l : IsLexed text words) → lines_at text ≡ Ok (l.lines, [])
 is_read text words l = ap lines_at (l.spelled ∙ sym (append-nil (lines_bytes l.lines))) ∙ lines_exact.again l.lines [] l.fit refl
 
 -- a text has the words of the lines that are read
@@ -30,6 +30,10 @@ same_words text words lines rest h l =
     let one : (Line × List Line) × List ℕ = (lines, rest) in
     let is : one ≡ (l.lines, []) = ok_is one (l.lines, []) (sym h ∙ is_read text words l) in
     ap (λ (z : (Line × List Line) × List ℕ). lines_words z.0) is ∙ sym l.mean
+
+-- a text has its words alone
+pub one_reading : (text : List ℕ) (v w : List Word) → IsLexed text v → IsLexed text w → v ≡ w
+one_reading text v w k l = k.mean ∙ same_words text w k.lines [] (is_read text v k) l
 
 pub not_text : (text rest : List ℕ) → lines_at text ≡ Err rest → (words : List Word) → ¬ IsLexed text words
 not_text text rest h words l = let wrong = sym h ∙ is_read text words l in cc
@@ -76,7 +80,7 @@ word_can (Letters w) h = known (keyword_of w) refl
     known : (o : Option _) → keyword_of w ≡ o → CanSpell (name_or_sign w o)
     known (Some s) is = tt
     known None is = (h, is)
-word_can (Digits w) h = tt
+word_can (Digits w) h = (w, h, refl)
 word_can (Mark s) h = tt
 
 items_can : (is : List Item) → IsRow item_bytes IsItem ItemParted is → AllIn CanSpell (map item_word is)

@@ -16,15 +16,10 @@ use Rattle.acc_lex.specs.Keywords.{keywords, keyword_of}
 use Rattle.acc_lex.specs.Spellings.{Token, Letters, Digits, Mark, Item, Statement, Line, Statements, mark_bytes, item_bytes, line_bytes, IsNumeral, IsToken, IsItem, ItemParted, IsStatement}
 use Rattle.acc_lex.specs.LineWords.{name_or_sign, number_of, token_word, item_word, statement_words}
 use Rattle.acc_lex.specs.Texts.{IsLexed}
+use Rattle.acc_lex.specs.Words.{CanSpell}
 use Rattle.acc_lex.proofs.ByteFacts.{and_both}
 use Rattle.acc_lex.proofs.Tokens.{parted}
 use Rattle.acc_lex.proofs.StatementWords.{is_end_sign, is_end, InStatements}
-
--- a word for which bytes can be written: a name is no fixed word, and a number is what some digits mean
-abbrev pub CanWrite : Word → Type 0
-CanWrite (word.Sign s) = Unit {0}
-CanWrite (word.Name x) = IsRun is_letter is_inner x × (keyword_of x ≡ None)
-CanWrite (word.Number n) = (w : List ℕ) × IsNumeral w × (number_of w ≡ n)
 
 -- ---- a token for each word
 
@@ -74,7 +69,7 @@ keyword_token sign.Minus h m = absurd cc
 keyword_token sign.Times h m = absurd cc
 keyword_token _ h m = (refl, refl)
 
-has_token : (w : Word) → CanWrite w → is_end w ≡ false → HasToken w
+has_token : (w : Word) → CanSpell w → is_end w ≡ false → HasToken w
 has_token (word.Sign s) h e = elim (flag (is_nil (mark_bytes s))) [
   | inl m ↦ (let k = keyword_token s e m in (Letters (word_in keywords s), run_of (word_in keywords s) k.0, ap (name_or_sign (word_in keywords s)) k.1))
   | inr m ↦ (Mark s, not_nil (mark_bytes s) m, refl)
@@ -118,7 +113,7 @@ put_token true w ws t p =
 put_token false w ws t p =
     (spaced t.0 ∷ p.0, (t.1, parted t.0 _ refl refl, p.1), p.2, p.3, (λ i. sym t.2 i ∷ p.4 i))
 
-put : (fresh : Bool) (ws : List Word) → AllIn CanWrite ws → InStatements fresh ws → Put fresh ws
+put : (fresh : Bool) (ws : List Word) → AllIn CanSpell ws → InStatements fresh ws → Put fresh ws
 put true [] can h = ([], tt, refl)
 put false [] can h = absurd cc
 put fresh (w ∷ ws) can h = elim (flag (is_end w)) [
@@ -127,7 +122,7 @@ put fresh (w ∷ ws) can h = elim (flag (is_end w)) [
 ]
 
 -- Words in whole statements are those of a text.
-pub written : (words : List Word) → AllIn CanWrite words → InStatements true words → (text : List ℕ) × IsLexed text words
+pub written : (words : List Word) → AllIn CanSpell words → InStatements true words → (text : List ℕ) × IsLexed text words
 written words can h =
     let p = put true words can h in
     let line : Line = Statements (record { spaces = 0; items = [] }) p.0 in

@@ -7,3 +7,6 @@ pub mod Typed
 pub mod LastPath
 pub mod Short
 pub mod Playable
+pub mod FirstLines
+pub mod Continued
+pub mod WrongLines

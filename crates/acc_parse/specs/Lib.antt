@@ -6,3 +6,5 @@ pub mod Limits
 pub mod FormRules
 pub mod Texts
 pub mod Surroundings
+pub mod Syntax
+pub mod GoodWords

@@ -5,7 +5,7 @@ ghost use Rattle.acc_base.specs.Numbers.{IsSmall, is_small, total};
 ghost use Rattle.acc_parse.specs.Sums.{with_variable, constant_in, totals, is_left, kept_lin};
 ghost use Rattle.acc_parse.specs.Additions.{with_term, with_part};
 
-use crate::errors::ParseError;
+use crate::errors::DesignError;
 use acc_base::forms::Lin;
 use acc_base::sequences::Seq;
 use std::alloc::{AllocError, Global};
@@ -102,23 +102,23 @@ fn totals(alloc: Global, parts: &[Part]) -> Result<Vec<(u32, i128)>, AllocError>
 }
 
 /// A collected number, refused where it is not within 2^45 of 0.
-fn kept_number(n: i128) -> Result<i64, ParseError>
+fn kept_number(n: i128) -> Result<i64, DesignError>
     ensures ok { IfOk result (λ m. m ≡ n) }
     ensures kept { OnOk result (is_small n ≡ true) }
-    ensures refused { result ≡ Err ParseError.Refused → is_small n ≡ false }
+    ensures refused { result ≡ Err DesignError.Refused → is_small n ≡ false }
 {
     const LARGEST: i128 = 1 << 45;
     if n < -LARGEST || LARGEST < n {
-        return Err(ParseError::Refused);
+        return Err(DesignError::Refused);
     }
     Ok(n as i64)
 }
 
 /// The sums that are not zero, refused where one is not within 2^45 of 0.
-fn coefficients(alloc: Global, sums: &[(u32, i128)]) -> Result<Seq<(u32, i64)>, ParseError>
+fn coefficients(alloc: Global, sums: &[(u32, i128)]) -> Result<Seq<(u32, i64)>, DesignError>
     ensures ok { IfOk result (λ ts. ts ≡ filter is_left sums.now) }
     ensures kept { IfOk result (λ ts. list_all (λ t. is_small t.1) ts ≡ true) }
-    ensures refused { result ≡ Err ParseError.Refused
+    ensures refused { result ≡ Err DesignError.Refused
         → list_all (λ t. is_small t.1) (filter is_left sums.now) ≡ false }
 {
     let mut terms = Seq::new(alloc);
@@ -131,10 +131,10 @@ fn coefficients(alloc: Global, sums: &[(u32, i128)]) -> Result<Seq<(u32, i64)>, 
 }
 
 /// What terms stand for, refused where a collected number is not within 2^45 of 0.
-pub fn collected(alloc: Global, parts: &[Part]) -> Result<Lin, ParseError>
+pub fn collected(alloc: Global, parts: &[Part]) -> Result<Lin, DesignError>
     requires { All (λ p. IsSmall p.1) parts.now }
     ensures ok { IfOk result (λ l. kept_lin parts.now ≡ Some l) }
-    ensures refused { result ≡ Err ParseError.Refused → kept_lin parts.now ≡ None }
+    ensures refused { result ≡ Err DesignError.Refused → kept_lin parts.now ≡ None }
 {
     let sums = totals(alloc, parts)?;
     let coeffs = coefficients(alloc, sums.as_slice())?;

@@ -6,6 +6,7 @@ mod collecting;
 mod definitions;
 mod designs;
 mod errors;
+mod lines;
 mod names;
 mod parsers;
 mod rows;
@@ -15,7 +16,7 @@ mod types;
 mod values;
 
 pub use designs::design;
-pub use errors::ParseError;
+pub use errors::{DesignError, ParseError};
 pub use parsers::parse;
 
 #[cfg(test)]

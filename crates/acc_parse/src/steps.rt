@@ -7,7 +7,7 @@ ghost use Rattle.acc_parse.specs.Meanings.{read_of, values_of, action_of, target
 ghost use Rattle.acc_parse.specs.Limits.{is_read_kept, are_values_kept, is_action_kept, is_target_kept, is_guard_kept, is_path_kept, is_step_kept};
 
 use crate::definitions::Definitions;
-use crate::errors::ParseError;
+use crate::errors::DesignError;
 use crate::names::place;
 use crate::rows::{cell, row};
 use crate::values::{lin, lins, rel, variable};
@@ -18,24 +18,24 @@ use acc_syntax::trees::{ActionTree, LinRels, PathTree, ReadTree, StepTree, Sums,
 use std::alloc::Global;
 
 /// The read that is written.
-fn read(alloc: Global, definitions: &Definitions, tree: &ReadTree) -> Result<Read, ParseError>
+fn read(alloc: Global, definitions: &Definitions, tree: &ReadTree) -> Result<Read, DesignError>
     requires { IsTrue (is_read_kept tree.now) }
     ensures ok { IfOk result (λ r. read_of (scope_in definitions.now) tree.now ≡ Some r) }
-    ensures refused { result ≡ Err ParseError.Refused
+    ensures refused { result ≡ Err DesignError.Refused
         → read_of (scope_in definitions.now) tree.now ≡ None }
 {
     match tree {
         ReadTree::Let(x, value) => {
-            let x = variable(definitions.locals, x).ok_or(ParseError::Refused)?;
+            let x = variable(definitions.locals, x).ok_or(DesignError::Refused)?;
             Ok(Read::Let(x, lin(alloc, definitions.locals, value)?))
         }
         ReadTree::Get(x, from) => {
-            let x = variable(definitions.locals, x).ok_or(ParseError::Refused)?;
+            let x = variable(definitions.locals, x).ok_or(DesignError::Refused)?;
             let ((table, key), column) = cell(alloc, definitions, from)?;
             Ok(Read::Col(x, table, key, column))
         }
         ReadTree::Has(x, place) => {
-            let x = variable(definitions.locals, x).ok_or(ParseError::Refused)?;
+            let x = variable(definitions.locals, x).ok_or(DesignError::Refused)?;
             let (table, key) = row(alloc, definitions, place)?;
             Ok(Read::Has(x, table, key))
         }
@@ -47,10 +47,10 @@ fn values(
     alloc: Global,
     definitions: &Definitions,
     tree: &Option<Sums>,
-) -> Result<Seq<Lin>, ParseError>
+) -> Result<Seq<Lin>, DesignError>
     requires { IsTrue (are_values_kept tree.now) }
     ensures ok { IfOk result (λ ls. values_of (scope_in definitions.now) tree.now ≡ Some ls) }
-    ensures refused { result ≡ Err ParseError.Refused
+    ensures refused { result ≡ Err DesignError.Refused
         → values_of (scope_in definitions.now) tree.now ≡ None }
 {
     match tree {
@@ -60,10 +60,14 @@ fn values(
 }
 
 /// The action that is written.
-fn action(alloc: Global, definitions: &Definitions, tree: &ActionTree) -> Result<Action, ParseError>
+fn action(
+    alloc: Global,
+    definitions: &Definitions,
+    tree: &ActionTree,
+) -> Result<Action, DesignError>
     requires { IsTrue (is_action_kept tree.now) }
     ensures ok { IfOk result (λ a. action_of (scope_in definitions.now) tree.now ≡ Some a) }
-    ensures refused { result ≡ Err ParseError.Refused
+    ensures refused { result ≡ Err DesignError.Refused
         → action_of (scope_in definitions.now) tree.now ≡ None }
 {
     match tree {
@@ -104,10 +108,10 @@ fn guard(
     alloc: Global,
     definitions: &Definitions,
     tree: &LinRels,
-) -> Result<Seq<LinRel>, ParseError>
+) -> Result<Seq<LinRel>, DesignError>
     requires { IsTrue (is_guard_kept (Some tree.now)) }
     ensures ok { IfOk result (λ rs. guard_of (scope_in definitions.now) (Some tree.now) ≡ Some rs) }
-    ensures refused { result ≡ Err ParseError.Refused
+    ensures refused { result ≡ Err DesignError.Refused
         → guard_of (scope_in definitions.now) (Some tree.now) ≡ None }
 {
     let mut rels = Seq::new(alloc);
@@ -125,11 +129,11 @@ fn actions(
     alloc: Global,
     definitions: &Definitions,
     trees: &[ActionTree],
-) -> Result<Seq<Action>, ParseError>
+) -> Result<Seq<Action>, DesignError>
     requires { IsTrue (list_all is_action_kept trees.now) }
     ensures ok { IfOk result
         (λ ys. each_of (action_of (scope_in definitions.now)) trees.now ≡ Some ys) }
-    ensures refused { result ≡ Err ParseError.Refused
+    ensures refused { result ≡ Err DesignError.Refused
         → each_of (action_of (scope_in definitions.now)) trees.now ≡ None }
 {
     let mut actions = Seq::new(alloc);
@@ -141,10 +145,10 @@ fn actions(
 }
 
 /// The path that is written.
-fn path(alloc: Global, definitions: &Definitions, tree: &PathTree) -> Result<Path, ParseError>
+fn path(alloc: Global, definitions: &Definitions, tree: &PathTree) -> Result<Path, DesignError>
     requires { IsTrue (is_path_kept tree.now) }
     ensures ok { IfOk result (λ p. path_of (scope_in definitions.now) tree.now ≡ Some p) }
-    ensures refused { result ≡ Err ParseError.Refused
+    ensures refused { result ≡ Err DesignError.Refused
         → path_of (scope_in definitions.now) tree.now ≡ None }
 {
     let guard = match &tree.guard {
@@ -152,7 +156,7 @@ fn path(alloc: Global, definitions: &Definitions, tree: &PathTree) -> Result<Pat
         Some(rels) => guard(alloc, definitions, rels)?,
     };
     let actions = actions(alloc, definitions, tree.actions.as_slice())?;
-    let target = target(definitions, &tree.target).ok_or(ParseError::Refused)?;
+    let target = target(definitions, &tree.target).ok_or(DesignError::Refused)?;
     Ok(Path {
         guard,
         actions,
@@ -161,11 +165,15 @@ fn path(alloc: Global, definitions: &Definitions, tree: &PathTree) -> Result<Pat
 }
 
 /// The paths of a step.
-fn paths(alloc: Global, definitions: &Definitions, tree: &StepTree) -> Result<Seq<Path>, ParseError>
+fn paths(
+    alloc: Global,
+    definitions: &Definitions,
+    tree: &StepTree,
+) -> Result<Seq<Path>, DesignError>
     requires { IsTrue (list_all is_path_kept (paths_in tree.now)) }
     ensures ok { IfOk result
         (λ ps. each_of (path_of (scope_in definitions.now)) (paths_in tree.now) ≡ Some ps) }
-    ensures refused { result ≡ Err ParseError.Refused
+    ensures refused { result ≡ Err DesignError.Refused
         → each_of (path_of (scope_in definitions.now)) (paths_in tree.now) ≡ None }
 {
     let mut paths = Seq::new(alloc);
@@ -183,11 +191,11 @@ fn reads(
     alloc: Global,
     definitions: &Definitions,
     trees: &[ReadTree],
-) -> Result<Seq<Read>, ParseError>
+) -> Result<Seq<Read>, DesignError>
     requires { IsTrue (list_all is_read_kept trees.now) }
     ensures ok { IfOk result
         (λ ys. each_of (read_of (scope_in definitions.now)) trees.now ≡ Some ys) }
-    ensures refused { result ≡ Err ParseError.Refused
+    ensures refused { result ≡ Err DesignError.Refused
         → each_of (read_of (scope_in definitions.now)) trees.now ≡ None }
 {
     let mut reads = Seq::new(alloc);
@@ -199,10 +207,10 @@ fn reads(
 }
 
 /// The step that is written.
-pub fn step(alloc: Global, definitions: &Definitions, tree: &StepTree) -> Result<Step, ParseError>
+pub fn step(alloc: Global, definitions: &Definitions, tree: &StepTree) -> Result<Step, DesignError>
     requires { IsTrue (is_step_kept tree.now) }
     ensures ok { IfOk result (λ s. step_of (scope_in definitions.now) tree.now ≡ Some s) }
-    ensures refused { result ≡ Err ParseError.Refused
+    ensures refused { result ≡ Err DesignError.Refused
         → step_of (scope_in definitions.now) tree.now ≡ None }
 {
     let reads = reads(alloc, definitions, tree.reads.as_slice())?;

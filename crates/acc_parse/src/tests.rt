@@ -60,11 +60,22 @@ pub fn replaced(alloc: Global, text: &str, old: &str, new: &str) -> Result<Strin
     Ok(format!(in alloc; "{before}{new}{after}")?)
 }
 
-/// Whether a text is refused; an end for want of memory is a failure.
+/// Whether a text of the grammar is refused; an end for want of memory is a failure.
 pub fn is_refused(alloc: Global, text: &str) -> Result<bool, Fail> {
     match parse(alloc, text.as_bytes()) {
         Ok(_) => Ok(false),
         Err(ParseError::Refused) => Ok(true),
+        Err(ParseError::Syntax(_)) => Err("not of the grammar")?,
+        Err(ParseError::Memory) => Err("no memory")?,
+    }
+}
+
+/// The line on which a text that isn't of the grammar goes wrong; none of a design's text.
+pub fn wrong_line(alloc: Global, text: &str) -> Result<Option<u64>, Fail> {
+    match parse(alloc, text.as_bytes()) {
+        Ok(_) => Ok(None),
+        Err(ParseError::Syntax(line)) => Ok(Some(line)),
+        Err(ParseError::Refused) => Err("of the grammar, and refused")?,
         Err(ParseError::Memory) => Err("no memory")?,
     }
 }

@@ -8,7 +8,7 @@ ghost use Rattle.acc_parse.specs.Meanings.{point_of, type_of, table_of, design_o
 ghost use Rattle.acc_parse.specs.Limits.{is_table_kept, is_point_kept, is_type_kept, is_text_kept};
 
 use crate::definitions::Definitions;
-use crate::errors::ParseError;
+use crate::errors::DesignError;
 use crate::names::{listed_or_none, locals, place, point_names};
 use crate::steps::step;
 use acc_base::designs::{Design, Point, TxType};
@@ -19,10 +19,10 @@ use acc_syntax::trees::{DesignTree, Names, PointTree, TableTree, TypeTree};
 use std::alloc::{AllocError, Global};
 
 /// The point that is written; it has no assertion, and its variant is 0.
-fn point(alloc: Global, definitions: &Definitions, tree: &PointTree) -> Result<Point, ParseError>
+fn point(alloc: Global, definitions: &Definitions, tree: &PointTree) -> Result<Point, DesignError>
     requires { IsTrue (is_point_kept tree.now) }
     ensures ok { IfOk result (λ p. point_of (scope_in definitions.now) tree.now ≡ Some p) }
-    ensures refused { result ≡ Err ParseError.Refused
+    ensures refused { result ≡ Err DesignError.Refused
         → point_of (scope_in definitions.now) tree.now ≡ None }
 {
     let next = step(alloc, definitions, &tree.next)?;
@@ -45,11 +45,11 @@ fn points(
     alloc: Global,
     definitions: &Definitions,
     tree: &TypeTree,
-) -> Result<Seq<Point>, ParseError>
+) -> Result<Seq<Point>, DesignError>
     requires { IsTrue (list_all is_point_kept (points_in tree.now)) }
     ensures ok { IfOk result
         (λ ps. each_of (point_of (scope_in definitions.now)) (points_in tree.now) ≡ Some ps) }
-    ensures refused { result ≡ Err ParseError.Refused
+    ensures refused { result ≡ Err DesignError.Refused
         → each_of (point_of (scope_in definitions.now)) (points_in tree.now) ≡ None }
 {
     let mut points = Seq::new(alloc);
@@ -63,27 +63,27 @@ fn points(
 }
 
 /// The locals that are returned.
-fn returned(alloc: Global, names: &[Text], locals: &[Text]) -> Result<Seq<u32>, ParseError>
+fn returned(alloc: Global, names: &[Text], locals: &[Text]) -> Result<Seq<u32>, DesignError>
     requires { length locals.now < 2 ^ 32 }
     ensures ok { IfOk result (λ xs. each_of (λ x. place_of x locals.now) names.now ≡ Some xs) }
-    ensures refused { result ≡ Err ParseError.Refused
+    ensures refused { result ≡ Err DesignError.Refused
         → each_of (λ x. place_of x locals.now) names.now ≡ None }
 {
     let mut returns = Seq::new(alloc);
     for name in names {
-        let next = place(name, locals).ok_or(ParseError::Refused)?;
+        let next = place(name, locals).ok_or(DesignError::Refused)?;
         returns.push(next)?;
     }
     Ok(returns)
 }
 
 /// The type that is written.
-fn type_of(alloc: Global, tables: &[TableTree], tree: &TypeTree) -> Result<TxType, ParseError>
+fn type_of(alloc: Global, tables: &[TableTree], tree: &TypeTree) -> Result<TxType, DesignError>
     requires few { length tables.now < 2 ^ 32 }
     requires tables_kept { list_all is_table_kept tables.now ≡ true }
     requires kept { IsTrue (is_type_kept tree.now) }
     ensures ok { IfOk result (λ x. type_of tables.now tree.now ≡ Some x) }
-    ensures refused { result ≡ Err ParseError.Refused → type_of tables.now tree.now ≡ None }
+    ensures refused { result ≡ Err DesignError.Refused → type_of tables.now tree.now ≡ None }
 {
     let locals = locals(alloc, tree)?;
     let names = point_names(alloc, tree)?;
@@ -131,12 +131,16 @@ fn tables(alloc: Global, trees: &[TableTree]) -> Result<Seq<Table>, AllocError>
     Ok(tables)
 }
 
-fn types(alloc: Global, tables: &[TableTree], trees: &[TypeTree]) -> Result<Seq<TxType>, ParseError>
+fn types(
+    alloc: Global,
+    tables: &[TableTree],
+    trees: &[TypeTree],
+) -> Result<Seq<TxType>, DesignError>
     requires few { length tables.now < 2 ^ 32 }
     requires tables_kept { list_all is_table_kept tables.now ≡ true }
     requires kept { IsTrue (list_all is_type_kept trees.now) }
     ensures ok { IfOk result (λ xs. each_of (type_of tables.now) trees.now ≡ Some xs) }
-    ensures refused { result ≡ Err ParseError.Refused
+    ensures refused { result ≡ Err DesignError.Refused
         → each_of (type_of tables.now) trees.now ≡ None }
 {
     let mut types = Seq::new(alloc);
@@ -148,10 +152,10 @@ fn types(alloc: Global, tables: &[TableTree], trees: &[TypeTree]) -> Result<Seq<
 }
 
 /// The design that is written.
-pub fn meaning(alloc: Global, tree: &DesignTree) -> Result<Design, ParseError>
+pub fn meaning(alloc: Global, tree: &DesignTree) -> Result<Design, DesignError>
     requires { IsTrue (is_text_kept tree.now) }
     ensures ok { IfOk result (λ d. design_of tree.now ≡ Some d) }
-    ensures refused { result ≡ Err ParseError.Refused → design_of tree.now ≡ None }
+    ensures refused { result ≡ Err DesignError.Refused → design_of tree.now ≡ None }
 {
     let types = types(alloc, tree.tables.as_slice(), tree.types.as_slice())?;
     Ok(Design {

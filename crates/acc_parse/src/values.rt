@@ -5,7 +5,7 @@ ghost use Rattle.acc_parse.specs.Sums.{variable_of, part_of, negated, signed_par
 ghost use Rattle.acc_parse.specs.Limits.{is_term_kept, is_sum_kept, are_sums_kept, is_rel_kept};
 
 use crate::collecting::{Part, collected};
-use crate::errors::ParseError;
+use crate::errors::DesignError;
 use crate::names::place;
 use acc_base::forms::{Lin, LinRel};
 use acc_base::sequences::{Seq, Text};
@@ -45,25 +45,25 @@ fn negated(part: Part) -> Part
 }
 
 /// A term behind a sign, if its variable is defined.
-fn signed_part(locals: &[Text], minus: bool, term: &Term) -> Result<Part, ParseError>
+fn signed_part(locals: &[Text], minus: bool, term: &Term) -> Result<Part, DesignError>
     requires few { length locals.now < 2 ^ 32 }
     requires kept { IsTrue (is_term_kept term.now) }
     ensures ok { IfOk result
         (λ p. signed_part locals.now (record { minus = minus; term = term.now }) ≡ Some p) }
-    ensures refused { result ≡ Err ParseError.Refused
+    ensures refused { result ≡ Err DesignError.Refused
         → signed_part locals.now (record { minus = minus; term = term.now }) ≡ None }
     ensures small { IfOk result (λ p. IsSmall p.1) }
 {
-    let plain = part(locals, term).ok_or(ParseError::Refused)?;
+    let plain = part(locals, term).ok_or(DesignError::Refused)?;
     Ok(if minus { negated(plain) } else { plain })
 }
 
 /// The terms of a sum, if their variables are defined.
-fn parts(alloc: Global, locals: &[Text], sum: &Sum) -> Result<Seq<Part>, ParseError>
+fn parts(alloc: Global, locals: &[Text], sum: &Sum) -> Result<Seq<Part>, DesignError>
     requires few { length locals.now < 2 ^ 32 }
     requires kept { IsTrue (is_sum_kept sum.now) }
     ensures ok { IfOk result (λ ps. parts_of locals.now sum.now ≡ Some ps) }
-    ensures refused { result ≡ Err ParseError.Refused → parts_of locals.now sum.now ≡ None }
+    ensures refused { result ≡ Err DesignError.Refused → parts_of locals.now sum.now ≡ None }
     ensures small { IfOk result (λ ps. All (λ p. IsSmall p.1) ps) }
 {
     let mut parts = Seq::new(alloc);
@@ -77,22 +77,22 @@ fn parts(alloc: Global, locals: &[Text], sum: &Sum) -> Result<Seq<Part>, ParseEr
 }
 
 /// The linear value that a sum stands for.
-pub fn lin(alloc: Global, locals: &[Text], sum: &Sum) -> Result<Lin, ParseError>
+pub fn lin(alloc: Global, locals: &[Text], sum: &Sum) -> Result<Lin, DesignError>
     requires few { length locals.now < 2 ^ 32 }
     requires kept { IsTrue (is_sum_kept sum.now) }
     ensures ok { IfOk result (λ l. lin_of locals.now sum.now ≡ Some l) }
-    ensures refused { result ≡ Err ParseError.Refused → lin_of locals.now sum.now ≡ None }
+    ensures refused { result ≡ Err DesignError.Refused → lin_of locals.now sum.now ≡ None }
 {
     let parts = parts(alloc, locals, sum)?;
     collected(alloc, parts.as_slice())
 }
 
 /// The linear values that sums stand for.
-pub fn lins(alloc: Global, locals: &[Text], sums: &Sums) -> Result<Seq<Lin>, ParseError>
+pub fn lins(alloc: Global, locals: &[Text], sums: &Sums) -> Result<Seq<Lin>, DesignError>
     requires few { length locals.now < 2 ^ 32 }
     requires kept { IsTrue (are_sums_kept sums.now) }
     ensures ok { IfOk result (λ ls. lins_of locals.now sums.now ≡ Some ls) }
-    ensures refused { result ≡ Err ParseError.Refused → lins_of locals.now sums.now ≡ None }
+    ensures refused { result ≡ Err DesignError.Refused → lins_of locals.now sums.now ≡ None }
 {
     let mut lins = Seq::new(alloc);
     let first = lin(alloc, locals, &sums.first)?;
@@ -138,11 +138,11 @@ fn is_equation(relation: &Relation) -> bool
 }
 
 /// The relation of linear values that is written.
-pub fn rel(alloc: Global, locals: &[Text], rel: &LinRelTree) -> Result<LinRel, ParseError>
+pub fn rel(alloc: Global, locals: &[Text], rel: &LinRelTree) -> Result<LinRel, DesignError>
     requires few { length locals.now < 2 ^ 32 }
     requires kept { IsTrue (is_rel_kept rel.now) }
     ensures ok { IfOk result (λ r. rel_of locals.now rel.now ≡ Some r) }
-    ensures refused { result ≡ Err ParseError.Refused → rel_of locals.now rel.now ≡ None }
+    ensures refused { result ≡ Err DesignError.Refused → rel_of locals.now rel.now ≡ None }
 {
     let left = parts(alloc, locals, &rel.left)?;
     let right = parts(alloc, locals, &rel.right)?;

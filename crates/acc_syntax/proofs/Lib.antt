@@ -12,3 +12,4 @@ pub mod TargetLaws
 pub mod StepLaws
 pub mod TypeLaws
 pub mod WholeLaws
+pub mod SpelledStatements

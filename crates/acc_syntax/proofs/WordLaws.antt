@@ -134,7 +134,7 @@ number_each (word.Sign t) = inr (λ rest. refl)
 
 pub number_exact : Exact CanSpell number All Free number_at
 unfolding number_at
-number_exact = one_word number number_at 0 (tt, tt) (λ t rest. refl) refl number_each
+number_exact = one_word number number_at 0 ((48 ∷ [], inl refl, refl), tt) (λ t rest. refl) refl number_each
 
 -- the end of the words
 pub end_exact : Exact CanSpell nothing All (λ o rest. is_word rest ≡ false) end_at

@@ -1,36 +1,33 @@
-use Rattle.std.proofs.Common.{◌∙◌, sym, subst}
+use Rattle.std.proofs.Common.{List, ℕ, refl, sym, subst}
+use Rattle.acc_base.specs.declared.designs.Design.{Design}
 use Rattle.acc_syntax.specs.declared.trees.DesignTree.{DesignTree}
-use Rattle.acc_parse.specs.Texts.{Means}
-use Rattle.acc_parse.proofs.Exits.{handed_on}
+use Rattle.acc_parse.specs.Syntax.{IsGrammatical}
+use Rattle.acc_parse.specs.Texts.{Means, IsDesignText}
+use Rattle.acc_parse.proofs.WrongLines.{one_wrong}
 use Rattle.acc_parse.proofs.parsers.parse.Goals as goal
 
--- a text with words isn't refused for want of words
-pub returns-in_err-words-clause-refused : goal.returns-in_err-words-clause-refused
-returns-in_err-words-clause-refused c =
-    λ r d t.
-    let refused = handed_on {A = Unit {0}} _ _ c.from_residual.ensures.1 r in
-    let memory = c.in_err-words.ensures.only t.words t.lexed in absurd (cc (refused, memory))
+-- a design's text is of the grammar
+of_grammar : (text : List ℕ) (d : Design) → IsDesignText text d → IsGrammatical text
+of_grammar text d t = record { words = t.words; lexed = t.lexed; tree = t.meant.tree; spelled = t.meant.spelled }
 
--- nor are words that spell a tree refused for want of one
-pub returns-in_err-tree-clause-refused : goal.returns-in_err-tree-clause-refused
-returns-in_err-tree-clause-refused c =
-    λ r d t.
-    let refused = handed_on {A = Unit {0}} _ _ c.from_residual-in_err-tree.ensures.1 r in
-    let same = c.in_ok-words.ensures.only t.words t.lexed in
-    let memory = c.in_err-tree.ensures.only t.meant.tree (c.as_slice.ensures ∙ (same ∙ t.meant.spelled)) in
-    absurd (cc (refused, memory))
+pub returns-in_err-tree-clause-line : goal.returns-in_err-tree-clause-line
+returns-in_err-tree-clause-line c = one_wrong c.args.text.now
 
 -- the tree is the only one that is spelled so
-pub returns-clause-refused : goal.returns-clause-refused
-returns-clause-refused c =
-    λ r d t.
-    let same = c.in_ok-words.ensures.only t.words t.lexed in
-    let tree = c.in_ok-tree.ensures.only t.meant.tree (c.as_slice.ensures ∙ (same ∙ t.meant.spelled)) in
-    c.design.ensures.refused r d (subst (λ (u : DesignTree). Means u d) (sym tree) t.meant.meant)
-
-pub returns-clause-only : goal.returns-clause-only
-returns-clause-only c =
+pub returns-in-Ok-clause-only : goal.returns-in-Ok-clause-only
+unfolding of_grammar
+returns-in-Ok-clause-only c =
     λ d t.
-    let same = c.in_ok-words.ensures.only t.words t.lexed in
-    let tree = c.in_ok-tree.ensures.only t.meant.tree (c.as_slice.ensures ∙ (same ∙ t.meant.spelled)) in
-    c.design.ensures.only d (subst (λ (u : DesignTree). Means u d) (sym tree) t.meant.meant)
+    let tree = c.in_ok-tree.ensures.only (of_grammar c.args.text.now d t) in
+    c.in-Ok.ensures.only d (subst (λ (u : DesignTree). Means u d) (sym tree) t.meant.meant)
+
+pub returns-in-Err-Refused-clause-refused : goal.returns-in-Err-Refused-clause-refused
+unfolding of_grammar
+returns-in-Err-Refused-clause-refused c =
+    let refused = rw c.in-Err-Refused.field-0-is at c.in-Err-Refused.ensures in
+    λ r. (
+      c.in_ok-tree.ensures.ok.0,
+      λ d t.
+          let tree = c.in_ok-tree.ensures.only (of_grammar c.args.text.now d t) in
+          refused.refused refl d (subst (λ (u : DesignTree). Means u d) (sym tree) t.meant.meant),
+    )
