@@ -131,6 +131,13 @@ module _ (tables : List Table) (fits : All Fits tables) (s : Scope) (few : lengt
       let n = then_made (λ n. option_map (λ (r : RowName). read.Has n r.0 r.1) (row_of s p)) (variable_of s.locals x) y e in
       let r = made_by (λ (r : RowName). read.Has n.0 r.0 r.1) (row_of s p) y n.2 in
       subst CanRead r.2 (is_key r.0.0 r.0.1 (short_row s few p r.0 r.1) (ap (is_read_whole tables) r.2 ∙ whole))
+  can_read (read_tree.Count x p) y whole e = absurd (cc)
+  can_read (read_tree.Sum x c) y whole e = absurd (cc)
+  can_read (read_tree.Least x p) y whole e = absurd (cc)
+  can_read (read_tree.Greatest x p) y whole e = absurd (cc)
+  can_read (read_tree.Take x) y whole e = absurd (cc)
+  can_read (read_tree.Mul x a b) y whole e = absurd (cc)
+  can_read (read_tree.Div x a n) y whole e = absurd (cc)
 
   short_values : (vs : Option Sums) (ls : List Lin) → values_of s vs ≡ Some ls → All IsShort ls
   short_values None ls e = let same : [] ≡ ls = cc in subst (All IsShort) same (All-nil IsShort)

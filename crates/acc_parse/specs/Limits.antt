@@ -66,6 +66,8 @@ abbrev pub is_read_kept : ReadTree → Bool
 is_read_kept (read_tree.Let x v) = is_sum_kept v
 is_read_kept (read_tree.Get x c) = are_sums_kept c.place.key
 is_read_kept (read_tree.Has x p) = are_sums_kept p.key
+-- the other reads are not played yet, whatever they hold
+is_read_kept _ = true
 
 abbrev pub is_action_kept : ActionTree → Bool
 is_action_kept (action_tree.Put p vs) = are_sums_kept p.key && are_values_kept vs

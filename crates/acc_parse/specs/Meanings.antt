@@ -71,6 +71,8 @@ read_of s (read_tree.Get x c) =
     option_and_then (λ n. option_map (λ (y : CellName). read.Col n y.0.0 y.0.1 y.1) (cell_of s c)) (variable_of s.locals x)
 read_of s (read_tree.Has x p) =
     option_and_then (λ n. option_map (λ (r : RowName). read.Has n r.0 r.1) (row_of s p)) (variable_of s.locals x)
+-- the other reads are not played yet
+read_of s _ = None
 
 -- ---- actions
 

@@ -107,6 +107,7 @@ fn is_read_kept(read: &ReadTree) -> bool
         ReadTree::Let(_, sum) => is_sum_kept(sum),
         ReadTree::Get(_, cell) => are_sums_kept(&cell.place.key),
         ReadTree::Has(_, place) => are_sums_kept(&place.key),
+        _ => true,
     }
 }
 

@@ -17,7 +17,7 @@ use acc_base::steps::{Action, Path, Read, Step, Target};
 use acc_syntax::trees::{ActionTree, LinRels, PathTree, ReadTree, StepTree, Sums, TargetTree};
 use std::alloc::Global;
 
-/// The read that is written.
+/// The read that is written; the kinds that are not played yet are refused.
 fn read(alloc: Global, definitions: &Definitions, tree: &ReadTree) -> Result<Read, DesignError>
     requires { IsTrue (is_read_kept tree.now) }
     ensures ok { IfOk result (λ r. read_of (scope_in definitions.now) tree.now ≡ Some r) }
@@ -39,6 +39,7 @@ fn read(alloc: Global, definitions: &Definitions, tree: &ReadTree) -> Result<Rea
             let (table, key) = row(alloc, definitions, place)?;
             Ok(Read::Has(x, table, key))
         }
+        _ => Err(DesignError::Refused),
     }
 }
 

@@ -12,7 +12,8 @@ use Rattle.acc_syntax.specs.declared.trees.DesignTree.{DesignTree}
 use Rattle.acc_syntax.specs.declared.designs.TypeHead.{TypeHead}
 use Rattle.acc_syntax.specs.WordReaders.{Outcome, comes, is_name, sign_at, name_at, number_at, end_at}
 use Rattle.acc_syntax.specs.ValueReaders.{guard_at}
-use Rattle.acc_syntax.specs.StatementReaders.{table_at, starts_table, read_at, starts_read, action_at, starts_action, target_at, names_statement_at}
+use Rattle.acc_syntax.specs.ReadReaders.{read_at, starts_read}
+use Rattle.acc_syntax.specs.StatementReaders.{table_at, starts_table, action_at, starts_action, target_at, names_statement_at}
 
 -- a path
 unfoldable pub path_at : List Word → Outcome PathTree

@@ -3,4 +3,5 @@ pub mod Texts
 pub mod WordReaders
 pub mod ValueReaders
 pub mod StatementReaders
+pub mod ReadReaders
 pub mod DesignReaders

@@ -112,11 +112,19 @@ guard (Some rs) = lin_rel rs.first ++ joined (further lin_rel) rs.others
 abbrev pub table : TableTree → List Word
 table t = (if t.private then just sign.Private else just sign.Table) ++ (name t.name ++ (number t.width ++ (joined name t.columns ++ just sign.End)))
 
--- let X = value, get X = row.column, has X = row
+-- let X = value, get X = row.column, has X = row, count X = row, sum X = row.column, least X = row, greatest X = row,
+-- take X, mul X = X X, div X = X INT
 abbrev pub read_statement : ReadTree → List Word
 read_statement (read.Let x v) = just sign.Let ++ (variable x ++ (just sign.Equal ++ (sum v ++ just sign.End)))
 read_statement (read.Get x c) = just sign.Get ++ (variable x ++ (just sign.Equal ++ (cell c ++ just sign.End)))
 read_statement (read.Has x p) = just sign.Has ++ (variable x ++ (just sign.Equal ++ (place p ++ just sign.End)))
+read_statement (read.Count x p) = just sign.Count ++ (variable x ++ (just sign.Equal ++ (place p ++ just sign.End)))
+read_statement (read.Sum x c) = just sign.Sum ++ (variable x ++ (just sign.Equal ++ (cell c ++ just sign.End)))
+read_statement (read.Least x p) = just sign.Least ++ (variable x ++ (just sign.Equal ++ (place p ++ just sign.End)))
+read_statement (read.Greatest x p) = just sign.Greatest ++ (variable x ++ (just sign.Equal ++ (place p ++ just sign.End)))
+read_statement (read.Take x) = just sign.Take ++ (variable x ++ just sign.End)
+read_statement (read.Mul x a b) = just sign.Mul ++ (variable x ++ (just sign.Equal ++ (variable a ++ (variable b ++ just sign.End))))
+read_statement (read.Div x a n) = just sign.Div ++ (variable x ++ (just sign.Equal ++ (variable a ++ (number n ++ just sign.End))))
 
 -- the values of a row's columns, of which there may be none
 abbrev pub values : Option Sums → List Word

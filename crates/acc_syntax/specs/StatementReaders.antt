@@ -6,14 +6,12 @@ use Rattle.acc_lex.specs.declared.words.Sign.TheVariants as sign
 use Rattle.acc_lex.specs.declared.words.Word.{Word}
 use Rattle.acc_syntax.specs.declared.trees.Names.{Names}
 use Rattle.acc_syntax.specs.declared.trees.TableTree.{TableTree}
-use Rattle.acc_syntax.specs.declared.trees.ReadTree.{ReadTree}
-use Rattle.acc_syntax.specs.declared.trees.ReadTree.TheVariants as read
 use Rattle.acc_syntax.specs.declared.trees.ActionTree.{ActionTree}
 use Rattle.acc_syntax.specs.declared.trees.ActionTree.TheVariants as action
 use Rattle.acc_syntax.specs.declared.trees.TargetTree.{TargetTree}
 use Rattle.acc_syntax.specs.declared.trees.TargetTree.TheVariants as target
 use Rattle.acc_syntax.specs.WordReaders.{Outcome, comes, is_name, sign_at, name_at, number_at}
-use Rattle.acc_syntax.specs.ValueReaders.{variable_at, sum_at, values_at, place_at, cell_at}
+use Rattle.acc_syntax.specs.ValueReaders.{sum_at, values_at, place_at, cell_at}
 
 -- `private` or `table`
 unfoldable pub private_at : List Word → Outcome Bool
@@ -38,47 +36,6 @@ table_at ws = do
 -- a table begins
 abbrev pub starts_table : List Word → Bool
 starts_table ws = comes sign.Private ws || comes sign.Table ws
-
--- let X = value
-unfoldable pub let_at : List Word → Outcome ReadTree
-let_at ws = do
-  k ← sign_at sign.Let ws
-  x ← variable_at k.1
-  q ← sign_at sign.Equal x.1
-  v ← sum_at q.1
-  e ← sign_at sign.End v.1
-  Ok (read.Let x.0 v.0, e.1)
-
--- get X = row.column
-unfoldable pub get_at : List Word → Outcome ReadTree
-get_at ws = do
-  k ← sign_at sign.Get ws
-  x ← variable_at k.1
-  q ← sign_at sign.Equal x.1
-  c ← cell_at q.1
-  e ← sign_at sign.End c.1
-  Ok (read.Get x.0 c.0, e.1)
-
--- has X = row
-unfoldable pub has_at : List Word → Outcome ReadTree
-has_at ws = do
-  k ← sign_at sign.Has ws
-  x ← variable_at k.1
-  q ← sign_at sign.Equal x.1
-  p ← place_at q.1
-  e ← sign_at sign.End p.1
-  Ok (read.Has x.0 p.0, e.1)
-
--- a read
-unfoldable pub read_at : List Word → Outcome ReadTree
-read_at ws =
-    if comes sign.Let ws then let_at ws
-    else (if comes sign.Get ws then get_at ws
-    else has_at ws)
-
--- a read begins
-abbrev pub starts_read : List Word → Bool
-starts_read ws = comes sign.Let ws || (comes sign.Get ws || comes sign.Has ws)
 
 -- put row values
 unfoldable pub put_at : List Word → Outcome ActionTree

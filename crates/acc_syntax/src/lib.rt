@@ -3,6 +3,7 @@
 
 pub mod designs;
 mod parsers;
+mod reads;
 mod statements;
 #[cfg(test)]
 mod tests;

@@ -2,10 +2,10 @@
 ghost use Rattle.std.specs.Prelude.{◌≡◌};
 ghost use Rattle.acc_grammar.specs.Readers.{many};
 ghost use Rattle.acc_grammar.specs.Answers.{Gives};
-ghost use Rattle.acc_syntax.specs.StatementReaders.{private_at, table_at, starts_table, let_at, get_at, has_at, read_at, starts_read, put_at, del_at, set_at, add_at, action_at, starts_action, goto_at, commit_at, undone_at, refuse_at, target_at, names_at, names_statement_at};
+ghost use Rattle.acc_syntax.specs.StatementReaders.{private_at, table_at, starts_table, put_at, del_at, set_at, add_at, action_at, starts_action, goto_at, commit_at, undone_at, refuse_at, target_at, names_at, names_statement_at};
 
 use crate::parsers::Parser;
-use crate::trees::{ActionTree, Names, ReadTree, TableTree, TargetTree};
+use crate::trees::{ActionTree, Names, TableTree, TargetTree};
 use acc_base::sequences::Seq;
 use acc_grammar::faults::Fault;
 use acc_lex::words::Sign;
@@ -56,72 +56,6 @@ impl Parser<'_> {
             tables.push(table)?;
         }
         Ok(tables)
-    }
-
-    #[tactic(auto, unfolding(crate::specs::StatementReaders::let_at))]
-    fn let_read(&mut self) -> Result<ReadTree, Fault>
-        ensures { Gives result self.new.words.now (let_at self.old.words.now) }
-    {
-        self.sign(Sign::Let)?;
-        let variable = self.variable()?;
-        self.sign(Sign::Equal)?;
-        let value = self.sum()?;
-        self.sign(Sign::End)?;
-        Ok(ReadTree::Let(variable, value))
-    }
-
-    #[tactic(auto, unfolding(crate::specs::StatementReaders::get_at))]
-    fn get_read(&mut self) -> Result<ReadTree, Fault>
-        ensures { Gives result self.new.words.now (get_at self.old.words.now) }
-    {
-        self.sign(Sign::Get)?;
-        let variable = self.variable()?;
-        self.sign(Sign::Equal)?;
-        let cell = self.cell()?;
-        self.sign(Sign::End)?;
-        Ok(ReadTree::Get(variable, cell))
-    }
-
-    #[tactic(auto, unfolding(crate::specs::StatementReaders::has_at))]
-    fn has_read(&mut self) -> Result<ReadTree, Fault>
-        ensures { Gives result self.new.words.now (has_at self.old.words.now) }
-    {
-        self.sign(Sign::Has)?;
-        let variable = self.variable()?;
-        self.sign(Sign::Equal)?;
-        let place = self.place()?;
-        self.sign(Sign::End)?;
-        Ok(ReadTree::Has(variable, place))
-    }
-
-    #[tactic(auto, unfolding(crate::specs::StatementReaders::read_at))]
-    fn read(&mut self) -> Result<ReadTree, Fault>
-        ensures { Gives result self.new.words.now (read_at self.old.words.now) }
-    {
-        if self.comes(Sign::Let) {
-            self.let_read()
-        } else if self.comes(Sign::Get) {
-            self.get_read()
-        } else {
-            self.has_read()
-        }
-    }
-
-    fn starts_read(&self) -> bool
-        ensures { result ≡ starts_read self.now.words.now }
-    {
-        self.comes(Sign::Let) || self.comes(Sign::Get) || self.comes(Sign::Has)
-    }
-
-    pub(crate) fn reads(&mut self) -> Result<Seq<ReadTree>, Fault>
-        ensures { Gives result self.new.words.now (many starts_read read_at self.old.words.now) }
-    {
-        let mut reads = Seq::new(self.alloc);
-        while self.starts_read() {
-            let read = self.read()?;
-            reads.push(read)?;
-        }
-        Ok(reads)
     }
 
     #[tactic(auto, unfolding(crate::specs::StatementReaders::put_at))]

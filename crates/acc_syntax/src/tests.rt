@@ -7,7 +7,7 @@ use acc_lex::words::{Sign, Word};
 use std::alloc::{AllocError, Global};
 use std::test::Fail;
 
-const SIGNS: [(&str, Sign); 37] = [
+const SIGNS: [(&str, Sign); 43] = [
     ("table", Sign::Table),
     ("private", Sign::Private),
     ("type", Sign::Type),
@@ -21,6 +21,12 @@ const SIGNS: [(&str, Sign); 37] = [
     ("get", Sign::Get),
     ("has", Sign::Has),
     ("count", Sign::Count),
+    ("sum", Sign::Sum),
+    ("least", Sign::Least),
+    ("greatest", Sign::Greatest),
+    ("take", Sign::Take),
+    ("mul", Sign::Mul),
+    ("div", Sign::Div),
     ("path", Sign::Path),
     ("put", Sign::Put),
     ("del", Sign::Del),
@@ -91,7 +97,7 @@ const TEXTS: [&str; 22] = [
 ];
 
 /// What may stand in a step, each with a `^` before the word at which it stops, if it does.
-const STEPS: [&str; 35] = [
+const STEPS: [&str; 58] = [
     "let self = - 2 * self + 3 - a ; get x = A [ k , - 1 ] . c ; path a <= b , 1 >= 2 , a = b ; put A [ 1 ] ; commit ;",
     "path ; goto p ; path ; undone ; path ; refuse 255 ;",
     "path ; commit ; ^ let x = 1 ;",
@@ -112,7 +118,30 @@ const STEPS: [&str; 35] = [
     "has x = A [ 1 , ^ ] ;",
     "has x = A [ k ] ^ . c ;",
     "has x ^ <= A [ k ] ;",
-    "^ count x = A [ k ] ;",
+    "count ^ = A [ k ] ;",
+    "count x ^ A [ k ] ;",
+    "count x = A [ k ] ^ . c ;",
+    "sum x = A [ k ] ^ ;",
+    "sum x = A [ k ] . ^ self ;",
+    "sum x = ^ 1 ;",
+    "least x = A [ ^ ] ;",
+    "least x = A ^ ;",
+    "least x ^ >= A [ k ] ;",
+    "greatest x = A [ 1 ] ^ path ;",
+    "greatest ^ ;",
+    "greatest x = ^ least x = A [ 1 ] ;",
+    "take ^ ;",
+    "take x ^ y ;",
+    "take x ^ = 1 ;",
+    "mul x = ^ 2 a ;",
+    "mul x = a ^ ;",
+    "mul x = a b ^ c ;",
+    "mul x = a ^ * b ;",
+    "div x = a ^ b ;",
+    "div x = a ^ - 2 ;",
+    "div x = ^ 7 2 ;",
+    "div x = a 2 ^ * 3 ;",
+    "path ; ^ count x = A [ k ] ;",
     "path a ^ ;",
     "path a = b , ^ ;",
     "path a = b ^ = c ;",
@@ -213,6 +242,10 @@ fn are(names: &Seq<Text>, wanted: &[&str]) -> bool {
 
 fn is(name: &Text, wanted: &str) -> bool {
     name.as_slice() == wanted.as_bytes()
+}
+
+fn names(variable: &Variable, wanted: &str) -> bool {
+    matches!(variable, Variable::Named(name) if is(name, wanted))
 }
 
 fn is_variable(sum: &Sum, minus: bool, wanted: &str) -> bool {
@@ -338,5 +371,36 @@ fn values_and_relations(rt: HostRuntime) -> Result<(), Fail> {
     assert!(rt; is(&cell.column, "c") && is_variable(value, false, "a"));
     let second = part(&cell.place.key.others, 0)?;
     assert!(rt; second.minus && matches!(second.first, Term::Constant(1)));
+    Ok(())
+}
+
+#[test]
+fn reads_of_each_kind(rt: HostRuntime) -> Result<(), Fail> {
+    let design = tree_of(
+        rt.alloc(),
+        "type t ; limit 1 ; point p ; next ;
+        count v = A [ b , w ] ; sum v = B [ b , w ] . c ; least v = C [ b , w ] ; greatest v = D [ b , w ] ;
+        take v ; mul v = w self ; div self = w 7 ; path ; commit ;
+        undo ; path ; undone ;",
+    )?;
+    let reads = &part(&design.types, 0)?.first.next.reads;
+    assert_eq!(rt; reads.len(), 7);
+    assert!(rt;
+        matches!(part(reads, 0)?, ReadTree::Count(v, row) if names(v, "v") && is_row(row, "A", "w"))
+    );
+    assert!(rt;
+        matches!(part(reads, 1)?, ReadTree::Sum(v, cell) if names(v, "v") && is_cell(cell, "B", "w", "c"))
+    );
+    assert!(rt;
+        matches!(part(reads, 2)?, ReadTree::Least(v, row) if names(v, "v") && is_row(row, "C", "w"))
+    );
+    assert!(rt;
+        matches!(part(reads, 3)?, ReadTree::Greatest(v, row) if names(v, "v") && is_row(row, "D", "w"))
+    );
+    assert!(rt; matches!(part(reads, 4)?, ReadTree::Take(v) if names(v, "v")));
+    assert!(rt;
+        matches!(part(reads, 5)?, ReadTree::Mul(v, w, Variable::Oneself) if names(v, "v") && names(w, "w"))
+    );
+    assert!(rt; matches!(part(reads, 6)?, ReadTree::Div(Variable::Oneself, w, 7) if names(w, "w")));
     Ok(())
 }

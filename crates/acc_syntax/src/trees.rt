@@ -101,6 +101,20 @@ pub enum ReadTree {
     Get(Variable, Cell),
     /// `has`: 1 where the row is there, else 0.
     Has(Variable, Place),
+    /// `count`: the number of the rows whose keys begin so.
+    Count(Variable, Place),
+    /// `sum`: the sum of the column over the rows whose keys begin so.
+    Sum(Variable, Cell),
+    /// `least`: the least next key component of the rows whose keys begin so.
+    Least(Variable, Place),
+    /// `greatest`: the greatest next key component of the rows whose keys begin so.
+    Greatest(Variable, Place),
+    /// `take`: the next number of the tape.
+    Take(Variable),
+    /// `mul`: the product of two variables.
+    Mul(Variable, Variable, Variable),
+    /// `div`: the variable, divided by the number.
+    Div(Variable, Variable, u64),
 }
 
 /// What a path writes.
