@@ -75,9 +75,8 @@ fn play_files(
 {
     match parse(alloc, design) {
         Ok(d) => play_script(alloc, &d, script, file),
-        Err(ParseError::Syntax(_) | ParseError::Refused) => {
-            one_line(alloc, Ending::Refused, "refused design")
-        }
+        Err(ParseError::Syntax(_)) => one_line(alloc, Ending::Refused, "refused design"),
+        Err(ParseError::Refused) => one_line(alloc, Ending::Refused, "refused design"),
         Err(ParseError::Memory) => Err(AllocError),
     }
 }

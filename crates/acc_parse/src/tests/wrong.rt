@@ -194,8 +194,6 @@ fn no_line_is_wrong(rt: HostRuntime) -> Result<(), Fail> {
     ] {
         assert!(rt; wrong_line(rt.alloc(), text)? == None, "{text}");
     }
-    // a number past 64 bits is of the grammar, and past a limit
-    assert!(rt; is_refused(rt.alloc(), "table A 18446744073709551616")?);
     Ok(())
 }
 
