@@ -4,7 +4,7 @@ mod designs;
 use crate::acc;
 use acc_base::machines::Event;
 use acc_io::{MemShelf, MemSink};
-use cases::{OUTSIDE, PLAYED};
+use cases::{OUTSIDE, Outside, PLAY, PLAYED, Play};
 use designs::{CELLS, KEEP, TRANSFER};
 use std::alloc::{AllocError, Global};
 use std::process::Abort;
@@ -45,28 +45,53 @@ fn answers<R: Abort + AllocGlobal>(
     Ok(())
 }
 
+// A case of files alone.
+fn plays<R: Abort + AllocGlobal>(rt: &R, case: Play) -> Result<(), Fail> {
+    let (name, design, script, order, status, printed) = case;
+    let alloc = rt.alloc();
+    let mut shelf = MemShelf::new(alloc, &[])?;
+    shelf.hold("design", design.as_bytes())?;
+    shelf.hold("script", script.as_bytes())?;
+    shelf.hold("order", order.as_bytes())?;
+    let out = MemSink::new(alloc, &[], &[])?;
+    answers(rt, name, PLAY, shelf, out, status, printed)
+}
+
+// A case of words, of a shelf and of a sink.
+fn ends<R: Abort + AllocGlobal>(rt: &R, case: Outside) -> Result<(), Fail> {
+    let (name, words, absent, reads, writes, takes, status, printed) = case;
+    let shelf = shelf_but(rt.alloc(), absent, reads)?;
+    let out = MemSink::new(rt.alloc(), writes, takes)?;
+    answers(rt, name, words, shelf, out, status, printed)
+}
+
+// An order of one byte more than a file may have.
+fn is_too_long<R: Abort + AllocGlobal>(rt: &R) -> Result<(), Fail> {
+    let mut shelf = shelf_but(rt.alloc(), "", &[])?;
+    shelf.hold("order", &vec![in rt.alloc(); b'\n'; (1 << 26) + 1]?)?;
+    let out = MemSink::new(rt.alloc(), &[], &[])?;
+    answers(rt, "too_long", PLAY, shelf, out, 6, "long order\n")
+}
+
+fn all_play<R: Abort + AllocGlobal>(rt: &R) -> Result<(), Fail> {
+    for case in PLAYED {
+        plays(rt, case)?;
+    }
+    Ok(())
+}
+
+fn all_end<R: Abort + AllocGlobal>(rt: &R) -> Result<(), Fail> {
+    for case in OUTSIDE {
+        ends(rt, case)?;
+    }
+    Ok(())
+}
+
 #[test]
 fn each_status_has_its_cases(rt: HostRuntime) -> Result<(), Fail> {
-    let alloc = rt.alloc();
-    let words = ["play", "design", "script", "order"];
-    for (name, design, script, order, status, printed) in PLAYED {
-        let mut shelf = MemShelf::new(alloc, &[])?;
-        shelf.hold("design", design.as_bytes())?;
-        shelf.hold("script", script.as_bytes())?;
-        shelf.hold("order", order.as_bytes())?;
-        let out = MemSink::new(alloc, &[], &[])?;
-        answers(&rt, name, &words, shelf, out, status, printed)?;
-    }
-    for (name, words, absent, reads, writes, takes, status, printed) in OUTSIDE {
-        let shelf = shelf_but(alloc, absent, reads)?;
-        let out = MemSink::new(alloc, writes, takes)?;
-        answers(&rt, name, words, shelf, out, status, printed)?;
-    }
-    let mut shelf = shelf_but(alloc, "", &[])?;
-    shelf.hold("order", &vec![in alloc; b'\n'; (1 << 26) + 1]?)?;
-    let out = MemSink::new(alloc, &[], &[])?;
-    answers(&rt, "too_long", &words, shelf, out, 6, "long order\n")?;
-    Ok(())
+    all_play(&rt)?;
+    all_end(&rt)?;
+    is_too_long(&rt)
 }
 
 #[test]

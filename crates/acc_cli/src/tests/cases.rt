@@ -173,7 +173,7 @@ pub type Outside = (
     &'static str,
 );
 
-const PLAY: &[&str] = &["play", "design", "script", "order"];
+pub const PLAY: &[&str] = &["play", "design", "script", "order"];
 
 pub const OUTSIDE: [Outside; 24] = [
     ("no_words", &[], "", &[], &[], &[], 1, "usage\n"),
