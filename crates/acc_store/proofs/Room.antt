@@ -1,20 +1,24 @@
 -- Entries that are kept, and whose places are fit.
-use Rattle.std.proofs.Common.{◌≡◌, ℕ, ◌<◌, Bool, true, false, cond, ◌||◌, List, [], ◌∷◌, length, get_or, ap, sym, ◌∙◌, refl, ℤ, Option, Some, is_some}
-use Rattle.std.specs.List.{list_any, list_all}
+use Rattle.std.proofs.Common.{◌≡◌, ℕ, ◌<◌, ◌≤◌, Bool, true, false, cond, List, [], ◌∷◌, length, get_or, ap, sym, ◌∙◌, refl, arith, Option, Some, None, is_some}
+use Rattle.std.specs.Prelude.{nat_le}
+use Rattle.std.specs.List.{list_all}
 use Rattle.std.specs.Cmp.Derive.{both_true}
 use Rattle.std.specs.Cmp.{first_so, second_so}
 use Rattle.std.proofs.lemmas.List.Folds.{list_all_at}
 use Rattle.std.specs.declared.cmp.Ordering.{Ordering}
 use Rattle.std.specs.declared.cmp.Ordering.TheVariants.{Less, Equal, Greater}
 use Rattle.std.specs.Ordering.{match_ordering}
-use Rattle.std.specs.Map.{keys_of, lookup, remove_entry}
+use Rattle.std.specs.Map.{remove_entry}
+use Rattle.std.proofs.lemmas.Bool.{leb-true, le-leb}
 use Rattle.std.specs.BTreeMap.{insert_entry, is_at as at}
 use Rattle.acc_base.specs.Tables.{Place, place_of, place_cmp}
+use Rattle.acc_base.proofs.Places.{one_place, is_equal}
 use Rattle.acc_store.specs.declared.writes.Write.{Write}
 use Rattle.acc_store.specs.declared.writes.Write.TheVariants.{Row as Puts, Gone}
-use Rattle.acc_store.specs.Rows.{Entry, IsFit, AreFit, has_entry, has_room, KeepsEntries}
+use Rattle.acc_store.specs.Contents.{Content}
+use Rattle.acc_store.specs.Rows.{Entry, IsFit, AreFit, entry_at, has_entry, can_hold, has_room_at, has_room, KeepsRoom}
 
-pub fit_insert : (p : Place) (v : Option (List ℤ)) (es : List Entry) → IsFit p → AreFit es → AreFit (insert_entry place_cmp es p v)
+pub fit_insert : (p : Place) (v : Content) (es : List Entry) → IsFit p → AreFit es → AreFit (insert_entry place_cmp es p v)
 fit_insert p v [] f a = (f, tt)
 fit_insert p v (e ∷ es) f a = by (place_cmp p e.0) (fit_insert p v es f a.1)
   where
@@ -31,29 +35,36 @@ fit_remove test (e ∷ es) a = by (test e.0) (fit_remove test es a.1)
     by true ih = a.1
     by false ih = (a.0, ih)
 
-pub kept_by : (b : Bool) (v : Option (List ℤ)) (x y : Option (Option (List ℤ))) → y ≡ cond b (Some v) x → is_some x ≡ true → is_some y ≡ true
-kept_by true v x y e h = ap is_some e
-kept_by false v x y e h = ap is_some e ∙ h
+-- room for more is room
+holds_less : (n a b : ℕ) → nat_le n a ≡ true → a ≤ b → nat_le n b ≡ true
+holds_less n a b h le = le-leb n b (let g = leb-true n a h in omega arith)
 
-by_keys : (p : Place) (es : List Entry) → has_entry es p ≡ list_any (at (place_cmp p)) (keys_of es)
-by_keys p [] = refl
-by_keys p (e ∷ es) = by (at (place_cmp p) e.0) (by_keys p es)
+-- a change at one place keeps the room if it does so there
+pub kept_by : (es fs : List Entry) (p : Place) (t : Content) → ((n : ℕ) → has_room_at es p n ≡ true → can_hold n (Some t) ≡ true) → ((q : Place) → entry_at q fs ≡ cond (at (place_cmp p) q) (Some t) (entry_at q es)) → KeepsRoom es fs
+kept_by es fs p t wide new q n room = by (at (place_cmp p) q) refl (new q)
   where
-    by : (b : Bool) → has_entry es p ≡ list_any (at (place_cmp p)) (keys_of es) → is_some (cond b (Some e.1) (lookup (at (place_cmp p)) es)) ≡ (b || list_any (at (place_cmp p)) (keys_of es))
-    by true ih = refl
-    by false ih = ih
+    by : (b : Bool) → at (place_cmp p) q ≡ b → entry_at q fs ≡ cond b (Some t) (entry_at q es) → has_room_at fs q n ≡ true
+    by true e f =
+        let same : p ≡ q = one_place p q (is_equal (place_cmp p q) e) in
+        ap (can_hold n) f ∙ wide n (ap (λ x. has_room_at es x n) same ∙ room)
+    by false e f = ap (can_hold n) f ∙ room
 
--- entries with the same places have room for the same writes
-pub room_same : (es fs : List Entry) (w : Write) → keys_of es ≡ keys_of fs → has_room fs w ≡ true → has_room es w ≡ true
-room_same es fs (Puts r) e h =
-    by_keys (place_of r) es ∙ ap (list_any (at (place_cmp (place_of r)))) e ∙ sym (by_keys (place_of r) fs) ∙ h
-room_same es fs (Gone t k) e h = refl
+-- a place without an entry has no room
+pub wide_absent : (es : List Entry) (p : Place) (t : Content) → has_entry es p ≡ false → (n : ℕ) → has_room_at es p n ≡ true → can_hold n (Some t) ≡ true
+wide_absent es p t absent n room = by (entry_at p es) absent room
+  where
+    by : (o : Option Content) → is_some o ≡ false → can_hold n o ≡ true → can_hold n (Some t) ≡ true
+    by None g h = cc
+    by (Some s) g h = cc
 
-room_kept : (es fs : List Entry) → KeepsEntries es fs → (w : Write) → has_room es w ≡ true → has_room fs w ≡ true
-room_kept es fs kept (Puts r) h = kept (place_of r) h
+pub wide_there : (es : List Entry) (p : Place) (s t : Content) → entry_at p es ≡ Some s → s.room ≤ t.room → (n : ℕ) → has_room_at es p n ≡ true → can_hold n (Some t) ≡ true
+wide_there es p s t there more n room = holds_less n s.room t.room (sym (ap (can_hold n) there) ∙ room) more
+
+pub room_kept : (es fs : List Entry) → KeepsRoom es fs → (w : Write) → has_room es w ≡ true → has_room fs w ≡ true
+room_kept es fs kept (Puts r) h = kept (place_of r) (length r.cols) h
 room_kept es fs kept (Gone t k) h = refl
 
-pub rooms_kept : (es fs : List Entry) → KeepsEntries es fs → (ws : List Write) → list_all (has_room es) ws ≡ true → list_all (has_room fs) ws ≡ true
+pub rooms_kept : (es fs : List Entry) → KeepsRoom es fs → (ws : List Write) → list_all (has_room es) ws ≡ true → list_all (has_room fs) ws ≡ true
 rooms_kept es fs kept [] h = refl
 rooms_kept es fs kept (w ∷ ws) h =
     both_true (room_kept es fs kept w (first_so (has_room es w) (list_all (has_room es) ws) h)) (rooms_kept es fs kept ws (second_so (has_room es w) (list_all (has_room es) ws) h))

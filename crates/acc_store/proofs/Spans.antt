@@ -14,6 +14,7 @@ use Rattle.std.proofs.lemmas.List.Elements.{recursion_from_All}
 use Rattle.acc_base.specs.Numbers.{IsSmall}
 use Rattle.acc_base.specs.Tables.{Place, place_cmp, is_under}
 use Rattle.acc_store.specs.Places.{top}
+use Rattle.acc_store.proofs.Live.{content}
 use Rattle.acc_store.specs.Rows.{Entry, row_of, with_row, live, is_below, below, AreFit}
 
 -- a prefix is below its longer keys, and so below the place past it
@@ -77,9 +78,9 @@ span_is t p (e ∷ es) fit =
 -- the rows of the entries whose keys begin with a prefix
 pub live_below : (t : ℕ) (p : List ℤ) (es : List Entry) → live (below t p es) ≡ filter (is_under t p) (live es)
 live_below t p [] = refl
-live_below t p (e ∷ es) = by (is_below t p e.0) refl e.1 (live_below t p es)
+live_below t p (e ∷ es) = by (is_below t p e.0) refl e.1.cells (live_below t p es)
   where
-    by : (b : Bool) → is_below t p e.0 ≡ b → (v : Option (List ℤ)) → live (below t p es) ≡ filter (is_under t p) (live es) → live (cond b ((e.0, v) ∷ below t p es) (below t p es)) ≡ filter (is_under t p) (with_row e.0 v (live es))
+    by : (b : Bool) → is_below t p e.0 ≡ b → (v : Option (List ℤ)) → live (below t p es) ≡ filter (is_under t p) (live es) → live (cond b ((e.0, content v e.1.room) ∷ below t p es) (below t p es)) ≡ filter (is_under t p) (with_row e.0 v (live es))
     by true h None ih = ih
     by false h None ih = ih
     by true h (Some c) ih = ap (λ rows. row_of e.0 c ∷ rows) ih ∙ sym (ap (λ b. cond b (row_of e.0 c ∷ filter (is_under t p) (live es)) (filter (is_under t p) (live es))) h)

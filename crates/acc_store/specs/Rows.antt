@@ -1,5 +1,5 @@
--- The entries of a map as rows. An entry with no columns is blank: it is no row.
-use Rattle.std.specs.Prelude.{◌≡◌, ℕ, ◌≤◌, ◌^◌, Bool, true, ◌&&◌, ◌==◌, List, [], ◌∷◌, length, filter, Option, Some, None, is_some, slice_get, slice_index_or, ℤ, pos, ⊤, unsigned_abs, All, ◌≤ℤ◌}
+-- The entries of a map as rows. A blank entry is no row.
+use Rattle.std.specs.Prelude.{◌≡◌, ℕ, ◌≤◌, ◌^◌, Bool, true, false, ◌&&◌, ◌==◌, List, [], ◌∷◌, length, filter, Option, Some, None, is_some, is_none, nat_le, slice_get, slice_index_or, ℤ, pos, ⊤, unsigned_abs, All, ◌≤ℤ◌}
 use Rattle.std.specs.List.{starts_with, sum_by, AllByRecursion}
 use Rattle.std.specs.Ordering.{int_eq}
 use Rattle.std.specs.List.Sorted.{IsStrictlySortedBy}
@@ -8,11 +8,12 @@ use Rattle.std.specs.BTreeMap.{is_at as at}
 use Rattle.acc_base.specs.declared.tables.Row.{Row}
 use Rattle.acc_base.specs.Numbers.{IsSmall}
 use Rattle.acc_base.specs.Tables.{Place, place_of, place_cmp, put, drop_row, cell}
+use Rattle.acc_store.specs.Contents.{Content}
 use Rattle.acc_store.specs.declared.writes.Write.{Write}
 use Rattle.acc_store.specs.declared.writes.Write.TheVariants.{Row as Puts, Gone}
 
 abbrev pub Entry : Type 0
-Entry = Place × Option (List ℤ)
+Entry = Place × Content
 
 abbrev pub row_of : Place → List ℤ → Row
 row_of p cols = record { table = p.0; key = record { parts = p.1 }; cols = cols }
@@ -24,15 +25,18 @@ with_row p (Some cols) rows = row_of p cols ∷ rows
 -- the rows, in the order of the entries
 abbrev pub live : List Entry → List Row
 live [] = []
-live (e ∷ es) = with_row e.0 e.1 (live es)
+live (e ∷ es) = with_row e.0 e.1.cells (live es)
+
+abbrev pub entry_at : Place → List Entry → Option Content
+entry_at p es = lookup (at (place_cmp p)) es
 
 -- what a look-up finds, where a blank counts as nothing
-abbrev pub flat : {X : Type 0} → Option (Option X) → Option X
+abbrev pub flat : Option Content → Option (List ℤ)
 flat None = None
-flat (Some v) = v
+flat (Some s) = s.cells
 
 abbrev pub cells_at : Place → List Entry → Option (List ℤ)
-cells_at p es = flat (lookup (at (place_cmp p)) es)
+cells_at p es = flat (entry_at p es)
 
 -- how many rows an entry is
 abbrev pub one_in : Option (List ℤ) → ℕ
@@ -96,16 +100,33 @@ abbrev pub IsNarrow : Write → Type 0
 IsNarrow (Puts r) = IsFit (place_of r) × (length r.cols ≤ 12)
 IsNarrow (Gone t k) = length k.parts ≤ 6
 
--- whether there is an entry for the row that is written
+-- ---- room for writes
+
 abbrev pub has_entry : List Entry → Place → Bool
-has_entry es p = is_some (lookup (at (place_cmp p)) es)
+has_entry es p = is_some (entry_at p es)
 
--- no entry is lost
-abbrev pub KeepsEntries : List Entry → List Entry → Type 0
-KeepsEntries es fs = (p : Place) → has_entry es p ≡ true → has_entry fs p ≡ true
+abbrev pub is_blank : Option Content → Bool
+is_blank None = false
+is_blank (Some s) = is_none s.cells
 
+abbrev pub is_blank_at : List Entry → Place → Bool
+is_blank_at es p = is_blank (entry_at p es)
+
+abbrev pub can_hold : ℕ → Option Content → Bool
+can_hold n None = false
+can_hold n (Some s) = nat_le n s.room
+
+-- whether there is an entry with room for n cells
+abbrev pub has_room_at : List Entry → Place → ℕ → Bool
+has_room_at es p n = can_hold n (entry_at p es)
+
+-- no entry is lost, and none has less room
+abbrev pub KeepsRoom : List Entry → List Entry → Type 0
+KeepsRoom es fs = (p : Place) (n : ℕ) → has_room_at es p n ≡ true → has_room_at fs p n ≡ true
+
+-- whether the row that is written has room
 abbrev pub has_room : List Entry → Write → Bool
-has_room es (Puts r) = has_entry es (place_of r)
+has_room es (Puts r) = has_room_at es (place_of r) (length r.cols)
 has_room es (Gone t k) = true
 
 -- the absolute values of each column add up to at most 2^120

@@ -4,6 +4,7 @@
 pub mod inline;
 mod maps;
 mod places;
+mod slots;
 pub mod stores;
 pub mod writes;
 

@@ -1,15 +1,15 @@
 //! Rows in an ordered map: look-ups and changes.
-ghost use Rattle.std.specs.Prelude.{◌≡◌, ◌≤◌, ◌<◌, ◌^◌, length, map, filter, is_some, option_copied, OnOk, OnErr, IsTrue, IfErr, All, Some, None, [], ◌∷◌, true, false, pos, IfOk, IfSome, ◌++◌, find};
+ghost use Rattle.std.specs.Prelude.{◌≡◌, ◌≤◌, ◌<◌, ◌^◌, length, map, filter, is_some, option_copied, OnOk, OnErr, IfErr, All, [], true, false, pos, IfOk, IfSome, ◌++◌, find};
 ghost use Rattle.std.specs.Prelude.{◌+◌, ◌+ℤ◌, unsigned_abs};
 ghost use Rattle.std.specs.List.{list_any, list_all, sum_by};
 ghost use Rattle.std.specs.Int.{int_min, int_max};
 ghost use Rattle.acc_base.specs.Numbers.{total};
-ghost use Rattle.std.specs.BTreeMap.{insert_entry, keys, get};
+ghost use Rattle.std.specs.BTreeMap.{keys, get};
 ghost use Rattle.acc_base.specs.Tables.{is_at, is_under, column_of, count_of, sum_of, least_of, greatest_of, parts_at, place_cmp, place_of, cell, best, put, drop_row};
-ghost use Rattle.acc_store.specs.Rows.{live, cells_at as cells_there, column_in, columns_of, one_in, part_in, IsRising, SumsFit, IsUp, AreFit, IsFit, below, write as written_by, written, IsNarrow, has_entry, has_room, KeepsEntries, row_of as row_with, with_row};
+ghost use Rattle.acc_store.specs.Rows.{live, cells_at as cells_there, column_in, columns_of, one_in, part_in, IsRising, SumsFit, IsUp, AreFit, IsFit, below, write as written_by, written, IsNarrow, has_entry, has_room, has_room_at, KeepsRoom, is_blank_at as is_blank_there, row_of as row_with, with_row};
 
-use crate::inline::Inline;
 use crate::places::Place;
+use crate::slots::Slot;
 use crate::writes::Write;
 use acc_base::sequences::Seq;
 use acc_base::tables::{Key, Row};
@@ -17,30 +17,28 @@ use std::alloc::{AllocError, Global};
 use std::collections::BTreeMap;
 use std::collections::btree_map::Range;
 
-/// The columns of a row.
-type Cells = Inline<i128, 12>;
-
-/// Entries in the order of their places; one without cells is blank.
-pub type Entries = BTreeMap<Place, Option<Cells>>;
+/// Entries in the order of their places; a blank one is no row.
+pub type Entries = BTreeMap<Place, Slot>;
 
 /// The columns of the row at a key.
-fn cells_at<'a>(entries: &'a Entries, table: u32, key: &[i64]) -> Option<&'a Cells>
+fn cells_at<'a>(entries: &'a Entries, table: u32, key: &[i64]) -> Option<&'a [i128]>
     requires short { length key.now ≤ 6 }
-    ensures { option_copied result ≡ cells_there (table, key.now) entries.now.entries }
+    ensures value { option_copied result ≡ cells_there (table, key.now) entries.now.entries }
+    ensures few { IfSome (option_copied result) (λ cols. length cols ≤ 12) }
 {
     let place = Place::new(table, key);
     match entries.get(&place) {
-        Some(Some(cells)) => Some(cells),
-        _ => None,
+        Some(slot) => slot.cells(),
+        None => None,
     }
 }
 
 /// A column, which is 0 where there is none.
-fn column(cells: Option<&Cells>, col: u32) -> i128
+fn column(cells: Option<&[i128]>, col: u32) -> i128
     ensures { result ≡ column_in col (option_copied cells.entry) }
 {
     match cells {
-        Some(cells) => match cells.as_slice().get(col as usize) {
+        Some(cells) => match cells.get(col as usize) {
             Some(value) => *value,
             None => 0,
         },
@@ -66,17 +64,6 @@ pub fn column_at(entries: &Entries, table: u32, key: &[i64], col: u32) -> i128
     column(cells_at(entries, table, key), col)
 }
 
-/// The columns of an entry, if there is one.
-fn slice_of<'a>(cells: Option<&'a Cells>) -> Option<&'a [i128]>
-    ensures value { option_copied result ≡ option_copied cells.entry }
-    ensures few { IfSome (option_copied result) (λ cols. length cols ≤ 12) }
-{
-    match cells {
-        Some(cells) => Some(cells.as_slice()),
-        None => None,
-    }
-}
-
 /// The columns of the row at a key.
 pub fn columns_at<'a>(entries: &'a Entries, table: u32, key: &[i64]) -> Option<&'a [i128]>
     requires short { length key.now ≤ 6 }
@@ -84,15 +71,11 @@ pub fn columns_at<'a>(entries: &'a Entries, table: u32, key: &[i64]) -> Option<&
     ensures value { option_copied result ≡ columns_of (find (is_at table key.now) (live entries.now.entries)) }
     ensures few { IfSome (option_copied result) (λ cols. length cols ≤ 12) }
 {
-    slice_of(cells_at(entries, table, key))
+    cells_at(entries, table, key)
 }
 
 /// The entries whose keys begin with a prefix.
-pub fn entries_below<'a>(
-    entries: &'a Entries,
-    table: u32,
-    prefix: &[i64],
-) -> Range<'a, Place, Option<Cells>>
+pub fn entries_below<'a>(entries: &'a Entries, table: u32, prefix: &[i64]) -> Range<'a, Place, Slot>
     requires short { length prefix.now ≤ 6 }
     requires fit { AreFit entries.now.entries }
     ensures below { result ≡ below table prefix.now entries.now.entries }
@@ -103,103 +86,113 @@ pub fn entries_below<'a>(
     entries.range(start..past)
 }
 
-/// Replaces what stands at a place.
-fn replace(entries: &mut Entries, place: Place, cells: Option<Cells>)
-    requires there { has_entry entries.old.entries place ≡ true }
-    ensures entries { entries.new.entries ≡ insert_entry place_cmp entries.old.entries place cells }
-    ensures keys { keys entries.new ≡ keys entries.old }
-    ensures up { IsUp entries.new.entries }
-    ensures was_up { IsUp entries.old.entries }
-{
-    match entries.insert(place, cells) {
-        Ok(_) => {}
-        Err(_) => {}
-    }
-}
-
-/// Makes a blank entry.
-fn make_blank(entries: &mut Entries, place: Place) -> Result<(), AllocError>
+/// Makes a blank entry with room for some cells.
+fn make_blank(
+    entries: &mut Entries,
+    alloc: Global,
+    place: Place,
+    room: usize,
+) -> Result<(), AllocError>
     requires fit { IsFit place }
     requires absent { has_entry entries.old.entries place ≡ false }
+    requires up { IsUp entries.old.entries }
     requires are_fit { AreFit entries.old.entries }
     ensures rows { live entries.new.entries ≡ live entries.old.entries }
-    ensures there { OnOk result (has_entry entries.new.entries place ≡ true) }
-    ensures kept { KeepsEntries entries.old.entries entries.new.entries }
+    ensures room { OnOk result (has_room_at entries.new.entries place room ≡ true) }
+    ensures kept { KeepsRoom entries.old.entries entries.new.entries }
     ensures up { IsUp entries.new.entries }
     ensures fit { AreFit entries.new.entries }
 {
-    entries.insert(place, None)?;
+    let slot = Slot::blank(alloc, room)?;
+    entries.insert(place, slot)?;
     Ok(())
 }
 
-/// Makes a blank entry, where there is none.
-fn make_entry(entries: &mut Entries, place: Place) -> Result<(), AllocError>
+/// Makes room for some cells in the entry at a place, if there is one.
+fn widen(entries: &mut Entries, place: &Place, room: usize) -> Result<(), AllocError>
+    requires are_fit { AreFit entries.old.entries }
+    ensures rows { live entries.new.entries ≡ live entries.old.entries }
+    ensures room { has_entry entries.old.entries place.now ≡ true → OnOk result (has_room_at entries.new.entries place.now room ≡ true) }
+    ensures kept { KeepsRoom entries.old.entries entries.new.entries }
+    ensures up { IsUp entries.new.entries }
+    ensures fit { AreFit entries.new.entries }
+{
+    match entries.get_mut(place) {
+        Some(slot) => slot.make_room(room),
+        None => Ok(()),
+    }
+}
+
+/// Makes room for some cells at a place.
+fn make_room_at(
+    entries: &mut Entries,
+    alloc: Global,
+    place: Place,
+    room: usize,
+) -> Result<(), AllocError>
     requires fit { IsFit place }
     requires up { IsUp entries.old.entries }
     requires are_fit { AreFit entries.old.entries }
     ensures rows { live entries.new.entries ≡ live entries.old.entries }
-    ensures there { OnOk result (has_entry entries.new.entries place ≡ true) }
-    ensures kept { KeepsEntries entries.old.entries entries.new.entries }
+    ensures room { OnOk result (has_room_at entries.new.entries place room ≡ true) }
+    ensures kept { KeepsRoom entries.old.entries entries.new.entries }
     ensures up { IsUp entries.new.entries }
     ensures fit { AreFit entries.new.entries }
 {
     if entries.contains_key(&place) {
-        Ok(())
+        widen(entries, &place, room)
     } else {
-        make_blank(entries, place)
+        make_blank(entries, alloc, place, room)
     }
 }
 
 /// Makes room for a write.
-fn make_room_for(entries: &mut Entries, write: &Write) -> Result<(), AllocError>
+fn make_room_for(entries: &mut Entries, alloc: Global, write: &Write) -> Result<(), AllocError>
     requires narrow { IsNarrow write.now }
     requires up { IsUp entries.old.entries }
     requires are_fit { AreFit entries.old.entries }
     ensures rows { live entries.new.entries ≡ live entries.old.entries }
     ensures room { OnOk result (has_room entries.new.entries write.now ≡ true) }
-    ensures kept { KeepsEntries entries.old.entries entries.new.entries }
+    ensures kept { KeepsRoom entries.old.entries entries.new.entries }
     ensures up { IsUp entries.new.entries }
     ensures fit { AreFit entries.new.entries }
 {
     match write {
-        Write::Row(row) => make_entry(entries, Place::new(row.table, row.key.parts.as_slice())),
+        Write::Row(row) => {
+            let place = Place::new(row.table, row.key.parts.as_slice());
+            make_room_at(entries, alloc, place, row.cols.len())
+        }
         Write::Gone(_, _) => Ok(()),
     }
 }
 
 /// How many rows an entry is.
-fn rows_in(cells: &Option<Cells>) -> u64
-    ensures { result ≡ one_in cells.now }
+fn rows_in(slot: &Slot) -> u64
+    ensures { result ≡ one_in slot.now.cells }
 {
-    match cells {
+    match slot.cells() {
         Some(_) => 1,
         None => 0,
     }
 }
 
 /// How many of the entries are rows.
-fn count_live(entries: Range<'_, Place, Option<Cells>>) -> u64
+fn count_live(entries: Range<'_, Place, Slot>) -> u64
     requires few { length entries < 2 ^ 63 }
     ensures { result ≡ length (live entries.entry) }
 {
     let mut count = 0;
-    for (_, cells) in entries {
-        count += rows_in(cells);
+    for (_, slot) in entries {
+        count += rows_in(slot);
     }
     count
 }
 
 /// A column of an entry.
-fn value(cells: &Option<Cells>, col: u32) -> i128
-    ensures { result ≡ column_in col cells.now }
+fn value(slot: &Slot, col: u32) -> i128
+    ensures { result ≡ column_in col slot.now.cells }
 {
-    match cells {
-        Some(cells) => match cells.as_slice().get(col as usize) {
-            Some(value) => *value,
-            None => 0,
-        },
-        None => 0,
-    }
+    column(slot.cells(), col)
 }
 
 /// A sum, which fits.
@@ -212,34 +205,34 @@ fn plus(a: i128, b: i128) -> i128
 }
 
 /// The sum of a column over the entries.
-fn sum_live(entries: Range<'_, Place, Option<Cells>>, col: u32) -> i128
+fn sum_live(entries: Range<'_, Place, Slot>, col: u32) -> i128
     requires fits { sum_by (λ r. unsigned_abs (cell col r)) (live entries) ≤ 2 ^ 120 }
     ensures { result ≡ total (map (cell col) (live entries.entry)) }
 {
     let mut sum = 0;
-    for (_, cells) in entries {
-        sum = plus(sum, value(cells, col));
+    for (_, slot) in entries {
+        sum = plus(sum, value(slot, col));
     }
     sum
 }
 
 /// The part at a place of the key of an entry that is no blank.
-fn part_at(place: &Place, cells: &Option<Cells>, at: usize) -> Option<i64>
-    ensures { result ≡ part_in at place.now cells.now }
+fn part_at(place: &Place, slot: &Slot, at: usize) -> Option<i64>
+    ensures { result ≡ part_in at place.now slot.now.cells }
 {
-    match cells {
+    match slot.cells() {
         Some(_) => place.key().get(at).copied(),
         None => None,
     }
 }
 
 /// The least part at a place, where they rise.
-fn least_live(entries: Range<'_, Place, Option<Cells>>, at: usize) -> i64
+fn least_live(entries: Range<'_, Place, Slot>, at: usize) -> i64
     requires rising { IsRising (parts_at at (live entries)) }
     ensures { result ≡ best int_min (parts_at at (live entries.entry)) }
 {
-    for (place, cells) in entries {
-        if let Some(part) = part_at(place, cells, at) {
+    for (place, slot) in entries {
+        if let Some(part) = part_at(place, slot, at) {
             return part;
         }
     }
@@ -247,31 +240,34 @@ fn least_live(entries: Range<'_, Place, Option<Cells>>, at: usize) -> i64
 }
 
 /// The greatest part at a place, where they rise.
-fn greatest_live(entries: Range<'_, Place, Option<Cells>>, at: usize) -> i64
+fn greatest_live(entries: Range<'_, Place, Slot>, at: usize) -> i64
     requires rising { IsRising (parts_at at (live entries)) }
     ensures { result ≡ best int_max (parts_at at (live entries.entry)) }
 {
     let mut rest = entries;
-    while let Some((place, cells)) = rest.next_back() {
-        if let Some(part) = part_at(place, cells, at) {
+    while let Some((place, slot)) = rest.next_back() {
+        if let Some(part) = part_at(place, slot, at) {
             return part;
         }
     }
     0
 }
 
-/// Puts a row, for which there is an entry.
+/// Puts a row, for which there is room.
 fn put_row(entries: &mut Entries, row: &Row)
     requires fit { IsFit (place_of row.now) }
     requires columns { length row.now.cols ≤ 12 }
-    requires there { has_entry entries.old.entries (place_of row.now) ≡ true }
+    requires room { has_room_at entries.old.entries (place_of row.now) (length row.now.cols) ≡ true }
+    requires up { IsUp entries.old.entries }
     ensures rows { live entries.new.entries ≡ put row.now (live entries.old.entries) }
     ensures keys { keys entries.new ≡ keys entries.old }
+    ensures kept { KeepsRoom entries.old.entries entries.new.entries }
     ensures up { IsUp entries.new.entries }
 {
     let place = Place::new(row.table, row.key.parts.as_slice());
-    let cells = Inline::from_slice(0, row.cols.as_slice());
-    replace(entries, place, Some(cells));
+    if let Some(slot) = entries.get_mut(&place) {
+        slot.put(row.cols.as_slice());
+    }
 }
 
 /// Drops a row, if there is one, and leaves a blank.
@@ -280,11 +276,12 @@ fn drop_one(entries: &mut Entries, table: u32, key: &[i64])
     requires up { IsUp entries.old.entries }
     ensures rows { live entries.new.entries ≡ drop_row table key.now (live entries.old.entries) }
     ensures keys { keys entries.new ≡ keys entries.old }
+    ensures kept { KeepsRoom entries.old.entries entries.new.entries }
     ensures up { IsUp entries.new.entries }
 {
     let place = Place::new(table, key);
-    if entries.contains_key(&place) {
-        replace(entries, place, None);
+    if let Some(slot) = entries.get_mut(&place) {
+        slot.clear();
     }
 }
 
@@ -295,11 +292,22 @@ fn write_one(entries: &mut Entries, write: &Write)
     requires up { IsUp entries.old.entries }
     ensures rows { live entries.new.entries ≡ written_by write.now (live entries.old.entries) }
     ensures keys { keys entries.new ≡ keys entries.old }
+    ensures kept { KeepsRoom entries.old.entries entries.new.entries }
     ensures up { IsUp entries.new.entries }
 {
     match write {
         Write::Row(row) => put_row(entries, row),
         Write::Gone(table, key) => drop_one(entries, *table, key.parts.as_slice()),
+    }
+}
+
+/// Whether there is a blank entry at a place.
+fn is_blank_at(entries: &Entries, place: &Place) -> bool
+    ensures { result ≡ is_blank_there entries.now.entries place.now }
+{
+    match entries.get(place) {
+        Some(slot) => slot.cells().is_none(),
+        None => false,
     }
 }
 
@@ -313,7 +321,7 @@ fn forget(entries: &mut Entries, table: u32, key: &[i64])
     ensures fit { AreFit entries.new.entries }
 {
     let place = Place::new(table, key);
-    if let Some(None) = entries.get(&place) {
+    if is_blank_at(entries, &place) {
         entries.remove(&place);
     }
 }
@@ -338,7 +346,7 @@ fn forget_for(entries: &mut Entries, write: &Write, were_put: bool)
 }
 
 /// Makes room for writes.
-fn make_room(entries: &mut Entries, writes: &[Write]) -> Result<(), AllocError>
+fn make_room(entries: &mut Entries, alloc: Global, writes: &[Write]) -> Result<(), AllocError>
     requires narrow { All IsNarrow writes.now }
     requires up { IsUp entries.old.entries }
     requires are_fit { AreFit entries.old.entries }
@@ -348,7 +356,7 @@ fn make_room(entries: &mut Entries, writes: &[Write]) -> Result<(), AllocError>
     ensures fit { AreFit entries.new.entries }
 {
     for write in writes {
-        make_room_for(entries, write)?;
+        make_room_for(entries, alloc, write)?;
     }
     Ok(())
 }
@@ -383,7 +391,11 @@ fn forget_all(entries: &mut Entries, writes: &[Write], were_put: bool)
 }
 
 /// Does all writes, or none.
-pub fn apply_writes(entries: &mut Entries, writes: &[Write]) -> Result<(), AllocError>
+pub fn apply_writes(
+    entries: &mut Entries,
+    alloc: Global,
+    writes: &[Write],
+) -> Result<(), AllocError>
     requires narrow { All IsNarrow writes.now }
     requires up { IsUp entries.old.entries }
     requires are_fit { AreFit entries.old.entries }
@@ -392,7 +404,7 @@ pub fn apply_writes(entries: &mut Entries, writes: &[Write]) -> Result<(), Alloc
     ensures up { IsUp entries.new.entries }
     ensures fit { AreFit entries.new.entries }
 {
-    let room = make_room(entries, writes);
+    let room = make_room(entries, alloc, writes);
     let is_room = room.is_ok();
     if is_room {
         write_all(entries, writes);
@@ -440,12 +452,12 @@ pub fn greatest_below(entries: &Entries, table: u32, prefix: &[i64]) -> i64
     greatest_live(entries_below(entries, table, prefix), prefix.len())
 }
 
-/// The row of an entry that is not blank.
-fn row_of(alloc: Global, place: &Place, cells: &Cells) -> Result<Row, AllocError>
+/// The row of these cells at a place.
+fn row_of(alloc: Global, place: &Place, cells: &[i128]) -> Result<Row, AllocError>
     ensures { IfOk result (λ r. r ≡ row_with place.now cells.now) }
 {
     let parts = Vec::from_slice(alloc, place.key())?;
-    let cols = Vec::from_slice(alloc, cells.as_slice())?;
+    let cols = Vec::from_slice(alloc, cells)?;
     Ok(Row {
         table: place.table(),
         key: Key {
@@ -460,11 +472,11 @@ fn push_row(
     rows: &mut Vec<Row>,
     alloc: Global,
     place: &Place,
-    cells: &Option<Cells>,
+    slot: &Slot,
 ) -> Result<(), AllocError>
-    ensures { OnOk result (rows.new.items ≡ rows.old.items ++ with_row place.now cells.now []) }
+    ensures { OnOk result (rows.new.items ≡ rows.old.items ++ with_row place.now slot.now.cells []) }
 {
-    match cells {
+    match slot.cells() {
         Some(cells) => {
             rows.push(row_of(alloc, place, cells)?)?;
             Ok(())
@@ -478,8 +490,8 @@ pub fn rows_of(entries: &Entries, alloc: Global) -> Result<Vec<Row>, AllocError>
     ensures { IfOk result (λ rows. rows.items ≡ live entries.now.entries) }
 {
     let mut rows = Vec::new(alloc);
-    for (place, cells) in entries {
-        push_row(&mut rows, alloc, place, cells)?;
+    for (place, slot) in entries {
+        push_row(&mut rows, alloc, place, slot)?;
     }
     Ok(rows)
 }

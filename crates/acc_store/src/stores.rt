@@ -92,6 +92,7 @@ pub trait Store {
 /// Rows in an ordered map. A look-up takes time in the logarithm of the number of rows; `count` and `sum` walk the rows of the prefix.
 #[derive(Drop)]
 pub struct MapStore {
+    alloc: Global,
     entries: Entries,
 }
 
@@ -113,6 +114,7 @@ impl MapStore {
         ensures { result ≡ [] }
     {
         MapStore {
+            alloc,
             entries: BTreeMap::new(alloc),
         }
     }
@@ -150,7 +152,7 @@ impl Store for MapStore {
     }
 
     fn apply(&mut self, writes: &[Write]) -> Result<(), StoreError> {
-        apply_writes(&mut self.entries, writes)?;
+        apply_writes(&mut self.entries, self.alloc, writes)?;
         Ok(())
     }
 

@@ -1,0 +1,81 @@
+//! What stands at a place.
+ghost use Rattle.std.specs.Prelude.{◌≡◌, ◌≤◌, length, None, Some, IfOk, IfSome, OnOk, option_copied};
+
+use std::alloc::{AllocError, Global};
+use std::marker::Model;
+
+/// The cells of a row, or a blank. Either way the memory for cells stays.
+#[derive(Drop)]
+pub struct Slot {
+    cells: Vec<i128>,
+    is_row: bool,
+}
+
+impl Model for Slot {
+    ghost use Rattle.std.specs.Prelude.{vec_len, vec_capacity, ◌≤◌};
+    ghost use Rattle.acc_store.specs.Contents.{Content, cells_of};
+
+    ghost Value = { Content };
+
+    ghost view = { λ s. record { cells = cells_of s.is_row s.cells.items; room = vec_capacity s.cells } };
+
+    ghost invariant = { λ s. vec_len s.cells ≤ 12 };
+}
+
+impl Slot {
+    /// A blank with room for some cells.
+    pub fn blank(alloc: Global, room: usize) -> Result<Self, AllocError>
+        ensures blank { IfOk result (λ s. s.cells ≡ None) }
+        ensures room { IfOk result (λ s. room ≤ s.room) }
+    {
+        Ok(Slot {
+            cells: Vec::with_capacity(alloc, room)?,
+            is_row: false,
+        })
+    }
+
+    /// The cells, if they are a row's.
+    pub fn cells(&self) -> Option<&[i128]>
+        ensures value { option_copied result ≡ self.now.cells }
+        ensures few { IfSome (option_copied result) (λ cells. length cells ≤ 12) }
+    {
+        if self.is_row {
+            Some(self.cells.as_slice())
+        } else {
+            None
+        }
+    }
+
+    /// Makes room for some cells.
+    pub fn make_room(&mut self, room: usize) -> Result<(), AllocError>
+        ensures cells { self.new.cells ≡ self.old.cells }
+        ensures room { OnOk result (room ≤ self.new.room) }
+        ensures kept { self.old.room ≤ self.new.room }
+    {
+        let len = self.cells.len();
+        if len < room {
+            self.cells.reserve_exact(room - len)?;
+        }
+        Ok(())
+    }
+
+    /// Takes these cells, for which there is room.
+    pub fn put(&mut self, cells: &[i128])
+        requires few { length cells.now ≤ 12 }
+        requires room { length cells.now ≤ self.old.room }
+        ensures cells { self.new.cells ≡ Some cells.now }
+        ensures kept { self.old.room ≤ self.new.room }
+    {
+        self.cells.clear();
+        self.is_row = self.cells.extend_from_slice(cells).is_ok();
+    }
+
+    /// Makes it a blank.
+    pub fn clear(&mut self)
+        ensures cells { self.new.cells ≡ None }
+        ensures kept { self.old.room ≤ self.new.room }
+    {
+        self.cells.clear();
+        self.is_row = false;
+    }
+}
