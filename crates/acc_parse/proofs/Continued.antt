@@ -1,5 +1,5 @@
 -- Whole lines can be continued to a text of the grammar exactly where they are words that can be continued to a design's.
-use Rattle.std.proofs.Common.{◌≡◌, ℕ, ◌+◌, ◌-◌, ◌<◌, ◌≤◌, zero, suc, true, List, [], ◌∷◌, ◌++◌, length, take, drop, refl, sym, ap, subst, ◌∙◌, arith, append_assoc, length-append, Result, Ok, Err, IfOk}
+use Rattle.std.proofs.Common.{◌≡◌, ℕ, ◌+◌, ◌-◌, ◌≤◌, zero, suc, true, List, [], ◌∷◌, ◌++◌, length, take, drop, refl, sym, ap, subst, ◌∙◌, arith, append_assoc, length-append, Result, Ok, Err, IfOk}
 use Rattle.std.proofs.Math.Seq.{take-append-add, take-append_seam}
 use Rattle.std.proofs.lemmas.List.{take-append-le, take-append-drop, append-nil}
 use Rattle.acc_grammar.specs.Readers.{AllIn}
@@ -12,8 +12,7 @@ use Rattle.acc_lex.proofs.StatementWords.{InStatements, in_behind, lexed_in}
 use Rattle.acc_lex.proofs.WrittenWords.{written}
 use Rattle.acc_lex.proofs.LineFronts.{IsFed, fed_both, fed_parted}
 use Rattle.acc_syntax.specs.declared.trees.DesignTree.{DesignTree}
-use Rattle.acc_syntax.specs.Spelling.{spelled_design}
-use Rattle.acc_syntax.specs.Texts.{Begins as Opens, StopsAt}
+use Rattle.acc_syntax.specs.Texts.{IsSpelling, Begins as Opens, StopsAt}
 use Rattle.acc_syntax.proofs.SpelledStatements.{spelled_in}
 use Rattle.acc_parse.specs.declared.errors.ParseError.{ParseError}
 use Rattle.acc_parse.specs.Syntax.{IsGrammatical, Begins}
@@ -24,7 +23,7 @@ use Rattle.acc_parse.specs.GoodWords.{AreGood, GoesOn}
 -- the words that go on are written on one line
 pub can_go_on : (f : List ℕ) (v : List Word) → IsFed f → IsLexed f v → Opens v → Begins f
 can_go_on f v h k b =
-    let all : InStatements true (v ++ b.0) = subst (InStatements true) (sym b.3) (spelled_in b.1) in
+    let all : InStatements true (v ++ b.0) = subst (InStatements true) (sym b.3.spelled) (spelled_in b.1) in
     let more = written b.0 b.2 (in_behind true v b.0 (lexed_in f v k) all) in
     (more.0, record { words = v ++ b.0; lexed = fed_both f more.0 v b.0 h k more.1; tree = b.1; spelled = b.3 })
 
@@ -33,7 +32,7 @@ pub goes_on : (f : List ℕ) (v : List Word) → IsFed f → IsLexed f v → Beg
 goes_on f v h k b =
     let p = fed_parted f b.0 b.1.words h b.1.lexed in
     let is : v ++ p.back ≡ p.front ++ p.back = ap (λ (z : List Word). z ++ p.back) (one_reading f v p.front k p.first) in
-    (p.back, b.1.tree, can_spell b.0 p.back p.second, is ∙ sym p.whole ∙ b.1.spelled)
+    (p.back, b.1.tree, can_spell b.0 p.back p.second, subst (λ (z : List Word). IsSpelling z b.1.tree) (sym (is ∙ sym p.whole)) b.1.spelled)
 
 pub has_words : (f : List ℕ) → IsFed f → Begins f → (v : List Word) × IsLexed f v
 has_words f h b = let p = fed_parted f b.0 b.1.words h b.1.lexed in (p.front, p.first)
@@ -55,7 +54,7 @@ all_dropped (suc n) [] h = tt
 all_dropped (suc n) (w ∷ ws) h = all_dropped n ws h.1
 
 opens_less : (v more : List Word) → AllIn CanSpell more → Opens (v ++ more) → Opens v
-opens_less v more p b = (more ++ b.0, b.1, AllIn-append CanSpell more b.0 p b.2, sym (append_assoc v more b.0) ∙ b.3)
+opens_less v more p b = (more ++ b.0, b.1, AllIn-append CanSpell more b.0 p b.2, subst (λ (z : List Word). IsSpelling z b.1) (append_assoc v more b.0) b.3)
 
 opens_within : (v w : List Word) (good : ℕ) → AllIn CanSpell w → Opens (take good (v ++ w)) → length v ≤ good → Opens v
 opens_within v w good p b le =
@@ -82,9 +81,9 @@ part_goes f rest words v good h l g k =
 -- ---- good words by the tree, or by where there is none
 
 -- all words that spell a tree
-pub good_all : (words : List Word) (t : DesignTree) → words ≡ spelled_design t → AreGood words (length words)
-good_all words t e = record {
-  begins = (let whole : take (length words) words ≡ words = ap (take (length words)) (sym (append-nil words)) ∙ take-append_seam words [] in subst Opens (sym whole) ([], t, tt, append-nil words ∙ e));
+pub good_all : (words : List Word) (t : DesignTree) → IsSpelling words t → AreGood words (length words)
+good_all words t s = record {
+  begins = (let whole : take (length words) words ≡ words = ap (take (length words)) (sym (append-nil words)) ∙ take-append_seam words [] in subst Opens (sym whole) ([], t, tt, subst (λ (z : List Word). IsSpelling z t) (sym (append-nil words)) s));
   stops = λ lt. absurd (omega (arith, lt));
 }
 
@@ -93,10 +92,10 @@ pub good_front : (words : List Word) (k : ℕ) → StopsAt words k → AreGood w
 good_front words k s = record { begins = s.begins; stops = s.stops }
 
 -- a text whose words spell no tree
-pub no_tree : (text : List ℕ) (words : List Word) → IsLexed text words → ((t : DesignTree) → ¬ (words ≡ spelled_design t)) → ¬ IsGrammatical text
-no_tree text words l never g = never g.tree (one_reading text words g.words l g.lexed ∙ g.spelled)
+pub no_tree : (text : List ℕ) (words : List Word) → IsLexed text words → ((t : DesignTree) → ¬ IsSpelling words t) → ¬ IsGrammatical text
+no_tree text words l never g = never g.tree (subst (λ (z : List Word). IsSpelling z g.tree) (sym (one_reading text words g.words l g.lexed)) g.spelled)
 
 -- a text whose words spell a tree is of the grammar
-pub spelled_text : (text : List ℕ) (words : List Word) (r : Result DesignTree ParseError) → IsLexed text words → IfOk r (λ t. words ≡ spelled_design t) → IfOk r (λ t. (g : IsGrammatical text) × (g.tree ≡ t))
+pub spelled_text : (text : List ℕ) (words : List Word) (r : Result DesignTree ParseError) → IsLexed text words → IfOk r (IsSpelling words) → IfOk r (λ t. (g : IsGrammatical text) × (g.tree ≡ t))
 spelled_text text words (Ok t) l e = (record { words = words; lexed = l; tree = t; spelled = e }, refl)
 spelled_text text words (Err f) l e = tt

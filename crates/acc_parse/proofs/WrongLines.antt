@@ -1,12 +1,10 @@
 -- Looking for the line on which a text goes wrong: line by line, as long as the words that came are good.
-use Rattle.std.proofs.Common.{◌≡◌, ℕ, ◌+◌, ◌-◌, ◌<◌, ◌≤◌, suc, cond, List, [], ◌∷◌, ◌++◌, length, take, drop, refl, sym, ap, subst, ◌∙◌, ◌⊎◌, inl, inr, arith, append_assoc, length-append, add-one}
-use Rattle.std.specs.Prelude.{◌==◌}
+use Rattle.std.proofs.Common.{◌≡◌, ℕ, ◌+◌, ◌-◌, ◌<◌, ◌≤◌, List, [], ◌∷◌, ◌++◌, length, take, refl, sym, ap, subst, ◌∙◌, inl, inr, arith, append_assoc, length-append, add-one}
 use Rattle.std.proofs.lemmas.Bool.{cases_lt}
 use Rattle.acc_lex.specs.declared.words.Word.{Word}
 use Rattle.acc_lex.specs.Texts.{IsLexed, IsBadAt, Begins as Lexes}
 use Rattle.acc_lex.proofs.LineFronts.{IsFed, nothing_lexed, fed_line, with_feed, without_feed, fed_both, fed_parted}
 use Rattle.acc_lex.proofs.WholeTexts.{one_reading}
-use Rattle.acc_syntax.specs.Texts.{Begins as Opens}
 use Rattle.acc_parse.specs.Syntax.{IsGrammatical, Begins, feeds, first_lines, IsWrongAt}
 use Rattle.acc_parse.specs.GoodWords.{AreGood, GoesOn, Judges}
 use Rattle.acc_parse.proofs.FirstLines.{feeds_both, feeds_taken, behind_lines, later_lines, lines_of, lines_fed, lines_within, lines_past}

@@ -1,10 +1,10 @@
 -- Which texts are of the grammar, and on which line another text goes wrong.
-use Rattle.std.specs.Prelude.{◌≡◌, ℕ, zero, suc, ◌+◌, ◌-◌, ◌≤◌, ◌==◌, if◌then◌else◌, List, [], ◌∷◌, ◌++◌, count_by}
+use Rattle.std.specs.Prelude.{ℕ, zero, suc, ◌+◌, ◌-◌, ◌≤◌, ◌==◌, if◌then◌else◌, List, [], ◌∷◌, ◌++◌, count_by}
 use Rattle.acc_base.specs.declared.designs.Design.{Design}
 use Rattle.acc_lex.specs.declared.words.Word.{Word}
 use Rattle.acc_lex.specs.Texts.{IsLexed}
 use Rattle.acc_syntax.specs.declared.trees.DesignTree.{DesignTree}
-use Rattle.acc_syntax.specs.Spelling.{spelled_design}
+use Rattle.acc_syntax.specs.Texts.{IsSpelling}
 use Rattle.acc_parse.specs.declared.errors.ParseError.{ParseError}
 use Rattle.acc_parse.specs.declared.errors.ParseError.TheVariants as errors
 use Rattle.acc_parse.specs.Texts.{IsDesignText}
@@ -14,7 +14,7 @@ pub record IsGrammatical (text : List ℕ) : Type 0 where
   pub words : List Word
   pub lexed : IsLexed text words
   pub tree : DesignTree
-  pub spelled : words ≡ spelled_design tree
+  pub spelled : IsSpelling words tree
 
 -- some text of the grammar begins with these bytes
 abbrev pub Begins : List ℕ → Type 0

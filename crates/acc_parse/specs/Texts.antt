@@ -4,7 +4,7 @@ use Rattle.acc_base.specs.declared.designs.Design.{Design}
 use Rattle.acc_lex.specs.declared.words.Word.{Word}
 use Rattle.acc_lex.specs.Texts.{IsLexed}
 use Rattle.acc_syntax.specs.declared.trees.DesignTree.{DesignTree}
-use Rattle.acc_syntax.specs.Spelling.{spelled_design}
+use Rattle.acc_syntax.specs.Texts.{IsSpelling}
 use Rattle.acc_parse.specs.Scopes.{has_distinct_names}
 use Rattle.acc_parse.specs.Meanings.{design_of}
 use Rattle.acc_parse.specs.Limits.{is_text_kept}
@@ -20,7 +20,7 @@ pub record Means (tree : DesignTree) (d : Design) : Type 0 where
 -- the words spell a tree that stands for the design
 pub record AreWordsOf (words : List Word) (d : Design) : Type 0 where
   pub tree : DesignTree
-  pub spelled : words ≡ spelled_design tree
+  pub spelled : IsSpelling words tree
   pub meant : Means tree d
 
 -- the bytes are words of the design

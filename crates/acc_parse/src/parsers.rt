@@ -4,7 +4,7 @@ ghost use Rattle.acc_base.specs.declared.designs.Design.{Design as DesignValue};
 ghost use Rattle.acc_base.specs.Runnable.{IsRunnable};
 ghost use Rattle.acc_lex.specs.Texts.{IsLexed};
 ghost use Rattle.acc_syntax.specs.declared.trees.DesignTree.{DesignTree as TreeValue};
-ghost use Rattle.acc_syntax.specs.Spelling.{spelled_design};
+ghost use Rattle.acc_syntax.specs.Texts.{IsSpelling};
 ghost use Rattle.acc_parse.specs.Syntax.{IsGrammatical, IsWrongAt, Refuses};
 ghost use Rattle.acc_parse.specs.Texts.{IsDesignText};
 
@@ -21,9 +21,9 @@ use std::alloc::Global;
 /// The tree that is spelled by the words of a text.
 fn spelled_tree(alloc: Global, text: &[u8], words: &[Word]) -> Result<DesignTree, ParseError>
     requires { IsLexed text.now words.now }
-    ensures ok { IfOk result (λ t. words.now ≡ spelled_design t) }
+    ensures ok { IfOk result (IsSpelling words.now) }
     ensures err { IfErr result (Refuses text.now) }
-    ensures only { (t : TreeValue) → words.now ≡ spelled_design t
+    ensures only { (t : TreeValue) → IsSpelling words.now t
         → MatchResult result (λ found. found ≡ t) (λ e. e ≡ ParseError.Memory) }
 {
     match syntax(alloc, words) {

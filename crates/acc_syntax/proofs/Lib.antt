@@ -1,6 +1,8 @@
 pub mod Combinators
 pub mod Faults
+pub mod Following
 pub mod WordLaws
+pub mod OwnWords
 pub mod KindLaws
 pub mod SumLaws
 pub mod RowLaws

@@ -1,4 +1,5 @@
 pub mod Spelling
+pub mod OwnWords
 pub mod Texts
 pub mod WordReaders
 pub mod ValueReaders

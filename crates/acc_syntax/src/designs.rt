@@ -4,10 +4,11 @@ ghost use Rattle.acc_grammar.specs.Readers.{many};
 ghost use Rattle.acc_grammar.specs.Answers.{Gives};
 ghost use Rattle.acc_syntax.specs.declared.trees.DesignTree.{DesignTree};
 ghost use Rattle.acc_syntax.specs.Spelling.{spelled_design};
-ghost use Rattle.acc_syntax.specs.Texts.{Answers};
+ghost use Rattle.acc_syntax.specs.Texts.{Answers, IsSpelling};
 ghost use Rattle.acc_syntax.specs.WordReaders.{comes};
 ghost use Rattle.acc_syntax.specs.DesignReaders.{path_at, step_at, side_at, point_at, limit_at, type_head_at, type_at, design_at};
 
+use crate::own_words::words_before_stray_self;
 use crate::parsers::Parser;
 use crate::trees::{DesignTree, PathTree, PointTree, StepTree, TypeTree};
 use acc_base::sequences::{Seq, Text};
@@ -184,12 +185,17 @@ pub fn syntax(alloc: Global, words: &[Word]) -> Result<DesignTree, SyntaxError>
     // No other tree is spelled by the same words.
     ensures unique { (t u : DesignTree) → spelled_design t ≡ spelled_design u → t ≡ u }
     // What is spelled by some tree is answered with a tree, unless memory runs out.
-    ensures only { (t : DesignTree) → words.now ≡ spelled_design t → IsOkUnless result SyntaxError.Memory }
+    ensures only { (t : DesignTree) → IsSpelling words.now t → IsOkUnless result SyntaxError.Memory }
 {
-    let mut parser = Parser { alloc, words };
+    let end = words_before_stray_self(words);
+    let mut parser = Parser {
+        alloc,
+        words: &words[..end],
+    };
     match parser.design() {
+        Ok(_) if end < words.len() => Err(SyntaxError::At(end)),
         Ok(design) => Ok(design),
         Err(Fault::Memory) => Err(SyntaxError::Memory),
-        Err(Fault::Syntax) => Err(SyntaxError::At(words.len() - parser.words.len())),
+        Err(Fault::Syntax) => Err(SyntaxError::At(end - parser.words.len())),
     }
 }

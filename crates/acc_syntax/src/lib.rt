@@ -2,6 +2,7 @@
 #![tactic(auto)]
 
 pub mod designs;
+mod own_words;
 mod parsers;
 mod reads;
 mod statements;

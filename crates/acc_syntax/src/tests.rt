@@ -1,3 +1,5 @@
+mod own_words;
+
 use crate::designs::{SyntaxError, syntax};
 use crate::trees::{
     ActionTree, Cell, DesignTree, Place, ReadTree, Relation, Sum, TargetTree, Term, Variable,

@@ -1,6 +1,7 @@
 use Rattle.std.proofs.Common.{List, ℕ, sym, subst, ◌∙◌}
 use Rattle.acc_lex.specs.declared.words.Word.{Word}
 use Rattle.acc_lex.specs.Texts.{IsLexed}
+use Rattle.acc_syntax.specs.Texts.{IsSpelling}
 use Rattle.acc_parse.proofs.Continued.{spelled_text}
 use Rattle.acc_parse.proofs.WrongLines.{front_lexed, judged_front}
 use Rattle.acc_parse.proofs.parsers.tree_of.Goals as goal
@@ -28,4 +29,4 @@ pub returns-in-Ok-clause-only : goal.returns-in-Ok-clause-only
 returns-in-Ok-clause-only c =
     λ g.
     let same = c.in-Ok.ensures.only g.words g.lexed in
-    c.spelled_tree.ensures.only g.tree (c.as_slice.ensures ∙ (same ∙ g.spelled))
+    c.spelled_tree.ensures.only g.tree (subst (λ (z : List Word). IsSpelling z g.tree) (sym (c.as_slice.ensures ∙ same)) g.spelled)
