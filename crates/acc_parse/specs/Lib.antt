@@ -4,6 +4,7 @@ pub mod Additions
 pub mod Meanings
 pub mod Limits
 pub mod FormRules
+pub mod Played
 pub mod Texts
 pub mod Surroundings
 pub mod Syntax

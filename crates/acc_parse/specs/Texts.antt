@@ -9,9 +9,11 @@ use Rattle.acc_parse.specs.Scopes.{has_distinct_names}
 use Rattle.acc_parse.specs.Meanings.{design_of}
 use Rattle.acc_parse.specs.Limits.{is_text_kept}
 use Rattle.acc_parse.specs.FormRules.{is_formed}
+use Rattle.acc_parse.specs.Played.{is_played}
 
--- the tree stands for the design, and keeps the rules on names, the limits and the form rules
+-- the tree has only parts that are played, stands for the design, and keeps the rules on names, the limits and the form rules
 pub record Means (tree : DesignTree) (d : Design) : Type 0 where
+  pub played : is_played tree ≡ true
   pub design : design_of tree ≡ Some d
   pub distinct : has_distinct_names tree ≡ true
   pub kept : is_text_kept tree ≡ true

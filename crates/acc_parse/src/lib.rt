@@ -9,6 +9,7 @@ mod errors;
 mod lines;
 mod names;
 mod parsers;
+mod played;
 mod rows;
 mod rules;
 mod steps;

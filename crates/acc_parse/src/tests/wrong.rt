@@ -3,14 +3,16 @@ use super::{EACH, is_refused, replaced, wrong_line};
 use std::test::Fail;
 
 /// A piece of the right text, what stands there in its place, and the line on which the text goes wrong.
-const GRAMMAR: [(&str, &str, u64); 44] = [
+const GRAMMAR: [(&str, &str, u64); 46] = [
     ("table A 1 x y", "A 1 x y", 1),
     ("table A 1 x y", "tables A 1 x y", 1),
     ("table A 1 x y", "table 1 x y", 1),
     ("table A 1 x y", "table A x y", 1),
     ("table A 1 x y", "table A 1 x 2", 1),
     ("private D 1 z", "private D z 1", 3),
-    ("table A 1 x y", "always 1 <= 0", 1),
+    ("table A 1 x y", "always 1 <= 0", 2),
+    ("table B 2", "always 1 <=", 2),
+    ("table B 2", "always self <= 0", 2),
     ("type keep a v", "type", 4),
     ("type keep a v", "type keep a, v", 4),
     ("type keep a v", "type keep table v", 4),
@@ -94,7 +96,7 @@ const FORMS: [(&str, &str); 20] = [
 ];
 
 /// Reads of the language that are not played yet.
-const UNPLAYED: [(&str, &str); 7] = [
+const UNPLAYED: [(&str, &str); 12] = [
     ("has p = A[a]", "count p = B[a]"),
     ("has p = A[a]", "sum p = A[a].y"),
     ("has p = A[a]", "least p = B[a]"),
@@ -102,6 +104,14 @@ const UNPLAYED: [(&str, &str); 7] = [
     ("has p = A[a]", "take p"),
     ("has p = A[a]", "mul p = a v"),
     ("has p = A[a]", "div p = a 2"),
+    (
+        "private D 1 z",
+        "private D 1 z\nalways forall a : has A[a] <= 1",
+    ),
+    ("local p q", "local p q\nensures A[a].x = v + 1"),
+    ("local p q", "local p q\nrepairs has A[a] = 0"),
+    ("point mid", "point mid\nvariant v"),
+    ("point mid", "point mid\nholds has A[a] = 1"),
 ];
 
 #[test]
@@ -220,6 +230,19 @@ fn what_is_not_played(rt: HostRuntime) -> Result<(), Fail> {
     for (old, new) in UNPLAYED {
         let text = replaced(rt.alloc(), EACH, old, new)?;
         assert!(rt; is_refused(rt.alloc(), text.as_str())?, "{new}");
+    }
+    Ok(())
+}
+
+/// What stands behind the types.
+#[test]
+fn entries_and_hints_are_not_played(rt: HostRuntime) -> Result<(), Fail> {
+    for last in [
+        "entry keep.mid by keep.mid next : a = a",
+        "hint keep.mid undo v",
+    ] {
+        let text = format!(in rt.alloc(); "{EACH}{last}")?;
+        assert!(rt; is_refused(rt.alloc(), text.as_str())?, "{last}");
     }
     Ok(())
 }
