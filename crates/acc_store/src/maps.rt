@@ -82,8 +82,8 @@ pub fn entries_below<'a>(entries: &'a Entries, table: u32, prefix: &[i64]) -> Ra
     ensures few { length result < 2 ^ 63 }
 {
     let start = Place::new(table, prefix);
-    let past = Place::past(table, prefix);
-    entries.range(start..past)
+    let last = Place::last(table, prefix);
+    entries.range(start..=last)
 }
 
 /// Makes a blank entry with room for some cells.
