@@ -1,6 +1,5 @@
 -- Entries that are kept, and whose places are fit.
 use Rattle.std.proofs.Common.{◌≡◌, ℕ, ◌<◌, ◌≤◌, Bool, true, false, cond, List, [], ◌∷◌, length, get_or, ap, sym, ◌∙◌, refl, arith, Option, Some, None, is_some}
-use Rattle.std.specs.Prelude.{nat_le}
 use Rattle.std.specs.List.{list_all}
 use Rattle.std.specs.Cmp.Derive.{both_true}
 use Rattle.std.specs.Cmp.{first_so, second_so}
@@ -35,10 +34,6 @@ fit_remove test (e ∷ es) a = by (test e.0) (fit_remove test es a.1)
     by true ih = a.1
     by false ih = (a.0, ih)
 
--- room for more is room
-holds_less : (n a b : ℕ) → nat_le n a ≡ true → a ≤ b → nat_le n b ≡ true
-holds_less n a b h le = le-leb n b (let g = leb-true n a h in omega arith)
-
 -- a change at one place keeps the room if it does so there
 pub kept_by : (es fs : List Entry) (p : Place) (t : Content) → ((n : ℕ) → has_room_at es p n ≡ true → can_hold n (Some t) ≡ true) → ((q : Place) → entry_at q fs ≡ cond (at (place_cmp p) q) (Some t) (entry_at q es)) → KeepsRoom es fs
 kept_by es fs p t wide new q n room = by (at (place_cmp p) q) refl (new q)
@@ -50,15 +45,22 @@ kept_by es fs p t wide new q n room = by (at (place_cmp p) q) refl (new q)
     by false e f = ap (can_hold n) f ∙ room
 
 -- a place without an entry has no room
-pub wide_absent : (es : List Entry) (p : Place) (t : Content) → has_entry es p ≡ false → (n : ℕ) → has_room_at es p n ≡ true → can_hold n (Some t) ≡ true
-wide_absent es p t absent n room = by (entry_at p es) absent room
+pub none_absent : (es : List Entry) (p : Place) (n : ℕ) → has_entry es p ≡ false → has_room_at es p n ≡ true → ⊥
+none_absent es p n absent room = by (entry_at p es) absent room
   where
-    by : (o : Option Content) → is_some o ≡ false → can_hold n o ≡ true → can_hold n (Some t) ≡ true
+    by : (o : Option Content) → is_some o ≡ false → can_hold n o ≡ true → ⊥
     by None g h = cc
     by (Some s) g h = cc
 
+pub wide_absent : (es : List Entry) (p : Place) (t : Content) → has_entry es p ≡ false → (n : ℕ) → has_room_at es p n ≡ true → can_hold n (Some t) ≡ true
+wide_absent es p t absent n room = absurd (none_absent es p n absent room)
+
+-- the room of an entry that is there
+pub room_there : (es : List Entry) (p : Place) (s : Content) (n : ℕ) → entry_at p es ≡ Some s → has_room_at es p n ≡ true → n ≤ s.room
+room_there es p s n there room = leb-true n s.room (sym (ap (can_hold n) there) ∙ room)
+
 pub wide_there : (es : List Entry) (p : Place) (s t : Content) → entry_at p es ≡ Some s → s.room ≤ t.room → (n : ℕ) → has_room_at es p n ≡ true → can_hold n (Some t) ≡ true
-wide_there es p s t there more n room = holds_less n s.room t.room (sym (ap (can_hold n) there) ∙ room) more
+wide_there es p s t there more n room = let few = room_there es p s n there room in le-leb n t.room (omega arith)
 
 pub room_kept : (es fs : List Entry) → KeepsRoom es fs → (w : Write) → has_room es w ≡ true → has_room fs w ≡ true
 room_kept es fs kept (Puts r) h = kept (place_of r) (length r.cols) h

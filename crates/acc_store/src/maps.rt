@@ -1,5 +1,5 @@
 //! Rows in an ordered map: look-ups and changes.
-ghost use Rattle.std.specs.Prelude.{◌≡◌, ◌≤◌, ◌<◌, ◌^◌, length, map, filter, is_some, option_copied, OnOk, OnErr, IfErr, All, [], true, false, pos, IfOk, IfSome, ◌++◌, find};
+ghost use Rattle.std.specs.Prelude.{◌≡◌, ◌≤◌, ◌<◌, ◌^◌, length, map, filter, is_some, option_copied, OnOk, OnErr, IfErr, All, [], true, false, pos, IfOk, IfSome, IsOk, ◌++◌, find};
 ghost use Rattle.std.specs.Prelude.{◌+◌, ◌+ℤ◌, unsigned_abs};
 ghost use Rattle.std.specs.List.{list_any, list_all, sum_by};
 ghost use Rattle.std.specs.Int.{int_min, int_max};
@@ -82,8 +82,8 @@ pub fn entries_below<'a>(entries: &'a Entries, table: u32, prefix: &[i64]) -> Ra
     ensures few { length result < 2 ^ 63 }
 {
     let start = Place::new(table, prefix);
-    let past = Place::past(table, prefix);
-    entries.range(start..past)
+    let last = Place::last(table, prefix);
+    entries.range(start..=last)
 }
 
 /// Makes a blank entry with room for some cells.
@@ -113,6 +113,7 @@ fn widen(entries: &mut Entries, place: &Place, room: usize) -> Result<(), AllocE
     requires are_fit { AreFit entries.old.entries }
     ensures rows { live entries.new.entries ≡ live entries.old.entries }
     ensures room { has_entry entries.old.entries place.now ≡ true → OnOk result (has_room_at entries.new.entries place.now room ≡ true) }
+    ensures enough { has_room_at entries.old.entries place.now room ≡ true → IsOk result }
     ensures kept { KeepsRoom entries.old.entries entries.new.entries }
     ensures up { IsUp entries.new.entries }
     ensures fit { AreFit entries.new.entries }
@@ -135,6 +136,7 @@ fn make_room_at(
     requires are_fit { AreFit entries.old.entries }
     ensures rows { live entries.new.entries ≡ live entries.old.entries }
     ensures room { OnOk result (has_room_at entries.new.entries place room ≡ true) }
+    ensures enough { has_room_at entries.old.entries place room ≡ true → IsOk result }
     ensures kept { KeepsRoom entries.old.entries entries.new.entries }
     ensures up { IsUp entries.new.entries }
     ensures fit { AreFit entries.new.entries }
@@ -153,6 +155,7 @@ fn make_room_for(entries: &mut Entries, alloc: Global, write: &Write) -> Result<
     requires are_fit { AreFit entries.old.entries }
     ensures rows { live entries.new.entries ≡ live entries.old.entries }
     ensures room { OnOk result (has_room entries.new.entries write.now ≡ true) }
+    ensures enough { has_room entries.old.entries write.now ≡ true → IsOk result }
     ensures kept { KeepsRoom entries.old.entries entries.new.entries }
     ensures up { IsUp entries.new.entries }
     ensures fit { AreFit entries.new.entries }
@@ -352,6 +355,7 @@ fn make_room(entries: &mut Entries, alloc: Global, writes: &[Write]) -> Result<(
     requires are_fit { AreFit entries.old.entries }
     ensures rows { live entries.new.entries ≡ live entries.old.entries }
     ensures room { OnOk result (list_all (has_room entries.new.entries) writes.now ≡ true) }
+    ensures enough { list_all (has_room entries.old.entries) writes.now ≡ true → IsOk result }
     ensures up { IsUp entries.new.entries }
     ensures fit { AreFit entries.new.entries }
 {
@@ -390,7 +394,7 @@ fn forget_all(entries: &mut Entries, writes: &[Write], were_put: bool)
     }
 }
 
-/// Does all writes, or none.
+/// Does all writes, or none. Where there is room for all it takes no memory.
 pub fn apply_writes(
     entries: &mut Entries,
     alloc: Global,
@@ -401,6 +405,7 @@ pub fn apply_writes(
     requires are_fit { AreFit entries.old.entries }
     ensures ok { OnOk result (live entries.new.entries ≡ written writes.now (live entries.old.entries)) }
     ensures err { OnErr result (live entries.new.entries ≡ live entries.old.entries) }
+    ensures enough { list_all (has_room entries.old.entries) writes.now ≡ true → IsOk result }
     ensures up { IsUp entries.new.entries }
     ensures fit { AreFit entries.new.entries }
 {

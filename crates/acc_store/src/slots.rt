@@ -1,5 +1,5 @@
 //! What stands at a place.
-ghost use Rattle.std.specs.Prelude.{◌≡◌, ◌≤◌, length, None, Some, IfOk, IfSome, OnOk, option_copied};
+ghost use Rattle.std.specs.Prelude.{◌≡◌, ◌≤◌, length, None, Some, IfOk, IfSome, IsOk, OnOk, option_copied};
 
 use std::alloc::{AllocError, Global};
 use std::marker::Model;
@@ -46,10 +46,11 @@ impl Slot {
         }
     }
 
-    /// Makes room for some cells.
+    /// Makes room for some cells. Where there is room it takes no memory.
     pub fn make_room(&mut self, room: usize) -> Result<(), AllocError>
         ensures cells { self.new.cells ≡ self.old.cells }
         ensures room { OnOk result (room ≤ self.new.room) }
+        ensures enough { room ≤ self.old.room → IsOk result }
         ensures kept { self.old.room ≤ self.new.room }
     {
         let len = self.cells.len();

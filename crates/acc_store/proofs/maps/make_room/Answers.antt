@@ -15,6 +15,7 @@ loop-write-preserved c =
     record {
       rows = e.rows ∙ c.loop-write.invariant.rows;
       room = list_all_more (has_room es) ws i c.write-item.result c.loop-write-test.true ∙ both_true before (ap (has_room es) (sym c.write-item.is) ∙ e.room);
+      kept = λ p n h. e.kept p n (c.loop-write.invariant.kept p n h);
       up = e.up;
       fit = e.fit;
     }
