@@ -1,19 +1,19 @@
 -- Reading one file more.
-use Rattle.std.proofs.Common.{◌≡◌, ◌<◌, ◌≤◌, ◌+◌, ℕ, List, [], ◌∷◌, ◌++◌, length, take, drop, map, get_or, None, Some, Vec, Global, string_bytes, sym, ap, ◌∙◌, subst, take-append-drop, arith}
-use Rattle.std.proofs.lemmas.List.{take_more, drop_more, map_push, map-append}
+use Rattle.std.proofs.Common.{◌≡◌, ◌<◌, ◌+◌, ℕ, List, [], ◌∷◌, ◌++◌, length, take, drop, map, get_or, Vec, Global, string_bytes, sym, ap, ◌∙◌, subst, take-append-drop, add-one, length-take-le, arith}
+use Rattle.std.proofs.lemmas.List.{take_more, drop_more, map_push, map-append, length-map}
 use Rattle.std.specs.Prelude.{String}
-use Rattle.acc_io.specs.Causes.{Rose}
+use Rattle.acc_io.specs.Counted.{after_given, after_files, after_refusal}
 use Rattle.acc_io.specs.Shelves.{Told, IsFile, IsRefused}
+use Rattle.acc_io.specs.declared.counts.Counts.{Counts}
 use Rattle.acc_io.specs.declared.shelf.ShelfError.{ShelfError}
-use Rattle.acc_io.specs.declared.shelf.ShelfError.TheVariants.{Failed, Absent, Long, Memory}
 use Rattle.acc_cli.specs.Files.{AreFiles, IsFirstRefused}
 
 -- what holds between two reads
-pub record SoFar (Count Held Faults Absences Files : Type 0) : Type 0 where
+pub record SoFar (Count Held Counted Given Files : Type 0) : Type 0 where
   pub count : Count
   pub held : Held
-  pub faults : Faults
-  pub absences : Absences
+  pub counted : Counted
+  pub given : Given
   pub files : Files
 
 AreFiles-push : (held : List ℕ → Told) (names files : List (List ℕ)) (name file : List ℕ) → AreFiles held names files → IsFile (held name) file → AreFiles held (names ++ name ∷ []) (files ++ file ∷ [])
@@ -35,31 +35,25 @@ AreFiles-more held held' names files files' i name file same lt is grown read la
     let here : IsFile (held (string_bytes name)) file.items = subst (λ h. IsFile (h (string_bytes name)) file.items) same last in
     rw (names_are, files_are) (AreFiles-push held _ _ _ _ read here)
 
--- a cause that stood in a part of the call stands in the call
-IsRefused-later : (told : Told) (fault missed fault' missed' : Type 0) (e : ShelfError) → (fault → fault') → (missed → missed') → IsRefused told fault missed e → IsRefused told fault' missed' e
-IsRefused-later told fault missed fault' missed' Failed f m h = f h
-IsRefused-later None fault missed fault' missed' Absent f m h = m h
-IsRefused-later (Some file) fault missed fault' missed' Absent f m h = h
-IsRefused-later None fault missed fault' missed' (Long n) f m h = (h.0, m h.1)
-IsRefused-later (Some file) fault missed fault' missed' (Long n) f m h = h
-IsRefused-later told fault missed fault' missed' Memory f m h = tt
-
-Rose-since : (first before now : ℕ) → before ≡ first → Rose before now → Rose first now
-Rose-since first before now same rose = subst (λ b. Rose b now) same rose
+-- one more read, which gave its file
+pub after_files-more : (n : ℕ) (first before now : Counts) → before ≡ after_files n first → now ≡ after_given before → now ≡ after_files (n + 1) first
+after_files-more n first before now counted last = last ∙ ap after_given counted ∙ sym (ap (λ k. after_files k first) (add-one n))
 
 -- the files before this one are given, and this one is refused
-pub IsFirstRefused-here : (held held' : List ℕ → Told) (names : List (String Global)) (files : List (Vec ℕ Global)) (i : ℕ) (name : String Global) (e : ShelfError) (f0 f1 f2 m0 m1 m2 : ℕ)
-    → held' ≡ held → f1 ≡ f0 → m1 ≡ m0 → i < length names → name ≡ get_or names i name
-    → AreFiles held (map string_bytes (take i names)) (map (λ v. v.items) files) → IsRefused (held' (string_bytes name)) (Rose f1 f2) (Rose m1 m2) e
-    → IsFirstRefused held (Rose f0 f2) (Rose m0 m2) (map string_bytes names) (string_bytes name) e
-IsFirstRefused-here held held' names files i name e f0 f1 f2 m0 m1 m2 same faults absences lt is read refused =
+pub IsFirstRefused-here : (held held' : List ℕ → Told) (names : List (String Global)) (files : List (Vec ℕ Global)) (i : ℕ) (name : String Global) (e : ShelfError) (first before now : Counts)
+    → held' ≡ held → before ≡ after_files i first → now ≡ after_refusal before e → i < length names → name ≡ get_or names i name
+    → AreFiles held (map string_bytes (take i names)) (map (λ v. v.items) files) → IsRefused (held' (string_bytes name)) e
+    → IsFirstRefused held first now (map string_bytes names) (string_bytes name) e
+IsFirstRefused-here held held' names files i name e first before now same counted last lt is read refused =
     let split : names ≡ take i names ++ name ∷ drop (i + 1) names =
     sym (take-append-drop i names) ∙ ap (λ r. take i names ++ r) (drop_more names i name lt ∙ ap (λ x. x ∷ drop (i + 1) names) (sym is)) in
+    let count : length (map string_bytes (take i names)) ≡ i = length-map (take i names) string_bytes ∙ length-take-le i names (omega arith) in
     record {
       before = map string_bytes (take i names);
       files = map (λ v. v.items) files;
       after = map string_bytes (drop (i + 1) names);
       place = ap (map string_bytes) split ∙ map-append string_bytes (take i names) (name ∷ drop (i + 1) names);
       read = read;
-      refused = IsRefused-later _ _ _ _ _ e (Rose-since f0 f1 f2 faults) (Rose-since m0 m1 m2 absences) (subst (λ h. IsRefused (h (string_bytes name)) (Rose f1 f2) (Rose m1 m2) e) same refused);
+      counted = last ∙ ap (λ c. after_refusal c e) (counted ∙ sym (ap (λ k. after_files k first) count));
+      refused = subst (λ h. IsRefused (h (string_bytes name)) e) same refused;
     }

@@ -2,6 +2,7 @@
 use Rattle.std.proofs.Common.{◌≡◌, ℕ, List, Option, None, Some, refl, sym, ◌∙◌, inl, inr}
 use Rattle.acc_base.specs.declared.machines.Event.{Event}
 use Rattle.acc_io.specs.Shelves.{Told}
+use Rattle.acc_io.specs.declared.counts.Counts.{Counts}
 use Rattle.acc_cli.specs.declared.words.Command.{Command}
 use Rattle.acc_cli.specs.declared.status.Ending.TheVariants.{Done}
 use Rattle.acc_cli.specs.declared.status.Status.{Status}
@@ -13,23 +14,23 @@ use Rattle.acc_cli.specs.Answered.{Answered}
 use Rattle.acc_cli.specs.Rows.{HasCauses}
 
 -- the causes where the status is the one that is meant
-meant_causes : (held : List ℕ → Told) (fault missed sink_fault : Type 0) (words : List (List ℕ)) (form : Option Command) (reply : Reply)
-    → command_of words ≡ form → MeansForm held fault missed words form reply → HasCauses held fault missed words sink_fault reply.status
-meant_causes held fault missed sink_fault words None reply is meant = record {
+meant_causes : (held : List ℕ → Told) (counts counts' : Counts) (sink_fault : Type 0) (words : List (List ℕ)) (form : Option Command) (reply : Reply)
+    → command_of words ≡ form → MeansForm held counts counts' words form reply → HasCauses held counts counts' words sink_fault reply.status
+meant_causes held counts counts' sink_fault words None reply is meant = record {
   usage = λ _. is;
   usage_only = λ _. inl meant.0;
   file = λ h. let e : Usage ≡ File = sym meant.0 ∙ h in cc;
   sink = λ h. let e : Usage ≡ Sink = sym meant.0 ∙ h in cc;
   ran = λ ending h. let e : Usage ≡ Ran ending = sym meant.0 ∙ h in cc;
 }
-meant_causes held fault missed sink_fault words (Some command) reply is (inl refuses) = record {
+meant_causes held counts counts' sink_fault words (Some command) reply is (inl refuses) = record {
   usage = λ h. let e : File ≡ Usage = sym refuses.0 ∙ h in cc;
   usage_only = λ h. let e : Some command ≡ None = sym is ∙ h in cc;
   file = λ _. record { command = command; form = is; name = refuses.2.0; error = refuses.2.1; first = refuses.2.2; text = reply.text; printed = refuses.2.3 };
   sink = λ h. let e : File ≡ Sink = sym refuses.0 ∙ h in cc;
   ran = λ ending h. let e : File ≡ Ran ending = sym refuses.0 ∙ h in cc;
 }
-meant_causes held fault missed sink_fault words (Some command) reply is (inr runs) = record {
+meant_causes held counts counts' sink_fault words (Some command) reply is (inr runs) = record {
   usage = λ h. let e : Ran runs.1 ≡ Usage = sym runs.3 ∙ h in cc;
   usage_only = λ h. let e : Some command ≡ None = sym is ∙ h in cc;
   file = λ h. let e : Ran runs.1 ≡ File = sym runs.3 ∙ h in cc;
@@ -38,10 +39,10 @@ meant_causes held fault missed sink_fault words (Some command) reply is (inr run
       record { command = command; form = is; files = runs.0; given = runs.2; said = record { ending = runs.1; text = reply.text; history = reply.history }; ending_is = same; meant = runs.4 };
 }
 
-sink_causes : (held : List ℕ → Told) (fault missed sink_fault : Type 0) (words : List (List ℕ)) (form : Option Command) (reply : Reply)
-    → command_of words ≡ form → MeansForm held fault missed words form reply → reply.status ≡ Ran Done → sink_fault → HasCauses held fault missed words sink_fault Sink
-sink_causes held fault missed sink_fault words None reply is meant done rose = (let e : Ran Done ≡ Usage = sym done ∙ meant.0 in cc)
-sink_causes held fault missed sink_fault words (Some command) reply is meant done rose = record {
+sink_causes : (held : List ℕ → Told) (counts counts' : Counts) (sink_fault : Type 0) (words : List (List ℕ)) (form : Option Command) (reply : Reply)
+    → command_of words ≡ form → MeansForm held counts counts' words form reply → reply.status ≡ Ran Done → sink_fault → HasCauses held counts counts' words sink_fault Sink
+sink_causes held counts counts' sink_fault words None reply is meant done rose = (let e : Ran Done ≡ Usage = sym done ∙ meant.0 in cc)
+sink_causes held counts counts' sink_fault words (Some command) reply is meant done rose = record {
   usage = λ h. cc;
   usage_only = λ h. let e : Some command ≡ None = sym is ∙ h in cc;
   file = λ h. cc;
@@ -49,17 +50,17 @@ sink_causes held fault missed sink_fault words (Some command) reply is meant don
   ran = λ ending h. cc;
 }
 
-pub causes_of : (held : List ℕ → Told) (fault missed sink_fault : Type 0) (words : List (List ℕ)) (old new : Option (List ℕ)) (status : Status) (history : List Event)
-    → Answered (Meant held fault missed words) old new sink_fault status history → HasCauses held fault missed words sink_fault status
-causes_of held fault missed sink_fault words old new status history (inl none) = record {
+pub causes_of : (held : List ℕ → Told) (counts counts' : Counts) (sink_fault : Type 0) (words : List (List ℕ)) (old new : Option (List ℕ)) (status : Status) (history : List Event)
+    → Answered (Meant held counts counts' words) old new sink_fault status history → HasCauses held counts counts' words sink_fault status
+causes_of held counts counts' sink_fault words old new status history (inl none) = record {
   usage = λ h. let e : Memory ≡ Usage = sym none.0 ∙ h in cc;
   usage_only = λ _. inr none.0;
   file = λ h. let e : Memory ≡ File = sym none.0 ∙ h in cc;
   sink = λ h. let e : Memory ≡ Sink = sym none.0 ∙ h in cc;
   ran = λ ending h. let e : Memory ≡ Ran ending = sym none.0 ∙ h in cc;
 }
-causes_of held fault missed sink_fault words old new status history (inr (meant, means, ends)) =
+causes_of held counts counts' sink_fault words old new status history (inr (meant, means, ends)) =
     elim ends.given_is [
-      | inl same ↦ rw same (meant_causes held fault missed sink_fault words (command_of words) meant refl means)
-      | inr sunk ↦ rw sunk.1 (sink_causes held fault missed sink_fault words (command_of words) meant refl means sunk.0 sunk.2)
+      | inl same ↦ rw same (meant_causes held counts counts' sink_fault words (command_of words) meant refl means)
+      | inr sunk ↦ rw sunk.1 (sink_causes held counts counts' sink_fault words (command_of words) meant refl means sunk.0 sunk.2)
     ]

@@ -1,6 +1,7 @@
 -- What is answered to a command line, where memory lasts and each byte can be written.
 use Rattle.std.specs.Prelude.{◌≡◌, ℕ, List, [], ◌∷◌, ◌⊎◌, Option, Some, None, codes}
 use Rattle.acc_io.specs.Shelves.{Told}
+use Rattle.acc_io.specs.declared.counts.Counts.{Counts}
 use Rattle.acc_io.specs.declared.shelf.ShelfError.{ShelfError}
 use Rattle.acc_cli.specs.declared.words.Command.{Command}
 use Rattle.acc_cli.specs.declared.words.Command.TheVariants as command
@@ -18,19 +19,19 @@ Means command.Play (design ∷ script ∷ order ∷ []) = PlaysFiles design scri
 Means _ _ = λ said. ⊥
 
 -- the first file that isn't given is refused
-abbrev pub RefusesFile : (List ℕ → Told) → Type 0 → Type 0 → List (List ℕ) → Reply → Type 0
-RefusesFile held fault missed names reply = (reply.status ≡ File) × (reply.history ≡ []) ×
-    ((name : List ℕ) × (error : ShelfError) × IsFirstRefused held fault missed names name error × SaysRefused name error reply.text)
+abbrev pub RefusesFile : (List ℕ → Told) → Counts → Counts → List (List ℕ) → Reply → Type 0
+RefusesFile held counts counts' names reply = (reply.status ≡ File) × (reply.history ≡ []) ×
+    ((name : List ℕ) × (error : ShelfError) × IsFirstRefused held counts counts' names name error × SaysRefused name error reply.text)
 
 -- all files are given
 abbrev pub Runs : (List ℕ → Told) → Command → List (List ℕ) → Reply → Type 0
 Runs held command names reply = (files : List (List ℕ)) × (ending : Ending) × AreFiles held names files × (reply.status ≡ Ran ending) × Means command files (record { ending = ending; text = reply.text; history = reply.history })
 
 -- The order of the refusals: the words, the files in the order of the words, and then the command's own.
-abbrev pub MeansForm : (List ℕ → Told) → Type 0 → Type 0 → List (List ℕ) → Option Command → Reply → Type 0
-MeansForm held fault missed words None reply = (reply.status ≡ Usage) × (reply.text ≡ line (codes "usage")) × (reply.history ≡ [])
-MeansForm held fault missed words (Some command) reply =
-    RefusesFile held fault missed (files_of command words) reply ⊎ Runs held command (files_of command words) reply
+abbrev pub MeansForm : (List ℕ → Told) → Counts → Counts → List (List ℕ) → Option Command → Reply → Type 0
+MeansForm held counts counts' words None reply = (reply.status ≡ Usage) × (reply.text ≡ line (codes "usage")) × (reply.history ≡ [])
+MeansForm held counts counts' words (Some command) reply =
+    RefusesFile held counts counts' (files_of command words) reply ⊎ Runs held command (files_of command words) reply
 
-abbrev pub Meant : (List ℕ → Told) → Type 0 → Type 0 → List (List ℕ) → Reply → Type 0
-Meant held fault missed words = MeansForm held fault missed words (command_of words)
+abbrev pub Meant : (List ℕ → Told) → Counts → Counts → List (List ℕ) → Reply → Type 0
+Meant held counts counts' words = MeansForm held counts counts' words (command_of words)

@@ -1,6 +1,7 @@
 -- When each status comes.
 use Rattle.std.specs.Prelude.{◌≡◌, ◌⊎◌, ℕ, List, Some, None}
 use Rattle.acc_io.specs.Shelves.{Told}
+use Rattle.acc_io.specs.declared.counts.Counts.{Counts}
 use Rattle.acc_io.specs.declared.shelf.ShelfError.{ShelfError}
 use Rattle.acc_cli.specs.declared.words.Command.{Command}
 use Rattle.acc_cli.specs.declared.status.Ending.{Ending}
@@ -12,12 +13,12 @@ use Rattle.acc_cli.specs.Meant.{Means}
 use Rattle.acc_cli.specs.Text.{Said}
 
 -- the words are a form, one of whose files isn't given
-pub record LacksFile (held : List ℕ → Told) (fault missed : Type 0) (words : List (List ℕ)) : Type 0 where
+pub record LacksFile (held : List ℕ → Told) (counts counts' : Counts) (words : List (List ℕ)) : Type 0 where
   pub command : Command
   pub form : command_of words ≡ Some command
   pub name : List ℕ
   pub error : ShelfError
-  pub first : IsFirstRefused held fault missed (files_of command words) name error
+  pub first : IsFirstRefused held counts counts' (files_of command words) name error
   -- so it isn't want of memory
   pub text : List ℕ
   pub printed : SaysRefused name error text
@@ -33,9 +34,9 @@ pub record EndsSo (held : List ℕ → Told) (words : List (List ℕ)) (ending :
   pub meant : Means command files said
 
 -- Want of memory alone is free.
-pub record HasCauses (held : List ℕ → Told) (fault missed : Type 0) (words : List (List ℕ)) (sink_fault : Type 0) (status : Status) : Type 0 where
+pub record HasCauses (held : List ℕ → Told) (counts counts' : Counts) (words : List (List ℕ)) (sink_fault : Type 0) (status : Status) : Type 0 where
   pub usage : status ≡ Usage → command_of words ≡ None
   pub usage_only : command_of words ≡ None → (status ≡ Usage) ⊎ (status ≡ Memory)
-  pub file : status ≡ File → LacksFile held fault missed words
+  pub file : status ≡ File → LacksFile held counts counts' words
   pub sink : status ≡ Sink → sink_fault
   pub ran : (ending : Ending) → status ≡ Ran ending → EndsSo held words ending

@@ -56,11 +56,10 @@ fn refusal_text(alloc: Global, name: &str, error: ShelfError) -> Result<Vec<u8>,
 // The answer to a command line.
 fn decide<H: Shelf>(alloc: Global, words: &[String], shelf: &mut H) -> Result<Answer, AllocError>
     ensures held { H.held shelf.new ≡ H.held shelf.old }
-    ensures faults { H.faults shelf.old ≤ H.faults shelf.new }
-    ensures absences { H.absences shelf.old ≤ H.absences shelf.new }
-    ensures clean { IfOk result (λ a. a.status ≡ Ran Done → AllGiven (H.faults shelf.old) (H.faults shelf.new) (H.absences shelf.old) (H.absences shelf.new)) }
-    ensures meant { IfOk result (λ a. Meant (H.held shelf.old) (Rose (H.faults shelf.old) (H.faults shelf.new))
-        (Rose (H.absences shelf.old) (H.absences shelf.new)) (map string_bytes words.now) (reply_of a)) }
+    ensures faults { (H.counts shelf.old).faults ≤ (H.counts shelf.new).faults }
+    ensures absences { (H.counts shelf.old).absences ≤ (H.counts shelf.new).absences }
+    ensures clean { IfOk result (λ a. a.status ≡ Ran Done → AllGiven (H.counts shelf.old) (H.counts shelf.new)) }
+    ensures meant { IfOk result (λ a. Meant (H.held shelf.old) (H.counts shelf.old) (H.counts shelf.new) (map string_bytes words.now) (reply_of a)) }
 {
     let Some(command) = words::command_of(words) else {
         return Ok(Answer {
@@ -90,14 +89,13 @@ fn decide<H: Shelf>(alloc: Global, words: &[String], shelf: &mut H) -> Result<An
 // Answers a command line.
 fn play<H: Shelf, K: Sink>(alloc: Global, words: &[String], shelf: &mut H, out: &mut K) -> Ended
     ensures held { H.held shelf.new ≡ H.held shelf.old }
-    ensures faults { H.faults shelf.old ≤ H.faults shelf.new }
-    ensures absences { H.absences shelf.old ≤ H.absences shelf.new }
+    ensures faults { (H.counts shelf.old).faults ≤ (H.counts shelf.new).faults }
+    ensures absences { (H.counts shelf.old).absences ≤ (H.counts shelf.new).absences }
     ensures sink_faults { K.faults out.old ≤ K.faults out.new }
-    ensures clean { result.status ≡ Ran Done → AllGiven (H.faults shelf.old) (H.faults shelf.new) (H.absences shelf.old) (H.absences shelf.new)
+    ensures clean { result.status ≡ Ran Done → AllGiven (H.counts shelf.old) (H.counts shelf.new)
         × (K.faults out.new ≡ K.faults out.old) }
     ensures answered { Answered
-        (Meant (H.held shelf.old) (Rose (H.faults shelf.old) (H.faults shelf.new))
-        (Rose (H.absences shelf.old) (H.absences shelf.new)) (map string_bytes words.now))
+        (Meant (H.held shelf.old) (H.counts shelf.old) (H.counts shelf.new) (map string_bytes words.now))
         (K.bytes out.old) (K.bytes out.new) (Rose (K.faults out.old) (K.faults out.new)) result.status result.history }
 {
     let Ok(answer) = decide(alloc, words, shelf) else {
@@ -124,19 +122,18 @@ fn play<H: Shelf, K: Sink>(alloc: Global, words: &[String], shelf: &mut H, out: 
 /// The text is made before its first byte is written. Want of memory (status 9) may come at any time, and then nothing was printed.
 pub fn acc<H: Shelf, K: Sink>(alloc: Global, words: &[String], shelf: &mut H, out: &mut K) -> Played
     ensures answered { IsCoded result.status (λ status. Answered
-        (Meant (H.held shelf.old) (Rose (H.faults shelf.old) (H.faults shelf.new))
-        (Rose (H.absences shelf.old) (H.absences shelf.new)) (map string_bytes words.now))
+        (Meant (H.held shelf.old) (H.counts shelf.old) (H.counts shelf.new) (map string_bytes words.now))
         (K.bytes out.old) (K.bytes out.new) (Rose (K.faults out.old) (K.faults out.new)) status result.history) }
     ensures causes { IsCoded result.status (λ status. HasCauses (H.held shelf.old)
-        (Rose (H.faults shelf.old) (H.faults shelf.new)) (Rose (H.absences shelf.old) (H.absences shelf.new))
+        (H.counts shelf.old) (H.counts shelf.new)
         (map string_bytes words.now) (Rose (K.faults out.old) (K.faults out.new)) status) }
     // Status 0 comes only where each read gave its file and no write failed.
-    ensures clean { result.status ≡ 0 → AllGiven (H.faults shelf.old) (H.faults shelf.new) (H.absences shelf.old) (H.absences shelf.new)
+    ensures clean { result.status ≡ 0 → AllGiven (H.counts shelf.old) (H.counts shelf.new)
         × (K.faults out.new ≡ K.faults out.old) }
     // The files are as before, and no count falls.
     ensures held { H.held shelf.new ≡ H.held shelf.old }
-    ensures faults { H.faults shelf.old ≤ H.faults shelf.new }
-    ensures absences { H.absences shelf.old ≤ H.absences shelf.new }
+    ensures faults { (H.counts shelf.old).faults ≤ (H.counts shelf.new).faults }
+    ensures absences { (H.counts shelf.old).absences ≤ (H.counts shelf.new).absences }
     ensures sink_faults { K.faults out.old ≤ K.faults out.new }
 {
     let ended = play(alloc, words, shelf, out);
