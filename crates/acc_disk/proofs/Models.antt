@@ -1,6 +1,6 @@
 -- What the clauses of a disk come to over several calls: a crash leaves an image of what stands, which is the synced
 -- bytes, the lowest and the highest length since the sync, and the ranges written since.
-use Rattle.std.proofs.Common.{ℕ, ◌<◌, ◌≤◌, List, ⊎_elim, length, take, ◌∙◌, subst, sym, arith}
+use Rattle.std.proofs.Common.{ℕ, ◌<◌, ◌≤◌, List, ⊎_elim, length, ◌∙◌, subst, sym, arith}
 use Rattle.std.proofs.lemmas.List.{length-take-le}
 use Rattle.acc_disk.specs.Crashes.{Torn, PartlyCut, Follows, LeavesNoMore, Only}
 use Rattle.acc_disk.specs.Standings.{Standing, settled, after_write, after_cut, IsImage}
