@@ -1,7 +1,10 @@
 //! The words of a design's text, read into a syntax tree: exactly what the grammar spells, and exactly where it stops.
 #![tactic(auto)]
 
+mod clauses;
 pub mod designs;
+mod entries;
+mod forms;
 mod parsers;
 mod reads;
 mod statements;
