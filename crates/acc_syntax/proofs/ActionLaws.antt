@@ -4,7 +4,6 @@ use Rattle.acc_lex.specs.declared.words.Sign.{Sign}
 use Rattle.acc_lex.specs.declared.words.Sign.TheVariants as sign
 use Rattle.acc_lex.specs.declared.words.Word.{Word}
 use Rattle.acc_lex.specs.declared.words.Word.TheVariants as word
-use Rattle.acc_lex.specs.Words.{CanSpell}
 use Rattle.acc_grammar.specs.Readers.{joined, many}
 use Rattle.acc_grammar.proofs.Exact.{bind_assoc, Exact, All, Free, seq_exact, trees_exact, same_exact, Or, ByHead}
 use Rattle.acc_grammar.proofs.Many.{Shrinks, item_shrinks, Runs, many_exact}
@@ -16,6 +15,7 @@ use Rattle.acc_syntax.specs.declared.trees.ActionTree.{ActionTree}
 use Rattle.acc_syntax.specs.declared.trees.ActionTree.TheVariants as action
 use Rattle.acc_syntax.specs.Spelling.{action_statement}
 use Rattle.acc_syntax.specs.StatementReaders.{put_at, del_at, set_at, add_at, action_at, starts_action}
+use Rattle.acc_syntax.proofs.Following.{CanFollow}
 use Rattle.acc_syntax.proofs.Combinators.{made_free, all_in}
 use Rattle.acc_syntax.proofs.WordLaws.{after_exact, closed_exact}
 use Rattle.acc_syntax.proofs.KindLaws.{Begun, or_kind, last_kind, begun_long}
@@ -27,41 +27,41 @@ use Rattle.acc_syntax.proofs.RowLaws.{place_exact, cell_exact, values_exact, val
 abbrev IsPut : ActionTree → Type 0
 IsPut t = (p : Place) × (vs : Option Sums) × (action.Put p vs ≡ t)
 
-put_exact : Exact CanSpell action_statement IsPut Free put_at
+put_exact : Exact CanFollow action_statement IsPut Free put_at
 unfolding put_at
 put_exact =
-    let values = closed_exact sign.End values_exact (λ vs rest. values_end vs _ refl refl (record { times = refl; signed = refl })) in
-    let whole = made_free (after_exact sign.Put (seq_exact place_exact values)) (λ p. action.Put p.0 p.1) action_statement (λ a p. refl) (λ a rest. (tt, tt)) in
+    let values = closed_exact sign.End refl values_exact (λ vs rest. values_end vs _ refl refl (record { times = refl; signed = refl })) in
+    let whole = made_free (after_exact sign.Put refl (seq_exact place_exact values)) (λ p. action.Put p.0 p.1) action_statement (λ a p. refl) (λ a rest. (tt, tt)) in
     trees_exact (same_exact (λ ws. simp bind_assoc) whole) (λ t p. (p.0.0, p.0.1, p.2)) (λ t q. ((q.0, q.1), (tt, tt), q.2))
 
 abbrev IsDel : ActionTree → Type 0
 IsDel t = (p : Place) × (action.Del p ≡ t)
 
-del_exact : Exact CanSpell action_statement IsDel Free del_at
+del_exact : Exact CanFollow action_statement IsDel Free del_at
 unfolding del_at
 del_exact =
-    let row = closed_exact sign.End place_exact (λ p rest. tt) in
-    let whole = made_free (after_exact sign.Del row) (λ p. action.Del p) action_statement (λ a p. refl) (λ a rest. tt) in
+    let row = closed_exact sign.End refl place_exact (λ p rest. tt) in
+    let whole = made_free (after_exact sign.Del refl row) (λ p. action.Del p) action_statement (λ a p. refl) (λ a rest. tt) in
     trees_exact (same_exact (λ ws. simp bind_assoc) whole) (λ t p. (p.0, p.2)) (λ t q. (q.0, tt, q.1))
 
 abbrev IsSet : ActionTree → Type 0
 IsSet t = (c : Cell) × (v : Sum) × (action.Set c v ≡ t)
 
-set_exact : Exact CanSpell action_statement IsSet Free set_at
+set_exact : Exact CanFollow action_statement IsSet Free set_at
 unfolding set_at
 set_exact =
-    let value = closed_exact sign.End sum_exact (λ v rest. sum_ends v _ (record { times = refl; signed = refl })) in
-    let whole = made_free (after_exact sign.Set (seq_exact cell_exact value)) (λ p. action.Set p.0 p.1) action_statement (λ a p. refl) (λ a rest. (tt, tt)) in
+    let value = closed_exact sign.End refl sum_exact (λ v rest. sum_ends v _ (record { times = refl; signed = refl })) in
+    let whole = made_free (after_exact sign.Set refl (seq_exact cell_exact value)) (λ p. action.Set p.0 p.1) action_statement (λ a p. refl) (λ a rest. (tt, tt)) in
     trees_exact (same_exact (λ ws. simp bind_assoc) whole) (λ t p. (p.0.0, p.0.1, p.2)) (λ t q. ((q.0, q.1), (tt, tt), q.2))
 
 abbrev IsAdd : ActionTree → Type 0
 IsAdd t = (c : Cell) × (v : Sum) × (action.Add c v ≡ t)
 
-add_exact : Exact CanSpell action_statement IsAdd Free add_at
+add_exact : Exact CanFollow action_statement IsAdd Free add_at
 unfolding add_at
 add_exact =
-    let value = closed_exact sign.End sum_exact (λ v rest. sum_ends v _ (record { times = refl; signed = refl })) in
-    let whole = made_free (after_exact sign.Add (seq_exact cell_exact value)) (λ p. action.Add p.0 p.1) action_statement (λ a p. refl) (λ a rest. (tt, tt)) in
+    let value = closed_exact sign.End refl sum_exact (λ v rest. sum_ends v _ (record { times = refl; signed = refl })) in
+    let whole = made_free (after_exact sign.Add refl (seq_exact cell_exact value)) (λ p. action.Add p.0 p.1) action_statement (λ a p. refl) (λ a rest. (tt, tt)) in
     trees_exact (same_exact (λ ws. simp bind_assoc) whole) (λ t p. (p.0.0, p.0.1, p.2)) (λ t q. ((q.0, q.1), (tt, tt), q.2))
 
 -- ---- an action of any kind
@@ -79,7 +79,7 @@ begun (action.Del p) = (_, refl)
 begun (action.Set c v) = (_, refl)
 begun (action.Add c v) = (_, refl)
 
-pub action_exact : Exact CanSpell action_statement All Free action_at
+pub action_exact : Exact CanFollow action_statement All Free action_at
 unfolding action_at
 action_exact =
     let kinds =
@@ -111,7 +111,7 @@ action_starts (action.Add c v) rest = refl
 pub action_shrinks : Shrinks action_at
 action_shrinks = item_shrinks action_exact starts_action action_head refl (λ t rest p g. action_starts t rest) (λ t p. begun_long begun t)
 
-pub actions_exact : Exact CanSpell (joined action_statement) All (Runs action_statement starts_action Free) (many starts_action action_at)
+pub actions_exact : Exact CanFollow (joined action_statement) All (Runs action_statement starts_action Free) (many starts_action action_at)
 actions_exact = trees_exact (many_exact action_exact starts_action action_head refl (λ t rest p g. action_starts t rest) (λ t p. begun_long begun t)) (λ t p. tt) (λ t q. all_in t)
 
 pub actions_end : (ts : List ActionTree) (rest : List Word) → starts_action rest ≡ false → Runs action_statement starts_action Free ts rest

@@ -2,7 +2,6 @@
 use Rattle.std.proofs.Common.{◌≡◌, true, false, List, [], ◌∷◌, ◌++◌, Option, Some, None, refl, sym, ap, subst, ◌∙◌, append_assoc, inl, inr}
 use Rattle.acc_lex.specs.declared.words.Sign.TheVariants as sign
 use Rattle.acc_lex.specs.declared.words.Word.{Word}
-use Rattle.acc_lex.specs.Words.{CanSpell}
 use Rattle.acc_grammar.specs.Readers.{joined, many}
 use Rattle.acc_grammar.proofs.Exact.{bind_assoc, Exact, All, Free, seq_exact, Made, made_exact, trees_exact, same_exact, Or, maybe_exact}
 use Rattle.acc_grammar.proofs.Many.{Shrinks, Runs}
@@ -13,6 +12,7 @@ use Rattle.acc_syntax.specs.declared.trees.LinRels.{LinRels}
 use Rattle.acc_syntax.specs.Spelling.{just, further, sum, relation_sign, lin_rel, guard}
 use Rattle.acc_syntax.specs.WordReaders.{comes, further_at}
 use Rattle.acc_syntax.specs.ValueReaders.{starts_sum, relation_at, lin_rel_at, lin_rels_at, guard_at}
+use Rattle.acc_syntax.proofs.Following.{CanFollow}
 use Rattle.acc_syntax.proofs.Combinators.{made_free, all_in}
 use Rattle.acc_syntax.proofs.WordLaws.{sign_exact, further_shrinks, furthers_exact, ends_before, furthers_end}
 use Rattle.acc_syntax.proofs.KindLaws.{Begun, or_kind, last_kind}
@@ -27,12 +27,12 @@ relation_word r = just (relation_sign r)
 relation_begun : Begun relation_word relation_sign
 relation_begun r = ([], refl)
 
-relation_exact : Exact CanSpell relation_word All Free relation_at
+relation_exact : Exact CanFollow relation_word All Free relation_at
 unfolding relation_at
 relation_exact =
-    let at_most = made_free (sign_exact sign.AtMost) (λ o. relation.AtMost) relation_word (λ a p. refl) (λ a rest. tt) in
-    let at_least = made_free (sign_exact sign.AtLeast) (λ o. relation.AtLeast) relation_word (λ a p. refl) (λ a rest. tt) in
-    let equal = made_free (sign_exact sign.Equal) (λ o. relation.Equal) relation_word (λ a p. refl) (λ a rest. tt) in
+    let at_most = made_free (sign_exact sign.AtMost refl) (λ o. relation.AtMost) relation_word (λ a p. refl) (λ a rest. tt) in
+    let at_least = made_free (sign_exact sign.AtLeast refl) (λ o. relation.AtLeast) relation_word (λ a p. refl) (λ a rest. tt) in
+    let equal = made_free (sign_exact sign.Equal refl) (λ o. relation.Equal) relation_word (λ a p. refl) (λ a rest. tt) in
     let kinds =
     or_kind relation_begun sign.AtMost at_most (λ t p. ap relation_sign p.2) refl (
     or_kind relation_begun sign.AtLeast at_least (λ t p. ap relation_sign p.2) refl (
@@ -59,7 +59,7 @@ lin_rel_heads r w more after g = sum_heads r.right w more after g
 left_ends : (r : Relation) (behind : List Word) (rest : List Word) → Stop ((relation_word r ++ behind) ++ rest)
 left_ends r behind rest = relation_stops r (behind ++ rest)
 
-pub lin_rel_exact : Exact CanSpell lin_rel All LinRelGoes lin_rel_at
+pub lin_rel_exact : Exact CanFollow lin_rel All LinRelGoes lin_rel_at
 unfolding lin_rel_at
 lin_rel_exact =
     let whole = made_exact (seq_exact sum_exact (seq_exact relation_exact sum_exact)) (λ p. record { left = p.0; relation = p.1.0; right = p.1.1 }) lin_rel LinRelGoes (λ a p. refl) (λ a rest g. g.1.1) (λ a rest p g. (sum_ends a.0 _ (left_ends a.1.0 (sum a.1.1) rest), (tt, g))) lin_rel_heads in
@@ -73,7 +73,7 @@ further_lin_rel_shrinks = further_shrinks lin_rel_exact
 abbrev LinRelsRun : List LinRelTree → List Word → Type 0
 LinRelsRun = Runs (further lin_rel) (comes sign.Comma) LinRelGoes
 
-further_lin_rels_exact : Exact CanSpell (joined (further lin_rel)) All LinRelsRun (many (comes sign.Comma) (further_at lin_rel_at))
+further_lin_rels_exact : Exact CanFollow (joined (further lin_rel)) All LinRelsRun (many (comes sign.Comma) (further_at lin_rel_at))
 further_lin_rels_exact = trees_exact (furthers_exact lin_rel_exact) (λ t p. tt) (λ t q. all_in t)
 
 abbrev lin_rels : LinRels → List Word
@@ -85,7 +85,7 @@ LinRelsGoes rs rest = LinRelGoes rs.first (joined (further lin_rel) rs.others ++
 lin_rels_heads : (rs : LinRels) (w : Word) (more after : List Word) → LinRelsGoes rs (w ∷ more) → LinRelsGoes rs (w ∷ after)
 lin_rels_heads rs w more after g = (seq_exact lin_rel_exact further_lin_rels_exact).heads (rs.first, rs.others) w more after g
 
-lin_rels_exact : Exact CanSpell lin_rels All LinRelsGoes lin_rels_at
+lin_rels_exact : Exact CanFollow lin_rels All LinRelsGoes lin_rels_at
 unfolding lin_rels_at
 lin_rels_exact =
     let whole = made_exact (seq_exact lin_rel_exact further_lin_rels_exact) (λ p. record { first = p.0; others = p.1 }) lin_rels LinRelsGoes (λ a p. refl) (λ a rest g. g) (λ a rest p g. g) lin_rels_heads in
@@ -113,7 +113,7 @@ lin_rel_starts r rest = ap starts_sum (append_assoc (sum r.left) (relation_word 
 lin_rels_start : (rs : LinRels) (rest : List Word) → starts_sum (lin_rels rs ++ rest) ≡ true
 lin_rels_start rs rest = ap starts_sum (append_assoc (lin_rel rs.first) (joined (further lin_rel) rs.others) rest) ∙ lin_rel_starts rs.first _
 
-pub guard_exact : Exact CanSpell guard All GuardGoes guard_at
+pub guard_exact : Exact CanFollow guard All GuardGoes guard_at
 unfolding guard_at
 guard_exact =
     let there = made_exact lin_rels_exact Some guard GuardGoes (λ a p. refl) (λ a rest g. g) (λ a rest p g. g) guard_heads in

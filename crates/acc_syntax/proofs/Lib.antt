@@ -1,5 +1,6 @@
 pub mod Combinators
 pub mod Faults
+pub mod Following
 pub mod WordLaws
 pub mod KindLaws
 pub mod SumLaws

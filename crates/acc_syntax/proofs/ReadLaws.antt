@@ -4,7 +4,6 @@ use Rattle.acc_lex.specs.declared.words.Sign.{Sign}
 use Rattle.acc_lex.specs.declared.words.Sign.TheVariants as sign
 use Rattle.acc_lex.specs.declared.words.Word.{Word}
 use Rattle.acc_lex.specs.declared.words.Word.TheVariants as word
-use Rattle.acc_lex.specs.Words.{CanSpell}
 use Rattle.acc_grammar.specs.Readers.{joined, many}
 use Rattle.acc_grammar.proofs.Exact.{bind_assoc, Exact, All, Free, seq_exact, made, trees_exact, same_exact, Or, ByHead}
 use Rattle.acc_grammar.proofs.Many.{Shrinks, item_shrinks, Runs, many_exact}
@@ -16,6 +15,7 @@ use Rattle.acc_syntax.specs.declared.trees.ReadTree.{ReadTree}
 use Rattle.acc_syntax.specs.declared.trees.ReadTree.TheVariants as read
 use Rattle.acc_syntax.specs.Spelling.{just, variable, place, cell, read_statement}
 use Rattle.acc_syntax.specs.ReadReaders.{row_read_at, cell_read_at, let_at, get_at, has_at, count_at, sum_read_at, least_at, greatest_at, take_at, mul_at, div_at, read_at, starts_read}
+use Rattle.acc_syntax.proofs.Following.{CanFollow, is_own}
 use Rattle.acc_syntax.proofs.Combinators.{made_free, all_in}
 use Rattle.acc_syntax.proofs.WordLaws.{number_exact, after_exact, closed_exact}
 use Rattle.acc_syntax.proofs.KindLaws.{Begun, or_kind, last_kind, begun_long}
@@ -27,103 +27,103 @@ use Rattle.acc_syntax.proofs.RowLaws.{place_exact, cell_exact}
 abbrev IsLet : ReadTree → Type 0
 IsLet t = (x : Variable) × (v : Sum) × (read.Let x v ≡ t)
 
-let_exact : Exact CanSpell read_statement IsLet Free let_at
+let_exact : Exact CanFollow read_statement IsLet Free let_at
 unfolding let_at
 let_exact =
-    let value = closed_exact sign.End sum_exact (λ v rest. sum_ends v _ (record { times = refl; signed = refl })) in
-    let whole = made_free (after_exact sign.Let (seq_exact variable_exact (after_exact sign.Equal value))) (λ p. read.Let p.0 p.1) read_statement (λ a p. refl) (λ a rest. (tt, tt)) in
+    let value = closed_exact sign.End refl sum_exact (λ v rest. sum_ends v _ (record { times = refl; signed = refl })) in
+    let whole = made_free (after_exact sign.Let refl (seq_exact variable_exact (after_exact sign.Equal refl value))) (λ p. read.Let p.0 p.1) read_statement (λ a p. refl) (λ a rest. (tt, tt)) in
     trees_exact (same_exact (λ ws. simp bind_assoc) whole) (λ t p. (p.0.0, p.0.1, p.2)) (λ t q. ((q.0, q.1), (tt, tt), q.2))
 
 -- this word, X = row
 abbrev row_read : Sign → Variable × Place → List Word
 row_read s p = just s ++ (variable p.0 ++ (just sign.Equal ++ (place p.1 ++ just sign.End)))
 
-row_read_exact : (s : Sign) → Exact CanSpell (row_read s) All Free (row_read_at s)
+row_read_exact : (s : Sign) → is_own s ≡ false → Exact CanFollow (row_read s) All Free (row_read_at s)
 unfolding row_read_at
-row_read_exact s =
-    let row = closed_exact sign.End place_exact (λ p rest. tt) in
-    let whole = made_free (after_exact s (seq_exact variable_exact (after_exact sign.Equal row))) (λ p. p) (row_read s) (λ a p. refl) (λ a rest. (tt, tt)) in
+row_read_exact s n =
+    let row = closed_exact sign.End refl place_exact (λ p rest. tt) in
+    let whole = made_free (after_exact s n (seq_exact variable_exact (after_exact sign.Equal refl row))) (λ p. p) (row_read s) (λ a p. refl) (λ a rest. (tt, tt)) in
     trees_exact (same_exact (λ ws. simp bind_assoc) whole) (λ t p. tt) (λ t q. (t, (tt, tt), refl))
 
 -- a read of a row
 abbrev IsOfRow : (Variable → Place → ReadTree) → ReadTree → Type 0
 IsOfRow make t = (x : Variable) × (p : Place) × (make x p ≡ t)
 
-of_row : (s : Sign) (make : Variable → Place → ReadTree) → ((x : Variable) (p : Place) → read_statement (make x p) ≡ row_read s (x, p)) → Exact CanSpell read_statement (IsOfRow make) Free (made (λ (p : Variable × Place). make p.0 p.1) (row_read_at s))
-of_row s make is =
-    trees_exact (made_free (row_read_exact s) (λ p. make p.0 p.1) read_statement (λ a p. is a.0 a.1) (λ a rest. tt)) (λ t p. (p.0.0, p.0.1, p.2)) (λ t q. ((q.0, q.1), tt, q.2))
+of_row : (s : Sign) → is_own s ≡ false → (make : Variable → Place → ReadTree) → ((x : Variable) (p : Place) → read_statement (make x p) ≡ row_read s (x, p)) → Exact CanFollow read_statement (IsOfRow make) Free (made (λ (p : Variable × Place). make p.0 p.1) (row_read_at s))
+of_row s n make is =
+    trees_exact (made_free (row_read_exact s n) (λ p. make p.0 p.1) read_statement (λ a p. is a.0 a.1) (λ a rest. tt)) (λ t p. (p.0.0, p.0.1, p.2)) (λ t q. ((q.0, q.1), tt, q.2))
 
 -- this word, X = row.column
 abbrev cell_read : Sign → Variable × Cell → List Word
 cell_read s p = just s ++ (variable p.0 ++ (just sign.Equal ++ (cell p.1 ++ just sign.End)))
 
-cell_read_exact : (s : Sign) → Exact CanSpell (cell_read s) All Free (cell_read_at s)
+cell_read_exact : (s : Sign) → is_own s ≡ false → Exact CanFollow (cell_read s) All Free (cell_read_at s)
 unfolding cell_read_at
-cell_read_exact s =
-    let column = closed_exact sign.End cell_exact (λ c rest. tt) in
-    let whole = made_free (after_exact s (seq_exact variable_exact (after_exact sign.Equal column))) (λ p. p) (cell_read s) (λ a p. refl) (λ a rest. (tt, tt)) in
+cell_read_exact s n =
+    let column = closed_exact sign.End refl cell_exact (λ c rest. tt) in
+    let whole = made_free (after_exact s n (seq_exact variable_exact (after_exact sign.Equal refl column))) (λ p. p) (cell_read s) (λ a p. refl) (λ a rest. (tt, tt)) in
     trees_exact (same_exact (λ ws. simp bind_assoc) whole) (λ t p. tt) (λ t q. (t, (tt, tt), refl))
 
 -- a read of a column
 abbrev IsOfCell : (Variable → Cell → ReadTree) → ReadTree → Type 0
 IsOfCell make t = (x : Variable) × (c : Cell) × (make x c ≡ t)
 
-of_cell : (s : Sign) (make : Variable → Cell → ReadTree) → ((x : Variable) (c : Cell) → read_statement (make x c) ≡ cell_read s (x, c)) → Exact CanSpell read_statement (IsOfCell make) Free (made (λ (p : Variable × Cell). make p.0 p.1) (cell_read_at s))
-of_cell s make is =
-    trees_exact (made_free (cell_read_exact s) (λ p. make p.0 p.1) read_statement (λ a p. is a.0 a.1) (λ a rest. tt)) (λ t p. (p.0.0, p.0.1, p.2)) (λ t q. ((q.0, q.1), tt, q.2))
+of_cell : (s : Sign) → is_own s ≡ false → (make : Variable → Cell → ReadTree) → ((x : Variable) (c : Cell) → read_statement (make x c) ≡ cell_read s (x, c)) → Exact CanFollow read_statement (IsOfCell make) Free (made (λ (p : Variable × Cell). make p.0 p.1) (cell_read_at s))
+of_cell s n make is =
+    trees_exact (made_free (cell_read_exact s n) (λ p. make p.0 p.1) read_statement (λ a p. is a.0 a.1) (λ a rest. tt)) (λ t p. (p.0.0, p.0.1, p.2)) (λ t q. ((q.0, q.1), tt, q.2))
 
-get_exact : Exact CanSpell read_statement (IsOfCell read.Get) Free get_at
+get_exact : Exact CanFollow read_statement (IsOfCell read.Get) Free get_at
 unfolding get_at
-get_exact = of_cell sign.Get read.Get (λ x y. refl)
+get_exact = of_cell sign.Get refl read.Get (λ x y. refl)
 
-has_exact : Exact CanSpell read_statement (IsOfRow read.Has) Free has_at
+has_exact : Exact CanFollow read_statement (IsOfRow read.Has) Free has_at
 unfolding has_at
-has_exact = of_row sign.Has read.Has (λ x y. refl)
+has_exact = of_row sign.Has refl read.Has (λ x y. refl)
 
-count_exact : Exact CanSpell read_statement (IsOfRow read.Count) Free count_at
+count_exact : Exact CanFollow read_statement (IsOfRow read.Count) Free count_at
 unfolding count_at
-count_exact = of_row sign.Count read.Count (λ x y. refl)
+count_exact = of_row sign.Count refl read.Count (λ x y. refl)
 
-sum_read_exact : Exact CanSpell read_statement (IsOfCell read.Sum) Free sum_read_at
+sum_read_exact : Exact CanFollow read_statement (IsOfCell read.Sum) Free sum_read_at
 unfolding sum_read_at
-sum_read_exact = of_cell sign.Sum read.Sum (λ x y. refl)
+sum_read_exact = of_cell sign.Sum refl read.Sum (λ x y. refl)
 
-least_exact : Exact CanSpell read_statement (IsOfRow read.Least) Free least_at
+least_exact : Exact CanFollow read_statement (IsOfRow read.Least) Free least_at
 unfolding least_at
-least_exact = of_row sign.Least read.Least (λ x y. refl)
+least_exact = of_row sign.Least refl read.Least (λ x y. refl)
 
-greatest_exact : Exact CanSpell read_statement (IsOfRow read.Greatest) Free greatest_at
+greatest_exact : Exact CanFollow read_statement (IsOfRow read.Greatest) Free greatest_at
 unfolding greatest_at
-greatest_exact = of_row sign.Greatest read.Greatest (λ x y. refl)
+greatest_exact = of_row sign.Greatest refl read.Greatest (λ x y. refl)
 
 abbrev IsTake : ReadTree → Type 0
 IsTake t = (x : Variable) × (read.Take x ≡ t)
 
-take_exact : Exact CanSpell read_statement IsTake Free take_at
+take_exact : Exact CanFollow read_statement IsTake Free take_at
 unfolding take_at
 take_exact =
-    let assigned = closed_exact sign.End variable_exact (λ x rest. tt) in
-    let whole = made_free (after_exact sign.Take assigned) (λ x. read.Take x) read_statement (λ a p. refl) (λ a rest. tt) in
+    let assigned = closed_exact sign.End refl variable_exact (λ x rest. tt) in
+    let whole = made_free (after_exact sign.Take refl assigned) (λ x. read.Take x) read_statement (λ a p. refl) (λ a rest. tt) in
     trees_exact (same_exact (λ ws. simp bind_assoc) whole) (λ t p. (p.0, p.2)) (λ t q. (q.0, tt, q.1))
 
 abbrev IsMul : ReadTree → Type 0
 IsMul t = (x : Variable) × (a : Variable) × (b : Variable) × (read.Mul x a b ≡ t)
 
-mul_exact : Exact CanSpell read_statement IsMul Free mul_at
+mul_exact : Exact CanFollow read_statement IsMul Free mul_at
 unfolding mul_at
 mul_exact =
-    let right = closed_exact sign.End variable_exact (λ b rest. tt) in
-    let whole = made_free (after_exact sign.Mul (seq_exact variable_exact (after_exact sign.Equal (seq_exact variable_exact right)))) (λ p. read.Mul p.0 p.1.0 p.1.1) read_statement (λ a p. refl) (λ a rest. (tt, (tt, tt))) in
+    let right = closed_exact sign.End refl variable_exact (λ b rest. tt) in
+    let whole = made_free (after_exact sign.Mul refl (seq_exact variable_exact (after_exact sign.Equal refl (seq_exact variable_exact right)))) (λ p. read.Mul p.0 p.1.0 p.1.1) read_statement (λ a p. refl) (λ a rest. (tt, (tt, tt))) in
     trees_exact (same_exact (λ ws. simp bind_assoc) whole) (λ t p. (p.0.0, p.0.1.0, p.0.1.1, p.2)) (λ t q. ((q.0, (q.1, q.2)), (tt, (tt, tt)), q.3))
 
 abbrev IsDiv : ReadTree → Type 0
 IsDiv t = (x : Variable) × (a : Variable) × (n : ℕ) × (read.Div x a n ≡ t)
 
-div_exact : Exact CanSpell read_statement IsDiv Free div_at
+div_exact : Exact CanFollow read_statement IsDiv Free div_at
 unfolding div_at
 div_exact =
-    let divisor = closed_exact sign.End number_exact (λ n rest. tt) in
-    let whole = made_free (after_exact sign.Div (seq_exact variable_exact (after_exact sign.Equal (seq_exact variable_exact divisor)))) (λ p. read.Div p.0 p.1.0 p.1.1) read_statement (λ a p. refl) (λ a rest. (tt, (tt, tt))) in
+    let divisor = closed_exact sign.End refl number_exact (λ n rest. tt) in
+    let whole = made_free (after_exact sign.Div refl (seq_exact variable_exact (after_exact sign.Equal refl (seq_exact variable_exact divisor)))) (λ p. read.Div p.0 p.1.0 p.1.1) read_statement (λ a p. refl) (λ a rest. (tt, (tt, tt))) in
     trees_exact (same_exact (λ ws. simp bind_assoc) whole) (λ t p. (p.0.0, p.0.1.0, p.0.1.1, p.2)) (λ t q. ((q.0, (q.1, q.2)), (tt, (tt, tt)), q.3))
 
 -- ---- a read of any kind
@@ -153,7 +153,7 @@ begun (read.Take x) = (_, refl)
 begun (read.Mul x a b) = (_, refl)
 begun (read.Div x a n) = (_, refl)
 
-pub read_exact : Exact CanSpell read_statement All Free read_at
+pub read_exact : Exact CanFollow read_statement All Free read_at
 unfolding read_at
 read_exact =
     let kinds =
@@ -203,7 +203,7 @@ read_starts (read.Div x a n) rest = refl
 pub read_shrinks : Shrinks read_at
 read_shrinks = item_shrinks read_exact starts_read read_head refl (λ t rest p g. read_starts t rest) (λ t p. begun_long begun t)
 
-pub reads_exact : Exact CanSpell (joined read_statement) All (Runs read_statement starts_read Free) (many starts_read read_at)
+pub reads_exact : Exact CanFollow (joined read_statement) All (Runs read_statement starts_read Free) (many starts_read read_at)
 reads_exact = trees_exact (many_exact read_exact starts_read read_head refl (λ t rest p g. read_starts t rest) (λ t p. begun_long begun t)) (λ t p. tt) (λ t q. all_in t)
 
 pub reads_end : (ts : List ReadTree) (rest : List Word) → starts_read rest ≡ false → Runs read_statement starts_read Free ts rest

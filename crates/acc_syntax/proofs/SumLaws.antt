@@ -1,10 +1,10 @@
 -- The readers of linear values are exact.
-use Rattle.std.proofs.Common.{◌≡◌, ℕ, ◌<◌, Bool, true, false, List, [], ◌∷◌, ◌++◌, length, Option, Some, None, refl, sym, ap, subst, ◌∙◌, append_assoc, arith, inl, inr}
+use Rattle.std.proofs.Common.{◌≡◌, ℕ, ◌<◌, Bool, true, false, List, [], ◌∷◌, ◌++◌, length, Option, Some, None, Ok, refl, sym, ap, subst, ◌∙◌, append_assoc, arith, inl, inr}
 use Rattle.acc_lex.specs.declared.words.Sign.{Sign}
 use Rattle.acc_lex.specs.declared.words.Sign.TheVariants as sign
 use Rattle.acc_lex.specs.declared.words.Word.{Word}
 use Rattle.acc_lex.specs.declared.words.Word.TheVariants as word
-use Rattle.acc_lex.specs.Words.{CanSpell}
+use Rattle.acc_lex.specs.Keywords.{keyword_of}
 use Rattle.acc_grammar.specs.Readers.{joined, many}
 use Rattle.acc_grammar.proofs.Exact.{bind_assoc, Exact, All, Free, Each, seq_exact, Made, made_exact, trees_exact, same_exact, Or, ByHead, either_exact, maybe_exact}
 use Rattle.acc_grammar.proofs.Many.{Shrinks, item_shrinks, Runs, many_exact}
@@ -15,24 +15,35 @@ use Rattle.acc_syntax.specs.declared.trees.Term.TheVariants.{Constant, Plain, Pr
 use Rattle.acc_syntax.specs.declared.trees.SignedTerm.{SignedTerm}
 use Rattle.acc_syntax.specs.declared.trees.Sum.{Sum}
 use Rattle.acc_syntax.specs.Spelling.{just, number, variable, term, signed_term, sum}
-use Rattle.acc_syntax.specs.WordReaders.{comes, is_number}
+use Rattle.acc_syntax.specs.WordReaders.{same_sign, comes, is_number, sign_at, name_at}
 use Rattle.acc_syntax.specs.ValueReaders.{variable_at, factor_at, product_of, number_term_at, term_at, minus_at, direction_at, signed_term_at, starts_signed_term, sum_at, starts_sum}
+use Rattle.acc_grammar.proofs.RunReaders.{flag}
+use Rattle.acc_syntax.proofs.Following.{CanFollow}
 use Rattle.acc_syntax.proofs.Combinators.{made_free, all_in}
-use Rattle.acc_syntax.proofs.WordLaws.{comes_head, number_head, sign_exact, name_exact, number_exact, after_exact}
+use Rattle.acc_syntax.proofs.WordLaws.{same_is, comes_head, number_head, AtWord, one_word, sign_exact, number_exact, after_exact}
 use Rattle.acc_syntax.proofs.KindLaws.{Begun, or_kind, last_kind}
 
 -- ---- variables
 
-variable_trees : (x : Variable) → Or (Made (λ (o : Unit {0}). Oneself) All) (Made Named All) x
-variable_trees Oneself = inl (tt, tt, refl)
-variable_trees (Named x) = inr (x, tt, refl)
+variable_each : (w : Word) → AtWord variable variable_at w
+unfolding variable_at name_at sign_at
+variable_each (word.Name x) = inl (Named x, refl, λ rest. refl)
+variable_each (word.Number n) = inr (λ rest. refl)
+variable_each (word.Sign t) =
+    elim (flag (same_sign t sign.Oneself)) [
+      | inl h ↦ inl (Oneself, ap (λ (z : Sign). word.Sign z ∷ []) (sym (same_is t sign.Oneself h)), λ rest. rw h refl)
+      | inr h ↦ inr (λ rest. rw h refl)
+    ]
 
-pub variable_exact : Exact CanSpell variable All Free variable_at
-unfolding variable_at
-variable_exact =
-    let self = made_free (sign_exact sign.Oneself) (λ o. Oneself) variable (λ a p. refl) (λ a rest. tt) in
-    let named = made_free name_exact Named variable (λ a p. refl) (λ a rest. tt) in
-    trees_exact (either_exact self named (comes sign.Oneself) (comes_head sign.Oneself) (λ t rest p g. subst (λ (z : Variable). comes sign.Oneself (variable z ++ rest) ≡ true) p.2 refl) (λ t rest p g. subst (λ (z : Variable). comes sign.Oneself (variable z ++ rest) ≡ false) p.2 refl)) (λ t p. tt) (λ t q. variable_trees t)
+variable_again : (x : Variable) (rest : List Word) → variable_at (variable x ++ rest) ≡ Ok (x, rest)
+unfolding variable_at name_at sign_at
+variable_again (Named x) rest = refl
+variable_again Oneself rest = refl
+
+-- the letter a is a name
+pub variable_exact : Exact CanFollow variable All Free variable_at
+unfolding variable_at name_at keyword_of
+variable_exact = one_word variable variable_at (Named (97 ∷ [])) (((refl, tt), refl), tt) variable_again refl variable_each
 
 -- ---- terms
 
@@ -49,10 +60,10 @@ factor_heads : (f : Option Variable) (w : Word) (more after : List Word) → Fac
 factor_heads None w more after g = sym (comes_head sign.Times w more after) ∙ g
 factor_heads (Some x) w more after g = tt
 
-factor_exact : Exact CanSpell factor All FactorGoes factor_at
+factor_exact : Exact CanFollow factor All FactorGoes factor_at
 unfolding factor_at
 factor_exact =
-    let inner = made_exact (after_exact sign.Times variable_exact) (λ x. Some x) factor FactorGoes (λ a p. refl) (λ a rest g. tt) (λ a rest p g. tt) factor_heads in
+    let inner = made_exact (after_exact sign.Times refl variable_exact) (λ x. Some x) factor FactorGoes (λ a p. refl) (λ a rest g. tt) (λ a rest p g. tt) factor_heads in
     let whole = maybe_exact inner (comes sign.Times) (comes_head sign.Times) None refl (λ t rest p g. subst (λ (z : Option Variable). comes sign.Times (factor z ++ rest) ≡ true) p.2 refl) (λ rest h. h) (λ rest h. h) in
     trees_exact (same_exact (λ ws. simp bind_assoc) whole) (λ t p. tt) (λ t q. trees t)
   where
@@ -91,7 +102,7 @@ variable_starts : (x : Variable) (rest : List Word) → is_number (variable x ++
 variable_starts Oneself rest = refl
 variable_starts (Named x) rest = refl
 
-pub term_exact : Exact CanSpell term All TermGoes term_at
+pub term_exact : Exact CanFollow term All TermGoes term_at
 unfolding term_at number_term_at
 term_exact =
     let product = made_exact (seq_exact number_exact factor_exact) (λ p. product_of p.0 p.1) term TermGoes (λ a p. product_is a.0 a.1) (λ a rest g. product_from a.0 a.1 rest g.1) (λ a rest p g. (tt, product_to a.0 a.1 rest g)) term_heads in
@@ -119,11 +130,11 @@ direction_begun : Begun direction direction_sign
 direction_begun true = ([], refl)
 direction_begun false = ([], refl)
 
-direction_exact : Exact CanSpell direction All Free direction_at
+direction_exact : Exact CanFollow direction All Free direction_at
 unfolding direction_at
 direction_exact =
-    let minus = made_free (sign_exact sign.Minus) (λ o. true) direction (λ a p. refl) (λ a rest. tt) in
-    let plus = made_free (sign_exact sign.Plus) (λ o. false) direction (λ a p. refl) (λ a rest. tt) in
+    let minus = made_free (sign_exact sign.Minus refl) (λ o. true) direction (λ a p. refl) (λ a rest. tt) in
+    let plus = made_free (sign_exact sign.Plus refl) (λ o. false) direction (λ a p. refl) (λ a rest. tt) in
     let kinds = or_kind direction_begun sign.Minus minus (λ t p. ap direction_sign p.2) refl (last_kind direction_begun sign.Plus plus (λ t p. ap direction_sign p.2)) in
     trees_exact kinds.exact (λ t p. tt) (λ t q. trees t)
   where
@@ -138,7 +149,7 @@ signed_is : (m : Bool) (t : Term) → signed_term (record { minus = m; term = t 
 signed_is true t = refl
 signed_is false t = refl
 
-pub signed_term_exact : Exact CanSpell signed_term All SignedGoes signed_term_at
+pub signed_term_exact : Exact CanFollow signed_term All SignedGoes signed_term_at
 unfolding signed_term_at
 signed_term_exact =
     let whole = made_exact (seq_exact direction_exact term_exact) (λ p. record { minus = p.0; term = p.1 }) signed_term SignedGoes (λ a p. signed_is a.0 a.1) (λ a rest g. g.1) (λ a rest p g. (tt, g)) (λ b w more after g. term_exact.heads b.term w more after g) in
@@ -163,7 +174,7 @@ signed_term_shrinks = item_shrinks signed_term_exact starts_signed_term signed_h
 abbrev pub SignedRuns : List SignedTerm → List Word → Type 0
 SignedRuns = Runs signed_term starts_signed_term SignedGoes
 
-signed_terms_exact : Exact CanSpell (joined signed_term) All SignedRuns (many starts_signed_term signed_term_at)
+signed_terms_exact : Exact CanFollow (joined signed_term) All SignedRuns (many starts_signed_term signed_term_at)
 signed_terms_exact = trees_exact (many_exact signed_term_exact starts_signed_term signed_head refl (λ t rest p g. signed_starts t.minus t.term rest) (λ t p. signed_long t.minus t.term)) (λ t p. tt) (λ t q. all_in t)
 
 -- ---- sums
@@ -180,10 +191,10 @@ minus_heads : (b : Bool) (w : Word) (more after : List Word) → MinusGoes b (w 
 minus_heads true w more after g = tt
 minus_heads false w more after g = sym (comes_head sign.Minus w more after) ∙ g
 
-minus_exact : Exact CanSpell minus All MinusGoes minus_at
+minus_exact : Exact CanFollow minus All MinusGoes minus_at
 unfolding minus_at
 minus_exact =
-    let there = made_exact (sign_exact sign.Minus) (λ o. true) minus MinusGoes (λ a p. refl) (λ a rest g. tt) (λ a rest p g. tt) minus_heads in
+    let there = made_exact (sign_exact sign.Minus refl) (λ o. true) minus MinusGoes (λ a p. refl) (λ a rest g. tt) (λ a rest p g. tt) minus_heads in
     trees_exact (maybe_exact there (comes sign.Minus) (comes_head sign.Minus) false refl (λ t rest p g. subst (λ (z : Bool). comes sign.Minus (minus z ++ rest) ≡ true) p.2 refl) (λ rest h. h) (λ rest h. h)) (λ t p. tt) (λ t q. trees t)
   where
     trees : (b : Bool) → Or (Made (λ (o : Unit {0}). true) All) (λ (u : Bool). false ≡ u) b
@@ -207,7 +218,7 @@ no_minus false (Plain (Named x)) ss rest = refl
 no_minus false (Plain Oneself) ss rest = refl
 no_minus false (Product n x) ss rest = refl
 
-pub sum_exact : Exact CanSpell sum All SumGoes sum_at
+pub sum_exact : Exact CanFollow sum All SumGoes sum_at
 unfolding sum_at
 sum_exact =
     let whole = made_exact (seq_exact minus_exact (seq_exact term_exact signed_terms_exact)) (λ p. record { minus = p.0; first = p.1.0; others = p.1.1 }) sum SumGoes (λ a p. sum_is a.0 a.1.0 a.1.1) (λ a rest g. g.1) (λ a rest p g. (no_minus a.0 a.1.0 a.1.1 rest, g)) sum_heads in

@@ -3,12 +3,12 @@ use Rattle.std.proofs.Common.{◌≡◌, ℕ, false, List, ◌++◌, refl, ap, i
 use Rattle.acc_lex.specs.declared.words.Sign.{Sign}
 use Rattle.acc_lex.specs.declared.words.Sign.TheVariants as sign
 use Rattle.acc_lex.specs.declared.words.Word.{Word}
-use Rattle.acc_lex.specs.Words.{CanSpell}
 use Rattle.acc_grammar.proofs.Exact.{bind_assoc, Exact, All, Free, trees_exact, same_exact, Or}
 use Rattle.acc_syntax.specs.declared.trees.TargetTree.{TargetTree}
 use Rattle.acc_syntax.specs.declared.trees.TargetTree.TheVariants as target
 use Rattle.acc_syntax.specs.Spelling.{target_statement}
 use Rattle.acc_syntax.specs.StatementReaders.{goto_at, commit_at, undone_at, refuse_at, target_at, starts_action}
+use Rattle.acc_syntax.proofs.Following.{CanFollow}
 use Rattle.acc_syntax.proofs.Combinators.{made_free}
 use Rattle.acc_syntax.proofs.WordLaws.{sign_exact, name_exact, number_exact, after_exact, closed_exact}
 use Rattle.acc_syntax.proofs.KindLaws.{Begun, or_kind, last_kind}
@@ -18,36 +18,36 @@ use Rattle.acc_syntax.proofs.KindLaws.{Begun, or_kind, last_kind}
 abbrev IsGoto : TargetTree → Type 0
 IsGoto t = (x : List ℕ) × (target.Goto x ≡ t)
 
-goto_exact : Exact CanSpell target_statement IsGoto Free goto_at
+goto_exact : Exact CanFollow target_statement IsGoto Free goto_at
 unfolding goto_at
 goto_exact =
-    let point = closed_exact sign.End name_exact (λ x rest. tt) in
-    let whole = made_free (after_exact sign.Goto point) (λ x. target.Goto x) target_statement (λ a p. refl) (λ a rest. tt) in
+    let point = closed_exact sign.End refl name_exact (λ x rest. tt) in
+    let whole = made_free (after_exact sign.Goto refl point) (λ x. target.Goto x) target_statement (λ a p. refl) (λ a rest. tt) in
     trees_exact (same_exact (λ ws. simp bind_assoc) whole) (λ t p. (p.0, p.2)) (λ t q. (q.0, tt, q.1))
 
 abbrev Is : TargetTree → TargetTree → Type 0
 Is u t = u ≡ t
 
-commit_exact : Exact CanSpell target_statement (Is target.Commit) Free commit_at
+commit_exact : Exact CanFollow target_statement (Is target.Commit) Free commit_at
 unfolding commit_at
 commit_exact =
-    let whole = made_free (after_exact sign.Commit (sign_exact sign.End)) (λ o. target.Commit) target_statement (λ a p. refl) (λ a rest. tt) in
+    let whole = made_free (after_exact sign.Commit refl (sign_exact sign.End refl)) (λ o. target.Commit) target_statement (λ a p. refl) (λ a rest. tt) in
     trees_exact (same_exact (λ ws. simp bind_assoc) whole) (λ t p. p.2) (λ t q. (tt, tt, q))
 
-undone_exact : Exact CanSpell target_statement (Is target.Undone) Free undone_at
+undone_exact : Exact CanFollow target_statement (Is target.Undone) Free undone_at
 unfolding undone_at
 undone_exact =
-    let whole = made_free (after_exact sign.Undone (sign_exact sign.End)) (λ o. target.Undone) target_statement (λ a p. refl) (λ a rest. tt) in
+    let whole = made_free (after_exact sign.Undone refl (sign_exact sign.End refl)) (λ o. target.Undone) target_statement (λ a p. refl) (λ a rest. tt) in
     trees_exact (same_exact (λ ws. simp bind_assoc) whole) (λ t p. p.2) (λ t q. (tt, tt, q))
 
 abbrev IsRefuse : TargetTree → Type 0
 IsRefuse t = (n : ℕ) × (target.Refuse n ≡ t)
 
-refuse_exact : Exact CanSpell target_statement IsRefuse Free refuse_at
+refuse_exact : Exact CanFollow target_statement IsRefuse Free refuse_at
 unfolding refuse_at
 refuse_exact =
-    let number = closed_exact sign.End number_exact (λ n rest. tt) in
-    let whole = made_free (after_exact sign.Refuse number) (λ n. target.Refuse n) target_statement (λ a p. refl) (λ a rest. tt) in
+    let number = closed_exact sign.End refl number_exact (λ n rest. tt) in
+    let whole = made_free (after_exact sign.Refuse refl number) (λ n. target.Refuse n) target_statement (λ a p. refl) (λ a rest. tt) in
     trees_exact (same_exact (λ ws. simp bind_assoc) whole) (λ t p. (p.0, p.2)) (λ t q. (q.0, tt, q.1))
 
 -- ---- a target of any kind
@@ -65,7 +65,7 @@ begun target.Commit = (_, refl)
 begun target.Undone = (_, refl)
 begun (target.Refuse n) = (_, refl)
 
-pub target_exact : Exact CanSpell target_statement All Free target_at
+pub target_exact : Exact CanFollow target_statement All Free target_at
 unfolding target_at
 target_exact =
     let kinds =

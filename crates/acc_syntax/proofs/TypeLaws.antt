@@ -3,7 +3,6 @@ use Rattle.std.proofs.Common.{◌≡◌, false, List, [], ◌∷◌, ◌++◌, O
 use Rattle.std.proofs.lemmas.List.{append-nil}
 use Rattle.acc_lex.specs.declared.words.Sign.TheVariants as sign
 use Rattle.acc_lex.specs.declared.words.Word.{Word}
-use Rattle.acc_lex.specs.Words.{CanSpell}
 use Rattle.acc_grammar.specs.Readers.{joined, many}
 use Rattle.acc_grammar.proofs.Exact.{bind_assoc, Exact, All, Free, seq_exact, made_exact, trees_exact, same_exact}
 use Rattle.acc_grammar.proofs.Many.{Shrinks, item_shrinks, Runs, many_exact}
@@ -15,6 +14,7 @@ use Rattle.acc_syntax.specs.Spelling.{point, limit, names_statement, type_words,
 use Rattle.acc_syntax.specs.WordReaders.{comes, is_word}
 use Rattle.acc_syntax.specs.StatementReaders.{starts_table}
 use Rattle.acc_syntax.specs.DesignReaders.{point_at, limit_at, type_head_at, type_at, design_at}
+use Rattle.acc_syntax.proofs.Following.{CanFollow}
 use Rattle.acc_syntax.proofs.Combinators.{all_in}
 use Rattle.acc_syntax.proofs.WordLaws.{comes_head, name_exact, number_exact, end_exact, after_exact, closed_exact, names_run, names_end}
 use Rattle.acc_syntax.proofs.TableLaws.{tables_exact, tables_end, NamesStatementGoes, names_statement_exact}
@@ -25,11 +25,11 @@ use Rattle.acc_syntax.proofs.StepLaws.{StepGoes, step_exact, step_ends, side_exa
 abbrev PointGoes : PointTree → List Word → Type 0
 PointGoes p rest = StepGoes p.undo rest
 
-pub point_exact : Exact CanSpell point All PointGoes point_at
+pub point_exact : Exact CanFollow point All PointGoes point_at
 unfolding point_at
 point_exact =
-    let sides = seq_exact (side_exact sign.Next) (side_exact sign.Undo) in
-    let whole = made_exact (after_exact sign.Point (seq_exact name_exact (after_exact sign.End sides))) (λ p. record { name = p.0; next = p.1.0; undo = p.1.1 }) point PointGoes (λ a p. refl) (λ a rest g. g.1.1) (λ a rest p g. (tt, (step_ends a.1.0 _ refl, g))) (λ b w more after g. step_exact.heads b.undo w more after g) in
+    let sides = seq_exact (side_exact sign.Next refl) (side_exact sign.Undo refl) in
+    let whole = made_exact (after_exact sign.Point refl (seq_exact name_exact (after_exact sign.End refl sides))) (λ p. record { name = p.0; next = p.1.0; undo = p.1.1 }) point PointGoes (λ a p. refl) (λ a rest g. g.1.1) (λ a rest p g. (tt, (step_ends a.1.0 _ refl, g))) (λ b w more after g. step_exact.heads b.undo w more after g) in
     trees_exact (same_exact (λ ws. simp bind_assoc) whole) (λ t p. tt) (λ t q. ((t.name, (t.next, t.undo)), (tt, (tt, tt)), refl))
 
 pub point_shrinks : Shrinks point_at
@@ -38,7 +38,7 @@ point_shrinks = item_shrinks point_exact (comes sign.Point) (comes_head sign.Poi
 abbrev PointsRun : List PointTree → List Word → Type 0
 PointsRun = Runs point (comes sign.Point) PointGoes
 
-points_exact : Exact CanSpell (joined point) All PointsRun (many (comes sign.Point) point_at)
+points_exact : Exact CanFollow (joined point) All PointsRun (many (comes sign.Point) point_at)
 points_exact = trees_exact (many_exact point_exact (comes sign.Point) (comes_head sign.Point) refl (λ t rest p g. refl) (λ t p. omega arith)) (λ t p. tt) (λ t q. all_in t)
 
 -- where a point, and the points, may end
@@ -56,9 +56,9 @@ points_end (p ∷ ps) rest h = (step_ends p.undo _ (no_path ps rest h.path), poi
 
 -- ---- types
 
-limit_exact : Exact CanSpell limit All Free limit_at
+limit_exact : Exact CanFollow limit All Free limit_at
 unfolding limit_at
-limit_exact = same_exact (λ ws. simp bind_assoc) (after_exact sign.Limit (closed_exact sign.End number_exact (λ n rest. tt)))
+limit_exact = same_exact (λ ws. simp bind_assoc) (after_exact sign.Limit refl (closed_exact sign.End refl number_exact (λ n rest. tt)))
 
 abbrev TypeGoes : TypeTree → List Word → Type 0
 TypeGoes t rest = PointGoes t.first (joined point t.others ++ rest) × PointsRun t.others rest
@@ -76,11 +76,11 @@ locals_end : (ls : Option Names) (p : PointTree) (behind rest : List Word) → N
 locals_end (Some ns) p behind rest = tt
 locals_end None p behind rest = refl
 
-pub type_exact : Exact CanSpell type_words All TypeGoes type_at
+pub type_exact : Exact CanFollow type_words All TypeGoes type_at
 unfolding type_at type_head_at
 type_exact =
-    let body = seq_exact limit_exact (seq_exact (names_statement_exact sign.Returns) (seq_exact (names_statement_exact sign.Local) (seq_exact point_exact points_exact))) in
-    let whole = made_exact (after_exact sign.Type (seq_exact name_exact (seq_exact names_run (after_exact sign.End body)))) (λ p. record { name = p.0; params = p.1.0; limit = p.1.1.0; returns = p.1.1.1.0; locals = p.1.1.1.1.0; first = p.1.1.1.1.1.0; others = p.1.1.1.1.1.1 }) type_words TypeGoes (λ a p. refl) (λ a rest g. g.1.1.1.1.1) (λ a rest p g. (tt, (names_end a.1.0 _ refl, (tt, (returns_end a.1.1.1.0 a.1.1.1.1.0 a.1.1.1.1.1.0 (joined point a.1.1.1.1.1.1) rest, (locals_end a.1.1.1.1.0 a.1.1.1.1.1.0 (joined point a.1.1.1.1.1.1) rest, g)))))) type_heads in
+    let body = seq_exact limit_exact (seq_exact (names_statement_exact sign.Returns refl) (seq_exact (names_statement_exact sign.Local refl) (seq_exact point_exact points_exact))) in
+    let whole = made_exact (after_exact sign.Type refl (seq_exact name_exact (seq_exact names_run (after_exact sign.End refl body)))) (λ p. record { name = p.0; params = p.1.0; limit = p.1.1.0; returns = p.1.1.1.0; locals = p.1.1.1.1.0; first = p.1.1.1.1.1.0; others = p.1.1.1.1.1.1 }) type_words TypeGoes (λ a p. refl) (λ a rest g. g.1.1.1.1.1) (λ a rest p g. (tt, (names_end a.1.0 _ refl, (tt, (returns_end a.1.1.1.0 a.1.1.1.1.0 a.1.1.1.1.1.0 (joined point a.1.1.1.1.1.1) rest, (locals_end a.1.1.1.1.0 a.1.1.1.1.1.0 (joined point a.1.1.1.1.1.1) rest, g)))))) type_heads in
     trees_exact (same_exact (λ ws. simp bind_assoc) whole) (λ t p. tt) (λ t q. ((t.name, (t.params, (t.limit, (t.returns, (t.locals, (t.first, t.others)))))), (tt, (tt, (tt, (tt, (tt, (tt, tt)))))), refl))
 
 pub type_shrinks : Shrinks type_at
@@ -89,7 +89,7 @@ type_shrinks = item_shrinks type_exact (comes sign.Type) (comes_head sign.Type) 
 abbrev TypesRun : List TypeTree → List Word → Type 0
 TypesRun = Runs type_words (comes sign.Type) TypeGoes
 
-types_exact : Exact CanSpell (joined type_words) All TypesRun (many (comes sign.Type) type_at)
+types_exact : Exact CanFollow (joined type_words) All TypesRun (many (comes sign.Type) type_at)
 types_exact = trees_exact (many_exact type_exact (comes sign.Type) (comes_head sign.Type) refl (λ t rest p g. refl) (λ t p. omega arith)) (λ t p. tt) (λ t q. all_in t)
 
 type_ends : (t : TypeTree) (rest : List Word) → TypeStop rest → TypeGoes t rest
@@ -117,7 +117,7 @@ parts_end : (ts : List _) (ys : List TypeTree) (rest : List Word) → is_word re
 parts_end ts ys [] h = (tables_end ts _ (ap starts_table (append-nil (joined type_words ys ++ [])) ∙ no_table ys), (types_end ys, h))
 parts_end ts ys (w ∷ rest) h = absurd cc
 
-pub design_exact : Exact CanSpell spelled_design All DesignGoes design_at
+pub design_exact : Exact CanFollow spelled_design All DesignGoes design_at
 unfolding design_at
 design_exact =
     let whole = made_exact (seq_exact tables_exact (seq_exact types_exact end_exact)) (λ p. record { tables = p.0; types = p.1.0 }) spelled_design DesignGoes (λ a p. ap (λ (z : List Word). joined table a.0 ++ z) (sym (append-nil (joined type_words a.1.0)))) (λ a rest g. g.1.1) (λ a rest p g. parts_end a.0 a.1.0 rest g) (λ b w more after g. g) in

@@ -8,6 +8,7 @@ use Rattle.acc_syntax.specs.Spelling.{spelled_design}
 use Rattle.acc_syntax.specs.WordReaders.{is_word}
 use Rattle.acc_syntax.specs.DesignReaders.{design_at}
 use Rattle.acc_syntax.specs.Texts.{Begins, StopsAt}
+use Rattle.acc_syntax.proofs.Following.{all_spell}
 use Rattle.acc_syntax.proofs.TypeLaws.{design_exact}
 
 nothing_left : (rest : List Word) → is_word rest ≡ false → rest ≡ []
@@ -61,4 +62,4 @@ pub stops_at : (ws rest : List Word) → design_at ws ≡ Err rest → StopsAt w
 stops_at ws rest h =
     let s = design_exact.stops ws rest h in
     let k : length s.front ≡ length ws - length rest = omega (arith, ap length s.split, length-append s.front rest) in
-    subst (StopsAt ws) k (stops_here s.front rest ws s.split (s.more, s.tree, s.plain, s.viable) s.stuck (not_text ws rest h))
+    subst (StopsAt ws) k (stops_here s.front rest ws s.split (s.more, s.tree, all_spell s.more s.plain, s.viable) s.stuck (not_text ws rest h))

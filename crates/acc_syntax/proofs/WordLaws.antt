@@ -7,13 +7,13 @@ use Rattle.acc_lex.specs.declared.words.Sign.TheVariants as sign
 use Rattle.acc_lex.specs.declared.words.Word.{Word}
 use Rattle.acc_lex.specs.declared.words.Word.TheVariants as word
 use Rattle.acc_lex.specs.Keywords.{keyword_of}
-use Rattle.acc_lex.specs.Words.{CanSpell}
 use Rattle.acc_grammar.specs.Readers.{AllIn, joined, ◌>>=◌, many}
 use Rattle.acc_grammar.proofs.Exact.{ok_is, bind_assoc, Stops, Exact, All, Free, seq_exact, made_exact, trees_exact, same_exact, ByHead}
 use Rattle.acc_grammar.proofs.Many.{Shrinks, item_shrinks, Runs, many_exact}
 use Rattle.acc_syntax.specs.Spelling.{just, name, number, further}
 use Rattle.acc_syntax.specs.WordReaders.{Outcome, same_sign, comes, is_name, is_number, every, is_word, sign_at, name_at, number_at, end_at, further_at}
 use Rattle.acc_grammar.proofs.RunReaders.{flag, nothing, absent_exact}
+use Rattle.acc_syntax.proofs.Following.{CanFollow, is_own}
 use Rattle.acc_syntax.proofs.Combinators.{all_in}
 
 -- ---- fixed words
@@ -21,7 +21,7 @@ use Rattle.acc_syntax.proofs.Combinators.{all_in}
 pub same_refl : (s : Sign) → same_sign s s ≡ true
 same_refl s = true_same the_type s s refl
 
-same_is : (s t : Sign) → same_sign s t ≡ true → s ≡ t
+pub same_is : (s t : Sign) → same_sign s t ≡ true → s ≡ t
 same_is s t e = same_true the_type (search rules) s t e
 
 -- ---- what the next word is, is judged by that word
@@ -44,10 +44,10 @@ name_head (word.Number n) more after = refl
 -- ---- readers of one word
 
 -- what a reader of one word does at a word
-abbrev AtWord : {T : Type 0} → (T → List Word) → (List Word → Outcome T) → Word → Type 0
+abbrev pub AtWord : {T : Type 0} → (T → List Word) → (List Word → Outcome T) → Word → Type 0
 AtWord {T} spell read w = ((t : T) × (spell t ≡ w ∷ []) × ((rest : List Word) → read (w ∷ rest) ≡ Ok (t, rest))) ⊎ ((rest : List Word) → read (w ∷ rest) ≡ Err (w ∷ rest))
 
-one_word : {T : Type 0} (spell : T → List Word) (read : List Word → Outcome T) (some : T) → AllIn CanSpell (spell some) → ((t : T) (rest : List Word) → read (spell t ++ rest) ≡ Ok (t, rest)) → (read [] ≡ Err []) → ((w : Word) → AtWord spell read w) → Exact CanSpell spell All Free read
+pub one_word : {T : Type 0} (spell : T → List Word) (read : List Word → Outcome T) (some : T) → AllIn CanFollow (spell some) → ((t : T) (rest : List Word) → read (spell t ++ rest) ≡ Ok (t, rest)) → (read [] ≡ Err []) → ((w : Word) → AtWord spell read w) → Exact CanFollow spell All Free read
 one_word {T} spell read some plain again nothing_read each = record {
   takes = takes;
   again = λ t rest p g. again t rest;
@@ -69,7 +69,7 @@ one_word {T} spell read some plain again nothing_read each = record {
     takes [] t rest h = absurd (let wrong = sym nothing_read ∙ h in cc)
     takes (w ∷ ws) t rest h = takes_at w ws t rest h (each w)
 
-    stops_at : (w : Word) (ws rest : List Word) → read (w ∷ ws) ≡ Err rest → AtWord spell read w → Stops CanSpell spell All read (w ∷ ws) rest
+    stops_at : (w : Word) (ws rest : List Word) → read (w ∷ ws) ≡ Err rest → AtWord spell read w → Stops CanFollow spell All read (w ∷ ws) rest
     stops_at w ws rest h (inl k) = absurd (let wrong = sym (k.2 ws) ∙ h in cc)
     stops_at w ws rest h (inr k) =
         let is : w ∷ ws ≡ rest = let e = sym (k ws) ∙ h in cc in record {
@@ -83,7 +83,7 @@ one_word {T} spell read some plain again nothing_read each = record {
           stuck = λ v others after e. let head : w ≡ v = cc in subst (λ (z : Word). read (z ∷ after) ≡ Err (z ∷ after)) head (k after);
         }
 
-    stops : (ws rest : List Word) → read ws ≡ Err rest → Stops CanSpell spell All read ws rest
+    stops : (ws rest : List Word) → read ws ≡ Err rest → Stops CanFollow spell All read ws rest
     stops [] rest h =
         let is : [] ≡ rest = let e = sym nothing_read ∙ h in cc in record {
           front = [];
@@ -111,9 +111,10 @@ sign_each s (word.Sign t) =
       | inr h ↦ inr (λ rest. rw h refl)
     ]
 
-pub sign_exact : (s : Sign) → Exact CanSpell (fixed s) All Free (sign_at s)
+-- a fixed word, which isn't `self`
+pub sign_exact : (s : Sign) → is_own s ≡ false → Exact CanFollow (fixed s) All Free (sign_at s)
 unfolding sign_at
-sign_exact s = one_word (fixed s) (sign_at s) tt (tt, tt) (λ t rest. rw (same_refl s) refl) refl (sign_each s)
+sign_exact s n = one_word (fixed s) (sign_at s) tt (n, tt) (λ t rest. rw (same_refl s) refl) refl (sign_each s)
 
 name_each : (w : Word) → AtWord name name_at w
 unfolding name_at
@@ -122,7 +123,7 @@ name_each (word.Number n) = inr (λ rest. refl)
 name_each (word.Sign t) = inr (λ rest. refl)
 
 -- the letter a is a name
-pub name_exact : Exact CanSpell name All Free name_at
+pub name_exact : Exact CanFollow name All Free name_at
 unfolding name_at keyword_of
 name_exact = one_word name name_at (97 ∷ []) (((refl, tt), refl), tt) (λ t rest. refl) refl name_each
 
@@ -132,14 +133,14 @@ number_each (word.Name x) = inr (λ rest. refl)
 number_each (word.Number n) = inl (n, refl, λ rest. refl)
 number_each (word.Sign t) = inr (λ rest. refl)
 
-pub number_exact : Exact CanSpell number All Free number_at
+pub number_exact : Exact CanFollow number All Free number_at
 unfolding number_at
 number_exact = one_word number number_at 0 ((48 ∷ [], inl refl, refl), tt) (λ t rest. refl) refl number_each
 
 -- the end of the words
-pub end_exact : Exact CanSpell nothing All (λ o rest. is_word rest ≡ false) end_at
+pub end_exact : Exact CanFollow nothing All (λ o rest. is_word rest ≡ false) end_at
 unfolding end_at
-end_exact = absent_exact CanSpell every
+end_exact = absent_exact CanFollow every
 
 -- ---- a fixed word before or behind a part
 
@@ -151,28 +152,28 @@ after s read ws = sign_at s ws >>= λ o. read o.1 >>= λ x. Ok (x.0, x.1)
 abbrev pub closed : {T : Type 0} → Sign → (List Word → Outcome T) → List Word → Outcome T
 closed s read ws = read ws >>= λ x. sign_at s x.1 >>= λ o. Ok (x.0, o.1)
 
-module _ {T : Type 0} {spell : T → List Word} {P : T → Type 0} {goes : T → List Word → Type 0} {read : List Word → Outcome T} (s : Sign) (e : Exact CanSpell spell P goes read) where
-  pub after_exact : Exact CanSpell (λ (t : T). just s ++ spell t) P goes (after s read)
+module _ {T : Type 0} {spell : T → List Word} {P : T → Type 0} {goes : T → List Word → Type 0} {read : List Word → Outcome T} (s : Sign) (n : is_own s ≡ false) (e : Exact CanFollow spell P goes read) where
+  pub after_exact : Exact CanFollow (λ (t : T). just s ++ spell t) P goes (after s read)
   after_exact =
-      let whole = made_exact (seq_exact (sign_exact s) e) (λ p. p.1) (λ (t : T). just s ++ spell t) goes (λ a p. refl) (λ a rest g. g.1) (λ a rest p g. (tt, g)) e.heads in
+      let whole = made_exact (seq_exact (sign_exact s n) e) (λ p. p.1) (λ (t : T). just s ++ spell t) goes (λ a p. refl) (λ a rest g. g.1) (λ a rest p g. (tt, g)) e.heads in
       trees_exact (same_exact (λ ws. simp bind_assoc) whole) (λ t p. subst P p.2 p.1.1) (λ t q. ((tt, t), (tt, q), refl))
 
-  pub closed_exact : ((t : T) (rest : List Word) → goes t (word.Sign s ∷ rest)) → Exact CanSpell (λ (t : T). spell t ++ just s) P Free (closed s read)
+  pub closed_exact : ((t : T) (rest : List Word) → goes t (word.Sign s ∷ rest)) → Exact CanFollow (λ (t : T). spell t ++ just s) P Free (closed s read)
   closed_exact ends =
-      let whole = made_exact (seq_exact e (sign_exact s)) (λ p. p.0) (λ (t : T). spell t ++ just s) Free (λ a p. refl) (λ a rest g. tt) (λ a rest p g. (ends a.0 rest, tt)) (λ b w more behind g. tt) in
+      let whole = made_exact (seq_exact e (sign_exact s n)) (λ p. p.0) (λ (t : T). spell t ++ just s) Free (λ a p. refl) (λ a rest g. tt) (λ a rest p g. (ends a.0 rest, tt)) (λ b w more behind g. tt) in
       trees_exact (same_exact (λ ws. simp bind_assoc) whole) (λ t p. subst P p.2 p.1.0) (λ t q. ((t, tt), (q, tt), refl))
 
 -- ---- lists with commas
 
-module _ {T : Type 0} {spell : T → List Word} {goes : T → List Word → Type 0} {read : List Word → Outcome T} (e : Exact CanSpell spell All goes read) where
-  pub further_exact : Exact CanSpell (further spell) All goes (further_at read)
+module _ {T : Type 0} {spell : T → List Word} {goes : T → List Word → Type 0} {read : List Word → Outcome T} (e : Exact CanFollow spell All goes read) where
+  pub further_exact : Exact CanFollow (further spell) All goes (further_at read)
   unfolding further_at
-  further_exact = after_exact sign.Comma e
+  further_exact = after_exact sign.Comma refl e
 
   pub further_shrinks : Shrinks (further_at read)
   further_shrinks = item_shrinks further_exact (comes sign.Comma) (comes_head sign.Comma) refl (λ t rest p g. refl) (λ t p. omega arith)
 
-  pub furthers_exact : Exact CanSpell (joined (further spell)) (AllIn All) (Runs (further spell) (comes sign.Comma) goes) (many (comes sign.Comma) (further_at read))
+  pub furthers_exact : Exact CanFollow (joined (further spell)) (AllIn All) (Runs (further spell) (comes sign.Comma) goes) (many (comes sign.Comma) (further_at read))
   furthers_exact = many_exact further_exact (comes sign.Comma) (comes_head sign.Comma) refl (λ t rest p g. refl) (λ t p. omega arith)
 
 -- where a part may end at a comma, and what follows may end it too
@@ -190,11 +191,11 @@ furthers_end stop spell goes comma ends (t ∷ ts) rest c h = (ends t (joined (f
 pub name_shrinks : Shrinks name_at
 name_shrinks = item_shrinks name_exact is_name name_head refl (λ t rest p g. refl) (λ t p. omega arith)
 
-pub names_exact : Exact CanSpell (joined name) (AllIn All) (Runs name is_name Free) (many is_name name_at)
+pub names_exact : Exact CanFollow (joined name) (AllIn All) (Runs name is_name Free) (many is_name name_at)
 names_exact = many_exact name_exact is_name name_head refl (λ t rest p g. refl) (λ t p. omega arith)
 
 -- names as a part that is made from all lists
-pub names_run : Exact CanSpell (joined name) All (Runs name is_name Free) (many is_name name_at)
+pub names_run : Exact CanFollow (joined name) All (Runs name is_name Free) (many is_name name_at)
 names_run = trees_exact names_exact (λ t p. tt) (λ t q. all_in t)
 
 pub names_end : (ns : List (List ℕ)) (rest : List Word) → is_name rest ≡ false → Runs name is_name Free ns rest
