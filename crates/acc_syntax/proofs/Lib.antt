@@ -7,6 +7,7 @@ pub mod SumLaws
 pub mod RowLaws
 pub mod GuardLaws
 pub mod TableLaws
+pub mod FormLaws
 pub mod ReadLaws
 pub mod ActionLaws
 pub mod TargetLaws

@@ -81,7 +81,7 @@ tables_end (t ∷ ts) rest h = (tt, tables_end ts rest h)
 abbrev NamesGoes : Names → List Word → Type 0
 NamesGoes ns rest = Runs name is_name Free ns.others rest
 
-some_names_exact : Exact CanFollow names All NamesGoes names_at
+pub some_names_exact : Exact CanFollow names All NamesGoes names_at
 unfolding names_at
 some_names_exact =
     let whole = made_exact (seq_exact name_exact names_run) (λ p. record { first = p.0; others = p.1 }) names NamesGoes (λ a p. refl) (λ a rest g. g.1) (λ a rest p g. (tt, g)) (λ b w more after g. names_run.heads b.others w more after g) in
