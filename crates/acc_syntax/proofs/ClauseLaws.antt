@@ -13,11 +13,11 @@ use Rattle.acc_syntax.specs.declared.trees.FormRelTree.{FormRelTree}
 use Rattle.acc_syntax.specs.declared.trees.FormRels.{FormRels}
 use Rattle.acc_syntax.specs.declared.trees.ClauseTree.{ClauseTree}
 use Rattle.acc_syntax.specs.Spelling.{just, further, form_rel, binder, clause, clause_statement, variant_statement}
-use Rattle.acc_syntax.specs.WordReaders.{comes}
+use Rattle.acc_syntax.specs.WordReaders.{same_sign, comes}
 use Rattle.acc_syntax.specs.ClauseReaders.{binder_at, starts_conclusion, conclusion_at, clause_of, clause_at, clause_statement_at, variant_at}
 use Rattle.acc_syntax.proofs.Following.{CanFollow, is_own}
-use Rattle.acc_syntax.proofs.Combinators.{made_free, all_in}
-use Rattle.acc_syntax.proofs.WordLaws.{same_refl, comes_head, after, after_exact, after_shrinks, closed, closed_exact, names_end}
+use Rattle.acc_syntax.proofs.Combinators.{made_free, all_in, runs_end}
+use Rattle.acc_syntax.proofs.WordLaws.{same_refl, comes_head, after, after_exact, after_shrinks, closed, closed_exact, names_end, list_skips}
 use Rattle.acc_syntax.proofs.TableLaws.{some_names_exact}
 use Rattle.acc_syntax.proofs.SumLaws.{sum_exact, sum_ends}
 use Rattle.acc_syntax.proofs.FormLaws.{FormStop, FormRelGoes, form_rel_exact, form_rel_ends, rel_is_no_forall, further_form_rels_exact, further_form_rels_end}
@@ -138,6 +138,13 @@ ClausesRun s = Runs (clause_statement s) (comes s) Free
 
 pub clauses_exact : (s : Sign) → is_own s ≡ false → Exact CanFollow (joined (clause_statement s)) All (ClausesRun s) (many (comes s) (clause_statement_at s))
 clauses_exact s n = trees_exact (many_exact (clause_statement_exact s n) (comes s) (comes_head s) refl (λ t rest p g. same_refl s) (λ t p. omega arith)) (λ t p. tt) (λ t q. all_in t)
+
+pub clauses_end : (s : Sign) (cs : List ClauseTree) (rest : List Word) → comes s rest ≡ false → ClausesRun s cs rest
+clauses_end s cs rest h = runs_end (clause_statement s) (comes s) cs rest h
+
+-- where neither the clauses nor what stands behind them begins with the word
+pub clauses_skip : (s k : Sign) → same_sign s k ≡ false → (cs : List ClauseTree) (behind rest : List Word) → comes k (behind ++ rest) ≡ false → comes k ((joined (clause_statement s) cs ++ behind) ++ rest) ≡ false
+clauses_skip s k apart cs behind rest h = list_skips s k (clause_statement s) (λ c. (_, refl)) apart cs behind rest h
 
 -- ---- a variant that may be left out
 

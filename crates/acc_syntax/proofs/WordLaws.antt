@@ -221,3 +221,10 @@ names_run = trees_exact names_exact (λ t p. tt) (λ t q. all_in t)
 pub names_end : (ns : List (List ℕ)) (rest : List Word) → is_name rest ≡ false → Runs name is_name Free ns rest
 names_end [] rest h = h
 names_end (n ∷ ns) rest h = (tt, names_end ns rest h)
+
+-- ---- what may come behind lists of statements
+
+-- where neither the statements nor what stands behind them begins with the word
+pub list_skips : {T : Type 0} (s k : Sign) (spell : T → List Word) → ((t : T) → (ws : List Word) × (spell t ≡ word.Sign s ∷ ws)) → same_sign s k ≡ false → (ts : List T) (behind rest : List Word) → comes k (behind ++ rest) ≡ false → comes k ((joined spell ts ++ behind) ++ rest) ≡ false
+list_skips s k spell begun apart [] behind rest h = h
+list_skips s k spell begun apart (t ∷ ts) behind rest h = ap (λ (z : List Word). comes k (((z ++ joined spell ts) ++ behind) ++ rest)) (begun t).1 ∙ apart
