@@ -120,7 +120,7 @@ type_exact =
     let body = seq_exact (names_statement_exact sign.Returns refl) (seq_exact (names_statement_exact sign.Local refl) clauses) in
     let ended = made_exact body (λ b. b) body_words BodyGoes (λ a p. refl) (λ a rest g. g.1.1.1.1) (λ a rest p g. (returns_before a.0 a.1.0 a.1.1.0 a.1.1.1.0 a.1.1.1.1.0 (joined point a.1.1.1.1.1) rest, (locals_before a.1.0 a.1.1.0 a.1.1.1.0 a.1.1.1.1.0 (joined point a.1.1.1.1.1) rest, (ensures_before a.1.1.0 a.1.1.1.0 a.1.1.1.1.0 (joined point a.1.1.1.1.1) rest, (repairs_before a.1.1.1.0 a.1.1.1.1.0 (joined point a.1.1.1.1.1) rest, g))))) (λ b w more after g. (seq_exact point_exact points_exact).heads b.1.1.1.1 w more after g) in
     let whole = made_exact (after_exact sign.Type refl (seq_exact name_exact (seq_exact names_run (after_exact sign.End refl (seq_exact limit_exact ended))))) (λ p. record { name = p.0; params = p.1.0; limit = p.1.1.0; returns = p.1.1.1.0; locals = p.1.1.1.1.0; ensured = p.1.1.1.1.1.0; repaired = p.1.1.1.1.1.1.0; first = p.1.1.1.1.1.1.1.0; others = p.1.1.1.1.1.1.1.1 }) type_words TypeGoes (λ a p. refl) (λ a rest g. g.1.1.1) (λ a rest p g. (tt, (names_end a.1.0 _ refl, (tt, g)))) type_heads in
-    trees_exact (same_exact (λ ws. simp bind_assoc) whole) (λ t p. tt) (λ t q. ((t.name, (t.params, (t.limit, (t.returns, (t.locals, (t.ensured, (t.repaired, (t.first, t.others)))))))), (tt, (tt, (tt, (((tt, (tt, (tt, (tt, (tt, tt))))), refl))))), refl))
+    trees_exact (same_exact (λ ws. simp bind_assoc) whole) (λ t p. tt) (λ t q. ((t.name, (t.params, (t.limit, (t.returns, (t.locals, (t.ensured, (t.repaired, (t.first, t.others)))))))), (tt, (tt, (tt, ((t.returns, (t.locals, (t.ensured, (t.repaired, (t.first, t.others))))), (tt, (tt, (tt, (tt, (tt, tt))))), refl)))), refl))
 
 pub type_shrinks : Shrinks type_at
 type_shrinks = item_shrinks type_exact (comes sign.Type) (comes_head sign.Type) refl (λ t rest p g. refl) (λ t p. omega arith)
