@@ -6,6 +6,7 @@ ghost use Rattle.acc_syntax.specs.WordReaders.{comes, further_at};
 ghost use Rattle.acc_syntax.specs.ValueReaders.{starts_signed_term};
 ghost use Rattle.acc_syntax.specs.FormReaders.{key_and_column_at, named_operand_at, has_operand_at, count_operand_at, sum_operand_at, self_operand_at, operand_at, operand_factor_at, form_number_term_at, form_term_at, signed_form_term_at, form_at, form_rel_at};
 
+use crate::boxes::Boxed;
 use crate::parsers::Parser;
 use crate::trees::{
     Cell, FormRelTree, FormTerm, FormTree, Operand, Place, SignedFormTerm, Sums, Variable,
@@ -151,17 +152,18 @@ impl Parser<'_> {
     }
 
     #[tactic(auto, unfolding(crate::specs::FormReaders::form_at))]
-    fn form(&mut self) -> Result<FormTree, Fault>
+    fn form(&mut self) -> Result<Boxed<FormTree>, Fault>
         ensures { Gives result self.new.words.now (form_at self.old.words.now) }
     {
         let minus = self.minus()?;
         let first = self.form_term()?;
         let others = self.signed_form_terms()?;
-        Ok(FormTree {
+        let form = FormTree {
             minus,
             first,
             others,
-        })
+        };
+        Ok(Boxed::new(self.alloc, form)?)
     }
 
     #[tactic(auto, unfolding(crate::specs::FormReaders::form_rel_at))]

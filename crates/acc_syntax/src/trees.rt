@@ -1,5 +1,6 @@
 //! A design as it is written: what the writer chose, and nothing that the grammar fixes.
 //! Names are as they stand in the text; whether they are declared, and what they stand for, is not asked here.
+use crate::boxes::Boxed;
 use acc_base::sequences::{Seq, Text};
 
 /// A variable, or `self`.
@@ -123,9 +124,9 @@ pub struct FormTree {
 /// A relation between two forms.
 #[derive(Drop)]
 pub struct FormRelTree {
-    pub left: FormTree,
+    pub left: Boxed<FormTree>,
     pub relation: Relation,
-    pub right: FormTree,
+    pub right: Boxed<FormTree>,
 }
 
 /// One or more relations between forms, with commas between them.
