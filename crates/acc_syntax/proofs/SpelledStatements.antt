@@ -4,7 +4,6 @@ use Rattle.acc_grammar.specs.Readers.{joined}
 use Rattle.acc_lex.specs.declared.words.Sign.{Sign}
 use Rattle.acc_lex.specs.declared.words.Sign.TheVariants as sign
 use Rattle.acc_lex.specs.declared.words.Word.{Word}
-use Rattle.acc_lex.specs.declared.words.Word.TheVariants as word
 use Rattle.acc_lex.proofs.StatementWords.{is_end_sign, InStatements, in_both}
 use Rattle.acc_syntax.specs.declared.trees.Variable.{Variable}
 use Rattle.acc_syntax.specs.declared.trees.Variable.TheVariants.{Named, Oneself}

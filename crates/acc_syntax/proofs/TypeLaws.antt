@@ -1,5 +1,5 @@
 -- The readers of points, types and whole designs are exact.
-use Rattle.std.proofs.Common.{◌≡◌, false, List, [], ◌∷◌, ◌++◌, Option, Some, None, refl, sym, ap, ◌∙◌, arith}
+use Rattle.std.proofs.Common.{◌≡◌, false, List, [], ◌∷◌, ◌++◌, Option, refl, sym, ap, arith}
 use Rattle.std.proofs.lemmas.List.{append-nil}
 use Rattle.acc_lex.specs.declared.words.Sign.{Sign}
 use Rattle.acc_lex.specs.declared.words.Sign.TheVariants as sign
@@ -20,7 +20,6 @@ use Rattle.acc_syntax.specs.declared.trees.DesignTree.{DesignTree}
 use Rattle.acc_syntax.specs.Spelling.{side, clause_statement, point, limit, names_statement, type_words, entry, hint, spelled_design, table}
 use Rattle.acc_syntax.specs.WordReaders.{same_sign, comes, is_word}
 use Rattle.acc_syntax.specs.StatementReaders.{starts_table}
-use Rattle.acc_syntax.specs.EntryReaders.{entry_at, hint_at}
 use Rattle.acc_syntax.specs.DesignReaders.{point_at, limit_at, type_head_at, type_at, design_at}
 use Rattle.acc_syntax.proofs.Following.{CanFollow}
 use Rattle.acc_syntax.proofs.Combinators.{all_in, runs_end}
@@ -181,12 +180,19 @@ DesignRuns d rest =
 
 parts_end : (d : DesignRead) (rest : List Word) → is_word rest ≡ false → DesignRuns d rest
 parts_end d (w ∷ rest) h = absurd cc
-parts_end d [] h =
-    (tables_end d.0 _ (no_table d.1.0 d.1.1.0 d.1.1.1.0 d.1.1.1.1.0),
-    (clauses_end sign.Always d.1.0 _ (types_apart sign.Always refl refl refl d.1.1.0 d.1.1.1.0 d.1.1.1.1.0),
-    (types_end d.1.1.0 d.1.1.1.0 d.1.1.1.1.0,
-    (runs_end entry (comes sign.Entry) d.1.1.1.0 _ (list_skips sign.Hint sign.Entry hint (λ t. (_, refl)) refl d.1.1.1.1.0 [] [] refl),
-    (runs_end hint (comes sign.Hint) d.1.1.1.1.0 _ refl, h)))))
+parts_end d [] h = (
+  tables_end d.0 _ (no_table d.1.0 d.1.1.0 d.1.1.1.0 d.1.1.1.1.0),
+  (
+    clauses_end sign.Always d.1.0 _ (types_apart sign.Always refl refl refl d.1.1.0 d.1.1.1.0 d.1.1.1.1.0),
+    (
+      types_end d.1.1.0 d.1.1.1.0 d.1.1.1.1.0,
+      (
+        runs_end entry (comes sign.Entry) d.1.1.1.0 _ (list_skips sign.Hint sign.Entry hint (λ t. (_, refl)) refl d.1.1.1.1.0 [] [] refl),
+        (runs_end hint (comes sign.Hint) d.1.1.1.1.0 _ refl, h),
+      ),
+    ),
+  ),
+)
 
 -- nothing is spelled behind the hints
 no_more : (ts cs ys es hs : List Word) → ts ++ (cs ++ (ys ++ (es ++ hs))) ≡ ts ++ (cs ++ (ys ++ (es ++ (hs ++ []))))

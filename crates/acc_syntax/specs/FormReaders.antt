@@ -1,5 +1,5 @@
 -- Reading forms and relations between them.
-use Rattle.std.specs.Prelude.{ℕ, Bool, List, Option, Some, None, Ok, if◌then◌else◌}
+use Rattle.std.specs.Prelude.{ℕ, List, Option, Some, None, Ok, if◌then◌else◌}
 use Rattle.acc_grammar.specs.Readers.{◌>>=◌, many}
 use Rattle.acc_lex.specs.declared.words.Sign.TheVariants as sign
 use Rattle.acc_lex.specs.declared.words.Word.{Word}

@@ -1,7 +1,7 @@
 use crate::designs::{SyntaxError, syntax};
 use crate::trees::{
-    ActionTree, Cell, ClauseTree, DesignTree, FormTerm, FormTree, Operand, Place, PointName, ReadTree, Relation, SideTree, Sum, TargetTree,
-    Term, Variable,
+    ActionTree, Cell, ClauseTree, DesignTree, FormTerm, FormTree, Operand, Place, PointName,
+    ReadTree, Relation, SideTree, Sum, TargetTree, Term, Variable,
 };
 use acc_base::sequences::{Seq, Text};
 use acc_lex::words::{Sign, Word};
@@ -550,7 +550,9 @@ fn is_operand(form: &FormTree, wanted: &str) -> bool {
 
 /// Whether it is the number alone.
 fn is_constant(form: &FormTree, wanted: u64) -> bool {
-    !form.minus && form.others.is_empty() && matches!(form.first, FormTerm::Constant(n) if n == wanted)
+    !form.minus
+        && form.others.is_empty()
+        && matches!(form.first, FormTerm::Constant(n) if n == wanted)
 }
 
 /// Whether it says, with no variables and no guards, that the variable is the number.
@@ -592,7 +594,9 @@ fn guards_and_variables(rt: HostRuntime) -> Result<(), Fail> {
         return Err("no guards")?;
     };
     assert!(rt; matches!(guards.first.relation, Relation::AtLeast));
-    assert!(rt; is_operand(guards.first.left.get(), "x") && is_constant(guards.first.right.get(), 1));
+    assert!(rt;
+        is_operand(guards.first.left.get(), "x") && is_constant(guards.first.right.get(), 1)
+    );
     assert_eq!(rt; guards.others.len(), 1);
     let second = part(&guards.others, 0)?;
     assert!(rt; matches!(second.relation, Relation::AtMost));
@@ -619,10 +623,20 @@ fn operands_of_each_kind(rt: HostRuntime) -> Result<(), Fail> {
     assert!(rt; matches!(&there.term, FormTerm::Plain(Operand::Has(row)) if is_row(row, "B", "w")));
     let counted = part(&form.others, 1)?;
     assert!(rt; counted.minus);
-    assert!(rt; matches!(&counted.term, FormTerm::Plain(Operand::Count(row)) if is_row(row, "C", "w")));
+    assert!(rt;
+        matches!(&counted.term, FormTerm::Plain(Operand::Count(row)) if is_row(row, "C", "w"))
+    );
     let added = part(&form.others, 2)?;
-    assert!(rt; matches!(&added.term, FormTerm::Plain(Operand::Sum(cell)) if is_cell(cell, "D", "w", "e")));
+    assert!(rt;
+        matches!(&added.term, FormTerm::Plain(Operand::Sum(cell)) if is_cell(cell, "D", "w", "e"))
+    );
     let own = part(&form.others, 3)?;
-    assert!(rt; own.minus && matches!(own.term, FormTerm::Plain(Operand::Variable(Variable::Oneself))));
+    assert!(rt;
+        own.minus
+            && matches!(
+                own.term,
+                FormTerm::Plain(Operand::Variable(Variable::Oneself))
+            )
+    );
     Ok(())
 }
