@@ -21,13 +21,13 @@ use Rattle.acc_syntax.proofs.RowLaws.{comma_stops}
 
 -- ---- relations
 
-abbrev relation_word : Relation → List Word
+abbrev pub relation_word : Relation → List Word
 relation_word r = just (relation_sign r)
 
 relation_begun : Begun relation_word relation_sign
 relation_begun r = ([], refl)
 
-relation_exact : Exact CanFollow relation_word All Free relation_at
+pub relation_exact : Exact CanFollow relation_word All Free relation_at
 unfolding relation_at
 relation_exact =
     let at_most = made_free (sign_exact sign.AtMost refl) (λ o. relation.AtMost) relation_word (λ a p. refl) (λ a rest. tt) in
@@ -45,7 +45,7 @@ relation_exact =
     trees relation.Equal = inr (inr (tt, tt, refl))
 
 -- a sum ends before each of them
-relation_stops : (r : Relation) (rest : List Word) → Stop (relation_word r ++ rest)
+pub relation_stops : (r : Relation) (rest : List Word) → Stop (relation_word r ++ rest)
 relation_stops relation.AtMost rest = record { times = refl; signed = refl }
 relation_stops relation.AtLeast rest = record { times = refl; signed = refl }
 relation_stops relation.Equal rest = record { times = refl; signed = refl }

@@ -8,6 +8,9 @@ pub mod SumLaws
 pub mod RowLaws
 pub mod GuardLaws
 pub mod TableLaws
+pub mod FormLaws
+pub mod ClauseLaws
+pub mod EntryLaws
 pub mod ReadLaws
 pub mod ActionLaws
 pub mod TargetLaws

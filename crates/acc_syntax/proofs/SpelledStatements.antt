@@ -19,6 +19,15 @@ use Rattle.acc_syntax.specs.declared.trees.Relation.{Relation}
 use Rattle.acc_syntax.specs.declared.trees.Relation.TheVariants as relation
 use Rattle.acc_syntax.specs.declared.trees.LinRelTree.{LinRelTree}
 use Rattle.acc_syntax.specs.declared.trees.LinRels.{LinRels}
+use Rattle.acc_syntax.specs.declared.trees.Operand.{Operand}
+use Rattle.acc_syntax.specs.declared.trees.Operand.TheVariants as operands
+use Rattle.acc_syntax.specs.declared.trees.FormTerm.{FormTerm}
+use Rattle.acc_syntax.specs.declared.trees.FormTerm.TheVariants as form_terms
+use Rattle.acc_syntax.specs.declared.trees.SignedFormTerm.{SignedFormTerm}
+use Rattle.acc_syntax.specs.declared.trees.FormTree.{FormTree}
+use Rattle.acc_syntax.specs.declared.trees.FormRelTree.{FormRelTree}
+use Rattle.acc_syntax.specs.declared.trees.FormRels.{FormRels}
+use Rattle.acc_syntax.specs.declared.trees.ClauseTree.{ClauseTree}
 use Rattle.acc_syntax.specs.declared.trees.TableTree.{TableTree}
 use Rattle.acc_syntax.specs.declared.trees.ReadTree.{ReadTree}
 use Rattle.acc_syntax.specs.declared.trees.ReadTree.TheVariants as read
@@ -30,8 +39,15 @@ use Rattle.acc_syntax.specs.declared.trees.PathTree.{PathTree}
 use Rattle.acc_syntax.specs.declared.trees.StepTree.{StepTree}
 use Rattle.acc_syntax.specs.declared.trees.PointTree.{PointTree}
 use Rattle.acc_syntax.specs.declared.trees.TypeTree.{TypeTree}
+use Rattle.acc_syntax.specs.declared.trees.SideTree.{SideTree}
+use Rattle.acc_syntax.specs.declared.trees.SideTree.TheVariants as side_tree
+use Rattle.acc_syntax.specs.declared.trees.PointName.{PointName}
+use Rattle.acc_syntax.specs.declared.trees.PairTree.{PairTree}
+use Rattle.acc_syntax.specs.declared.trees.Pairs.{Pairs}
+use Rattle.acc_syntax.specs.declared.trees.EntryTree.{EntryTree}
+use Rattle.acc_syntax.specs.declared.trees.HintTree.{HintTree}
 use Rattle.acc_syntax.specs.declared.trees.DesignTree.{DesignTree}
-use Rattle.acc_syntax.specs.Spelling.{just, name, number, names, further, variable, term, signed_term, sum, sums, place, cell, relation_sign, lin_rel, guard, table, read_statement, values, action_statement, target_statement, names_statement, path, step, side, point, limit, type_words, spelled_design}
+use Rattle.acc_syntax.specs.Spelling.{just, name, number, names, further, variable, term, signed_term, sum, sums, place, cell, relation_sign, lin_rel, guard, operand, form_term, signed_form_term, form, form_rel, form_rels, binder, premises, clause, clause_statement, table, read_statement, values, action_statement, target_statement, names_statement, variant_statement, side_sign, point_name, pair, pairs, entry, hint, path, step, side, point, limit, type_words, spelled_design}
 
 -- ---- words within a statement
 
@@ -122,6 +138,59 @@ values_within : (v : Option Sums) → Within (values v)
 values_within None = none_within
 values_within (Some s) = sums_within s
 
+-- ---- clauses
+
+operand_within : (o : Operand) → Within (operand o)
+operand_within (operands.Variable x) = variable_within x
+operand_within (operands.Column c) = cell_within c
+operand_within (operands.Has p) = both_within (just_within sign.Has refl) (place_within p)
+operand_within (operands.Count p) = both_within (just_within sign.Count refl) (place_within p)
+operand_within (operands.Sum c) = both_within (just_within sign.Sum refl) (cell_within c)
+
+form_term_within : (t : FormTerm) → Within (form_term t)
+form_term_within (form_terms.Constant n) = number_within n
+form_term_within (form_terms.Plain o) = operand_within o
+form_term_within (form_terms.Product n o) = both_within (number_within n) (both_within (just_within sign.Times refl) (operand_within o))
+
+signed_form_within : (s : SignedFormTerm) → Within (signed_form_term s)
+signed_form_within s = both_within (either_within s.minus sign.Minus sign.Plus refl refl) (form_term_within s.term)
+
+form_within : (f : FormTree) → Within (form f)
+form_within f = both_within (minus_within f.minus) (both_within (form_term_within f.first) (joined_within signed_form_term signed_form_within f.others))
+
+form_rel_within : (r : FormRelTree) → Within (form_rel r)
+form_rel_within r = both_within (form_within r.left) (both_within (relation_within r.relation) (form_within r.right))
+
+form_rels_within : (rs : FormRels) → Within (form_rels rs)
+form_rels_within rs = both_within (form_rel_within rs.first) (joined_within (further form_rel) (further_within form_rel form_rel_within) rs.others)
+
+binder_within : (ns : Option Names) → Within (binder ns)
+binder_within None = none_within
+binder_within (Some ns) = both_within (just_within sign.Forall refl) (both_within (names_within ns) (just_within sign.Colon refl))
+
+premises_within : (rs : Option FormRels) → Within (premises rs)
+premises_within None = none_within
+premises_within (Some rs) = both_within (form_rels_within rs) (just_within sign.Implies refl)
+
+clause_within : (c : ClauseTree) → Within (clause c)
+clause_within c = both_within (binder_within c.variables) (both_within (premises_within c.guards) (form_rel_within c.relation))
+
+-- ---- entries and hints
+
+side_within : (s : SideTree) → Within (just (side_sign s))
+side_within side_tree.Next = just_within sign.Next refl
+side_within side_tree.Undo = just_within sign.Undo refl
+
+point_name_within : (p : PointName) → Within (point_name p)
+point_name_within p = both_within (name_within p.type_name) (both_within (just_within sign.Dot refl) (name_within p.point))
+
+pair_within : (p : PairTree) → Within (pair p)
+pair_within p = both_within (variable_within p.held) (both_within (just_within sign.Equal refl) (variable_within p.step))
+
+pairs_within : (ps : Option Pairs) → Within (pairs ps)
+pairs_within None = none_within
+pairs_within (Some ps) = both_within (just_within sign.Colon refl) (both_within (pair_within ps.first) (joined_within (further pair) (further_within pair pair_within) ps.others))
+
 -- ---- statements
 
 -- words, and what ends their statement
@@ -185,6 +254,22 @@ names_whole : (s : Sign) → is_end_sign s ≡ false → (ns : Option Names) →
 names_whole s e None = no_whole
 names_whole s e (Some ns) = begun s e (then_ends (names_within ns) last)
 
+clause_whole : (s : Sign) → is_end_sign s ≡ false → (c : ClauseTree) → Whole (clause_statement s c)
+clause_whole s e c = begun s e (then_ends (clause_within c) last)
+
+clauses_whole : (s : Sign) → is_end_sign s ≡ false → (cs : List ClauseTree) → Whole (joined (clause_statement s) cs)
+clauses_whole s e cs = joined_whole (clause_statement s) (clause_whole s e) cs
+
+variant_whole : (v : Option Sum) → Whole (variant_statement v)
+variant_whole None = no_whole
+variant_whole (Some v) = begun sign.Variant refl (then_ends (sum_within v) last)
+
+entry_whole : (e : EntryTree) → Whole (entry e)
+entry_whole e = begun sign.Entry refl (then_ends (point_name_within e.held) (then_ends (just_within sign.By refl) (then_ends (point_name_within e.by) (then_ends (side_within e.side) (then_ends (pairs_within e.pairs) last)))))
+
+hint_whole : (h : HintTree) → Whole (hint h)
+hint_whole h = begun sign.Hint refl (then_ends (point_name_within h.of) (then_ends (side_within h.side) (then_ends (sum_within h.value) last)))
+
 -- ---- a design
 
 path_whole : (p : PathTree) → Whole (path p)
@@ -197,7 +282,7 @@ side_whole : (s : Sign) → is_end_sign s ≡ false → (st : StepTree) → Whol
 side_whole s e st = begun s e (ended (step_whole st))
 
 point_whole : (p : PointTree) → Whole (point p)
-point_whole p = begun sign.Point refl (then_ends (name_within p.name) (ended (both_whole (side_whole sign.Next refl p.next) (side_whole sign.Undo refl p.undo))))
+point_whole p = begun sign.Point refl (then_ends (name_within p.name) (ended (both_whole (variant_whole p.variant) (both_whole (clauses_whole sign.Holds refl p.holds) (both_whole (side_whole sign.Next refl p.next) (side_whole sign.Undo refl p.undo))))))
 
 limit_whole : (n : ℕ) → Whole (limit n)
 limit_whole n = begun sign.Limit refl (then_ends (number_within n) last)
@@ -205,11 +290,14 @@ limit_whole n = begun sign.Limit refl (then_ends (number_within n) last)
 type_whole : (t : TypeTree) → Whole (type_words t)
 type_whole t =
     let points = both_whole (point_whole t.first) (joined_whole point point_whole t.others) in
-    let names = both_whole (names_whole sign.Returns refl t.returns) (both_whole (names_whole sign.Local refl t.locals) points) in
+    let clauses = both_whole (clauses_whole sign.Ensures refl t.ensured) (both_whole (clauses_whole sign.Repairs refl t.repaired) points) in
+    let names = both_whole (names_whole sign.Returns refl t.returns) (both_whole (names_whole sign.Local refl t.locals) clauses) in
     begun sign.Type refl (then_ends (name_within t.name) (then_ends (joined_within name name_within t.params) (ended (both_whole (limit_whole t.limit) names))))
 
 design_whole : (d : DesignTree) → Whole (spelled_design d)
-design_whole d = both_whole (joined_whole table table_whole d.tables) (joined_whole type_words type_whole d.types)
+design_whole d =
+    let last = both_whole (joined_whole entry entry_whole d.entries) (joined_whole hint hint_whole d.hints) in
+    both_whole (joined_whole table table_whole d.tables) (both_whole (clauses_whole sign.Always refl d.always) (both_whole (joined_whole type_words type_whole d.types) last))
 
 -- a design's words are whole statements
 pub spelled_in : (d : DesignTree) → InStatements true (spelled_design d)

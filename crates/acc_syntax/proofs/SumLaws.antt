@@ -118,7 +118,7 @@ term_exact =
 -- ---- signed terms
 
 -- a minus or a plus
-abbrev direction : Bool → List Word
+abbrev pub direction : Bool → List Word
 direction true = just sign.Minus
 direction false = just sign.Plus
 
@@ -130,7 +130,7 @@ direction_begun : Begun direction direction_sign
 direction_begun true = ([], refl)
 direction_begun false = ([], refl)
 
-direction_exact : Exact CanFollow direction All Free direction_at
+pub direction_exact : Exact CanFollow direction All Free direction_at
 unfolding direction_at
 direction_exact =
     let minus = made_free (sign_exact sign.Minus refl) (λ o. true) direction (λ a p. refl) (λ a rest. tt) in
@@ -155,7 +155,7 @@ signed_term_exact =
     let whole = made_exact (seq_exact direction_exact term_exact) (λ p. record { minus = p.0; term = p.1 }) signed_term SignedGoes (λ a p. signed_is a.0 a.1) (λ a rest g. g.1) (λ a rest p g. (tt, g)) (λ b w more after g. term_exact.heads b.term w more after g) in
     trees_exact (same_exact (λ ws. simp bind_assoc) whole) (λ t p. tt) (λ t q. ((t.minus, t.term), (tt, tt), refl))
 
-signed_head : ByHead starts_signed_term
+pub signed_head : ByHead starts_signed_term
 signed_head (word.Sign t) more after = refl
 signed_head (word.Name x) more after = refl
 signed_head (word.Number n) more after = refl
@@ -179,11 +179,11 @@ signed_terms_exact = trees_exact (many_exact signed_term_exact starts_signed_ter
 
 -- ---- sums
 
-abbrev minus : Bool → List Word
+abbrev pub minus : Bool → List Word
 minus true = just sign.Minus
 minus false = []
 
-abbrev MinusGoes : Bool → List Word → Type 0
+abbrev pub MinusGoes : Bool → List Word → Type 0
 MinusGoes true rest = Unit {0}
 MinusGoes false rest = comes sign.Minus rest ≡ false
 
@@ -191,7 +191,7 @@ minus_heads : (b : Bool) (w : Word) (more after : List Word) → MinusGoes b (w 
 minus_heads true w more after g = tt
 minus_heads false w more after g = sym (comes_head sign.Minus w more after) ∙ g
 
-minus_exact : Exact CanFollow minus All MinusGoes minus_at
+pub minus_exact : Exact CanFollow minus All MinusGoes minus_at
 unfolding minus_at
 minus_exact =
     let there = made_exact (sign_exact sign.Minus refl) (λ o. true) minus MinusGoes (λ a p. refl) (λ a rest g. tt) (λ a rest p g. tt) minus_heads in

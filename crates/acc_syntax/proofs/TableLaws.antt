@@ -10,7 +10,7 @@ use Rattle.acc_grammar.proofs.Many.{Shrinks, item_shrinks, Runs, many_exact}
 use Rattle.acc_syntax.specs.declared.trees.Names.{Names}
 use Rattle.acc_syntax.specs.declared.trees.TableTree.{TableTree}
 use Rattle.acc_syntax.specs.Spelling.{just, name, names, number, table, names_statement}
-use Rattle.acc_syntax.specs.WordReaders.{comes, is_name}
+use Rattle.acc_syntax.specs.WordReaders.{same_sign, comes, is_name}
 use Rattle.acc_syntax.specs.StatementReaders.{private_at, table_at, starts_table, names_at, names_statement_at}
 use Rattle.acc_syntax.proofs.Following.{CanFollow, is_own}
 use Rattle.acc_syntax.proofs.Combinators.{made_free, all_in}
@@ -81,7 +81,7 @@ tables_end (t ∷ ts) rest h = (tt, tables_end ts rest h)
 abbrev NamesGoes : Names → List Word → Type 0
 NamesGoes ns rest = Runs name is_name Free ns.others rest
 
-some_names_exact : Exact CanFollow names All NamesGoes names_at
+pub some_names_exact : Exact CanFollow names All NamesGoes names_at
 unfolding names_at
 some_names_exact =
     let whole = made_exact (seq_exact name_exact names_run) (λ p. record { first = p.0; others = p.1 }) names NamesGoes (λ a p. refl) (λ a rest g. g.1) (λ a rest p g. (tt, g)) (λ b w more after g. names_run.heads b.others w more after g) in
@@ -109,3 +109,12 @@ names_statement_exact s n =
     trees : (ns : Option Names) → Or (Made (λ (x : Names). Some x) All) (λ (u : Option Names). None ≡ u) ns
     trees None = inr refl
     trees (Some ns) = inl (ns, tt, refl)
+
+pub names_statement_ends : (s : Sign) (ns : Option Names) (rest : List Word) → comes s rest ≡ false → NamesStatementGoes s ns rest
+names_statement_ends s None rest h = h
+names_statement_ends s (Some ns) rest h = tt
+
+-- where neither the statement nor what stands behind it begins with the word
+pub names_skip : (s k : Sign) → same_sign s k ≡ false → (ns : Option Names) (behind rest : List Word) → comes k (behind ++ rest) ≡ false → comes k ((names_statement s ns ++ behind) ++ rest) ≡ false
+names_skip s k apart None behind rest h = h
+names_skip s k apart (Some ns) behind rest h = apart

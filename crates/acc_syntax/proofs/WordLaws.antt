@@ -1,5 +1,5 @@
 -- The readers of single words are exact, and ways to put readers together by fixed words.
-use Rattle.std.proofs.Common.{◌≡◌, ℕ, true, false, List, [], ◌∷◌, ◌++◌, Ok, Err, refl, sym, ap, subst, ◌∙◌, arith, inl, inr, ◌⊎◌, rules}
+use Rattle.std.proofs.Common.{◌≡◌, ℕ, ◌<◌, length, length-append, true, false, List, [], ◌∷◌, ◌++◌, Ok, Err, refl, sym, ap, subst, ◌∙◌, arith, inl, inr, ◌⊎◌, rules}
 use denote.Enum.Bare.{same_true, true_same}
 use Rattle.acc_lex.specs.contracts.words.Sign.{the_type}
 use Rattle.acc_lex.specs.declared.words.Sign.{Sign}
@@ -8,7 +8,7 @@ use Rattle.acc_lex.specs.declared.words.Word.{Word}
 use Rattle.acc_lex.specs.declared.words.Word.TheVariants as word
 use Rattle.acc_lex.specs.Keywords.{keyword_of}
 use Rattle.acc_grammar.specs.Readers.{AllIn, joined, ◌>>=◌, many}
-use Rattle.acc_grammar.proofs.Exact.{ok_is, bind_assoc, Stops, Exact, All, Free, seq_exact, made_exact, trees_exact, same_exact, ByHead}
+use Rattle.acc_grammar.proofs.Exact.{ok_is, bind_ok, bind_assoc, chosen, Stops, Exact, All, Free, seq_exact, made_exact, trees_exact, same_exact, ByHead}
 use Rattle.acc_grammar.proofs.Many.{Shrinks, item_shrinks, Runs, many_exact}
 use Rattle.acc_syntax.specs.Spelling.{just, name, number, further}
 use Rattle.acc_syntax.specs.WordReaders.{Outcome, same_sign, comes, is_name, is_number, every, is_word, sign_at, name_at, number_at, end_at, further_at}
@@ -163,6 +163,26 @@ module _ {T : Type 0} {spell : T → List Word} {P : T → Type 0} {goes : T →
       let whole = made_exact (seq_exact e (sign_exact s n)) (λ p. p.0) (λ (t : T). spell t ++ just s) Free (λ a p. refl) (λ a rest g. tt) (λ a rest p g. (ends a.0 rest, tt)) (λ b w more behind g. tt) in
       trees_exact (same_exact (λ ws. simp bind_assoc) whole) (λ t p. subst P p.2 p.1.0) (λ t q. ((t, tt), (q, tt), refl))
 
+sign_shorter : (s : Sign) (ws : List Word) (o : Unit {0}) (rest : List Word) → sign_at s ws ≡ Ok (o, rest) → length rest < length ws
+unfolding sign_at
+sign_shorter s [] o rest h = absurd cc
+sign_shorter s (w ∷ ws) o rest h =
+    elim (chosen (comes s (w ∷ ws)) (Ok (tt, ws)) (Err (w ∷ ws)) (Ok (o, rest)) h) [
+      | inl k ↦ (let is : ws ≡ rest = ap (λ (z : Unit {0} × List Word). z.1) (ok_is (tt, ws) (o, rest) k.1) in omega (arith, ap length is))
+      | inr k ↦ absurd (let wrong = k.1 in cc)
+    ]
+
+-- a part behind a fixed word uses up words
+pub after_shrinks : {T : Type 0} {spell : T → List Word} {P : T → Type 0} {goes : T → List Word → Type 0} {read : List Word → Outcome T} (s : Sign) (e : Exact CanFollow spell P goes read) → Shrinks (after s read)
+after_shrinks {T} {spell = spell} {read = read} s e ws t rest h =
+    let x = bind_ok (sign_at s ws) (λ o. read o.1 >>= λ y. Ok (y.0, y.1)) (t, rest) h in
+    let y = bind_ok (read x.0.1) (λ y. Ok (y.0, y.1)) (t, rest) x.2 in
+    let one : T × List Word = (y.0.0, y.0.1) in
+    let is : one ≡ (t, rest) = ok_is one (t, rest) y.2 in
+    let k = e.takes x.0.1 y.0.0 y.0.1 y.1 in
+    let fewer = sign_shorter s ws x.0.0 x.0.1 x.1 in
+    omega (arith, fewer, ap length k.0, length-append (spell y.0.0) y.0.1, ap (λ (z : T × List Word). length z.1) is)
+
 -- ---- lists with commas
 
 module _ {T : Type 0} {spell : T → List Word} {goes : T → List Word → Type 0} {read : List Word → Outcome T} (e : Exact CanFollow spell All goes read) where
@@ -201,3 +221,10 @@ names_run = trees_exact names_exact (λ t p. tt) (λ t q. all_in t)
 pub names_end : (ns : List (List ℕ)) (rest : List Word) → is_name rest ≡ false → Runs name is_name Free ns rest
 names_end [] rest h = h
 names_end (n ∷ ns) rest h = (tt, names_end ns rest h)
+
+-- ---- what may come behind lists of statements
+
+-- where neither the statements nor what stands behind them begins with the word
+pub list_skips : {T : Type 0} (s k : Sign) (spell : T → List Word) → ((t : T) → (ws : List Word) × (spell t ≡ word.Sign s ∷ ws)) → same_sign s k ≡ false → (ts : List T) (behind rest : List Word) → comes k (behind ++ rest) ≡ false → comes k ((joined spell ts ++ behind) ++ rest) ≡ false
+list_skips s k spell begun apart [] behind rest h = h
+list_skips s k spell begun apart (t ∷ ts) behind rest h = ap (λ (z : List Word). comes k (((z ++ joined spell ts) ++ behind) ++ rest)) (begun t).1 ∙ apart

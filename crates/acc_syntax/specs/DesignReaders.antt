@@ -13,6 +13,8 @@ use Rattle.acc_syntax.specs.declared.designs.TypeHead.{TypeHead}
 use Rattle.acc_syntax.specs.WordReaders.{Outcome, comes, is_name, sign_at, name_at, number_at, end_at}
 use Rattle.acc_syntax.specs.ValueReaders.{guard_at}
 use Rattle.acc_syntax.specs.ReadReaders.{read_at, starts_read}
+use Rattle.acc_syntax.specs.ClauseReaders.{clause_statement_at, variant_at}
+use Rattle.acc_syntax.specs.EntryReaders.{entry_at, hint_at}
 use Rattle.acc_syntax.specs.StatementReaders.{table_at, starts_table, action_at, starts_action, target_at, names_statement_at}
 
 -- a path
@@ -47,9 +49,11 @@ point_at ws = do
   k ← sign_at sign.Point ws
   x ← name_at k.1
   e ← sign_at sign.End x.1
-  n ← side_at sign.Next e.1
+  v ← variant_at e.1
+  hs ← many (comes sign.Holds) (clause_statement_at sign.Holds) v.1
+  n ← side_at sign.Next hs.1
   u ← side_at sign.Undo n.1
-  Ok (record { name = x.0; next = n.0; undo = u.0 }, u.1)
+  Ok (record { name = x.0; variant = v.0; holds = hs.0; next = n.0; undo = u.0 }, u.1)
 
 -- limit INT
 unfoldable pub limit_at : List Word → Outcome ℕ
@@ -75,14 +79,19 @@ type_at ws = do
   h ← type_head_at ws
   rs ← names_statement_at sign.Returns h.1
   ls ← names_statement_at sign.Local rs.1
-  p ← point_at ls.1
+  es ← many (comes sign.Ensures) (clause_statement_at sign.Ensures) ls.1
+  cs ← many (comes sign.Repairs) (clause_statement_at sign.Repairs) es.1
+  p ← point_at cs.1
   ps ← many (comes sign.Point) point_at p.1
-  Ok (record { name = h.0.name; params = h.0.params; limit = h.0.limit; returns = rs.0; locals = ls.0; first = p.0; others = ps.0 }, ps.1)
+  Ok (record { name = h.0.name; params = h.0.params; limit = h.0.limit; returns = rs.0; locals = ls.0; ensured = es.0; repaired = cs.0; first = p.0; others = ps.0 }, ps.1)
 
 -- a design, and the end of the words
 unfoldable pub design_at : List Word → Outcome DesignTree
 design_at ws = do
   ts ← many starts_table table_at ws
-  ys ← many (comes sign.Type) type_at ts.1
-  o ← end_at ys.1
-  Ok (record { tables = ts.0; types = ys.0 }, o.1)
+  cs ← many (comes sign.Always) (clause_statement_at sign.Always) ts.1
+  ys ← many (comes sign.Type) type_at cs.1
+  es ← many (comes sign.Entry) entry_at ys.1
+  hs ← many (comes sign.Hint) hint_at es.1
+  o ← end_at hs.1
+  Ok (record { tables = ts.0; always = cs.0; types = ys.0; entries = es.0; hints = hs.0 }, o.1)

@@ -5,4 +5,7 @@ pub mod WordReaders
 pub mod ValueReaders
 pub mod StatementReaders
 pub mod ReadReaders
+pub mod FormReaders
+pub mod ClauseReaders
+pub mod EntryReaders
 pub mod DesignReaders

@@ -19,6 +19,15 @@ use Rattle.acc_syntax.specs.declared.trees.Relation.{Relation}
 use Rattle.acc_syntax.specs.declared.trees.Relation.TheVariants as relation
 use Rattle.acc_syntax.specs.declared.trees.LinRelTree.{LinRelTree}
 use Rattle.acc_syntax.specs.declared.trees.LinRels.{LinRels}
+use Rattle.acc_syntax.specs.declared.trees.Operand.{Operand}
+use Rattle.acc_syntax.specs.declared.trees.Operand.TheVariants as operands
+use Rattle.acc_syntax.specs.declared.trees.FormTerm.{FormTerm}
+use Rattle.acc_syntax.specs.declared.trees.FormTerm.TheVariants as form_terms
+use Rattle.acc_syntax.specs.declared.trees.SignedFormTerm.{SignedFormTerm}
+use Rattle.acc_syntax.specs.declared.trees.FormTree.{FormTree}
+use Rattle.acc_syntax.specs.declared.trees.FormRelTree.{FormRelTree}
+use Rattle.acc_syntax.specs.declared.trees.FormRels.{FormRels}
+use Rattle.acc_syntax.specs.declared.trees.ClauseTree.{ClauseTree}
 use Rattle.acc_syntax.specs.declared.trees.TableTree.{TableTree}
 use Rattle.acc_syntax.specs.declared.trees.ReadTree.{ReadTree}
 use Rattle.acc_syntax.specs.declared.trees.ReadTree.TheVariants as read
@@ -30,6 +39,13 @@ use Rattle.acc_syntax.specs.declared.trees.PathTree.{PathTree}
 use Rattle.acc_syntax.specs.declared.trees.StepTree.{StepTree}
 use Rattle.acc_syntax.specs.declared.trees.PointTree.{PointTree}
 use Rattle.acc_syntax.specs.declared.trees.TypeTree.{TypeTree}
+use Rattle.acc_syntax.specs.declared.trees.SideTree.{SideTree}
+use Rattle.acc_syntax.specs.declared.trees.SideTree.TheVariants as side_tree
+use Rattle.acc_syntax.specs.declared.trees.PointName.{PointName}
+use Rattle.acc_syntax.specs.declared.trees.PairTree.{PairTree}
+use Rattle.acc_syntax.specs.declared.trees.Pairs.{Pairs}
+use Rattle.acc_syntax.specs.declared.trees.EntryTree.{EntryTree}
+use Rattle.acc_syntax.specs.declared.trees.HintTree.{HintTree}
 use Rattle.acc_syntax.specs.declared.trees.DesignTree.{DesignTree}
 
 -- ---- single words
@@ -106,7 +122,57 @@ abbrev pub guard : Option LinRels → List Word
 guard None = []
 guard (Some rs) = lin_rel rs.first ++ joined (further lin_rel) rs.others
 
+-- ---- clauses
+
+-- a variable, row.column, has row, count row, sum row.column
+abbrev pub operand : Operand → List Word
+operand (operands.Variable x) = variable x
+operand (operands.Column c) = cell c
+operand (operands.Has p) = just sign.Has ++ place p
+operand (operands.Count p) = just sign.Count ++ place p
+operand (operands.Sum c) = just sign.Sum ++ cell c
+
+-- INT, an operand, or INT * operand
+abbrev pub form_term : FormTerm → List Word
+form_term (form_terms.Constant n) = number n
+form_term (form_terms.Plain o) = operand o
+form_term (form_terms.Product n o) = number n ++ (just sign.Times ++ operand o)
+
+-- + or -, and a term
+abbrev pub signed_form_term : SignedFormTerm → List Word
+signed_form_term s = (if s.minus then just sign.Minus else just sign.Plus) ++ form_term s.term
+
+-- a term that may have a minus before it, and further ones
+abbrev pub form : FormTree → List Word
+form f = (if f.minus then just sign.Minus else []) ++ (form_term f.first ++ joined signed_form_term f.others)
+
+-- two forms, and how they compare
+abbrev pub form_rel : FormRelTree → List Word
+form_rel r = form r.left ++ (just (relation_sign r.relation) ++ form r.right)
+
+-- relations, with commas between them
+abbrev pub form_rels : FormRels → List Word
+form_rels rs = form_rel rs.first ++ joined (further form_rel) rs.others
+
+-- forall names :, which may be left out
+abbrev pub binder : Option Names → List Word
+binder None = []
+binder (Some ns) = just sign.Forall ++ (names ns ++ just sign.Colon)
+
+-- relations =>, which may be left out
+abbrev pub premises : Option FormRels → List Word
+premises None = []
+premises (Some rs) = form_rels rs ++ just sign.Implies
+
+-- [ forall names : ] [ relations => ] relation
+abbrev pub clause : ClauseTree → List Word
+clause c = binder c.variables ++ (premises c.guards ++ form_rel c.relation)
+
 -- ---- statements: each has its end
+
+-- a statement of a word and a clause: always, ensures, repairs, holds
+abbrev pub clause_statement : Sign → ClauseTree → List Word
+clause_statement s c = just s ++ (clause c ++ just sign.End)
 
 -- table NAME width { column }, or private ..
 abbrev pub table : TableTree → List Word
@@ -150,6 +216,40 @@ abbrev pub names_statement : Sign → Option Names → List Word
 names_statement s None = []
 names_statement s (Some ns) = just s ++ (names ns ++ just sign.End)
 
+-- variant value, which may be left out
+abbrev pub variant_statement : Option Sum → List Word
+variant_statement None = []
+variant_statement (Some v) = just sign.Variant ++ (sum v ++ just sign.End)
+
+-- next or undo
+abbrev pub side_sign : SideTree → Sign
+side_sign side_tree.Next = sign.Next
+side_sign side_tree.Undo = sign.Undo
+
+-- TYPE . POINT
+abbrev pub point_name : PointName → List Word
+point_name p = name p.type_name ++ (just sign.Dot ++ name p.point)
+
+-- X = X
+abbrev pub pair : PairTree → List Word
+pair p = variable p.held ++ (just sign.Equal ++ variable p.step)
+
+-- a colon and pairs, with commas between them, which may be left out
+abbrev pub pairs : Option Pairs → List Word
+pairs None = []
+pairs (Some ps) = just sign.Colon ++ (pair ps.first ++ joined (further pair) ps.others)
+
+-- entry TYPE.POINT by TYPE.POINT next or undo [ : pairs ]
+abbrev pub entry : EntryTree → List Word
+entry e =
+    just sign.Entry ++ (point_name e.held ++ (
+    just sign.By ++ (point_name e.by ++ (
+    just (side_sign e.side) ++ (pairs e.pairs ++ just sign.End)))))
+
+-- hint TYPE.POINT next or undo, value
+abbrev pub hint : HintTree → List Word
+hint h = just sign.Hint ++ (point_name h.of ++ (just (side_sign h.side) ++ (sum h.value ++ just sign.End)))
+
 -- ---- the parts of a type
 
 -- path [ guard ], the actions, the target
@@ -164,25 +264,35 @@ step s = joined read_statement s.reads ++ (path s.first ++ joined path s.others)
 abbrev pub side : Sign → StepTree → List Word
 side s st = just s ++ (just sign.End ++ step st)
 
--- point NAME, next and a step, undo and a step
+-- point NAME, [ variant value ], { holds clause }, next and a step, undo and a step
 abbrev pub point : PointTree → List Word
-point p = just sign.Point ++ (name p.name ++ (just sign.End ++ (side sign.Next p.next ++ side sign.Undo p.undo)))
+point p =
+    just sign.Point ++ (name p.name ++ (just sign.End ++ (
+    variant_statement p.variant ++ (
+    joined (clause_statement sign.Holds) p.holds ++ (
+    side sign.Next p.next ++ side sign.Undo p.undo)))))
 
 -- limit INT
 abbrev pub limit : ℕ → List Word
 limit n = just sign.Limit ++ (number n ++ just sign.End)
 
--- type NAME { parameter }, limit INT, [ returns names ], [ local names ], one or more points
+-- type NAME { parameter }, limit INT, [ returns names ], [ local names ], { ensures clause }, { repairs clause }, one or more points
 abbrev pub type_words : TypeTree → List Word
 type_words t =
     just sign.Type ++ (name t.name ++ (joined name t.params ++ (just sign.End ++ (
     limit t.limit ++ (
     names_statement sign.Returns t.returns ++ (
     names_statement sign.Local t.locals ++ (
-    point t.first ++ joined point t.others)))))))
+    joined (clause_statement sign.Ensures) t.ensured ++ (
+    joined (clause_statement sign.Repairs) t.repaired ++ (
+    point t.first ++ joined point t.others)))))))))
 
 -- ---- the whole text
 
--- the tables, and then the types
+-- the tables, { always clause }, the types, the entries, the hints
 abbrev pub spelled_design : DesignTree → List Word
-spelled_design d = joined table d.tables ++ joined type_words d.types
+spelled_design d =
+    joined table d.tables ++ (
+    joined (clause_statement sign.Always) d.always ++ (
+    joined type_words d.types ++ (
+    joined entry d.entries ++ joined hint d.hints)))

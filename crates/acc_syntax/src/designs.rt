@@ -93,9 +93,17 @@ impl Parser<'_> {
         self.sign(Sign::Point)?;
         let name = self.name()?;
         self.sign(Sign::End)?;
+        let variant = self.variant()?;
+        let holds = self.clauses(Sign::Holds)?;
         let next = self.side(Sign::Next)?;
         let undo = self.side(Sign::Undo)?;
-        Ok(PointTree { name, next, undo })
+        Ok(PointTree {
+            name,
+            variant,
+            holds,
+            next,
+            undo,
+        })
     }
 
     fn points(&mut self) -> Result<Seq<PointTree>, Fault>
@@ -142,6 +150,8 @@ impl Parser<'_> {
         let head = self.type_head()?;
         let returns = self.names_statement(Sign::Returns)?;
         let locals = self.names_statement(Sign::Local)?;
+        let ensured = self.clauses(Sign::Ensures)?;
+        let repaired = self.clauses(Sign::Repairs)?;
         let first = self.point()?;
         let others = self.points()?;
         Ok(TypeTree {
@@ -150,6 +160,8 @@ impl Parser<'_> {
             limit: head.limit,
             returns,
             locals,
+            ensured,
+            repaired,
             first,
             others,
         })
@@ -171,9 +183,18 @@ impl Parser<'_> {
         ensures { Gives result self.new.words.now (design_at self.old.words.now) }
     {
         let tables = self.tables()?;
+        let always = self.clauses(Sign::Always)?;
         let types = self.types()?;
+        let entries = self.entries()?;
+        let hints = self.hints()?;
         self.end()?;
-        Ok(DesignTree { tables, types })
+        Ok(DesignTree {
+            tables,
+            always,
+            types,
+            entries,
+            hints,
+        })
     }
 }
 

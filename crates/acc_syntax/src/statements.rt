@@ -190,7 +190,7 @@ impl Parser<'_> {
     }
 
     #[tactic(auto, unfolding(crate::specs::StatementReaders::names_at))]
-    fn some_names(&mut self) -> Result<Names, Fault>
+    pub(crate) fn some_names(&mut self) -> Result<Names, Fault>
         ensures { Gives result self.new.words.now (names_at self.old.words.now) }
     {
         let first = self.name()?;

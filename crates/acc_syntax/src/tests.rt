@@ -2,21 +2,27 @@ mod own_words;
 
 use crate::designs::{SyntaxError, syntax};
 use crate::trees::{
-    ActionTree, Cell, DesignTree, Place, ReadTree, Relation, Sum, TargetTree, Term, Variable,
+    ActionTree, Cell, ClauseTree, DesignTree, FormTerm, FormTree, Operand, Place, PointName,
+    ReadTree, Relation, SideTree, Sum, TargetTree, Term, Variable,
 };
 use acc_base::sequences::{Seq, Text};
 use acc_lex::words::{Sign, Word};
 use std::alloc::{AllocError, Global};
 use std::test::Fail;
 
-const SIGNS: [(&str, Sign); 43] = [
+const SIGNS: [(&str, Sign); 51] = [
     ("table", Sign::Table),
     ("private", Sign::Private),
+    ("always", Sign::Always),
     ("type", Sign::Type),
     ("limit", Sign::Limit),
     ("returns", Sign::Returns),
     ("local", Sign::Local),
+    ("ensures", Sign::Ensures),
+    ("repairs", Sign::Repairs),
     ("point", Sign::Point),
+    ("variant", Sign::Variant),
+    ("holds", Sign::Holds),
     ("next", Sign::Next),
     ("undo", Sign::Undo),
     ("let", Sign::Let),
@@ -38,6 +44,9 @@ const SIGNS: [(&str, Sign); 43] = [
     ("commit", Sign::Commit),
     ("undone", Sign::Undone),
     ("refuse", Sign::Refuse),
+    ("entry", Sign::Entry),
+    ("by", Sign::By),
+    ("hint", Sign::Hint),
     ("self", Sign::Oneself),
     ("[", Sign::Open),
     ("]", Sign::Close),
@@ -73,7 +82,7 @@ const TRANSFER: &str = "table BANK 1 total ; table ACC 2 bal ; private DUE 2 amt
     undo ; path ; add ACC [ b , x ] . bal amt ; del DUE [ b , self ] ; undone ;";
 
 /// Texts by themselves, each with a `^` before the word at which it stops, if it does.
-const TEXTS: [&str; 22] = [
+const TEXTS: [&str; 54] = [
     "",
     "table A 1 ; private B 6 c d ;",
     "table ^ ;",
@@ -96,6 +105,38 @@ const TEXTS: [&str; 22] = [
     "type t ; limit 1 ; point p ; next ; ^ undo ;",
     "type t ; limit 1 ; point p ; next ; path ; commit ; ^ point q ;",
     "type t ; limit 1 ; point p ; next ; path ; commit ; undo ; path ; undone ; ^ table B 1 ;",
+    "type t ; limit 1 ; point p ; variant - 2 * n + 1 ; next ; path ; commit ; undo ; path ; undone ;",
+    "type t ; limit 1 ; point p ; variant ^ ;",
+    "type t ; limit 1 ; point p ; variant n ^ = 1 ;",
+    "type t ; limit 1 ; point p ; variant n ; ^ variant n ;",
+    "type t ; limit 1 ; ^ variant n ; point p ;",
+    "type t ; limit 1 ; local x ; ensures x = 1 ; ensures x >= 1 ; repairs x = 0 ; point p ; ^ limit 1 ;",
+    "type t ; limit 1 ; repairs x = 0 ; ^ ensures x = 1 ; point p ;",
+    "type t ; limit 1 ; ensures x = 1 ; ^ returns x ; point p ;",
+    "type t ; limit 1 ; point p ; ^ ensures x = 1 ;",
+    "type t ; limit 1 ; point p ; holds x = 1 ; holds x = 2 ; ^ variant x ;",
+    "type t ; limit 1 ; point p ; variant x ; holds x = 1 ; next ; ^ holds x = 1 ;",
+    "table A 1 ; always x = 1 ; always y = 2 ; ^ table B 1 ;",
+    "entry t . p by u . q next ; ^ always x = 1 ;",
+    "entry t . p by u . q next ; entry t . p by t . p undo : x = self , self = y ; hint t . p next - x + 2 * y ;",
+    "entry ^ ;",
+    "entry t ^ by u . q next ;",
+    "entry t . ^ by u . q next ;",
+    "entry t . p ^ u . q next ;",
+    "entry t . p by u . q ^ ;",
+    "entry t . p by u . q next ^ x = y ;",
+    "entry t . p by u . q next : ^ ;",
+    "entry t . p by u . q next : x ^ ;",
+    "entry t . p by u . q next : x ^ <= y ;",
+    "entry t . p by u . q next : x = ^ 1 ;",
+    "entry t . p by u . q undo : x = y ^ x = z ;",
+    "entry t . p by u . q undo : x = y , ^ ;",
+    "entry t . p by u . q next ; ^ table A 1 ;",
+    "hint t . p next 1 ; ^ entry t . p by u . q next ;",
+    "hint t . p ^ 1 ;",
+    "hint t . p undo ^ ;",
+    "hint t . p undo x ^ , y ;",
+    "hint t . p next x ^",
 ];
 
 /// What may stand in a step, each with a `^` before the word at which it stops, if it does.
@@ -160,6 +201,44 @@ const STEPS: [&str; 58] = [
     "path ; commit ; ^ put A [ 1 ] ;",
 ];
 
+/// What may stand behind `always`, each with a `^` before the word at which it stops, if it does.
+const CLAUSES: [&str; 34] = [
+    "x <= y ;",
+    "- 2 * A [ x , 1 ] . c + has A [ x ] - 3 * count A [ x ] >= sum A [ x ] . c - self + 4 ;",
+    "forall x y : x >= 1 , y = 2 => A [ x ] . c <= B [ y ] . d ;",
+    "forall x : x >= 1 => x >= 0 ;",
+    "forall x : x >= 0 ;",
+    "x = 1 , y = 2 , z = 3 => x <= z ;",
+    "^ ;",
+    "forall ^ : x = 1 ;",
+    "forall x ^ , y : x = 1 ;",
+    "forall x x ^ = 1 ;",
+    "forall x : ^ ;",
+    "forall x : ^ forall y : x = y ;",
+    "x ^ ;",
+    "x = ^ ;",
+    "x ^ => y = 1 ;",
+    "x = 1 ^ = 2 ;",
+    "x = 1 , y = 2 ^ ;",
+    "x = 1 , ^ => y = 2 ;",
+    "x = 1 => ^ ;",
+    "x = 1 => y = 2 ^ , z = 3 ;",
+    "x = 1 => y = 2 ^ => z = 3 ;",
+    "x = 1 ^ forall x : x = 1 ;",
+    "self ^ [ 1 ] . c = 1 ;",
+    "A [ 1 ] ^ = 1 ;",
+    "A [ ^ ] . c = 1 ;",
+    "A [ 1 ] . c ^ . d = 1 ;",
+    "has A [ 1 ] ^ . c = 1 ;",
+    "has ^ 1 = 1 ;",
+    "count A ^ = 1 ;",
+    "sum A [ 1 ] ^ = 1 ;",
+    "2 * ^ 3 = 1 ;",
+    "x ^ * 2 = 1 ;",
+    "2 * has A [ 1 ] ^ x = 1 ;",
+    "x ^ . c = 1 ;",
+];
+
 fn word_of(alloc: Global, token: &str) -> Result<Word, AllocError> {
     if let Some((_, sign)) = SIGNS.iter().find(|pair| pair.0 == token) {
         return Ok(Word::Sign(*sign));
@@ -217,6 +296,17 @@ fn steps_stop_where_marked(rt: HostRuntime) -> Result<(), Fail> {
         )?;
         let mark = add_words(rt.alloc(), text, &mut words)?;
         add_words(rt.alloc(), "undo ; path ; undone ;", &mut words)?;
+        assert_eq!(rt; stop_of(rt.alloc(), words.as_slice())?, mark, "{text}");
+    }
+    Ok(())
+}
+
+#[test]
+fn clauses_stop_where_marked(rt: HostRuntime) -> Result<(), Fail> {
+    for text in CLAUSES {
+        let mut words = Vec::new(rt.alloc());
+        add_words(rt.alloc(), "always", &mut words)?;
+        let mark = add_words(rt.alloc(), text, &mut words)?;
         assert_eq!(rt; stop_of(rt.alloc(), words.as_slice())?, mark, "{text}");
     }
     Ok(())
@@ -404,5 +494,151 @@ fn reads_of_each_kind(rt: HostRuntime) -> Result<(), Fail> {
         matches!(part(reads, 5)?, ReadTree::Mul(v, w, Variable::Oneself) if names(v, "v") && names(w, "w"))
     );
     assert!(rt; matches!(part(reads, 6)?, ReadTree::Div(Variable::Oneself, w, 7) if names(w, "w")));
+    Ok(())
+}
+
+fn is_point(name: &PointName, type_name: &str, point: &str) -> bool {
+    is(&name.type_name, type_name) && is(&name.point, point)
+}
+
+#[test]
+fn variants_of_points(rt: HostRuntime) -> Result<(), Fail> {
+    let design = tree_of(
+        rt.alloc(),
+        "type t ; limit 2 ; point p ; variant - n ; next ; path ; goto q ; undo ; path ; undone ;
+        point q ; next ; path ; commit ; undo ; path ; undone ;",
+    )?;
+    let tree = part(&design.types, 0)?;
+    assert!(rt; matches!(&tree.first.variant, Some(value) if is_variable(value, true, "n")));
+    assert!(rt; part(&tree.others, 0)?.variant.is_none());
+    Ok(())
+}
+
+#[test]
+fn entries_and_hints(rt: HostRuntime) -> Result<(), Fail> {
+    let design = tree_of(
+        rt.alloc(),
+        "entry move . mid by fund . start next : x = a , self = b ; entry a . b by c . d undo ;
+        hint move . start undo - n ; hint move . mid next 7 ;",
+    )?;
+    assert_eq!(rt; design.entries.len(), 2);
+    let first = part(&design.entries, 0)?;
+    assert!(rt; is_point(&first.held, "move", "mid") && is_point(&first.by, "fund", "start"));
+    assert!(rt; matches!(first.side, SideTree::Next));
+    let Some(pairs) = &first.pairs else {
+        return Err("no pairs")?;
+    };
+    assert!(rt; names(&pairs.first.held, "x") && names(&pairs.first.step, "a"));
+    assert_eq!(rt; pairs.others.len(), 1);
+    let own = part(&pairs.others, 0)?;
+    assert!(rt; matches!(own.held, Variable::Oneself) && names(&own.step, "b"));
+    let second = part(&design.entries, 1)?;
+    assert!(rt; matches!(second.side, SideTree::Undo) && second.pairs.is_none());
+    assert_eq!(rt; design.hints.len(), 2);
+    let hint = part(&design.hints, 0)?;
+    assert!(rt; is_point(&hint.of, "move", "start") && matches!(hint.side, SideTree::Undo));
+    assert!(rt; is_variable(&hint.value, true, "n"));
+    let last = part(&design.hints, 1)?;
+    assert!(rt; matches!(last.side, SideTree::Next) && is_number(&last.value, 7));
+    Ok(())
+}
+
+/// Whether it is the variable alone.
+fn is_operand(form: &FormTree, wanted: &str) -> bool {
+    !form.minus
+        && form.others.is_empty()
+        && matches!(&form.first, FormTerm::Plain(Operand::Variable(x)) if names(x, wanted))
+}
+
+/// Whether it is the number alone.
+fn is_constant(form: &FormTree, wanted: u64) -> bool {
+    !form.minus
+        && form.others.is_empty()
+        && matches!(form.first, FormTerm::Constant(n) if n == wanted)
+}
+
+/// Whether it says, with no variables and no guards, that the variable is the number.
+fn says(clause: &ClauseTree, variable: &str, number: u64) -> bool {
+    clause.variables.is_none()
+        && clause.guards.is_none()
+        && matches!(clause.relation.relation, Relation::Equal)
+        && is_operand(clause.relation.left.get(), variable)
+        && is_constant(clause.relation.right.get(), number)
+}
+
+#[test]
+fn clauses_of_each_word(rt: HostRuntime) -> Result<(), Fail> {
+    let design = tree_of(
+        rt.alloc(),
+        "table A 1 ; always a = 1 ; type t ; limit 1 ; ensures b = 2 ; repairs c = 3 ; repairs d = 4 ;
+        point p ; holds e = 5 ; next ; path ; commit ; undo ; path ; undone ;",
+    )?;
+    assert_eq!(rt; design.always.len(), 1);
+    assert!(rt; says(part(&design.always, 0)?, "a", 1));
+    let tree = part(&design.types, 0)?;
+    assert_eq!(rt; tree.ensured.len(), 1);
+    assert!(rt; says(part(&tree.ensured, 0)?, "b", 2));
+    assert_eq!(rt; tree.repaired.len(), 2);
+    assert!(rt; says(part(&tree.repaired, 1)?, "d", 4));
+    assert_eq!(rt; tree.first.holds.len(), 1);
+    assert!(rt; says(part(&tree.first.holds, 0)?, "e", 5));
+    Ok(())
+}
+
+#[test]
+fn guards_and_variables(rt: HostRuntime) -> Result<(), Fail> {
+    let design = tree_of(rt.alloc(), "always forall x y : x >= 1 , y <= 2 => x = 3 ;")?;
+    let clause = part(&design.always, 0)?;
+    assert!(rt;
+        matches!(&clause.variables, Some(xs) if is(&xs.first, "x") && are(&xs.others, ["y"].as_slice()))
+    );
+    let Some(guards) = &clause.guards else {
+        return Err("no guards")?;
+    };
+    assert!(rt; matches!(guards.first.relation, Relation::AtLeast));
+    assert!(rt;
+        is_operand(guards.first.left.get(), "x") && is_constant(guards.first.right.get(), 1)
+    );
+    assert_eq!(rt; guards.others.len(), 1);
+    let second = part(&guards.others, 0)?;
+    assert!(rt; matches!(second.relation, Relation::AtMost));
+    assert!(rt; is_operand(second.left.get(), "y") && is_constant(second.right.get(), 2));
+    assert!(rt; is_operand(clause.relation.left.get(), "x"));
+    assert!(rt; is_constant(clause.relation.right.get(), 3));
+    Ok(())
+}
+
+#[test]
+fn operands_of_each_kind(rt: HostRuntime) -> Result<(), Fail> {
+    let design = tree_of(
+        rt.alloc(),
+        "always - 2 * A [ b , w ] . c + has B [ b , w ] - count C [ b , w ] + sum D [ b , w ] . e - self >= 0 ;",
+    )?;
+    let form = part(&design.always, 0)?.relation.left.get();
+    assert!(rt; form.minus);
+    assert!(rt;
+        matches!(&form.first, FormTerm::Product(2, Operand::Column(cell)) if is_cell(cell, "A", "w", "c"))
+    );
+    assert_eq!(rt; form.others.len(), 4);
+    let there = part(&form.others, 0)?;
+    assert!(rt; !there.minus);
+    assert!(rt; matches!(&there.term, FormTerm::Plain(Operand::Has(row)) if is_row(row, "B", "w")));
+    let counted = part(&form.others, 1)?;
+    assert!(rt; counted.minus);
+    assert!(rt;
+        matches!(&counted.term, FormTerm::Plain(Operand::Count(row)) if is_row(row, "C", "w"))
+    );
+    let added = part(&form.others, 2)?;
+    assert!(rt;
+        matches!(&added.term, FormTerm::Plain(Operand::Sum(cell)) if is_cell(cell, "D", "w", "e"))
+    );
+    let own = part(&form.others, 3)?;
+    assert!(rt;
+        own.minus
+            && matches!(
+                own.term,
+                FormTerm::Plain(Operand::Variable(Variable::Oneself))
+            )
+    );
     Ok(())
 }

@@ -1,5 +1,6 @@
 //! A design as it is written: what the writer chose, and nothing that the grammar fixes.
 //! Names are as they stand in the text; whether they are declared, and what they stand for, is not asked here.
+use crate::boxes::Boxed;
 use acc_base::sequences::{Seq, Text};
 
 /// A variable, or `self`.
@@ -83,6 +84,66 @@ pub struct LinRels {
     pub others: Seq<LinRelTree>,
 }
 
+/// What a form adds up, beside numbers.
+#[derive(Drop)]
+pub enum Operand {
+    Variable(Variable),
+    /// The column's value.
+    Column(Cell),
+    /// 1 where the row is there, else 0.
+    Has(Place),
+    /// The number of the rows whose keys begin so.
+    Count(Place),
+    /// The sum of the column over the rows whose keys begin so.
+    Sum(Cell),
+}
+
+/// A number, an operand, or a number times an operand.
+#[derive(Drop)]
+pub enum FormTerm {
+    Constant(u64),
+    Plain(Operand),
+    Product(u64, Operand),
+}
+
+/// A further term of a form, behind a plus or, where `minus` is, a minus.
+#[derive(Drop)]
+pub struct SignedFormTerm {
+    pub minus: bool,
+    pub term: FormTerm,
+}
+
+/// A linear value over variables and rows: a first term, with a minus before it where `minus` is, and further ones.
+#[derive(Drop)]
+pub struct FormTree {
+    pub minus: bool,
+    pub first: FormTerm,
+    pub others: Seq<SignedFormTerm>,
+}
+
+/// A relation between two forms.
+#[derive(Drop)]
+pub struct FormRelTree {
+    pub left: Boxed<FormTree>,
+    pub relation: Relation,
+    pub right: Boxed<FormTree>,
+}
+
+/// One or more relations between forms, with commas between them.
+#[derive(Drop)]
+pub struct FormRels {
+    pub first: FormRelTree,
+    pub others: Seq<FormRelTree>,
+}
+
+/// A clause: a relation that is to hold for all values of the variables, where the guards hold.
+#[derive(Drop)]
+pub struct ClauseTree {
+    pub variables: Option<Names>,
+    pub guards: Option<FormRels>,
+    pub relation: FormRelTree,
+}
+
 /// `table` or, where `private` is, `private`: a name, the number of key components, and the columns' names.
 #[derive(Drop)]
 pub struct TableTree {
@@ -157,15 +218,18 @@ pub struct StepTree {
     pub others: Seq<PathTree>,
 }
 
-/// `point`: a name, the step forward and the step that undoes.
+/// `point`: a name, the variant, if it has one, what holds there, the step forward and the step that undoes.
 #[derive(Drop)]
 pub struct PointTree {
     pub name: Text,
+    pub variant: Option<Sum>,
+    pub holds: Seq<ClauseTree>,
     pub next: StepTree,
     pub undo: StepTree,
 }
 
-/// `type`: a name, the parameters' names, the limit, what is returned, the other locals, and one or more points.
+/// `type`: a name, the parameters' names, the limit, what is returned, the other locals, what a commit ensures and a
+/// compensation repairs, and one or more points.
 #[derive(Drop)]
 pub struct TypeTree {
     pub name: Text,
@@ -173,13 +237,64 @@ pub struct TypeTree {
     pub limit: u64,
     pub returns: Option<Names>,
     pub locals: Option<Names>,
+    pub ensured: Seq<ClauseTree>,
+    pub repaired: Seq<ClauseTree>,
     pub first: PointTree,
     pub others: Seq<PointTree>,
+}
+
+/// One of a point's two steps.
+#[derive(Debug, Drop)]
+pub enum SideTree {
+    Next,
+    Undo,
+}
+
+/// A point, by its type's name and its own.
+#[derive(Drop)]
+pub struct PointName {
+    pub type_name: Text,
+    pub point: Text,
+}
+
+/// Two variables that are equal: one of the transaction that stands at a point, and one of another's step.
+#[derive(Drop)]
+pub struct PairTree {
+    pub held: Variable,
+    pub step: Variable,
+}
+
+/// One or more pairs, with commas between them.
+#[derive(Drop)]
+pub struct Pairs {
+    pub first: PairTree,
+    pub others: Seq<PairTree>,
+}
+
+/// `entry`: a point where a transaction stands, the step that another takes, and where this is an entry for some
+/// variables alone, the pairs that are equal.
+#[derive(Drop)]
+pub struct EntryTree {
+    pub held: PointName,
+    pub by: PointName,
+    pub side: SideTree,
+    pub pairs: Option<Pairs>,
+}
+
+/// `hint`: a step, and a value over its variables.
+#[derive(Drop)]
+pub struct HintTree {
+    pub of: PointName,
+    pub side: SideTree,
+    pub value: Sum,
 }
 
 /// A whole design.
 #[derive(Drop)]
 pub struct DesignTree {
     pub tables: Seq<TableTree>,
+    pub always: Seq<ClauseTree>,
     pub types: Seq<TypeTree>,
+    pub entries: Seq<EntryTree>,
+    pub hints: Seq<HintTree>,
 }

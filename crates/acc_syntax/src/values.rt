@@ -61,7 +61,7 @@ impl Parser<'_> {
     }
 
     #[tactic(auto, unfolding(crate::specs::ValueReaders::minus_at))]
-    fn minus(&mut self) -> Result<bool, Fault>
+    pub(crate) fn minus(&mut self) -> Result<bool, Fault>
         ensures { Gives result self.new.words.now (minus_at self.old.words.now) }
     {
         if self.comes(Sign::Minus) {
@@ -73,7 +73,7 @@ impl Parser<'_> {
     }
 
     #[tactic(auto, unfolding(crate::specs::ValueReaders::direction_at))]
-    fn direction(&mut self) -> Result<bool, Fault>
+    pub(crate) fn direction(&mut self) -> Result<bool, Fault>
         ensures { Gives result self.new.words.now (direction_at self.old.words.now) }
     {
         if self.comes(Sign::Minus) {
@@ -94,7 +94,7 @@ impl Parser<'_> {
         Ok(SignedTerm { minus, term })
     }
 
-    fn starts_signed_term(&self) -> bool
+    pub(crate) fn starts_signed_term(&self) -> bool
         ensures { result ≡ starts_signed_term self.now.words.now }
     {
         self.comes(Sign::Plus) || self.comes(Sign::Minus)
@@ -151,7 +151,7 @@ impl Parser<'_> {
     }
 
     #[tactic(auto, unfolding(crate::specs::ValueReaders::sums_at))]
-    fn sums(&mut self) -> Result<Sums, Fault>
+    pub(crate) fn sums(&mut self) -> Result<Sums, Fault>
         ensures { Gives result self.new.words.now (sums_at self.old.words.now) }
     {
         let first = self.sum()?;
@@ -192,7 +192,7 @@ impl Parser<'_> {
     }
 
     #[tactic(auto, unfolding(crate::specs::ValueReaders::relation_at))]
-    fn relation(&mut self) -> Result<Relation, Fault>
+    pub(crate) fn relation(&mut self) -> Result<Relation, Fault>
         ensures { Gives result self.new.words.now (relation_at self.old.words.now) }
     {
         if self.comes(Sign::AtMost) {

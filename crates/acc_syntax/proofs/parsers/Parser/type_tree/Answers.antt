@@ -10,5 +10,5 @@ pub returns-in_err-others : goal.returns-in_err-others
 unfolding type_at
 returns-in_err-others c =
     let p = err_from_is_err_and c.from_residual-in_err-others.result c.from_residual-in_err-others.ensures.1 in
-    rw (p.1, p.2, c.in_ok-head.ensures, c.in_ok-returns.ensures, c.in_ok-locals.ensures, c.in_ok-first.ensures)
+    rw (p.1, p.2, c.in_ok-head.ensures, c.in_ok-returns.ensures, c.in_ok-locals.ensures, c.in_ok-ensured.ensures, c.in_ok-repaired.ensures, c.in_ok-first.ensures)
     (stops_whole c.in_err-others.field-0.0 c.points.new.self.words.now (many (comes sign.Point) point_at c.point.new.self.words.now) _ c.in_err-others.ensures)
