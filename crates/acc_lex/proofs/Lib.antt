@@ -1,6 +1,6 @@
 pub mod KeywordLemmas
 pub mod ByteFacts
-pub mod Tokens
+pub mod TokenReaders
 pub mod Statements
 pub mod Lines
 pub mod WholeTexts
@@ -8,3 +8,8 @@ pub mod LineFeeds
 pub mod StatementWords
 pub mod WrittenWords
 pub mod LineFronts
+pub mod Pieces
+pub mod PieceTokens
+pub mod PieceGaps
+pub mod PieceWords
+pub mod TextTokens

@@ -17,10 +17,10 @@ use Rattle.acc_lex.proofs.ByteFacts.{byte_apart}
 -- ---- no line feed stands in a line
 
 -- any byte but a line feed
-abbrev no_feed : ℕ → Bool
+abbrev pub no_feed : ℕ → Bool
 no_feed b = not (b == 10)
 
-abbrev Unfed : List ℕ → Type 0
+abbrev pub Unfed : List ℕ → Type 0
 Unfed bs = EachPasses no_feed bs
 
 unfed_append : (a b : List ℕ) → Unfed a → Unfed b → Unfed (a ++ b)
@@ -30,7 +30,7 @@ unfed_append (x ∷ a) b p q = (p.0, unfed_append a b p.1 q)
 no_feed_by : (test : ℕ → Bool) → test 10 ≡ false → (b : ℕ) → test b ≡ true → no_feed b ≡ true
 no_feed_by test miss b h = ap not (byte_apart test 10 miss b h)
 
-unfed_by : (test : ℕ → Bool) → test 10 ≡ false → (bs : List ℕ) → EachPasses test bs → Unfed bs
+pub unfed_by : (test : ℕ → Bool) → test 10 ≡ false → (bs : List ℕ) → EachPasses test bs → Unfed bs
 unfed_by test miss [] p = tt
 unfed_by test miss (b ∷ bs) p = (no_feed_by test miss b p.0, unfed_by test miss bs p.1)
 
@@ -38,7 +38,7 @@ unfed_run : (first test : ℕ → Bool) → first 10 ≡ false → test 10 ≡ f
 unfed_run first test f t [] p = absurd p
 unfed_run first test f t (b ∷ bs) p = (no_feed_by first f b p.0, unfed_by test t bs p.1)
 
-unfed_blanks : (n : ℕ) → Unfed (blanks n)
+pub unfed_blanks : (n : ℕ) → Unfed (blanks n)
 unfed_blanks zero = tt
 unfed_blanks (suc n) = (refl, unfed_blanks n)
 
@@ -57,7 +57,7 @@ unfed_mark sign.Minus = (refl, tt)
 unfed_mark sign.Times = (refl, tt)
 unfed_mark _ = tt
 
-unfed_token : (t : Token) → IsToken t → Unfed (token_bytes t)
+pub unfed_token : (t : Token) → IsToken t → Unfed (token_bytes t)
 unfed_token (Letters w) h = unfed_run is_letter is_inner refl refl w h
 unfed_token (Digits w) (inl is) = subst Unfed (sym is) (refl, tt)
 unfed_token (Digits w) (inr h) = unfed_run is_leading is_digit refl refl w h
@@ -80,7 +80,7 @@ unfed_line (Statements s others) h = unfed_append (statement_bytes s) (joined ne
 
 -- ---- texts put together
 
-joined_append : {T : Type 0} {X : Type 0} (f : T → List X) (ts us : List T) → joined f (ts ++ us) ≡ joined f ts ++ joined f us
+pub joined_append : {T : Type 0} {X : Type 0} (f : T → List X) (ts us : List T) → joined f (ts ++ us) ≡ joined f ts ++ joined f us
 joined_append f [] us = refl
 joined_append f (t ∷ ts) us = ap (λ (z : List _). f t ++ z) (joined_append f ts us) ∙ sym (append_assoc (f t) (joined f ts) (joined f us))
 

@@ -10,7 +10,7 @@ use Rattle.acc_lex.specs.ByteKinds.{is_byte, is_space, is_plain}
 use Rattle.acc_lex.specs.Spellings.{Item, Statement, Line, Comment, Statements, blanks, item_bytes, next_statement, line_bytes, next_line, lines_bytes, IsStatement, IsLine, AreLines}
 use Rattle.acc_lex.specs.Readings.{is_inside, next_statement_at, next_statements_at, Body, Remark, Rest, remark_at, rest_at, body_at, line_of, line_at, next_line_at, next_lines_at, is_any, lines_at}
 use Rattle.acc_lex.proofs.ByteFacts.{Byte, is_the}
-use Rattle.acc_lex.proofs.Tokens.{starts_token}
+use Rattle.acc_lex.proofs.TokenReaders.{starts_token}
 use Rattle.acc_lex.proofs.Statements.{spaces_exact, AreItems, items_exact, none_behind, StatementGoes, next_statement_exact}
 
 -- ---- further statements

@@ -12,7 +12,7 @@ use Rattle.acc_lex.specs.ByteKinds.{is_byte, is_space, is_inner}
 use Rattle.acc_lex.specs.Spellings.{Token, Item, Statement, token_bytes, blanks, item_bytes, statement_bytes, next_statement, Parted, IsItem, ItemParted, IsStatement}
 use Rattle.acc_lex.specs.Readings.{spaces_at, item_at, is_inside, items_at, statement_at, next_statement_at}
 use Rattle.acc_lex.proofs.ByteFacts.{Byte, is_the, byte_apart}
-use Rattle.acc_lex.proofs.Tokens.{parted_heads, parted, starts_token, token_exact, token_leads}
+use Rattle.acc_lex.proofs.TokenReaders.{parted_heads, parted, starts_token, token_exact, token_leads}
 
 -- ---- spaces
 

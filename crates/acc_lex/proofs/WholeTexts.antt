@@ -8,7 +8,7 @@ use Rattle.acc_grammar.proofs.Exact.{AllIn-append, ok_is}
 use Rattle.acc_lex.specs.declared.words.Word.{Word}
 use Rattle.acc_lex.specs.Keywords.{keyword_of}
 use Rattle.acc_lex.specs.Words.{CanSpell}
-use Rattle.acc_lex.specs.Spellings.{Token, Letters, Digits, Mark, Item, Line, Comment, Statements, item_bytes, IsToken, IsItem, ItemParted, IsStatement, IsLine, lines_bytes}
+use Rattle.acc_lex.specs.Spellings.{Token, Letters, Digits, Mark, Item, Line, Comment, Statements, item_bytes, IsToken, IsItem, ItemParted, IsStatement, IsLine, AreLines, lines_bytes}
 use Rattle.acc_lex.specs.LineWords.{name_or_sign, token_word, item_word, ended, statement_words, line_words, lines_words}
 use Rattle.acc_lex.specs.Readings.{lines_at}
 use Rattle.acc_lex.specs.Texts.{IsLexed, Begins, StopsAt}
@@ -16,10 +16,11 @@ use Rattle.acc_lex.proofs.Lines.{nothing_left, lines_exact}
 
 -- ---- what is read
 
-pub found : (text : List ℕ) (lines : Line × List Line) (rest : List ℕ) → lines_at text ≡ Ok (lines, rest) → IsLexed text (lines_words lines)
-found text lines rest h =
+-- the lines that are read fit, and are the text
+pub read_lines : (text : List ℕ) (lines : Line × List Line) (rest : List ℕ) → lines_at text ≡ Ok (lines, rest) → AreLines lines × (text ≡ lines_bytes lines)
+read_lines text lines rest h =
     let k = lines_exact.takes text lines rest h in
-    record { lines = lines; fit = k.1; spelled = k.0 ∙ ap (λ (z : List ℕ). lines_bytes lines ++ z) (nothing_left rest k.2) ∙ append-nil (lines_bytes lines); mean = refl }
+    (k.1, k.0 ∙ ap (λ (z : List ℕ). lines_bytes lines ++ z) (nothing_left rest k.2) ∙ append-nil (lines_bytes lines))
 
 pub is_read : (text : List ℕ) (words : List Word) (l : IsLexed text words) → lines_at text ≡ Ok (l.lines, [])
 is_read text words l = ap lines_at (l.spelled ∙ sym (append-nil (lines_bytes l.lines))) ∙ lines_exact.again l.lines [] l.fit refl

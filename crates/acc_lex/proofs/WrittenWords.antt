@@ -18,7 +18,7 @@ use Rattle.acc_lex.specs.LineWords.{name_or_sign, number_of, token_word, item_wo
 use Rattle.acc_lex.specs.Texts.{IsLexed}
 use Rattle.acc_lex.specs.Words.{CanSpell}
 use Rattle.acc_lex.proofs.ByteFacts.{and_both}
-use Rattle.acc_lex.proofs.Tokens.{parted}
+use Rattle.acc_lex.proofs.TokenReaders.{parted}
 use Rattle.acc_lex.proofs.StatementWords.{is_end_sign, is_end, InStatements}
 
 -- ---- a token for each word

@@ -3,5 +3,7 @@ pub mod Keywords
 pub mod Words
 pub mod Spellings
 pub mod LineWords
+pub mod LineTokens
 pub mod Readings
+pub mod Slices
 pub mod Texts

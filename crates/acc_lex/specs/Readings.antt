@@ -1,13 +1,13 @@
 -- A text is read from left to right, up to the first byte with which no text goes on. Only the code speaks of this; Spellings says what a text is.
-use Rattle.std.specs.Prelude.{ℕ, Bool, true, false, ◌==◌, not, ◌||◌, List, [], ◌∷◌, ◌++◌, length, Option, Some, None, is_some, unwrap_or, Ok, if◌then◌else◌}
+use Rattle.std.specs.Prelude.{ℕ, ◌+◌, Bool, true, false, ◌==◌, not, ◌||◌, List, [], ◌∷◌, ◌++◌, length, Option, Some, None, is_some, unwrap_or, Ok, if◌then◌else◌}
 use Rattle.acc_grammar.specs.Readers.{OutcomeOf, ◌>>=◌, joined, many}
 use Rattle.acc_grammar.specs.Runs.{next_is, one_at, run_at, front_at, absent_at}
 use Rattle.acc_lex.specs.declared.words.Sign.{Sign}
 use Rattle.acc_lex.specs.declared.words.Sign.TheVariants as sign
-use Rattle.acc_lex.specs.declared.words.Word.{Word}
+use Rattle.acc_lex.specs.declared.parts.Part.{Part}
 use Rattle.acc_lex.specs.ByteKinds.{is_byte, is_space, is_plain, is_letter, is_digit, is_leading, is_inner}
 use Rattle.acc_lex.specs.Spellings.{Token, Letters, Digits, Mark, Item, Statement, Line, Comment, Statements}
-use Rattle.acc_lex.specs.LineWords.{item_word, items_words, statement_words}
+use Rattle.acc_lex.specs.LineTokens.{gap, item_parts, next_statement_parts}
 
 -- spaces, as many as stand there: their number
 unfoldable pub spaces_at : List ℕ → OutcomeOf ℕ ℕ
@@ -107,10 +107,6 @@ item_at bs = do
   n ← spaces_at t.1
   Ok (record { token = t.0; spaces = n.0 }, n.1)
 
--- the one word of an item
-abbrev pub one_word : Item → List Word
-one_word i = item_word i ∷ []
-
 -- neither a line feed nor a ;
 abbrev pub is_inside : ℕ → Bool
 is_inside b = not (b == 10 || b == 59)
@@ -144,10 +140,10 @@ pub data Body : Type 0 where
   Remark : List ℕ → Body
   Rest : List Item → List Statement → Body
 
--- the words of what a line has behind its first spaces
-abbrev pub body_words : Body → List Word
-body_words (Remark bytes) = []
-body_words (Rest is others) = items_words is ++ joined statement_words others
+-- the parts of what a line has behind its first spaces
+abbrev pub body_parts : Body → List Part
+body_parts (Remark bytes) = gap (1 + length bytes)
+body_parts (Rest is others) = joined item_parts is ++ joined next_statement_parts others
 
 -- a #, and the bytes of a comment
 unfoldable pub remark_at : List ℕ → OutcomeOf ℕ Body

@@ -1,21 +1,22 @@
 //! A design's text, read from left to right.
-ghost use Rattle.std.specs.Prelude.{◌≡◌, ℕ, ◌+◌, ◌-◌, ◌<◌, ◌≤◌, ◌==◌, true, List, [], length, take, drop, map, count_by, MatchResult, IfOk};
-ghost use Rattle.acc_grammar.specs.Readers.{AllIn, joined, many};
-ghost use Rattle.acc_grammar.specs.Runs.{EachPasses, next_is, one_at, run_at, front_at, absent_at};
+ghost use Rattle.std.specs.Prelude.{◌≡◌, ◌+◌, ◌-◌, ◌≤◌, ◌==◌, ◌++◌, true, List, length, take, drop, count_by, MatchResult, IfOk, OnOk};
+ghost use Rattle.acc_grammar.specs.Readers.{AllIn, joined};
+ghost use Rattle.acc_grammar.specs.Runs.{next_is, one_at, run_at, front_at, absent_at};
 ghost use Rattle.acc_grammar.specs.Answers.{Gives, GivesAs, Adds};
 ghost use Rattle.acc_lex.specs.ByteKinds.{is_byte, is_plain, is_letter, is_digit, is_leading, is_inner};
-ghost use Rattle.acc_lex.specs.LineWords.{number_of, token_word, item_word, items_words, statement_words, line_words, lines_words};
-ghost use Rattle.acc_lex.specs.Readings.{spaces_at, letters_at, zero_at, whole_at, pair_at, arrow_at, equal_or, equal_at, mark_of, mark_at, token_at, one_word, is_inside, item_at, items_at, statement_at, next_statement_at, next_statements_at, body_words, remark_at, rest_at, body_at, line_at, next_line_at, next_lines_at, is_any, lines_at};
-ghost use Rattle.acc_lex.specs.declared.words.Word.{Word};
-ghost use Rattle.acc_lex.specs.Words.{CanSpell};
-ghost use Rattle.acc_lex.specs.Texts.{IsLexed, line_number, Answers};
+ghost use Rattle.acc_lex.specs.declared.words.Sign.{Sign as SignValue};
+ghost use Rattle.acc_lex.specs.declared.tokens.Token.{Token as TokenValue};
+ghost use Rattle.acc_lex.specs.LineTokens.{part, gap, shape_of, item_parts, statement_parts, next_statement_parts, line_parts, next_line_parts, lines_parts};
+ghost use Rattle.acc_lex.specs.Readings.{spaces_at, letters_at, zero_at, whole_at, pair_at, arrow_at, equal_at, mark_at, token_at, is_inside, item_at, items_at, statement_at, next_statement_at, next_statements_at, body_parts, remark_at, rest_at, body_at, line_at, next_line_at, next_lines_at, is_any, lines_at};
+ghost use Rattle.acc_lex.specs.Slices.{line_number, IsSlice, InOrder, words_of};
+ghost use Rattle.acc_lex.specs.Texts.{IsLexed, HasTokens, TokenAnswers};
 
-use crate::scans::{digits_len, inner_len, is_inner, is_leading, plain_len, spaces_len};
-use crate::signs::keyword;
-use crate::words::{Sign, Word};
+use crate::parts::{Part, Shape, tokens_of};
+use crate::scans::{digits_len, inner_len, is_inner, is_leading, is_mark, plain_len, spaces_len};
+use crate::tokens::Token;
 use acc_base::sequences::Seq;
 use acc_grammar::faults::Fault;
-use std::alloc::Global;
+use std::alloc::{AllocError, Global};
 
 /// Why bytes are no design's text.
 #[derive(Clone, Copy, Debug, PartialEq, Eq)]
@@ -26,43 +27,21 @@ pub enum LexError {
     Memory,
 }
 
-/// The value of digits; one past the last of 64 bits counts as that.
-fn saturated(digits: &[u8]) -> u64
-    requires { EachPasses is_digit digits.now }
-    ensures { result ≡ number_of digits.now }
-{
-    let mut value: u64 = 0;
-    for b in digits {
-        value = value
-            .saturating_mul(10)
-            .saturating_add(u64::from(*b - b'0'));
-    }
-    value
-}
+impl From<AllocError> for LexError {
+    ghost use Rattle.acc_lex.specs.declared.lexers.LexError.TheVariants.{Memory};
 
-/// The sign of a mark of one byte with which no other mark begins.
-fn mark_of(b: u8) -> Option<Sign>
-    ensures { result ≡ mark_of b }
-{
-    match b {
-        b'[' => Some(Sign::Open),
-        b']' => Some(Sign::Close),
-        b',' => Some(Sign::Comma),
-        b'.' => Some(Sign::Dot),
-        b':' => Some(Sign::Colon),
-        b'+' => Some(Sign::Plus),
-        b'-' => Some(Sign::Minus),
-        b'*' => Some(Sign::Times),
-        _ => None,
+    ghost from_gives = { λ _ e. e ≡ Memory };
+
+    fn from(_e: AllocError) -> LexError {
+        LexError::Memory
     }
 }
 
-/// The bytes that are left, and the words of those before.
+/// The bytes that are left, and the parts of those before.
 #[derive(Drop)]
 struct Lexer<'a> {
-    alloc: Global,
     rest: &'a [u8],
-    words: Seq<Word>,
+    parts: Seq<Part>,
 }
 
 impl<'a> Lexer<'a> {
@@ -118,7 +97,7 @@ impl<'a> Lexer<'a> {
     fn byte(&mut self, c: u8) -> Result<u8, Fault>
         ensures given { Gives result self.new.rest.now (one_at (is_byte c) self.old.rest.now) }
         ensures same { IfOk result (λ b. b ≡ c) }
-        ensures words { self.new.words ≡ self.old.words }
+        ensures parts { self.new.parts ≡ self.old.parts }
     {
         match self.rest.split_first() {
             Some((b, rest)) if *b == c => {
@@ -134,7 +113,7 @@ impl<'a> Lexer<'a> {
         requires { len ≤ length self.old.rest.now }
         ensures taken { result.now ≡ take len self.old.rest.now }
         ensures rest { self.new.rest.now ≡ drop len self.old.rest.now }
-        ensures words { self.new.words ≡ self.old.words }
+        ensures parts { self.new.parts ≡ self.old.parts }
     {
         let (front, rest) = self.rest.split_at(len);
         self.rest = rest;
@@ -145,7 +124,7 @@ impl<'a> Lexer<'a> {
     fn letters(&mut self) -> &'a [u8]
         requires { next_is is_letter self.old.rest.now ≡ true }
         ensures given { run_at is_letter is_inner self.old.rest.now ≡ Ok (result.now, self.new.rest.now) }
-        ensures words { self.new.words ≡ self.old.words }
+        ensures parts { self.new.parts ≡ self.old.parts }
     {
         let len = inner_len(self.rest);
         self.front(len)
@@ -155,8 +134,7 @@ impl<'a> Lexer<'a> {
     fn digits(&mut self) -> &'a [u8]
         requires { next_is is_leading self.old.rest.now ≡ true }
         ensures given { run_at is_leading is_digit self.old.rest.now ≡ Ok (result.now, self.new.rest.now) }
-        ensures digits { EachPasses is_digit result.now }
-        ensures words { self.new.words ≡ self.old.words }
+        ensures parts { self.new.parts ≡ self.old.parts }
     {
         let len = digits_len(self.rest);
         self.front(len)
@@ -165,73 +143,69 @@ impl<'a> Lexer<'a> {
     /// Goes past the bytes of a comment.
     fn comment(&mut self) -> &'a [u8]
         ensures given { front_at is_plain self.old.rest.now ≡ Ok (result.now, self.new.rest.now) }
-        ensures words { self.new.words ≡ self.old.words }
+        ensures parts { self.new.parts ≡ self.old.parts }
     {
         let len = plain_len(self.rest);
         self.front(len)
     }
 
-    /// Goes past spaces, and tells how many there were.
+    /// How many spaces come, past which it goes.
     fn spaces(&mut self) -> usize
         ensures given { spaces_at self.old.rest.now ≡ Ok (result, self.new.rest.now) }
-        ensures words { self.new.words ≡ self.old.words }
+        ensures parts { self.new.parts ≡ self.old.parts }
     {
         let len = spaces_len(self.rest);
         self.front(len);
         len
     }
 
-    /// A name, or a word that the grammar fixes.
     #[tactic(auto, unfolding(crate::specs::Readings::letters_at))]
-    fn word(&mut self) -> Result<Word, Fault>
+    fn word(&mut self) -> Shape
         requires { next_is is_letter self.old.rest.now ≡ true }
-        ensures given { GivesAs token_word result self.new.rest.now (letters_at self.old.rest.now) }
-        ensures words { self.new.words ≡ self.old.words }
+        ensures given { GivesAs shape_of (Ok result) self.new.rest.now (letters_at self.old.rest.now) }
+        ensures parts { self.new.parts ≡ self.old.parts }
     {
-        let word = self.letters();
-        match keyword(word) {
-            Some(sign) => Ok(Word::Sign(sign)),
-            None => Ok(Word::Name(Seq::from_vec(Vec::from_slice(self.alloc, word)?))),
-        }
+        self.letters();
+        Shape::Word
     }
 
     #[tactic(auto, unfolding(crate::specs::Readings::zero_at))]
-    fn zero(&mut self) -> Result<Word, Fault>
-        ensures given { GivesAs token_word result self.new.rest.now (zero_at self.old.rest.now) }
-        ensures words { self.new.words ≡ self.old.words }
+    fn zero(&mut self) -> Result<Shape, Fault>
+        ensures given { GivesAs shape_of result self.new.rest.now (zero_at self.old.rest.now) }
+        ensures parts { self.new.parts ≡ self.old.parts }
     {
         self.byte(b'0')?;
         self.ends_here()?;
-        Ok(Word::Number(0))
+        Ok(Shape::Number)
     }
 
     #[tactic(auto, unfolding(crate::specs::Readings::whole_at))]
-    fn whole(&mut self) -> Result<Word, Fault>
+    fn whole(&mut self) -> Result<Shape, Fault>
         requires { next_is is_leading self.old.rest.now ≡ true }
-        ensures given { GivesAs token_word result self.new.rest.now (whole_at self.old.rest.now) }
-        ensures words { self.new.words ≡ self.old.words }
+        ensures given { GivesAs shape_of result self.new.rest.now (whole_at self.old.rest.now) }
+        ensures parts { self.new.parts ≡ self.old.parts }
     {
-        let digits = self.digits();
+        self.digits();
         self.ends_here()?;
-        Ok(Word::Number(saturated(digits)))
+        Ok(Shape::Number)
     }
 
     /// A mark of two bytes.
     #[tactic(auto, unfolding(crate::specs::Readings::pair_at))]
-    fn pair(&mut self, first: u8, second: u8, sign: Sign) -> Result<Word, Fault>
-        ensures given { GivesAs token_word result self.new.rest.now (pair_at first second sign self.old.rest.now) }
-        ensures words { self.new.words ≡ self.old.words }
+    fn pair(&mut self, first: u8, second: u8) -> Result<Shape, Fault>
+        ensures given { (sign : SignValue) → GivesAs shape_of result self.new.rest.now (pair_at first second sign self.old.rest.now) }
+        ensures parts { self.new.parts ≡ self.old.parts }
     {
         self.byte(first)?;
         self.byte(second)?;
-        Ok(Word::Sign(sign))
+        Ok(Shape::Mark)
     }
 
     /// Whether a `>` follows, which then is read.
     #[tactic(auto, unfolding(crate::specs::Readings::arrow_at))]
     fn arrow(&mut self) -> Result<bool, Fault>
         ensures given { Gives result self.new.rest.now (arrow_at self.old.rest.now) }
-        ensures words { self.new.words ≡ self.old.words }
+        ensures parts { self.new.parts ≡ self.old.parts }
     {
         if self.comes(b'>') {
             self.byte(b'>')?;
@@ -242,48 +216,45 @@ impl<'a> Lexer<'a> {
     }
 
     #[tactic(auto, unfolding(crate::specs::Readings::equal_at))]
-    fn equal(&mut self) -> Result<Word, Fault>
-        ensures given { GivesAs token_word result self.new.rest.now (equal_at self.old.rest.now) }
-        ensures words { self.new.words ≡ self.old.words }
+    fn equal(&mut self) -> Result<Shape, Fault>
+        ensures given { GivesAs shape_of result self.new.rest.now (equal_at self.old.rest.now) }
+        ensures parts { self.new.parts ≡ self.old.parts }
     {
         self.byte(b'=')?;
-        if self.arrow()? {
-            Ok(Word::Sign(Sign::Implies))
-        } else {
-            Ok(Word::Sign(Sign::Equal))
+        self.arrow()?;
+        Ok(Shape::Mark)
+    }
+
+    /// A mark of one byte with which no other mark begins.
+    #[tactic(auto, unfolding(crate::specs::Readings::mark_at, acc_grammar::specs::Runs::one_at))]
+    fn mark(&mut self) -> Result<Shape, Fault>
+        ensures given { GivesAs shape_of result self.new.rest.now (mark_at self.old.rest.now) }
+        ensures parts { self.new.parts ≡ self.old.parts }
+    {
+        match self.rest.split_first() {
+            Some((b, rest)) if is_mark(*b) => {
+                self.rest = rest;
+                Ok(Shape::Mark)
+            }
+            _ => Err(Fault::Syntax),
         }
     }
 
-    #[tactic(auto, unfolding(crate::specs::Readings::mark_at, acc_grammar::specs::Runs::one_at))]
-    fn mark(&mut self) -> Result<Word, Fault>
-        ensures given { GivesAs token_word result self.new.rest.now (mark_at self.old.rest.now) }
-        ensures words { self.new.words ≡ self.old.words }
-    {
-        let Some((b, rest)) = self.rest.split_first() else {
-            return Err(Fault::Syntax);
-        };
-        let Some(sign) = mark_of(*b) else {
-            return Err(Fault::Syntax);
-        };
-        self.rest = rest;
-        Ok(Word::Sign(sign))
-    }
-
     #[tactic(auto, unfolding(crate::specs::Readings::token_at))]
-    fn token(&mut self) -> Result<Word, Fault>
-        ensures given { GivesAs token_word result self.new.rest.now (token_at self.old.rest.now) }
-        ensures words { self.new.words ≡ self.old.words }
+    fn token(&mut self) -> Result<Shape, Fault>
+        ensures given { GivesAs shape_of result self.new.rest.now (token_at self.old.rest.now) }
+        ensures parts { self.new.parts ≡ self.old.parts }
     {
         if self.word_comes() {
-            self.word()
+            Ok(self.word())
         } else if self.comes(b'0') {
             self.zero()
         } else if self.whole_comes() {
             self.whole()
         } else if self.comes(b'<') {
-            self.pair(b'<', b'=', Sign::AtMost)
+            self.pair(b'<', b'=')
         } else if self.comes(b'>') {
-            self.pair(b'>', b'=', Sign::AtLeast)
+            self.pair(b'>', b'=')
         } else if self.comes(b'=') {
             self.equal()
         } else {
@@ -291,19 +262,48 @@ impl<'a> Lexer<'a> {
         }
     }
 
-    /// A token, and the spaces behind it.
-    #[tactic(auto, unfolding(crate::specs::Readings::item_at))]
-    fn item(&mut self) -> Result<(), Fault>
-        ensures { Adds one_word result self.old.words self.new.words self.new.rest.now (item_at self.old.rest.now) }
+    /// Adds a part.
+    fn add(&mut self, shape: Shape, len: usize) -> Result<(), AllocError>
+        ensures added { OnOk result (self.new.parts ≡ self.old.parts ++ part shape len) }
+        ensures rest { self.new.rest.now ≡ self.old.rest.now }
     {
-        let word = self.token()?;
-        self.spaces();
-        self.words.push(word)?;
+        self.parts.push(Part { shape, len })?;
         Ok(())
     }
 
+    /// Adds bytes between tokens, if there are any.
+    fn add_gap(&mut self, len: usize) -> Result<(), AllocError>
+        ensures added { OnOk result (self.new.parts ≡ self.old.parts ++ gap len) }
+        ensures rest { self.new.rest.now ≡ self.old.rest.now }
+    {
+        if len > 0 {
+            self.add(Shape::Gap, len)?;
+        }
+        Ok(())
+    }
+
+    /// Goes past spaces.
+    fn blanks(&mut self) -> Result<(), Fault>
+        ensures { Adds gap result self.old.parts self.new.parts self.new.rest.now (spaces_at self.old.rest.now) }
+    {
+        let len = self.spaces();
+        self.add_gap(len)?;
+        Ok(())
+    }
+
+    /// A token, and the spaces behind it.
+    #[tactic(auto, unfolding(crate::specs::Readings::item_at))]
+    fn item(&mut self) -> Result<(), Fault>
+        ensures { Adds item_parts result self.old.parts self.new.parts self.new.rest.now (item_at self.old.rest.now) }
+    {
+        let len = self.rest.len();
+        let shape = self.token()?;
+        self.add(shape, len - self.rest.len())?;
+        self.blanks()
+    }
+
     fn items(&mut self) -> Result<(), Fault>
-        ensures { Adds (map item_word) result self.old.words self.new.words self.new.rest.now (items_at self.old.rest.now) }
+        ensures { Adds (joined item_parts) result self.old.parts self.new.parts self.new.rest.now (items_at self.old.rest.now) }
     {
         while self.token_comes() {
             self.item()?;
@@ -311,28 +311,25 @@ impl<'a> Lexer<'a> {
         Ok(())
     }
 
-    /// The tokens of a statement behind its spaces, and its end, if it isn't empty.
-    fn tokens(&mut self) -> Result<(), Fault>
-        ensures { Adds items_words result self.old.words self.new.words self.new.rest.now (items_at self.old.rest.now) }
+    #[tactic(auto, unfolding(crate::specs::Readings::statement_at))]
+    fn statement(&mut self) -> Result<(), Fault>
+        ensures { Adds statement_parts result self.old.parts self.new.parts self.new.rest.now (statement_at self.old.rest.now) }
     {
-        if self.token_comes() {
-            self.items()?;
-            self.words.push(Word::Sign(Sign::End))?;
-        }
-        Ok(())
+        self.blanks()?;
+        self.items()
     }
 
-    #[tactic(auto, unfolding(crate::specs::Readings::next_statement_at, crate::specs::Readings::statement_at))]
+    #[tactic(auto, unfolding(crate::specs::Readings::next_statement_at))]
     fn next_statement(&mut self) -> Result<(), Fault>
-        ensures { Adds statement_words result self.old.words self.new.words self.new.rest.now (next_statement_at self.old.rest.now) }
+        ensures { Adds next_statement_parts result self.old.parts self.new.parts self.new.rest.now (next_statement_at self.old.rest.now) }
     {
         self.byte(b';')?;
-        self.spaces();
-        self.tokens()
+        self.add(Shape::Stop, 1)?;
+        self.statement()
     }
 
     fn next_statements(&mut self) -> Result<(), Fault>
-        ensures { Adds (joined statement_words) result self.old.words self.new.words self.new.rest.now (next_statements_at self.old.rest.now) }
+        ensures { Adds (joined next_statement_parts) result self.old.parts self.new.parts self.new.rest.now (next_statements_at self.old.rest.now) }
     {
         while self.comes(b';') {
             self.next_statement()?;
@@ -343,25 +340,26 @@ impl<'a> Lexer<'a> {
     /// A comment behind its spaces.
     #[tactic(auto, unfolding(crate::specs::Readings::remark_at))]
     fn remark(&mut self) -> Result<(), Fault>
-        ensures { Adds body_words result self.old.words self.new.words self.new.rest.now (remark_at self.old.rest.now) }
+        ensures { Adds body_parts result self.old.parts self.new.parts self.new.rest.now (remark_at self.old.rest.now) }
     {
         self.byte(b'#')?;
-        self.comment();
+        let comment = self.comment();
+        self.add_gap(1 + comment.len())?;
         Ok(())
     }
 
     /// The statements of a line behind its first spaces.
     #[tactic(auto, unfolding(crate::specs::Readings::rest_at))]
     fn statements(&mut self) -> Result<(), Fault>
-        ensures { Adds body_words result self.old.words self.new.words self.new.rest.now (rest_at self.old.rest.now) }
+        ensures { Adds body_parts result self.old.parts self.new.parts self.new.rest.now (rest_at self.old.rest.now) }
     {
-        self.tokens()?;
+        self.items()?;
         self.next_statements()
     }
 
     #[tactic(auto, unfolding(crate::specs::Readings::body_at))]
     fn body(&mut self) -> Result<(), Fault>
-        ensures { Adds body_words result self.old.words self.new.words self.new.rest.now (body_at self.old.rest.now) }
+        ensures { Adds body_parts result self.old.parts self.new.parts self.new.rest.now (body_at self.old.rest.now) }
     {
         if self.comes(b'#') {
             self.remark()
@@ -372,22 +370,23 @@ impl<'a> Lexer<'a> {
 
     #[tactic(auto, unfolding(crate::specs::Readings::line_at))]
     fn line(&mut self) -> Result<(), Fault>
-        ensures { Adds line_words result self.old.words self.new.words self.new.rest.now (line_at self.old.rest.now) }
+        ensures { Adds line_parts result self.old.parts self.new.parts self.new.rest.now (line_at self.old.rest.now) }
     {
-        self.spaces();
+        self.blanks()?;
         self.body()
     }
 
     #[tactic(auto, unfolding(crate::specs::Readings::next_line_at))]
     fn next_line(&mut self) -> Result<(), Fault>
-        ensures { Adds line_words result self.old.words self.new.words self.new.rest.now (next_line_at self.old.rest.now) }
+        ensures { Adds next_line_parts result self.old.parts self.new.parts self.new.rest.now (next_line_at self.old.rest.now) }
     {
         self.byte(b'\n')?;
+        self.add(Shape::Feed, 1)?;
         self.line()
     }
 
     fn next_lines(&mut self) -> Result<(), Fault>
-        ensures { Adds (joined line_words) result self.old.words self.new.words self.new.rest.now (next_lines_at self.old.rest.now) }
+        ensures { Adds (joined next_line_parts) result self.old.parts self.new.parts self.new.rest.now (next_lines_at self.old.rest.now) }
     {
         while self.comes(b'\n') {
             self.next_line()?;
@@ -410,11 +409,13 @@ impl<'a> Lexer<'a> {
     /// The whole text.
     #[tactic(auto, unfolding(crate::specs::Readings::lines_at))]
     fn lines(&mut self) -> Result<(), Fault>
-        ensures { Adds lines_words result self.old.words self.new.words self.new.rest.now (lines_at self.old.rest.now) }
+        ensures { Adds lines_parts result self.old.parts self.new.parts self.new.rest.now (lines_at self.old.rest.now) }
     {
         self.line()?;
         self.next_lines()?;
-        self.end()
+        self.end()?;
+        self.add(Shape::Last, 0)?;
+        Ok(())
     }
 }
 
@@ -433,22 +434,29 @@ fn bad_line(text: &[u8], rest: &[u8]) -> u64
     line_behind(&text[..text.len() - rest.len()])
 }
 
-/// The words of a design's text. The cost is linear in its bytes, and only those of names are copied.
-pub fn lex(alloc: Global, text: &[u8]) -> Result<Seq<Word>, LexError>
-    // The words are the text's, or it has none and the line is that of the first byte with which no text goes on.
-    ensures exact { Answers text.now result }
-    // Whatever words a text has are answered, unless memory runs out.
-    ensures only { (words : List Word) → IsLexed text.now words
-        → MatchResult result (λ found. found ≡ words) (λ e. e ≡ LexError.Memory) }
-    ensures spelled { IfOk result (AllIn CanSpell) }
+/// The tokens of a design's text. The cost is linear in its bytes, of which none is copied.
+pub fn lex(alloc: Global, text: &[u8]) -> Result<Seq<Token>, LexError>
+    // The tokens are those of the text's lines, or it has none and the line is that of the first byte with which no
+    // text goes on.
+    ensures exact { TokenAnswers text.now result }
+    // Whatever tokens a text has are answered, unless memory runs out.
+    ensures only { (tokens : List TokenValue) → HasTokens text.now tokens
+        → MatchResult result (λ found. found ≡ tokens) (λ e. e ≡ LexError.Memory) }
+    // A text has one list of tokens.
+    ensures unique { (a b : List TokenValue) → HasTokens text.now a → HasTokens text.now b → a ≡ b }
+    // Each is a slice of its kind, with the line on which it begins.
+    ensures slices { IfOk result (AllIn (IsSlice text.now)) }
+    // They stand in order, with spaces and comments between them, up to the text's end.
+    ensures order { IfOk result (InOrder text.now 0) }
+    // Their words are those of the text.
+    ensures words { IfOk result (λ tokens. IsLexed text.now (words_of text.now tokens)) }
 {
     let mut lexer = Lexer {
-        alloc,
         rest: text,
-        words: Seq::new(alloc),
+        parts: Seq::new(alloc),
     };
     match lexer.lines() {
-        Ok(()) => Ok(lexer.words),
+        Ok(()) => Ok(tokens_of(alloc, lexer.parts.as_slice())?),
         Err(Fault::Memory) => Err(LexError::Memory),
         Err(Fault::Syntax) => Err(LexError::Bad(bad_line(text, lexer.rest))),
     }

@@ -1,9 +1,13 @@
-//! The words of a design's text: what its bytes are, read exactly, or the line of the first byte that doesn't fit.
+//! The tokens and the words of a design's text: what its bytes are, read exactly, or the line of the first byte that
+//! doesn't fit.
 #![tactic(auto)]
 
 pub mod lexers;
+mod parts;
 mod scans;
 pub mod signs;
 #[cfg(test)]
 mod tests;
+pub mod texts;
+pub mod tokens;
 pub mod words;

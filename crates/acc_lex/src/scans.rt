@@ -2,6 +2,7 @@
 ghost use Rattle.std.specs.Prelude.{◌≡◌};
 ghost use Rattle.std.specs.List.{prefix_len};
 ghost use Rattle.acc_lex.specs.ByteKinds.{is_space, is_plain, is_digit, is_leading, is_inner};
+ghost use Rattle.acc_lex.specs.Readings.{is_mark};
 
 /// Whether a byte may stand in a comment: a space, or a visible sign of ASCII.
 pub fn is_plain(b: u8) -> bool
@@ -22,6 +23,13 @@ pub fn is_leading(b: u8) -> bool
     ensures { result ≡ is_leading b }
 {
     matches!(b, b'1'..=b'9')
+}
+
+/// Whether a byte is a mark with which no other mark begins.
+pub fn is_mark(b: u8) -> bool
+    ensures { result ≡ is_mark b }
+{
+    matches!(b, b'[' | b']' | b',' | b'.' | b':' | b'+' | b'-' | b'*')
 }
 
 /// How many spaces stand at the front.

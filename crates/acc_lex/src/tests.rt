@@ -1,4 +1,7 @@
-use crate::lexers::{LexError, lex};
+mod tokens;
+
+use crate::lexers::LexError;
+use crate::texts::words;
 use crate::words::Word;
 use std::alloc::{AllocError, Global};
 use std::test::Fail;
@@ -13,10 +16,10 @@ fn word_text(alloc: Global, word: &Word) -> Result<String, AllocError> {
 
 /// The words with a space behind each, or what was refused.
 fn shown(alloc: Global, text: &[u8]) -> Result<String, AllocError> {
-    match lex(alloc, text) {
-        Ok(words) => {
+    match words(alloc, text) {
+        Ok(found) => {
             let mut out = String::new(alloc);
-            for word in words.as_slice() {
+            for word in found.as_slice() {
                 out.push_str(word_text(alloc, word)?.as_str())?;
                 out.push(' ')?;
             }
@@ -131,7 +134,7 @@ fn fixed_words(rt: HostRuntime) -> Result<(), Fail> {
         let found = shown(rt.alloc(), text.as_bytes())?;
         assert_eq!(rt; found.as_str(), wanted, "{text}");
     }
-    let names = lex(rt.alloc(), b"Table table").ok();
+    let names = words(rt.alloc(), b"Table table").ok();
     let kinds = names.as_ref().map(|words| {
         words
             .as_slice()

@@ -6,7 +6,8 @@ ghost use Rattle.acc_lex.specs.Texts.{IsLexed};
 ghost use Rattle.acc_parse.specs.Syntax.{IsGrammatical, IsWrongAt, feeds, first_lines};
 ghost use Rattle.acc_parse.specs.GoodWords.{AreGood, Judges};
 
-use acc_lex::lexers::{LexError, lex};
+use acc_lex::lexers::LexError;
+use acc_lex::texts::words;
 use acc_syntax::designs::{SyntaxError, syntax};
 use std::alloc::{AllocError, Global};
 
@@ -49,8 +50,8 @@ fn words_len(alloc: Global, line: &[u8]) -> Result<Option<usize>, AllocError>
     ensures { IfOk result (λ len. MatchOption len ((words : List WordValue) → ¬ IsLexed line.now words)
         (λ n. (words : List WordValue) × IsLexed line.now words × (n ≡ length words))) }
 {
-    match lex(alloc, line) {
-        Ok(words) => Ok(Some(words.len())),
+    match words(alloc, line) {
+        Ok(found) => Ok(Some(found.len())),
         Err(LexError::Bad(_)) => Ok(None),
         Err(LexError::Memory) => Err(AllocError),
     }
@@ -60,9 +61,9 @@ fn words_len(alloc: Global, line: &[u8]) -> Result<Option<usize>, AllocError>
 pub fn good_words(alloc: Global, text: &[u8]) -> Result<usize, AllocError>
     ensures { IfOk result (λ good. (words : List WordValue) → IsLexed text.now words → AreGood words good) }
 {
-    match lex(alloc, text) {
-        Ok(words) => match syntax(alloc, words.as_slice()) {
-            Ok(_) => Ok(words.len()),
+    match words(alloc, text) {
+        Ok(found) => match syntax(alloc, found.as_slice()) {
+            Ok(_) => Ok(found.len()),
             Err(SyntaxError::At(place)) => Ok(place),
             Err(SyntaxError::Memory) => Err(AllocError),
         },

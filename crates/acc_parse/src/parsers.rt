@@ -12,7 +12,8 @@ use crate::designs::design;
 use crate::errors::{DesignError, ParseError};
 use crate::lines::{first_lines, good_words, wrong_line};
 use acc_base::designs::Design;
-use acc_lex::lexers::{LexError, lex};
+use acc_lex::lexers::LexError;
+use acc_lex::texts::words;
 use acc_lex::words::Word;
 use acc_syntax::designs::{SyntaxError, syntax};
 use acc_syntax::trees::DesignTree;
@@ -40,8 +41,8 @@ fn tree_of(alloc: Global, text: &[u8]) -> Result<DesignTree, ParseError>
     ensures only { (g : IsGrammatical text.now)
         → MatchResult result (λ found. found ≡ g.tree) (λ e. e ≡ ParseError.Memory) }
 {
-    match lex(alloc, text) {
-        Ok(words) => spelled_tree(alloc, text, words.as_slice()),
+    match words(alloc, text) {
+        Ok(found) => spelled_tree(alloc, text, found.as_slice()),
         Err(LexError::Bad(line)) => {
             let good = good_words(alloc, first_lines(text, line - 1))?;
             Err(ParseError::Syntax(wrong_line(alloc, text, good)?))

@@ -3,7 +3,7 @@ use super::EACH;
 use super::shown::design_text;
 use crate::designs::design;
 use crate::parsers::parse;
-use acc_lex::lexers::lex;
+use acc_lex::texts::words;
 use acc_syntax::designs::syntax;
 use std::test::Fail;
 
@@ -208,8 +208,8 @@ fn whole_texts(rt: HostRuntime) -> Result<(), Fail> {
 /// The same by way of the words and the tree.
 #[test]
 fn whole_trees(rt: HostRuntime) -> Result<(), Fail> {
-    let words = lex(rt.alloc(), EACH.as_bytes())?;
-    let tree = syntax(rt.alloc(), words.as_slice())?;
+    let found = words(rt.alloc(), EACH.as_bytes())?;
+    let tree = syntax(rt.alloc(), found.as_slice())?;
     let design = design(rt.alloc(), &tree)?;
     let shown = design_text(rt.alloc(), &design)?;
     assert_eq!(rt; shown.as_str(), EACH_SHOWN);

@@ -1,13 +1,8 @@
 use Rattle.std.proofs.Common.{refl}
-use Rattle.acc_lex.specs.declared.words.Sign.TheVariants as sign
 use Rattle.acc_lex.specs.Spellings.{Mark}
-use Rattle.acc_lex.specs.Readings.{equal_at}
+use Rattle.acc_lex.specs.Readings.{equal_or, equal_at}
 use Rattle.acc_lex.proofs.lexers.Lexer.equal.Goals as goal
 
-pub returns-then-branch-clause-given : goal.returns-then-branch-clause-given
+pub returns-clause-given : goal.returns-clause-given
 unfolding equal_at
-returns-then-branch-clause-given c = (Mark sign.Implies, rw (c.in_ok-byte.ensures.given, c.in_ok-arrow.ensures.given, c.if-branch.true) refl, refl)
-
-pub returns-else-branch-clause-given : goal.returns-else-branch-clause-given
-unfolding equal_at
-returns-else-branch-clause-given c = (Mark sign.Equal, rw (c.in_ok-byte.ensures.given, c.in_ok-arrow.ensures.given, c.if-branch.false) refl, refl)
+returns-clause-given c = (Mark (equal_or c.in_ok-arrow.field-0), rw (c.in_ok-byte.ensures.given, c.in_ok-arrow.ensures.given) refl, refl)

@@ -5,4 +5,4 @@ use Rattle.acc_lex.proofs.lexers.Lexer.pair.Goals as goal
 
 pub returns-clause-given : goal.returns-clause-given
 unfolding pair_at
-returns-clause-given c = (Mark c.args.sign, rw (c.in_ok-byte.ensures.given, c.in_ok-byte-2.ensures.given) refl, refl)
+returns-clause-given c = λ sign. (Mark sign, rw (c.in_ok-byte.ensures.given, c.in_ok-byte-2.ensures.given) refl, refl)

@@ -5,4 +5,4 @@ use Rattle.acc_lex.proofs.lexers.Lexer.whole.Goals as goal
 
 pub returns-clause-given : goal.returns-clause-given
 unfolding whole_at
-returns-clause-given c = (Digits c.digits-digits.result.now, rw (c.digits-digits.ensures.given, c.in_ok-ends_here.ensures) refl, rw c.saturated.ensures refl)
+returns-clause-given c = (Digits c.digits.result.now, rw (c.digits.ensures.given, c.in_ok-ends_here.ensures) refl, refl)

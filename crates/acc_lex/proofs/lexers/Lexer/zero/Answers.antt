@@ -5,4 +5,4 @@ use Rattle.acc_lex.proofs.lexers.Lexer.zero.Goals as goal
 
 pub returns-clause-given : goal.returns-clause-given
 unfolding zero_at
-returns-clause-given c = (Digits (c.in_ok-byte.field-0 ∷ []), rw (c.in_ok-byte.ensures.given, c.in_ok-ends_here.ensures) refl, rw c.in_ok-byte.ensures.same refl)
+returns-clause-given c = (Digits (c.in_ok-byte.field-0 ∷ []), rw (c.in_ok-byte.ensures.given, c.in_ok-ends_here.ensures) refl, refl)

@@ -4,7 +4,7 @@ use Rattle.std.proofs.lemmas.Int.Digits.{digits_value_more}
 use Rattle.std.proofs.lemmas.Bool.Decides.{nat_tests}
 use Rattle.acc_grammar.specs.Runs.{EachPasses}
 use Rattle.acc_lex.specs.ByteKinds.{is_digit}
-use Rattle.acc_lex.proofs.lexers.saturated.Goals as goal
+use Rattle.acc_lex.proofs.texts.saturated.Goals as goal
 
 passes_at : (test : ℕ → Bool) (bs : List ℕ) (i : ℕ) → i < length bs → EachPasses test bs → test (get_or bs i 0) ≡ true
 passes_at test [] i h p = absurd (omega arith)
