@@ -1,0 +1,4 @@
+pub mod Placed
+pub mod Turns
+pub mod Found
+pub mod TypeParts

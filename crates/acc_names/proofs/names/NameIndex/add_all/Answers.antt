@@ -1,0 +1,23 @@
+use Rattle.std.proofs.Common.{◌≡◌, ◌∙◌, ◌++◌, drop, ap, sym}
+use Rattle.std.specs.Prelude.{◌||◌}
+use Rattle.std.proofs.lemmas.List.{drop_all, take_all}
+use Rattle.acc_names.specs.Names.{defines_again}
+use Rattle.acc_names.proofs.Turns.{again_at, gathered_at, or_false}
+use Rattle.acc_names.proofs.names.NameIndex.add_all.Goals as goal
+
+pub loop-name-preserved : goal.loop-name-preserved
+loop-name-preserved c =
+    let names = c.args.names.now in
+    let i = c.loop-name.name-index in
+    let e = c.in_ok-again.ensures in (
+      again_at c.loop-name.self c.add.new.self names i c.name-item.result c.loop-name.again c.in_ok-again.field-0 c.loop-name-test.true c.name-item.is e.0 e.1 ∙ c.loop-name.invariant.0,
+      gathered_at c.args.self.now c.loop-name.self c.add.new.self names i c.name-item.result c.loop-name-test.true c.name-item.is c.loop-name.invariant.1 e.1,
+    )
+
+pub returns : goal.returns
+returns c =
+    let names = c.args.names.now in
+    let end : drop c.loop-name.name-index names ≡ _ = drop_all _ names c.loop-name-test.false in (
+      sym (or_false c.loop-name.again) ∙ ap (λ z. c.loop-name.again || defines_again c.loop-name.self z) (sym end) ∙ c.loop-name.invariant.0,
+      c.loop-name.invariant.1 ∙ ap (λ z. c.args.self.now ++ z) (take_all _ names c.loop-name-test.false),
+    )
