@@ -2,3 +2,4 @@ pub mod Placed
 pub mod Turns
 pub mod Found
 pub mod TypeParts
+pub mod Firsts

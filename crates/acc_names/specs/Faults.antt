@@ -39,6 +39,7 @@ use Rattle.acc_syntax.specs.declared.trees.EntryTree.{EntryTree}
 use Rattle.acc_syntax.specs.declared.trees.HintTree.{HintTree}
 use Rattle.acc_syntax.specs.declared.trees.Names.{Names}
 use Rattle.acc_syntax.specs.declared.trees.DesignTree.{DesignTree}
+use Rattle.acc_names.specs.Least.{marked_from}
 use Rattle.acc_names.specs.Names.{stands_in, defines_again, listed, listed_or_none}
 use Rattle.acc_names.specs.Scopes.{Scope, columns_of, locals_of, points_in, point_names, type_named}
 
@@ -246,6 +247,10 @@ statement_faults d =
 -- the number of a design's statements
 abbrev pub statements_of : DesignTree → ℕ
 statements_of d = length (statement_faults d)
+
+-- the numbers of the statements with a fault of names, from 0
+abbrev pub name_faults : DesignTree → List ℕ
+name_faults d = marked_from 0 (statement_faults d)
 
 -- the number of the first statement with a fault of names, from 0
 abbrev pub first_fault_of : DesignTree → Option ℕ

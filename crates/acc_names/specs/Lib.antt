@@ -4,3 +4,4 @@ pub mod Scopes
 pub mod Faults
 pub mod Views
 pub mod Members
+pub mod Least

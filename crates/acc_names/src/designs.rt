@@ -1,6 +1,7 @@
 //! The first statement of a design with a fault of names.
 ghost use Rattle.std.specs.Prelude.{◌≡◌, ◌<◌, ◌++◌, [], map, length, position, IfOk, IfSome, OnOk};
-ghost use Rattle.acc_names.specs.Faults.{clause_fault, outside, statement_faults, statements_of, first_fault_of};
+ghost use Rattle.acc_names.specs.Least.{IsLeastOf};
+ghost use Rattle.acc_names.specs.Faults.{clause_fault, outside, statement_faults, statements_of, name_faults, first_fault_of};
 
 use crate::clauses::clauses_faults;
 use crate::entries::{entries_faults, hints_faults};
@@ -57,6 +58,7 @@ fn first_true(faults: &[bool]) -> Option<usize>
 /// counted from 0, in the order of the text.
 pub fn first_fault(alloc: Global, tree: &DesignTree) -> Result<Option<u64>, AllocError>
     ensures first { IfOk result (λ fault. fault ≡ first_fault_of tree.now) }
+    ensures least { IfOk result (λ fault. IsLeastOf fault (name_faults tree.now)) }
     ensures within { IfOk result (λ fault. IfSome fault (λ n. n < statements_of tree.now)) }
 {
     let faults = statement_faults(alloc, tree)?;

@@ -10,6 +10,8 @@ mod rows;
 mod scopes;
 mod steps;
 mod tables;
+#[cfg(test)]
+mod tests;
 mod types;
 mod values;
 
