@@ -90,7 +90,7 @@ fn any_again<'a>(
     names: &'a [Text],
 ) -> Result<bool, AllocError>
     ensures again { IfOk result (λ again. again ≡ defines_again (locals.now ++ own.old) names.now) }
-    ensures own { IfOk result (λ again. own.new ≡ own.old ++ names.now) }
+    ensures own { OnOk result (own.new ≡ own.old ++ names.now) }
 {
     let mut again = false;
     for name in names {
@@ -108,7 +108,7 @@ fn forall_again<'a>(
 ) -> Result<bool, AllocError>
     requires { own.old ≡ [] }
     ensures again { IfOk result (λ again. again ≡ defines_again locals.now (listed_or_none names.now)) }
-    ensures own { IfOk result (λ again. own.new ≡ listed_or_none names.now) }
+    ensures own { OnOk result (own.new ≡ listed_or_none names.now) }
 {
     match names {
         Some(names) => {

@@ -1,5 +1,5 @@
 //! Names in order, and where each stands.
-ghost use Rattle.std.specs.Prelude.{◌≡◌, ◌<◌, [], ◌∷◌, ◌++◌, length, IfOk, IfSome};
+ghost use Rattle.std.specs.Prelude.{◌≡◌, [], ◌∷◌, ◌++◌, IfOk, OnOk};
 ghost use Rattle.acc_names.specs.Names.{stands_in, defines_again, listed_or_none};
 ghost use Rattle.acc_names.specs.Places.{place_of};
 
@@ -55,7 +55,8 @@ impl<'a> NameIndex<'a> {
 
     /// Puts a name at the end, and answers whether it was there already.
     pub fn add(&mut self, name: &'a Text) -> Result<bool, AllocError>
-        ensures { IfOk result (λ again. (again ≡ stands_in name.now self.old) × (self.new ≡ self.old ++ name.now ∷ [])) }
+        ensures again { IfOk result (λ again. again ≡ stands_in name.now self.old) }
+        ensures names { OnOk result (self.new ≡ self.old ++ name.now ∷ []) }
     {
         let text = name.as_slice();
         let place = self.names.len();
@@ -75,7 +76,8 @@ impl<'a> NameIndex<'a> {
 
     /// Puts names at the end, and answers whether one of them was there already.
     pub fn add_all(&mut self, names: &'a [Text]) -> Result<bool, AllocError>
-        ensures { IfOk result (λ again. (again ≡ defines_again self.old names.now) × (self.new ≡ self.old ++ names.now)) }
+        ensures again { IfOk result (λ again. again ≡ defines_again self.old names.now) }
+        ensures names { OnOk result (self.new ≡ self.old ++ names.now) }
     {
         let mut again = false;
         for name in names {
@@ -87,7 +89,7 @@ impl<'a> NameIndex<'a> {
     /// Puts names, if there are any, at the end, and answers whether one of them was there already.
     pub fn add_listed(&mut self, names: &'a Option<Names>) -> Result<bool, AllocError>
         ensures again { IfOk result (λ again. again ≡ defines_again self.old (listed_or_none names.now)) }
-        ensures names { IfOk result (λ again. self.new ≡ self.old ++ listed_or_none names.now) }
+        ensures names { OnOk result (self.new ≡ self.old ++ listed_or_none names.now) }
     {
         match names {
             Some(names) => {

@@ -1,5 +1,5 @@
 //! The tables of a design, by their names.
-ghost use Rattle.std.specs.Prelude.{◌≡◌, [], ◌++◌, map, option_copied, IfOk};
+ghost use Rattle.std.specs.Prelude.{◌≡◌, [], ◌++◌, map, option_copied, IfOk, OnOk};
 ghost use Rattle.acc_names.specs.Scopes.{columns_of};
 ghost use Rattle.acc_names.specs.Faults.{tables_faults};
 
@@ -33,8 +33,8 @@ impl<'a> Tables<'a> {
         faults: &mut Vec<bool>,
     ) -> Result<Self, AllocError>
         ensures tables { IfOk result (λ t. t.trees.now ≡ trees.now) }
-        ensures faults { IfOk result
-            (λ t. faults.new.items ≡ faults.old.items ++ tables_faults [] trees.now) }
+        ensures faults { OnOk result
+            (faults.new.items ≡ faults.old.items ++ tables_faults [] trees.now) }
     {
         let mut names = NameIndex::new(alloc);
         let mut columns = Vec::new(alloc);

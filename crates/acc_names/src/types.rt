@@ -58,8 +58,8 @@ fn head_faults<'a>(
     faults: &mut Vec<bool>,
 ) -> Result<NameIndex<'a>, AllocError>
     ensures locals { IfOk result (λ locals. locals ≡ locals_of tree.now) }
-    ensures faults { IfOk result
-        (λ locals. faults.new.items ≡ faults.old.items ++ head_faults again tree.now) }
+    ensures faults { OnOk result
+        (faults.new.items ≡ faults.old.items ++ head_faults again tree.now) }
 {
     let mut locals = NameIndex::new(alloc);
     let params_again = locals.add_all(tree.params.as_slice())?;
@@ -152,8 +152,8 @@ fn type_faults<'a>(
     faults: &mut Vec<bool>,
 ) -> Result<Members<'a>, AllocError>
     ensures members { IfOk result (λ m. m ≡ members_of tree.now) }
-    ensures faults { IfOk result
-        (λ m. faults.new.items ≡ faults.old.items ++ type_faults tables.now.trees.now again tree.now) }
+    ensures faults { OnOk result
+        (faults.new.items ≡ faults.old.items ++ type_faults tables.now.trees.now again tree.now) }
 {
     let locals = head_faults(alloc, again, tree, faults)?;
     let points = point_names(alloc, tree)?;
@@ -180,8 +180,8 @@ pub fn types_faults<'a>(
     faults: &mut Vec<bool>,
 ) -> Result<Types<'a>, AllocError>
     ensures types { IfOk result (λ t. t.trees.now ≡ trees.now) }
-    ensures faults { IfOk result
-        (λ t. faults.new.items ≡ faults.old.items ++ types_faults tables.now.trees.now [] trees.now) }
+    ensures faults { OnOk result
+        (faults.new.items ≡ faults.old.items ++ types_faults tables.now.trees.now [] trees.now) }
 {
     let mut names = NameIndex::new(alloc);
     let mut members = Vec::new(alloc);
