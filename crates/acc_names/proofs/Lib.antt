@@ -1,0 +1,5 @@
+pub mod Placed
+pub mod Turns
+pub mod Found
+pub mod TypeParts
+pub mod Firsts

@@ -1,0 +1,7 @@
+pub mod Names
+pub mod Places
+pub mod Scopes
+pub mod Faults
+pub mod Views
+pub mod Members
+pub mod Least

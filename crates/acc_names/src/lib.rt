@@ -1,0 +1,18 @@
+//! The names of a design: the first statement that defines one a second time, or uses one that isn't defined.
+#![tactic(auto)]
+
+mod clauses;
+mod designs;
+mod entries;
+mod members;
+mod names;
+mod rows;
+mod scopes;
+mod steps;
+mod tables;
+#[cfg(test)]
+mod tests;
+mod types;
+mod values;
+
+pub use designs::first_fault;
