@@ -57,7 +57,7 @@ fn form_fault<'a>(definitions: &Definitions<'_, 'a>, form: &'a FormTree) -> bool
 fn form_rel_fault<'a>(definitions: &Definitions<'_, 'a>, relation: &'a FormRelTree) -> bool
     ensures { result ≡ form_rel_fault (scope_in definitions.now) relation.now }
 {
-    form_fault(definitions, &relation.left) || form_fault(definitions, &relation.right)
+    form_fault(definitions, relation.left.get()) || form_fault(definitions, relation.right.get())
 }
 
 fn any_form_rel_fault<'a>(definitions: &Definitions<'_, 'a>, relations: &'a [FormRelTree]) -> bool

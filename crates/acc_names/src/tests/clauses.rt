@@ -1,25 +1,27 @@
 //! The clauses of the design.
 use super::building::Draft;
 use acc_base::sequences::Seq;
+use acc_syntax::boxes::Boxed;
 use acc_syntax::trees::{
     ClauseTree, FormRelTree, FormRels, FormTerm, FormTree, Names, Operand, Place, Relation, Sums,
 };
 use std::alloc::AllocError;
 
-fn form(d: &Draft, first: FormTerm) -> FormTree {
-    FormTree {
+fn form(d: &Draft, first: FormTerm) -> Result<Boxed<FormTree>, AllocError> {
+    let form = FormTree {
         minus: false,
         first,
         others: Seq::new(d.alloc),
-    }
+    };
+    Boxed::new(d.alloc, form)
 }
 
-fn equal(d: &Draft, left: Operand, right: FormTerm) -> FormRelTree {
-    FormRelTree {
-        left: form(d, FormTerm::Plain(left)),
+fn equal(d: &Draft, left: Operand, right: FormTerm) -> Result<FormRelTree, AllocError> {
+    Ok(FormRelTree {
+        left: form(d, FormTerm::Plain(left))?,
         relation: Relation::Equal,
-        right: form(d, right),
-    }
+        right: form(d, right)?,
+    })
 }
 
 /// always forall k : A[k].x = 0
@@ -31,7 +33,7 @@ pub fn always(d: &Draft) -> Result<ClauseTree, AllocError> {
             others: Seq::new(d.alloc),
         }),
         guards: None,
-        relation: equal(d, Operand::Column(cell), FormTerm::Constant(0)),
+        relation: equal(d, Operand::Column(cell), FormTerm::Constant(0))?,
     })
 }
 
@@ -45,7 +47,7 @@ fn guard(d: &Draft) -> Result<FormRels, AllocError> {
         },
     };
     Ok(FormRels {
-        first: equal(d, Operand::Has(place), FormTerm::Constant(0)),
+        first: equal(d, Operand::Has(place), FormTerm::Constant(0))?,
         others: Seq::new(d.alloc),
     })
 }
@@ -63,7 +65,7 @@ pub fn ensured(d: &Draft) -> Result<ClauseTree, AllocError> {
             others,
         }),
         guards: Some(guard(d)?),
-        relation: equal(d, count, FormTerm::Plain(right)),
+        relation: equal(d, count, FormTerm::Plain(right))?,
     })
 }
 
@@ -73,7 +75,7 @@ pub fn repaired(d: &Draft) -> Result<ClauseTree, AllocError> {
     Ok(ClauseTree {
         variables: None,
         guards: None,
-        relation: equal(d, left, FormTerm::Constant(0)),
+        relation: equal(d, left, FormTerm::Constant(0))?,
     })
 }
 
@@ -84,6 +86,6 @@ pub fn holds(d: &Draft) -> Result<ClauseTree, AllocError> {
     Ok(ClauseTree {
         variables: None,
         guards: None,
-        relation: equal(d, sum, FormTerm::Product(3, right)),
+        relation: equal(d, sum, FormTerm::Product(3, right))?,
     })
 }
