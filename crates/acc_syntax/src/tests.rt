@@ -82,7 +82,7 @@ const TRANSFER: &str = "table BANK 1 total ; table ACC 2 bal ; private DUE 2 amt
     undo ; path ; add ACC [ b , x ] . bal amt ; del DUE [ b , self ] ; undone ;";
 
 /// Texts by themselves, each with a `^` before the word at which it stops, if it does.
-const TEXTS: [&str; 54] = [
+const TEXTS: [&str; 55] = [
     "",
     "table A 1 ; private B 6 c d ;",
     "table ^ ;",
@@ -112,13 +112,14 @@ const TEXTS: [&str; 54] = [
     "type t ; limit 1 ; ^ variant n ; point p ;",
     "type t ; limit 1 ; local x ; ensures x = 1 ; ensures x >= 1 ; repairs x = 0 ; point p ; ^ limit 1 ;",
     "type t ; limit 1 ; repairs x = 0 ; ^ ensures x = 1 ; point p ;",
+    "type t ; limit 1 ; ensures self = 1 ; ensures self ^ [ 1 ] . c = 1 ; point p ;",
     "type t ; limit 1 ; ensures x = 1 ; ^ returns x ; point p ;",
     "type t ; limit 1 ; point p ; ^ ensures x = 1 ;",
     "type t ; limit 1 ; point p ; holds x = 1 ; holds x = 2 ; ^ variant x ;",
     "type t ; limit 1 ; point p ; variant x ; holds x = 1 ; next ; ^ holds x = 1 ;",
     "table A 1 ; always x = 1 ; always y = 2 ; ^ table B 1 ;",
     "entry t . p by u . q next ; ^ always x = 1 ;",
-    "entry t . p by u . q next ; entry t . p by t . p undo : x = self , self = y ; hint t . p next - x + 2 * y ;",
+    "entry t . p by u . q next ; entry t . p by t . p undo : x = a , y = b ; hint t . p next - x + 2 * y ;",
     "entry ^ ;",
     "entry t ^ by u . q next ;",
     "entry t . ^ by u . q next ;",
@@ -202,9 +203,9 @@ const STEPS: [&str; 58] = [
 ];
 
 /// What may stand behind `always`, each with a `^` before the word at which it stops, if it does.
-const CLAUSES: [&str; 34] = [
+const CLAUSES: [&str; 33] = [
     "x <= y ;",
-    "- 2 * A [ x , 1 ] . c + has A [ x ] - 3 * count A [ x ] >= sum A [ x ] . c - self + 4 ;",
+    "- 2 * A [ x , 1 ] . c + has A [ x ] - 3 * count A [ x ] >= sum A [ x ] . c - z + 4 ;",
     "forall x y : x >= 1 , y = 2 => A [ x ] . c <= B [ y ] . d ;",
     "forall x : x >= 1 => x >= 0 ;",
     "forall x : x >= 0 ;",
@@ -225,7 +226,6 @@ const CLAUSES: [&str; 34] = [
     "x = 1 => y = 2 ^ , z = 3 ;",
     "x = 1 => y = 2 ^ => z = 3 ;",
     "x = 1 ^ forall x : x = 1 ;",
-    "self ^ [ 1 ] . c = 1 ;",
     "A [ 1 ] ^ = 1 ;",
     "A [ ^ ] . c = 1 ;",
     "A [ 1 ] . c ^ . d = 1 ;",
@@ -518,7 +518,7 @@ fn variants_of_points(rt: HostRuntime) -> Result<(), Fail> {
 fn entries_and_hints(rt: HostRuntime) -> Result<(), Fail> {
     let design = tree_of(
         rt.alloc(),
-        "entry move . mid by fund . start next : x = a , self = b ; entry a . b by c . d undo ;
+        "entry move . mid by fund . start next : x = a , y = b ; entry a . b by c . d undo ;
         hint move . start undo - n ; hint move . mid next 7 ;",
     )?;
     assert_eq!(rt; design.entries.len(), 2);
@@ -530,8 +530,8 @@ fn entries_and_hints(rt: HostRuntime) -> Result<(), Fail> {
     };
     assert!(rt; names(&pairs.first.held, "x") && names(&pairs.first.step, "a"));
     assert_eq!(rt; pairs.others.len(), 1);
-    let own = part(&pairs.others, 0)?;
-    assert!(rt; matches!(own.held, Variable::Oneself) && names(&own.step, "b"));
+    let other = part(&pairs.others, 0)?;
+    assert!(rt; names(&other.held, "y") && names(&other.step, "b"));
     let second = part(&design.entries, 1)?;
     assert!(rt; matches!(second.side, SideTree::Undo) && second.pairs.is_none());
     assert_eq!(rt; design.hints.len(), 2);
@@ -612,9 +612,14 @@ fn guards_and_variables(rt: HostRuntime) -> Result<(), Fail> {
 fn operands_of_each_kind(rt: HostRuntime) -> Result<(), Fail> {
     let design = tree_of(
         rt.alloc(),
-        "always - 2 * A [ b , w ] . c + has B [ b , w ] - count C [ b , w ] + sum D [ b , w ] . e - self >= 0 ;",
+        "type t ; limit 1 ;
+        ensures - 2 * A [ b , w ] . c + has B [ b , w ] - count C [ b , w ] + sum D [ b , w ] . e - self >= 0 ;
+        point p ; next ; path ; commit ; undo ; path ; undone ;",
     )?;
-    let form = part(&design.always, 0)?.relation.left.get();
+    let form = part(&part(&design.types, 0)?.ensured, 0)?
+        .relation
+        .left
+        .get();
     assert!(rt; form.minus);
     assert!(rt;
         matches!(&form.first, FormTerm::Product(2, Operand::Column(cell)) if is_cell(cell, "A", "w", "c"))
