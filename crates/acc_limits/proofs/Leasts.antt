@@ -35,7 +35,7 @@ with_greater is_less order x y ys r above h =
       least = All-cons (λ z. ¬ IsTrue (is_less z r)) x (y ∷ ys) first (All-cons (λ z. ¬ IsTrue (is_less z r)) y ys (order.rising y x r above first) (All-tail (λ z. ¬ IsTrue (is_less z r)) x ys h.least));
     }
 
-some_weaker : {X : Type 0} (P Q : X → Type 0) (o : Option X) → ((x : X) → P x → Q x) → IfSome o P → IfSome o Q
+pub some_weaker : {X : Type 0} (P Q : X → Type 0) (o : Option X) → ((x : X) → P x → Q x) → IfSome o P → IfSome o Q
 some_weaker P Q None f h = tt
 some_weaker P Q (Some x) f h = f x h
 

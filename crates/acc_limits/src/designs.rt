@@ -75,6 +75,7 @@ fn meet_design(walk: &mut Walk, tree: &DesignTree)
 pub fn first_fault(tree: &DesignTree) -> Option<(u64, Limit)>
     ensures none { statements_of tree.now < 2 ^ 64 → IfNone result (limit_faults tree.now ≡ []) }
     ensures first { statements_of tree.now < 2 ^ 64 → IfSome result (IsLeast is_before (limit_faults tree.now)) }
+    ensures within { statements_of tree.now < 2 ^ 64 → IfSome result (λ f. f.0 < statements_of tree.now) }
 {
     let mut walk = Walk::new(0, 0);
     meet_design(&mut walk, tree);
