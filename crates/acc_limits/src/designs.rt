@@ -74,7 +74,8 @@ fn meet_design(walk: &mut Walk, tree: &DesignTree)
 /// The first statement that passes a limit, by its number from 0, and the lowest limit that it passes.
 pub fn first_fault(tree: &DesignTree) -> Option<(u64, Limit)>
     ensures none { statements_of tree.now < 2 ^ 64 → IfNone result (limit_faults tree.now ≡ []) }
-    ensures first { statements_of tree.now < 2 ^ 64 → IfSome result (IsLeast is_before (limit_faults tree.now)) }
+    ensures first { statements_of tree.now < 2 ^ 64
+        → IfSome result (IsLeast is_before (limit_faults tree.now)) }
     ensures within { statements_of tree.now < 2 ^ 64 → IfSome result (λ f. f.0 < statements_of tree.now) }
 {
     let mut walk = Walk::new(0, 0);
@@ -84,8 +85,10 @@ pub fn first_fault(tree: &DesignTree) -> Option<(u64, Limit)>
 
 /// The lowest limit that is passed by the statements from one number up to before another.
 pub fn lowest_on(tree: &DesignTree, from: u64, to: u64) -> Option<Limit>
-    ensures none { statements_of tree.now < 2 ^ 64 → IfNone result (limits_on from to (limit_faults tree.now) ≡ []) }
-    ensures lowest { statements_of tree.now < 2 ^ 64 → IfSome result (IsLeast is_lower (limits_on from to (limit_faults tree.now))) }
+    ensures none { statements_of tree.now < 2 ^ 64
+        → IfNone result (limits_on from to (limit_faults tree.now) ≡ []) }
+    ensures lowest { statements_of tree.now < 2 ^ 64
+        → IfSome result (IsLeast is_lower (limits_on from to (limit_faults tree.now))) }
 {
     let mut walk = Walk::new(from, to);
     meet_design(&mut walk, tree);

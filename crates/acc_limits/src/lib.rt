@@ -11,3 +11,6 @@ mod walks;
 
 pub use designs::{first_fault, lowest_on};
 pub use limits::Limit;
+
+#[cfg(test)]
+mod tests;
