@@ -1,0 +1,4 @@
+pub mod Counted
+pub mod Leasts
+pub mod Placed
+pub mod Ended

@@ -1,0 +1,16 @@
+//! The limits on a design's text: the first statement that passes one, and which.
+#![tactic(auto)]
+
+mod clauses;
+mod designs;
+mod limits;
+mod steps;
+mod types;
+mod values;
+mod walks;
+
+pub use designs::{first_fault, lowest_on};
+pub use limits::Limit;
+
+#[cfg(test)]
+mod tests;
