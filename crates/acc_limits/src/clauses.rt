@@ -54,8 +54,8 @@ fn meet_form(walk: &mut Walk, form: &FormTree)
 fn meet_relation(walk: &mut Walk, relation: &FormRelTree)
     ensures { walk.new ≡ after walk.old (form_rel_marks relation.now) }
 {
-    meet_form(walk, &relation.left);
-    meet_form(walk, &relation.right);
+    meet_form(walk, relation.left.get());
+    meet_form(walk, relation.right.get());
 }
 
 fn meet_each_relation(walk: &mut Walk, relations: &[FormRelTree])
