@@ -1,173 +1,222 @@
-//! The design below with one name exchanged, and the first statement that has a fault then, counted by hand.
-//!
-//!      0 table A 1 x y                12 next                     31 undo                   47 undo
-//!      1 private D 1 z                13 let p = 2 * a + 1 - v    32 path                   48 path
-//!      2 always forall k : A[k].x = 0 14 get q = A[a].x           33 undone                 49 undone
-//!      3 type keep a v                15 has q = D[a]             34 point end              50 point stop
-//!      4 limit 2                      16 count q = A[a]           35 next                   51 next
-//!      5 returns v p                  17 sum q = A[a].y           36 path                   52 path
-//!      6 local p q                    18 least q = A[a]           37 commit                 53 commit
-//!      7 ensures forall h i j :       19 greatest q = D[a]        38 undo                   54 undo
-//!          has D[h] = 0 =>            20 take q                   39 path                   55 path
-//!          count A[i] = v             21 mul q = p v              40 undone                 56 undone
-//!      8 repairs p = 0                22 div q = p 2              41 type other b           57 entry keep.start by
-//!      9 point start                  23 path p = v, q = 1        42 limit 1                     other.stop next :
-//!     10 variant p                    24 put A[a] p, q            43 point start                 p = b, self = self
-//!     11 holds sum A[a].y = 3 * v     25 del D[a]                 44 next                   58 hint keep.end undo q
-//!                                     26 set A[a].x p             45 path
-//!                                     27 add A[a].y q             46 commit
-//!                                     28 goto end
-//!                                     29 path
-//!                                     30 refuse 1
-mod building;
-mod clauses;
-mod designs;
-mod steps;
-
+//! A design with one piece exchanged, and the first statement that has a fault then, counted by hand: each line of the
+//! design is a statement, the first has the number 0.
 use crate::first_fault;
-use building::Draft;
-use designs::design;
+use acc_lex::texts::words;
+use acc_syntax::designs::syntax;
 use std::alloc::Global;
 use std::test::Fail;
 
-/// Where a name is exchanged, the other name, and the first statement with a fault.
-type Case = (&'static str, &'static str, &'static str, u64);
+const DESIGN: &str = "table A 1 x y
+private D 1 z
+always forall k : A[k].x = 0
+type keep a v
+limit 2
+returns v p
+local p q
+ensures forall h i j : has D[h] = 0 => count A[i] = v
+repairs p = 0
+point start
+variant p
+holds sum A[a].y = 3 * v
+next
+let p = 2 * a + 1 - v
+get q = A[a].x
+has q = D[a]
+count q = A[a]
+sum q = A[a].y
+least q = A[a]
+greatest q = D[a]
+take q
+mul q = p v
+div q = p 2
+path p = v, q = 1
+put A[a] p, q
+del D[a]
+set A[a].x p
+add A[a].y q
+goto end
+path
+refuse 1
+undo
+path
+undone
+point end
+next
+path
+commit
+undo
+path
+undone
+type other b
+limit 1
+point start
+next
+path
+commit
+undo
+path
+undone
+point stop
+next
+path
+commit
+undo
+path
+undone
+entry keep.start by other.stop next : p = b
+hint keep.end undo q
+";
+
+/// A piece of the design, what stands in its place, and the first statement with a fault.
+type Case = (&'static str, &'static str, u64);
 
 const DEFINED_AGAIN: [Case; 11] = [
-    ("first table", "second column", "x", 0),
-    ("second table", "name", "A", 1),
-    ("type", "second parameter", "a", 3),
-    ("local", "first", "a", 5),
-    ("local", "second", "a", 6),
-    ("local", "second", "p", 6),
-    ("ensures", "third variable", "v", 7),
-    ("ensures", "third variable", "q", 7),
-    ("ensures", "third variable", "h", 7),
-    ("second type", "name", "keep", 41),
-    ("last point", "name", "start", 50),
+    ("table A 1 x y", "table A 1 x x", 0),
+    ("private D", "private A", 1),
+    ("type keep a v", "type keep a a", 3),
+    // without `p` what is returned isn't defined
+    ("local p q", "local a q", 5),
+    ("local p q", "local p a", 6),
+    ("local p q", "local p p", 6),
+    ("forall h i j", "forall h i v", 7),
+    ("forall h i j", "forall h i q", 7),
+    ("forall h i j", "forall h i h", 7),
+    ("type other b", "type keep b", 41),
+    ("point stop", "point start", 50),
 ];
 
 const UNDEFINED_ABOVE: [Case; 16] = [
-    ("always", "variable", "m", 2),
-    ("always", "table", "B", 2),
-    ("always", "column", "z", 2),
-    ("always", "key", "a", 2),
-    ("returns", "first", "b", 5),
-    ("returns", "second", "h", 5),
-    ("ensures", "guard table", "E", 7),
-    ("ensures", "guard key", "k", 7),
-    ("ensures", "table", "keep", 7),
-    ("ensures", "key", "w", 7),
-    ("ensures", "right", "w", 7),
-    ("repairs", "left", "h", 8),
-    ("variant", "value", "i", 10),
-    ("holds", "table", "start", 11),
-    ("holds", "column", "x1", 11),
-    ("holds", "right", "b", 11),
+    ("forall k", "forall m", 2),
+    ("A[k].x", "B[k].x", 2),
+    ("A[k].x", "A[k].z", 2),
+    ("A[k].x", "A[a].x", 2),
+    ("returns v p", "returns b p", 5),
+    ("returns v p", "returns v h", 5),
+    ("has D[h]", "has E[h]", 7),
+    ("has D[h]", "has D[k]", 7),
+    ("count A[i]", "count keep[i]", 7),
+    ("count A[i]", "count A[w]", 7),
+    ("= v\nrepairs", "= w\nrepairs", 7),
+    ("repairs p", "repairs h", 8),
+    ("variant p", "variant i", 10),
+    ("sum A[a].y = 3", "sum start[a].y = 3", 11),
+    ("sum A[a].y = 3", "sum A[a].x1 = 3", 11),
+    ("3 * v", "3 * b", 11),
 ];
 
 const UNDEFINED_IN_READS: [Case; 18] = [
-    ("let", "assigned", "h", 13),
-    ("let", "first", "p1", 13),
-    ("let", "last", "z", 13),
-    ("get", "assigned", "x", 14),
-    ("get", "table", "a", 14),
-    ("get", "key", "A", 14),
-    ("get", "column", "z", 14),
-    ("has", "table", "E", 15),
-    ("count", "key", "h", 16),
-    ("sum", "column", "z", 17),
-    ("least", "key", "b", 18),
-    ("greatest", "assigned", "D", 19),
-    ("greatest", "table", "keep", 19),
-    ("take", "assigned", "b", 20),
-    ("mul", "assigned", "r", 21),
-    ("mul", "first", "r", 21),
-    ("mul", "second", "r", 21),
-    ("div", "first", "r", 22),
+    ("let p", "let h", 13),
+    ("2 * a", "2 * p1", 13),
+    ("1 - v", "1 - z", 13),
+    ("get q", "get x", 14),
+    ("get q = A", "get q = a", 14),
+    ("get q = A[a]", "get q = A[A]", 14),
+    ("get q = A[a].x", "get q = A[a].z", 14),
+    ("has q = D", "has q = E", 15),
+    ("count q = A[a]", "count q = A[h]", 16),
+    ("sum q = A[a].y", "sum q = A[a].z", 17),
+    ("least q = A[a]", "least q = A[b]", 18),
+    ("greatest q", "greatest D", 19),
+    ("greatest q = D", "greatest q = keep", 19),
+    ("take q", "take b", 20),
+    ("mul q", "mul r", 21),
+    ("mul q = p", "mul q = r", 21),
+    ("mul q = p v", "mul q = p r", 21),
+    ("div q = p", "div q = r", 22),
 ];
 
 const UNDEFINED_IN_PATHS: [Case; 13] = [
-    ("guard", "first left", "r", 23),
-    ("guard", "first right", "r", 23),
-    ("guard", "second left", "r", 23),
-    ("put", "table", "C", 24),
-    ("put", "first", "r", 24),
-    ("put", "second", "r", 24),
-    ("del", "key", "r", 25),
-    ("set", "column", "z", 26),
-    ("set", "value", "r", 26),
-    ("add", "column", "z", 27),
-    ("add", "value", "r", 27),
-    ("goto", "point", "stop", 28),
-    ("goto", "point", "p", 28),
+    ("path p = v", "path r = v", 23),
+    ("path p = v", "path p = r", 23),
+    ("q = 1", "r = 1", 23),
+    ("put A", "put C", 24),
+    ("put A[a] p", "put A[a] r", 24),
+    ("put A[a] p, q", "put A[a] p, r", 24),
+    ("del D[a]", "del D[r]", 25),
+    ("set A[a].x", "set A[a].z", 26),
+    ("set A[a].x p", "set A[a].x r", 26),
+    ("add A[a].y", "add A[a].z", 27),
+    ("add A[a].y q", "add A[a].y r", 27),
+    ("goto end", "goto stop", 28),
+    ("goto end", "goto p", 28),
 ];
 
 const UNDEFINED_BELOW: [Case; 10] = [
-    ("entry", "held type", "A", 57),
-    ("entry", "held point", "stop", 57),
-    ("entry", "step type", "another", 57),
-    ("entry", "step point", "end", 57),
-    ("entry", "held", "b", 57),
-    ("entry", "step", "a", 57),
-    ("hint", "type", "D", 58),
-    ("hint", "type", "other", 58),
-    ("hint", "point", "stop", 58),
-    ("hint", "value", "b", 58),
+    ("entry keep", "entry A", 57),
+    ("entry keep.start", "entry keep.stop", 57),
+    ("by other", "by another", 57),
+    ("by other.stop", "by other.end", 57),
+    (": p = b", ": b = b", 57),
+    (": p = b", ": p = a", 57),
+    ("hint keep", "hint D", 58),
+    ("hint keep", "hint other", 58),
+    ("hint keep.end", "hint keep.stop", 58),
+    ("undo q", "undo b", 58),
 ];
 
-fn fault_with(alloc: Global, case: &Case) -> Result<Option<u64>, Fail> {
-    let draft = Draft {
-        alloc,
-        of: case.0,
-        part: case.1,
-        name: case.2,
-    };
-    let tree = design(&draft)?;
+/// The first fault of the design with a piece exchanged.
+fn fault_with(alloc: Global, old: &str, new: &str) -> Result<Option<u64>, Fail> {
+    let (before, after) = DESIGN.split_once(old).ok_or("not in the design")?;
+    let text = format!(in alloc; "{before}{new}{after}")?;
+    let words = words(alloc, text.as_bytes()).map_err(|_| "no words")?;
+    let tree = syntax(alloc, words.as_slice()).map_err(|_| "no tree")?;
     Ok(first_fault(alloc, &tree)?)
 }
 
-/// That each fault is where it was counted; else the first part where it isn't.
-fn are_as_counted(alloc: Global, cases: &[Case]) -> Result<(), Fail> {
-    for case in cases {
-        let fault = fault_with(alloc, case)?;
-        (fault == Some(case.3)).then_some(()).ok_or(case.1)?;
+#[test]
+fn no_fault(rt: HostRuntime) -> Result<(), Fail> {
+    for (old, new) in [
+        ("take q", "take q"),
+        ("2 * a", "2 * self"),
+        ("goto end", "goto start"),
+        ("returns v p", "returns v v"),
+    ] {
+        assert_eq!(rt; fault_with(rt.alloc(), old, new)?, None, "{new}");
     }
     Ok(())
 }
 
 #[test]
-fn no_fault(rt: HostRuntime) -> Result<(), Fail> {
-    assert_eq!(rt; fault_with(rt.alloc(), &("", "", "", 0))?, None);
-    assert_eq!(rt; fault_with(rt.alloc(), &("let", "first", "self", 0))?, None);
-    assert_eq!(rt;
-        fault_with(rt.alloc(), &("goto", "point", "start", 0))?,
-        None
-    );
+fn defined_again(rt: HostRuntime) -> Result<(), Fail> {
+    for (old, new, statement) in DEFINED_AGAIN {
+        let fault = fault_with(rt.alloc(), old, new)?;
+        assert_eq!(rt; fault, Some(statement), "{new}");
+    }
     Ok(())
 }
 
 #[test]
-fn defined_again(rt: HostRuntime) -> Result<(), Fail> {
-    are_as_counted(rt.alloc(), &DEFINED_AGAIN)
-}
-
-#[test]
 fn undefined_above_the_steps(rt: HostRuntime) -> Result<(), Fail> {
-    are_as_counted(rt.alloc(), &UNDEFINED_ABOVE)
+    for (old, new, statement) in UNDEFINED_ABOVE {
+        let fault = fault_with(rt.alloc(), old, new)?;
+        assert_eq!(rt; fault, Some(statement), "{new}");
+    }
+    Ok(())
 }
 
 #[test]
 fn undefined_in_reads(rt: HostRuntime) -> Result<(), Fail> {
-    are_as_counted(rt.alloc(), &UNDEFINED_IN_READS)
+    for (old, new, statement) in UNDEFINED_IN_READS {
+        let fault = fault_with(rt.alloc(), old, new)?;
+        assert_eq!(rt; fault, Some(statement), "{new}");
+    }
+    Ok(())
 }
 
 #[test]
 fn undefined_in_paths(rt: HostRuntime) -> Result<(), Fail> {
-    are_as_counted(rt.alloc(), &UNDEFINED_IN_PATHS)
+    for (old, new, statement) in UNDEFINED_IN_PATHS {
+        let fault = fault_with(rt.alloc(), old, new)?;
+        assert_eq!(rt; fault, Some(statement), "{new}");
+    }
+    Ok(())
 }
 
 #[test]
 fn undefined_in_entries_and_hints(rt: HostRuntime) -> Result<(), Fail> {
-    are_as_counted(rt.alloc(), &UNDEFINED_BELOW)
+    for (old, new, statement) in UNDEFINED_BELOW {
+        let fault = fault_with(rt.alloc(), old, new)?;
+        assert_eq!(rt; fault, Some(statement), "{new}");
+    }
+    Ok(())
 }
