@@ -1,0 +1,4 @@
+pub mod Parts
+pub mod Collected
+pub mod Sums
+pub mod Worths
