@@ -1,0 +1,12 @@
+pub mod Numbered
+pub mod Leasts
+pub mod Clean
+pub mod FormedSteps
+pub mod FormedPoints
+pub mod FormedTypes
+pub mod FormedDesigns
+pub mod Placed
+pub mod InRange
+pub mod Runs
+pub mod Uses
+pub mod Open

@@ -1,0 +1,99 @@
+//! Where paths end, and what the reads of a step may do.
+ghost use Rattle.std.specs.Prelude.{◌≡◌};
+ghost use Rattle.acc_base.specs.Reads.{assigned};
+ghost use Rattle.acc_form.specs.Ends.{refuses_by_number, divides, may_end, refuses_plainly, assigns_local, may_read, is_undone};
+
+use acc_base::designs::{Side, TxType};
+use acc_base::steps::{Action, Read, Target};
+
+/// Whether a refusal's number is 1 to 255.
+pub fn refuses_by_number(target: Target) -> bool
+    ensures { result ≡ refuses_by_number target }
+{
+    match target {
+        Target::Point(_) | Target::Commit | Target::Undone => true,
+        Target::Refuse(n) => 1 <= n && n <= 255,
+    }
+}
+
+/// Whether a divisor is at least 1.
+pub fn divides(read: &Read) -> bool
+    ensures { result ≡ divides read.now }
+{
+    match read {
+        Read::Div(_, _, divisor) => 1 <= *divisor,
+        _ => true,
+    }
+}
+
+/// Whether a path of this side may lead there.
+pub fn may_end(side: Side, target: Target) -> bool
+    ensures { result ≡ may_end side target }
+{
+    match (side, target) {
+        (_, Target::Point(_)) => true,
+        (Side::Next, Target::Commit) => true,
+        (Side::Undo, Target::Commit) => false,
+        (Side::Next, Target::Undone) => false,
+        (Side::Undo, Target::Undone) => true,
+        (Side::Next, Target::Refuse(_)) => true,
+        (Side::Undo, Target::Refuse(_)) => false,
+    }
+}
+
+/// Whether a path that refuses has no actions.
+pub fn refuses_plainly(actions: &[Action], target: Target) -> bool
+    ensures { result ≡ refuses_plainly actions.now target }
+{
+    match target {
+        Target::Point(_) | Target::Commit | Target::Undone => true,
+        Target::Refuse(_) => actions.is_empty(),
+    }
+}
+
+/// The local that a read assigns.
+pub fn assigned(read: &Read) -> u32
+    ensures { result ≡ assigned read.now }
+{
+    match read {
+        Read::Let(x, _) => *x,
+        Read::Col(x, _, _, _) => *x,
+        Read::Has(x, _, _) => *x,
+        Read::Count(x, _, _) => *x,
+        Read::Sum(x, _, _, _) => *x,
+        Read::Least(x, _, _) => *x,
+        Read::Greatest(x, _, _) => *x,
+        Read::Take(x) => *x,
+        Read::Mul(x, _, _) => *x,
+        Read::Div(x, _, _) => *x,
+    }
+}
+
+/// Whether a read assigns a local that is no parameter.
+pub fn assigns_local(ty: &TxType, read: &Read) -> bool
+    ensures { result ≡ assigns_local ty.now read.now }
+{
+    let local = assigned(read);
+    ty.params <= local && (local as usize) < ty.locals.len()
+}
+
+/// Whether a read neither takes nor multiplies on the undo side.
+pub fn may_read(side: Side, read: &Read) -> bool
+    ensures { result ≡ may_read side read.now }
+{
+    match (side, read) {
+        (Side::Undo, Read::Take(_)) => false,
+        (Side::Undo, Read::Mul(_, _, _)) => false,
+        _ => true,
+    }
+}
+
+/// Whether a path ends undone.
+pub fn is_undone(target: Target) -> bool
+    ensures { result ≡ is_undone target }
+{
+    match target {
+        Target::Undone => true,
+        Target::Point(_) | Target::Commit | Target::Refuse(_) => false,
+    }
+}
