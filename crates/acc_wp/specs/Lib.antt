@@ -1,0 +1,8 @@
+pub mod Differences
+pub mod Unders
+pub mod Changes
+pub mod Gains
+pub mod Preconditions
+pub mod Causes
+pub mod Shapes
+pub mod Laws

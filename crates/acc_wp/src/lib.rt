@@ -1,0 +1,16 @@
+//! Weakest preconditions: the relation that is true before actions exactly where a relation is true after them.
+#![tactic(auto)]
+
+mod changes;
+mod errors;
+mod gains;
+pub mod laws;
+mod lins;
+mod preconditions;
+mod unders;
+
+pub use errors::WpError;
+pub use preconditions::wp;
+
+#[cfg(test)]
+mod tests;
