@@ -3,3 +3,5 @@ pub mod RowsLemmas
 pub mod Mentioning
 pub mod SaidLemmas
 pub mod StatusLemmas
+pub mod FewTerms
+pub mod Runs

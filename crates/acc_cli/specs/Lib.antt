@@ -2,7 +2,10 @@ pub mod Words
 pub mod Files
 pub mod Text
 pub mod Status
+pub mod Refusals
+pub mod ReadDesigns
 pub mod PlayFiles
+pub mod PrintFiles
 pub mod Outcome
 pub mod Meant
 pub mod Answered

@@ -12,10 +12,12 @@ use Rattle.acc_cli.specs.Text.{Said, Reply}
 use Rattle.acc_cli.specs.Words.{command_of, files_of}
 use Rattle.acc_cli.specs.Files.{AreFiles, IsFirstRefused, SaysRefused}
 use Rattle.acc_cli.specs.PlayFiles.{PlaysFiles}
+use Rattle.acc_cli.specs.PrintFiles.{PrintsFile}
 
 -- what a command makes of its files
 unfoldable pub Means : Command → List (List ℕ) → Said → Type 0
 Means command.Play (design ∷ script ∷ order ∷ []) = PlaysFiles design script order
+Means command.Print (design ∷ []) = PrintsFile design
 Means _ _ = λ said. ⊥
 
 -- the first file that isn't given is refused

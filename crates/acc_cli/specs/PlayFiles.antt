@@ -5,9 +5,11 @@ use Rattle.acc_base.specs.declared.machines.Call.{Call}
 use Rattle.acc_base.specs.Plays.{Play, Told, played}
 use Rattle.acc_base.specs.Lines.{line, play_text}
 use Rattle.acc_parse.specs.Texts.{IsDesignText}
+use Rattle.acc_form.specs.WellFormed.{IsWellFormed}
+use Rattle.acc_cli.specs.Refusals.{RefusesDesign}
 use Rattle.acc_script.specs.CallLines.{IsScript}
 use Rattle.acc_script.specs.OrderLines.{IsOrder}
-use Rattle.acc_cli.specs.declared.status.Ending.TheVariants.{Done, Refused, Script}
+use Rattle.acc_cli.specs.declared.status.Ending.TheVariants.{Done, Script}
 use Rattle.acc_cli.specs.Text.{Said, Says}
 
 -- what is said of the play of these calls in this order: its lines, and the history whose lines they are
@@ -47,15 +49,11 @@ pub record PlaysScript (d : Design) (script order : List ℕ) (said : Said) : Ty
 abbrev pub SaysOfScript : Design → List ℕ → List ℕ → Said → Type 0
 SaysOfScript d script order said = RefusesScript d script said ⊎ PlaysScript d script order said
 
--- the design is refused
-pub record RefusesDesign (design : List ℕ) (said : Said) : Type 0 where
-  pub none : (d : Design) → ¬ IsDesignText design d
-  pub says : Says Refused (line (codes "refused design")) said
-
--- the text is that of this design, and then the script decides
+-- the text is that of this design, which is well-formed, and then the script decides
 pub record PlaysDesign (design script order : List ℕ) (said : Said) : Type 0 where
   pub d : Design
   pub is_text : IsDesignText design d
+  pub formed : IsWellFormed d
   pub says : SaysOfScript d script order said
 
 -- the order of the refusals: the design, the script, the order

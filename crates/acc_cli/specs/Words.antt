@@ -9,15 +9,17 @@ abbrev pub is_form : List ℕ → ℕ → List (List ℕ) → Bool
 is_form verb count [] = false
 is_form verb count (first ∷ rest) = bytes_eq first verb && (length rest == count)
 
--- the command that the words ask for: `play DESIGN SCRIPT ORDER`
+-- the command that the words ask for: `play DESIGN SCRIPT ORDER`, `print DESIGN`
 unfoldable pub command_of : List (List ℕ) → Option Command
 command_of words =
     if is_form (codes "play") 3 words then Some command.Play else
-    None
+    (if is_form (codes "print") 1 words then Some command.Print else
+    None)
 
 -- how many files a command reads: the first words behind the verb name them
 unfoldable pub file_count : Command → ℕ
 file_count command.Play = 3
+file_count command.Print = 1
 
 abbrev pub files_of : Command → List (List ℕ) → List (List ℕ)
 files_of c words = take (file_count c) (drop 1 words)

@@ -8,14 +8,17 @@ ghost use Rattle.acc_cli.specs.Text.{Says};
 ghost use Rattle.acc_cli.specs.Outcome.{said_of};
 ghost use Rattle.acc_cli.specs.Stages.{AllFit};
 ghost use Rattle.acc_cli.specs.PlayFiles.{PlaysFiles, SaysOfScript, SaysOfOrder};
+ghost use Rattle.acc_cli.specs.PrintFiles.{PrintsFile};
 
+use crate::designs::{ReadDesign, read_design};
 use crate::plays::play;
 use crate::status::Ending;
 use crate::words::Command;
 use acc_base::designs::Design;
 use acc_base::machines::{Call, Event};
 use acc_base::sequences::Seq;
-use acc_parse::{ParseError, parse};
+use acc_print::PrintError;
+use acc_readback::print;
 use acc_script::{ScriptError, calls, order};
 use std::alloc::{AllocError, Global};
 
@@ -28,7 +31,7 @@ pub struct Outcome {
 }
 
 /// An answer of one line.
-fn one_line(alloc: Global, ending: Ending, text: &str) -> Result<Outcome, AllocError>
+pub fn one_line(alloc: Global, ending: Ending, text: &str) -> Result<Outcome, AllocError>
     ensures { IfOk result (λ a. Says ending (line text.now) (said_of a)) }
 {
     let text = format!(in alloc; "{text}\n")?.into_bytes();
@@ -73,11 +76,26 @@ fn play_files(
 ) -> Result<Outcome, AllocError>
     ensures { IfOk result (λ a. PlaysFiles design.now script.now file.now (said_of a)) }
 {
-    match parse(alloc, design) {
-        Ok(d) => play_script(alloc, &d, script, file),
-        Err(ParseError::Syntax(_)) => one_line(alloc, Ending::Refused, "refused design"),
-        Err(ParseError::Refused) => one_line(alloc, Ending::Refused, "refused design"),
-        Err(ParseError::Memory) => Err(AllocError),
+    match read_design(alloc, design)? {
+        ReadDesign::Read(d) => play_script(alloc, &d, script, file),
+        ReadDesign::Refused(outcome) => Ok(outcome),
+    }
+}
+
+/// Prints a design in its one spelling.
+fn print_file(alloc: Global, design: &[u8]) -> Result<Outcome, AllocError>
+    ensures { IfOk result (λ a. PrintsFile design.now (said_of a)) }
+{
+    match read_design(alloc, design)? {
+        ReadDesign::Read(d) => match print(alloc, &d) {
+            Ok(text) => Ok(Outcome {
+                ending: Ending::Done,
+                text,
+                history: Seq::new(alloc),
+            }),
+            Err(PrintError::Memory) => Err(AllocError),
+        },
+        ReadDesign::Refused(outcome) => Ok(outcome),
     }
 }
 
@@ -89,6 +107,7 @@ pub fn run(alloc: Global, command: Command, files: &[Vec<u8>]) -> Result<Outcome
 {
     match (command, files) {
         (Command::Play, [design, script, order]) => play_files(alloc, design, script, order),
+        (Command::Print, [design]) => print_file(alloc, design),
         _ => unreachable!(),
     }
 }

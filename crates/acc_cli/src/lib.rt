@@ -2,6 +2,7 @@
 #![tactic(auto)]
 
 mod commands;
+mod designs;
 mod files;
 mod plays;
 mod status;

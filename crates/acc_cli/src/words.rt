@@ -7,6 +7,8 @@ ghost use Rattle.acc_cli.specs.Words.{is_form, command_of, file_count};
 pub enum Command {
     /// `play DESIGN SCRIPT ORDER`
     Play,
+    /// `print DESIGN`
+    Print,
 }
 
 /// Whether the words are this verb and so many words behind it.
@@ -28,6 +30,8 @@ pub fn command_of(words: &[String]) -> Option<Command>
 {
     if is_form(words, "play", 3) {
         Some(Command::Play)
+    } else if is_form(words, "print", 1) {
+        Some(Command::Print)
     } else {
         None
     }
@@ -40,5 +44,6 @@ pub fn file_count(command: Command) -> usize
 {
     match command {
         Command::Play => 3,
+        Command::Print => 1,
     }
 }

@@ -16,7 +16,10 @@ use Rattle.acc_limits.specs.declared.limits.Limit.TheVariants as limit
 use Rattle.acc_limits.specs.Marks.{Mark, Past, End, ending, past, counted_from, counted}
 use Rattle.acc_limits.specs.Words.{name_marks, number_marks, clause_marks, point_name_marks, pairs_marks}
 use Rattle.acc_limits.specs.Statements.{table_marks, clause_statement_marks, target_marks, path_marks, step_marks, point_marks, head_marks, returns_marks, locals_marks, type_marks, entry_marks, hint_marks, design_marks}
-use Rattle.acc_limits.specs.Faults.{placed, endings, limit_faults, statements_of}
+use Rattle.acc_statements.specs.Counts.{statements_of}
+use Rattle.acc_limits.specs.Faults.{placed, limit_faults}
+use Rattle.acc_limits.proofs.WordEndings.{endings, endings-append}
+use Rattle.acc_limits.proofs.Endings.{design_endings}
 
 -- ---- marks whose faults all stand at statements that end
 
@@ -26,33 +29,28 @@ placed-append n (Past l ∷ xs) ys = ap (λ (fs : List (ℕ × Limit)). (n, l) �
 placed-append n (End ∷ xs) ys =
     placed-append (n + 1) xs ys ∙ ap (λ (k : ℕ). placed (n + 1) xs ++ placed k ys) (omega arith)
 
-endings-append : (xs ys : List Mark) → endings (xs ++ ys) ≡ endings xs + endings ys
-endings-append [] ys = omega arith
-endings-append (Past l ∷ xs) ys = endings-append xs ys
-endings-append (End ∷ xs) ys = omega (arith, endings-append xs ys)
-
 -- a fault before a statement
-abbrev IsUnder : ℕ → (ℕ × Limit) → Type 0
+abbrev pub IsUnder : ℕ → (ℕ × Limit) → Type 0
 IsUnder k f = f.0 < k
 
-under_more : (k m : ℕ) (fs : List (ℕ × Limit)) → k ≤ m → All (IsUnder k) fs → All (IsUnder m) fs
+pub under_more : (k m : ℕ) (fs : List (ℕ × Limit)) → k ≤ m → All (IsUnder k) fs → All (IsUnder m) fs
 under_more k m fs le h = All-weaker (IsUnder k) (IsUnder m) (λ f l. omega arith) fs h
 
 -- the statements of all faults end
-record AreEnded (ms : List Mark) : Type 0 where
-  under : (n : ℕ) → All (IsUnder (n + endings ms)) (placed n ms)
+pub record AreEnded (ms : List Mark) : Type 0 where
+  pub under : (n : ℕ) → All (IsUnder (n + endings ms)) (placed n ms)
 
 -- the last mark is a statement's end
-record EndsLast (ms : List Mark) : Type 0 where
-  front : List Mark
-  same : ms ≡ front ++ ending
+pub record EndsLast (ms : List Mark) : Type 0 where
+  pub front : List Mark
+  pub same : ms ≡ front ++ ending
 
 under_next : (n : ℕ) (ms : List Mark) → All (IsUnder (n + endings ms + 1)) (placed n ms)
 under_next n [] = All-nil (IsUnder (n + 0 + 1))
 under_next n (Past l ∷ ms) = All-cons (IsUnder (n + endings ms + 1)) (n, l) (placed n ms) (omega arith) (under_next n ms)
 under_next n (End ∷ ms) = under_more _ _ (placed (n + 1) ms) (omega arith) (under_next (n + 1) ms)
 
-ended_last : (ms : List Mark) → EndsLast ms → AreEnded ms
+pub ended_last : (ms : List Mark) → EndsLast ms → AreEnded ms
 ended_last ms h = subst AreEnded (sym h.same) (record {
   under = λ n.
       let faults : placed n (h.front ++ ending) ≡ placed n h.front ++ [] = placed-append n h.front ending in
@@ -62,10 +60,10 @@ ended_last ms h = subst AreEnded (sym h.same) (record {
       (subst (All (IsUnder k)) (sym faults) (All-append (IsUnder k) (placed n h.front) [] (under_next n h.front) (All-nil (IsUnder k))));
 })
 
-ended_nil : AreEnded []
+pub ended_nil : AreEnded []
 ended_nil = record { under = λ n. All-nil (IsUnder (n + 0)) }
 
-ended_append : (xs ys : List Mark) → AreEnded xs → AreEnded ys → AreEnded (xs ++ ys)
+pub ended_append : (xs ys : List Mark) → AreEnded xs → AreEnded ys → AreEnded (xs ++ ys)
 ended_append xs ys h g = record {
   under = λ n.
       let k = n + endings (xs ++ ys) in
@@ -77,13 +75,13 @@ ended_append xs ys h g = record {
 
 -- ---- marks that end with a statement
 
-last_end : EndsLast ending
+pub last_end : EndsLast ending
 last_end = record { front = []; same = refl }
 
-last_behind : (xs ys : List Mark) → EndsLast ys → EndsLast (xs ++ ys)
+pub last_behind : (xs ys : List Mark) → EndsLast ys → EndsLast (xs ++ ys)
 last_behind xs ys h = record { front = xs ++ h.front; same = ap (λ (zs : List Mark). xs ++ zs) h.same ∙ sym (append_assoc xs h.front ending) }
 
-last_counted : {T : Type 0} (i : ℕ) (limit : Limit) (most : ℕ) (marks : T → List Mark) (ys : List Mark) (xs : List T) →
+pub last_counted : {T : Type 0} (i : ℕ) (limit : Limit) (most : ℕ) (marks : T → List Mark) (ys : List Mark) (xs : List T) →
     ((x : T) → EndsLast (marks x)) → EndsLast ys → EndsLast (ys ++ counted_from i limit most marks xs)
 last_counted i limit most marks ys [] f h = subst EndsLast (sym (append-nil ys)) h
 last_counted i limit most marks ys (x ∷ xs) f h =
@@ -92,7 +90,7 @@ last_counted i limit most marks ys (x ∷ xs) f h =
     let same : ((ys ++ passed) ++ marks x) ++ rest ≡ ys ++ (passed ++ (marks x ++ rest)) = append_assoc (ys ++ passed) (marks x) rest ∙ append_assoc ys passed (marks x ++ rest) in
     subst EndsLast same (last_counted (i + 1) limit most marks ((ys ++ passed) ++ marks x) xs f (last_behind (ys ++ passed) (marks x) (f x)))
 
-ended_counted : {T : Type 0} (i : ℕ) (limit : Limit) (most : ℕ) (marks : T → List Mark) (xs : List T) →
+pub ended_counted : {T : Type 0} (i : ℕ) (limit : Limit) (most : ℕ) (marks : T → List Mark) (xs : List T) →
     ((x : T) → EndsLast (marks x)) → AreEnded (counted_from i limit most marks xs)
 ended_counted i limit most marks [] f = ended_nil
 ended_counted i limit most marks (x ∷ xs) f =
@@ -151,5 +149,5 @@ design_ended d =
 
 -- each fault stands at one of the statements
 pub faults_within : (d : DesignTree) → All (λ f. f.0 < statements_of d) (limit_faults d)
-unfolding limit_faults statements_of
-faults_within d = under_more (0 + endings (design_marks d)) (endings (design_marks d)) (placed 0 (design_marks d)) (omega arith) ((design_ended d).under 0)
+unfolding limit_faults
+faults_within d = under_more (0 + endings (design_marks d)) (statements_of d) (placed 0 (design_marks d)) (omega (arith, design_endings d)) ((design_ended d).under 0)

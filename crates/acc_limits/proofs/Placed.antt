@@ -2,12 +2,15 @@
 use Rattle.std.proofs.Common.{◌≡◌, ℕ, ◌+◌, ◌-◌, ◌^◌, ◌<◌, Bool, true, false, ◌&&◌, List, [], ◌∷◌, Option, None, if◌then◌else◌, cond, nat_lt, nat_le, fold, map, refl, ap, arith, ◌∙◌}
 use Rattle.std.proofs.lemmas.Bool.Decides.{nat_tests}
 use Rattle.acc_syntax.specs.declared.trees.DesignTree.{DesignTree}
+use Rattle.acc_statements.specs.Counts.{statements_of}
 use Rattle.acc_limits.specs.declared.limits.Limit.{Limit}
 use Rattle.acc_limits.specs.declared.walks.Walk.{Walk}
 use Rattle.acc_limits.specs.Numbers.{is_lower, is_before}
 use Rattle.acc_limits.specs.Marks.{Mark, Past, End}
 use Rattle.acc_limits.specs.Statements.{design_marks}
-use Rattle.acc_limits.specs.Faults.{placed, endings, limits_on, limit_faults, statements_of}
+use Rattle.acc_limits.specs.Faults.{placed, limits_on, limit_faults}
+use Rattle.acc_limits.proofs.WordEndings.{endings}
+use Rattle.acc_limits.proofs.Endings.{design_endings}
 use Rattle.acc_limits.specs.Walks.{better, noted, after}
 
 -- a statement's end counts where there is a number behind the statement's
@@ -48,13 +51,13 @@ start from to = record { statement = 0; first = None; from = from; to = to; lowe
 -- the first fault of a design
 pub first_of_design : (from to : ℕ) (d : DesignTree) (w v : Walk) → statements_of d < 2 ^ 64 → w ≡ start from to → v ≡ after w (design_marks d) →
     v.first ≡ fold (better is_before) None (limit_faults d)
-unfolding statements_of limit_faults
+unfolding limit_faults
 first_of_design from to d w v few begun ended =
-    ap (λ (u : Walk). u.first) (ended ∙ ap (λ (u : Walk). after u (design_marks d)) begun) ∙ first_after (start from to) (design_marks d) (omega arith)
+    ap (λ (u : Walk). u.first) (ended ∙ ap (λ (u : Walk). after u (design_marks d)) begun) ∙ first_after (start from to) (design_marks d) (omega (arith, design_endings d))
 
 -- the lowest limit on some statements of a design
 pub lowest_of_design : (from to : ℕ) (d : DesignTree) (w v : Walk) → statements_of d < 2 ^ 64 → w ≡ start from to → v ≡ after w (design_marks d) →
     v.lowest ≡ fold (better is_lower) None (limits_on from to (limit_faults d))
-unfolding statements_of limit_faults
+unfolding limit_faults
 lowest_of_design from to d w v few begun ended =
-    ap (λ (u : Walk). u.lowest) (ended ∙ ap (λ (u : Walk). after u (design_marks d)) begun) ∙ lowest_after (start from to) (design_marks d) (omega arith)
+    ap (λ (u : Walk). u.lowest) (ended ∙ ap (λ (u : Walk). after u (design_marks d)) begun) ∙ lowest_after (start from to) (design_marks d) (omega (arith, design_endings d))

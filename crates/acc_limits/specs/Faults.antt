@@ -11,19 +11,9 @@ placed n [] = []
 placed n (Past limit ∷ ms) = (n, limit) ∷ placed n ms
 placed n (End ∷ ms) = placed (n + 1) ms
 
--- how many statements end
-abbrev pub endings : List Mark → ℕ
-endings [] = 0
-endings (Past limit ∷ ms) = endings ms
-endings (End ∷ ms) = endings ms + 1
-
 -- the faults of a design, in the order of the text: statements, by their numbers from 0, and limits that they pass
 unfoldable pub limit_faults : DesignTree → List (ℕ × Limit)
 limit_faults d = placed 0 (design_marks d)
-
--- how many statements a design has
-unfoldable pub statements_of : DesignTree → ℕ
-statements_of d = endings (design_marks d)
 
 -- the limits that are passed by the statements from one number up to before another
 abbrev pub limits_on : ℕ → ℕ → List (ℕ × Limit) → List Limit

@@ -1,9 +1,10 @@
 //! The statements of a whole design: its first fault, and the lowest limit on some of its statements.
 ghost use Rattle.std.specs.Prelude.{◌≡◌, ◌^◌, ◌<◌, [], IfSome, IfNone};
+ghost use Rattle.acc_statements.specs.Counts.{statements_of};
 ghost use Rattle.acc_limits.specs.Numbers.{is_lower, is_before};
 ghost use Rattle.acc_limits.specs.Marks.{counted};
 ghost use Rattle.acc_limits.specs.Statements.{table_marks, clause_statement_marks, type_marks, entry_marks, hint_marks, design_marks};
-ghost use Rattle.acc_limits.specs.Faults.{limit_faults, statements_of, limits_on, IsLeast};
+ghost use Rattle.acc_limits.specs.Faults.{limit_faults, limits_on, IsLeast};
 ghost use Rattle.acc_limits.specs.Walks.{after};
 
 use crate::limits::Limit;

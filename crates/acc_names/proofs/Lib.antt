@@ -3,3 +3,4 @@ pub mod Turns
 pub mod Found
 pub mod TypeParts
 pub mod Firsts
+pub mod Lengths

@@ -1,6 +1,6 @@
 -- The places of names, after a name is put at the end.
-use Rattle.std.proofs.Common.{◌≡◌, ℕ, suc, Bool, true, false, cond, List, [], ◌∷◌, ◌++◌, length, Option, Some, None, refl, sym, ap, ◌∙◌, inl, inr}
-use Rattle.std.specs.Prelude.{option_map, is_some, ◌||◌}
+use Rattle.std.proofs.Common.{◌≡◌, ℕ, suc, ◌<◌, Bool, true, false, cond, List, [], ◌∷◌, ◌++◌, length, Option, Some, None, refl, sym, ap, ◌∙◌, inl, inr, arith}
+use Rattle.std.specs.Prelude.{option_map, is_some, IfSome, ◌||◌}
 use Rattle.std.specs.Str.{bytes_eq}
 use Rattle.std.proofs.lemmas.Bool.{cases_Bool}
 use Rattle.std.proofs.lemmas.Slice.Eq.{bytes_eq-Decides}
@@ -21,6 +21,16 @@ some_tail false (Some n) = refl
 pub placed_stands : (x : List ℕ) (names : List (List ℕ)) → is_some (place_of x names) ≡ stands_in x names
 placed_stands x [] = refl
 placed_stands x (y ∷ ys) = some_tail (bytes_eq x y) (place_of x ys) ∙ ap (λ b. bytes_eq x y || b) (placed_stands x ys)
+
+next_within : (n : ℕ) (b : Bool) (o : Option ℕ) → IfSome o (λ p. p < n) → IfSome (cond b (Some 0) (option_map suc o)) (λ p. p < suc n)
+next_within n true o h = omega arith
+next_within n false None h = tt
+next_within n false (Some p) h = omega (arith, h)
+
+-- a name's place is one of theirs
+pub placed_within : (x : List ℕ) (names : List (List ℕ)) → IfSome (place_of x names) (λ p. p < length names)
+placed_within x [] = tt
+placed_within x (y ∷ ys) = next_within (length ys) (bytes_eq x y) (place_of x ys) (placed_within x ys)
 
 -- the first of two
 abbrev first_of : Option ℕ → Option ℕ → Option ℕ

@@ -1,5 +1,5 @@
 -- Faults of names, statement by statement: whether a statement defines a name a second time, or uses one that isn't defined.
-use Rattle.std.specs.Prelude.{ℕ, Bool, true, false, not, ◌||◌, List, [], ◌∷◌, ◌++◌, length, map, flat_map, Option, Some, None, position, is_none}
+use Rattle.std.specs.Prelude.{ℕ, Bool, true, false, not, ◌||◌, List, [], ◌∷◌, ◌++◌, map, flat_map, Option, Some, None, position, is_none}
 use Rattle.std.specs.List.{list_any}
 use Rattle.acc_syntax.specs.declared.trees.Variable.{Variable}
 use Rattle.acc_syntax.specs.declared.trees.Variable.TheVariants.{Named, Oneself}
@@ -243,10 +243,6 @@ outside tables = record { tables = tables; variables = [] }
 abbrev pub statement_faults : DesignTree → List Bool
 statement_faults d =
     tables_faults [] d.tables ++ (map (clause_fault (outside d.tables)) d.always ++ (types_faults d.tables [] d.types ++ (map (entry_fault d.types) d.entries ++ map (hint_fault d.types) d.hints)))
-
--- the number of a design's statements
-abbrev pub statements_of : DesignTree → ℕ
-statements_of d = length (statement_faults d)
 
 -- the numbers of the statements with a fault of names, from 0
 abbrev pub name_faults : DesignTree → List ℕ

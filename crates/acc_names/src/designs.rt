@@ -1,10 +1,12 @@
 //! The first statement of a design with a fault of names.
 ghost use Rattle.std.specs.Prelude.{◌≡◌, ◌<◌, ◌++◌, [], map, length, position, IfOk, IfSome, OnOk};
+ghost use Rattle.acc_statements.specs.Counts.{statements_of};
 ghost use Rattle.acc_names.specs.Least.{IsLeastOf};
-ghost use Rattle.acc_names.specs.Faults.{clause_fault, outside, statement_faults, statements_of, name_faults, first_fault_of};
+ghost use Rattle.acc_names.specs.Faults.{clause_fault, outside, statement_faults, name_faults, first_fault_of};
 
 use crate::clauses::clauses_faults;
 use crate::entries::{entries_faults, hints_faults};
+use crate::members::Types;
 use crate::names::NameIndex;
 use crate::scopes::{Definitions, Variables};
 use crate::tables::Tables;
@@ -34,17 +36,32 @@ fn always_faults<'a>(
     clauses_faults(alloc, &definitions, clauses, faults)
 }
 
-/// For each statement, whether it has a fault of names.
-fn statement_faults(alloc: Global, tree: &DesignTree) -> Result<Vec<bool>, AllocError>
-    ensures { IfOk result (λ faults. faults.items ≡ statement_faults tree.now) }
+/// What the names of a design's tables and types are, and the first statement with a fault of names.
+#[derive(Drop)]
+pub struct DesignNames<'a> {
+    pub tables: Tables<'a>,
+    pub types: Types<'a>,
+    /// The number of the first statement that defines a name a second time, or uses one that isn't defined, if there is one. Statements
+    /// are counted from 0, in the order of the text.
+    pub first_fault: Option<u64>,
+}
+
+/// The tables and types of a design by name; behind `faults`, for each statement, whether it has a fault of names.
+fn statement_faults<'a>(
+    alloc: Global,
+    tree: &'a DesignTree,
+    faults: &mut Vec<bool>,
+) -> Result<(Tables<'a>, Types<'a>), AllocError>
+    ensures tables { IfOk result (λ n. n.0.trees.now ≡ tree.now.tables) }
+    ensures types { IfOk result (λ n. n.1.trees.now ≡ tree.now.types) }
+    ensures faults { OnOk result (faults.new.items ≡ faults.old.items ++ statement_faults tree.now) }
 {
-    let mut faults = Vec::new(alloc);
-    let tables = Tables::new(alloc, tree.tables.as_slice(), &mut faults)?;
-    always_faults(alloc, &tables, tree.always.as_slice(), &mut faults)?;
-    let types = types_faults(alloc, &tables, tree.types.as_slice(), &mut faults)?;
-    entries_faults(alloc, &types, tree.entries.as_slice(), &mut faults)?;
-    hints_faults(alloc, &types, tree.hints.as_slice(), &mut faults)?;
-    Ok(faults)
+    let tables = Tables::new(alloc, tree.tables.as_slice(), faults)?;
+    always_faults(alloc, &tables, tree.always.as_slice(), faults)?;
+    let types = types_faults(alloc, &tables, tree.types.as_slice(), faults)?;
+    entries_faults(alloc, &types, tree.entries.as_slice(), faults)?;
+    hints_faults(alloc, &types, tree.hints.as_slice(), faults)?;
+    Ok((tables, types))
 }
 
 fn first_true(faults: &[bool]) -> Option<usize>
@@ -54,13 +71,19 @@ fn first_true(faults: &[bool]) -> Option<usize>
     faults.iter().position(|fault| *fault)
 }
 
-/// The number of the first statement that defines a name a second time, or uses one that isn't defined. Statements are
-/// counted from 0, in the order of the text.
-pub fn first_fault(alloc: Global, tree: &DesignTree) -> Result<Option<u64>, AllocError>
-    ensures first { IfOk result (λ fault. fault ≡ first_fault_of tree.now) }
-    ensures least { IfOk result (λ fault. IsLeastOf fault (name_faults tree.now)) }
-    ensures within { IfOk result (λ fault. IfSome fault (λ n. n < statements_of tree.now)) }
+/// The tables and types of a design by name, and the first statement with a fault of names.
+pub fn names_of<'a>(alloc: Global, tree: &'a DesignTree) -> Result<DesignNames<'a>, AllocError>
+    ensures tables { IfOk result (λ n. n.tables.trees.now ≡ tree.now.tables) }
+    ensures types { IfOk result (λ n. n.types.trees.now ≡ tree.now.types) }
+    ensures first { IfOk result (λ n. n.first_fault ≡ first_fault_of tree.now) }
+    ensures least { IfOk result (λ n. IsLeastOf n.first_fault (name_faults tree.now)) }
+    ensures within { IfOk result (λ n. IfSome n.first_fault (λ k. k < statements_of tree.now)) }
 {
-    let faults = statement_faults(alloc, tree)?;
-    Ok(first_true(&faults).map(|place| place as u64))
+    let mut faults = Vec::new(alloc);
+    let (tables, types) = statement_faults(alloc, tree, &mut faults)?;
+    Ok(DesignNames {
+        tables,
+        types,
+        first_fault: first_true(&faults).map(|place| place as u64),
+    })
 }

@@ -5,7 +5,7 @@ mod clauses;
 mod designs;
 mod entries;
 mod members;
-mod names;
+pub mod names;
 mod rows;
 mod scopes;
 mod steps;
@@ -15,4 +15,7 @@ mod tests;
 mod types;
 mod values;
 
-pub use designs::first_fault;
+pub use designs::{DesignNames, names_of};
+pub use members::{Members, Types};
+pub use names::NameIndex;
+pub use tables::Tables;

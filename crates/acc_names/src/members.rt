@@ -1,5 +1,6 @@
 //! The types of a design, by their names.
 ghost use Rattle.std.specs.Prelude.{◌≡◌, map, option_copied, option_map};
+ghost use Rattle.acc_names.specs.Places.{place_of};
 ghost use Rattle.acc_names.specs.Scopes.{type_named};
 ghost use Rattle.acc_names.specs.Members.{members_of};
 
@@ -25,10 +26,17 @@ pub struct Types<'a> {
 }
 
 impl<'a> Types<'a> {
+    /// The place of the first type of a name, from 0.
+    pub fn place_of(&self, name: &'a Text) -> Option<u32>
+        ensures { result ≡ place_of name.now (map (λ t. t.name) self.now.trees.now) }
+    {
+        self.names.find(name)
+    }
+
     /// The locals and points of the first type of a name.
     pub fn members_of(&self, name: &'a Text) -> Option<&Members<'a>>
         ensures { option_copied result ≡ option_map members_of (type_named self.now.trees.now name.now) }
     {
-        self.members.get(self.names.find(name)?)
+        self.members.get(self.names.find(name)? as usize)
     }
 }

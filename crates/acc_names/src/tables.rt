@@ -1,5 +1,6 @@
 //! The tables of a design, by their names.
 ghost use Rattle.std.specs.Prelude.{◌≡◌, [], ◌++◌, map, option_copied, IfOk, OnOk};
+ghost use Rattle.acc_names.specs.Places.{place_of};
 ghost use Rattle.acc_names.specs.Scopes.{columns_of};
 ghost use Rattle.acc_names.specs.Faults.{tables_faults};
 
@@ -19,11 +20,18 @@ pub struct Tables<'a> {
 }
 
 impl<'a> Tables<'a> {
+    /// The place of the first table of a name, from 0.
+    pub fn place_of(&self, name: &'a Text) -> Option<u32>
+        ensures { result ≡ place_of name.now (map (λ t. t.name) self.now.trees.now) }
+    {
+        self.names.find(name)
+    }
+
     /// The columns of the first table of a name.
     pub fn columns_of(&self, name: &'a Text) -> Option<&NameIndex<'a>>
         ensures { option_copied result ≡ columns_of self.now.trees.now name.now }
     {
-        self.columns.get(self.names.find(name)?)
+        self.columns.get(self.names.find(name)? as usize)
     }
 
     /// The tables; behind `faults`, whether each one's statement has a fault.

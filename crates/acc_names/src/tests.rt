@@ -1,6 +1,6 @@
 //! A design with one piece exchanged, and the first statement that has a fault then, counted by hand: each line of the
 //! design is a statement, the first has the number 0.
-use crate::first_fault;
+use crate::names_of;
 use acc_lex::texts::words;
 use acc_syntax::designs::syntax;
 use std::alloc::Global;
@@ -160,7 +160,7 @@ fn fault_with(alloc: Global, old: &str, new: &str) -> Result<Option<u64>, Fail> 
     let text = format!(in alloc; "{before}{new}{after}")?;
     let words = words(alloc, text.as_bytes()).map_err(|_| "no words")?;
     let tree = syntax(alloc, words.as_slice()).map_err(|_| "no tree")?;
-    Ok(first_fault(alloc, &tree)?)
+    Ok(names_of(alloc, &tree)?.first_fault)
 }
 
 #[test]

@@ -15,7 +15,8 @@ use Rattle.acc_syntax.specs.declared.trees.DesignTree.{DesignTree}
 use Rattle.acc_syntax.specs.Texts.{IsSpelling, Begins as Opens, StopsAt}
 use Rattle.acc_syntax.proofs.SpelledStatements.{spelled_in}
 use Rattle.acc_parse.specs.declared.errors.ParseError.{ParseError}
-use Rattle.acc_parse.specs.Syntax.{IsGrammatical, Begins}
+use Rattle.acc_parse.specs.Texts.{IsGrammatical}
+use Rattle.acc_parse.specs.Syntax.{Begins}
 use Rattle.acc_parse.specs.GoodWords.{AreGood, GoesOn}
 
 -- ---- whole lines, and their words

@@ -1,12 +1,5 @@
-pub mod EachOf
-pub mod Exits
-pub mod Totals
-pub mod Placed
-pub mod Filtered
-pub mod Typed
-pub mod LastPath
-pub mod Short
-pub mod Playable
-pub mod FirstLines
 pub mod Continued
 pub mod WrongLines
+pub mod Limited
+pub mod Statements
+pub mod Designs

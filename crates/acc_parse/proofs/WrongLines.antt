@@ -5,9 +5,12 @@ use Rattle.acc_lex.specs.declared.words.Word.{Word}
 use Rattle.acc_lex.specs.Texts.{IsLexed, IsBadAt, Begins as Lexes}
 use Rattle.acc_lex.proofs.LineFronts.{IsFed, nothing_lexed, fed_line, with_feed, without_feed, fed_both, fed_parted}
 use Rattle.acc_lex.proofs.WholeTexts.{one_reading}
-use Rattle.acc_parse.specs.Syntax.{IsGrammatical, Begins, feeds, first_lines, IsWrongAt}
+use Rattle.acc_statements.specs.Lines.{feeds, first_lines}
+use Rattle.acc_statements.proofs.FirstLines.{feeds_taken, behind_lines, later_lines, lines_fed, lines_within, lines_past}
+use Rattle.acc_statements.proofs.Fronts.{Comes, longer, longer_whole, longer_feeds, first_are, feeds_front}
+use Rattle.acc_parse.specs.Texts.{IsGrammatical}
+use Rattle.acc_parse.specs.Syntax.{Begins, IsWrongAt}
 use Rattle.acc_parse.specs.GoodWords.{AreGood, GoesOn, Judges}
-use Rattle.acc_parse.proofs.FirstLines.{feeds_both, feeds_taken, behind_lines, later_lines, lines_of, lines_fed, lines_within, lines_past}
 use Rattle.acc_parse.proofs.Continued.{can_go_on, goes_on, has_words, begins_less, part_goes}
 
 -- ---- one line at most is wrong
@@ -75,21 +78,6 @@ pub record IsAt (text rest : List ℕ) (line left good : ℕ) : Type 0 where
 pub at_start : (text : List ℕ) (good : ℕ) → IsAt text text 1 good good
 at_start text good = record { front = []; fed = tt; whole = refl; words = []; lexed = nothing_lexed; counted = omega arith; number = refl }
 
--- a line stands at the front of what is left
-abbrev pub Comes : List ℕ → List ℕ → List ℕ → Type 0
-Comes rest l behind = (rest ≡ l ++ (10 ∷ behind)) × (feeds l ≡ 0)
-
--- the lines so far, and one more
-abbrev longer : List ℕ → List ℕ → List ℕ
-longer f l = f ++ (l ++ (10 ∷ []))
-
-longer_whole : (text f rest l behind : List ℕ) → text ≡ f ++ rest → rest ≡ l ++ (10 ∷ behind) → text ≡ longer f l ++ behind
-longer_whole text f rest l behind e s =
-    e ∙ ap (λ (z : List ℕ). f ++ z) (s ∙ sym (append_assoc l (10 ∷ []) behind)) ∙ sym (append_assoc f (l ++ (10 ∷ [])) behind)
-
-longer_feeds : (f l : List ℕ) → feeds l ≡ 0 → feeds (longer f l) ≡ feeds f + 1
-longer_feeds f l e = let whole = feeds_both f (l ++ (10 ∷ [])) in let one = feeds_both l (10 ∷ []) in omega (arith, whole, one, e)
-
 -- a line that is words, and of which all are good
 pub at_next : (text rest l behind : List ℕ) (w : List Word) (line left good : ℕ) → IsAt text rest line left good → Comes rest l behind → IsLexed l w → length w ≤ left → IsAt text behind (line + 1) (left - length w) good
 at_next text rest l behind w line left good a s k le = record {
@@ -101,13 +89,6 @@ at_next text rest l behind w line left good a s k le = record {
   counted = omega (arith, length-append a.words w, a.counted, le);
   number = omega (arith, longer_feeds a.front l s.1, a.number);
 }
-
--- the lines so far are the first of the text
-first_are : (text f rest : List ℕ) → IsFed f → text ≡ f ++ rest → first_lines (feeds f) text ≡ f
-first_are text f rest h e = ap (first_lines (feeds f)) e ∙ lines_of (feeds f) f rest h refl
-
-feeds_front : (text f rest : List ℕ) → text ≡ f ++ rest → feeds text ≡ feeds f + feeds rest
-feeds_front text f rest e = ap feeds e ∙ feeds_both f rest
 
 -- words of the lines so far are judged by their number
 judged_words : (text f rest : List ℕ) (good : ℕ) (v : List Word) → Judges text good → IsFed f → text ≡ f ++ rest → IsLexed f v → GoesOn good v

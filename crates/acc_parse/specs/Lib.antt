@@ -1,11 +1,4 @@
-pub mod Scopes
-pub mod Sums
-pub mod Additions
-pub mod Meanings
-pub mod Limits
-pub mod FormRules
-pub mod Played
 pub mod Texts
-pub mod Surroundings
 pub mod Syntax
+pub mod Faults
 pub mod GoodWords

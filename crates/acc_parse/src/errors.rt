@@ -1,18 +1,20 @@
-//! Why a text, or the tree that it spells, is no design.
+//! Why a text is no design.
 ghost use Rattle.std.specs.Prelude.{◌≡◌};
-ghost use Rattle.acc_parse.specs.declared.errors.DesignError.TheVariants as design_error;
 ghost use Rattle.acc_parse.specs.declared.errors.ParseError.TheVariants as parse_error;
 
-use std::alloc::{AllocError, AllocFailed};
+use std::alloc::AllocError;
 
-/// Why a text is no design.
+/// Why a text is no design. Lines are counted from 1.
 #[derive(Clone, Copy, Debug, PartialEq, Eq)]
 pub enum ParseError {
-    /// The text isn't of the grammar: the line up to which no design's text goes on, counted from 1, or
-    /// one more than the number of its line feeds where it only ends too early.
+    /// The text isn't of the grammar: the line up to which no design's text goes on, or one more than the number of its line
+    /// feeds where it only ends too early.
     Syntax(u64),
-    /// The text is of the grammar, and breaks a rule on names, a limit or a form rule.
-    Refused,
+    /// The text is of the grammar: the first line with a name that is defined a second time, or used and not defined.
+    Name(u64),
+    /// The text is of the grammar and its names are right: the first line that passes a limit, and the lowest number, 1 to 16, of
+    /// a limit that is passed there.
+    Limit(u64, u32),
     /// Want of memory.
     Memory,
 }
@@ -22,30 +24,5 @@ impl From<AllocError> for ParseError {
 
     fn from(_failed: AllocError) -> Self {
         ParseError::Memory
-    }
-}
-
-/// Why a tree stands for no design.
-#[derive(Clone, Copy, Debug, PartialEq, Eq)]
-pub enum DesignError {
-    /// The tree breaks a rule on names, a limit or a form rule.
-    Refused,
-    /// Want of memory.
-    Memory,
-}
-
-impl From<AllocError> for DesignError {
-    ghost from_gives = { λ _ e. e ≡ design_error.Memory };
-
-    fn from(_failed: AllocError) -> Self {
-        DesignError::Memory
-    }
-}
-
-impl<T: Drop> From<AllocFailed<T>> for DesignError {
-    ghost from_gives = { λ _ e. e ≡ design_error.Memory };
-
-    fn from(_failed: AllocFailed<T>) -> Self {
-        DesignError::Memory
     }
 }

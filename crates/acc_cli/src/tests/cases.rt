@@ -104,13 +104,27 @@ pub const PLAYED: [Play; 31] = [
         0,
         "2 turned refused 1\n1 unbegun\n2 unfinished\n3 unbegun\nevents 2\n",
     ),
-    ("no_design", "tabel A 1", "x", "0", 2, "refused design\n"),
-    ("assertions", WITH_ASSERTIONS, "", "", 2, "refused design\n"),
-    ("undefined", UNDEFINED, "", "", 2, "refused design\n"),
-    ("no_bracket", NO_BRACKET, "", "", 2, "refused design\n"),
-    ("too_large", TOO_LARGE, "", "", 2, "refused design\n"),
-    ("no_last_path", NO_LAST_PATH, "", "", 2, "refused design\n"),
-    ("no_text", "\u{7f}ELF", "", "", 2, "refused design\n"),
+    ("no_design", "tabel A 1", "x", "0", 2, "refused syntax 1\n"),
+    (
+        "assertions",
+        WITH_ASSERTIONS,
+        "make 1\nbump 1\nbump 1",
+        "1 2 3 2 3",
+        0,
+        "1 ended\n2 stepped bump.mid\n3 stepped bump.mid\n2 ended\n3 ended\n1 committed\n2 committed 0\n3 committed 0\nevents 8\n",
+    ),
+    ("undefined", UNDEFINED, "", "", 2, "refused name 3\n"),
+    ("no_bracket", NO_BRACKET, "", "", 2, "refused syntax 3\n"),
+    ("too_large", TOO_LARGE, "", "", 2, "refused limit 3 16\n"),
+    (
+        "no_last_path",
+        NO_LAST_PATH,
+        "",
+        "",
+        2,
+        "refused form 7 6\n",
+    ),
+    ("no_text", "\u{7f}ELF", "", "", 2, "refused syntax 1\n"),
     (
         "no_type",
         KEEP,
@@ -175,7 +189,37 @@ pub type Outside = (
 
 pub const PLAY: &[&str] = &["play", "design", "script", "order"];
 
-pub const OUTSIDE: [Outside; 24] = [
+pub const OUTSIDE: [Outside; 27] = [
+    (
+        "printed",
+        &["print", "design"],
+        "",
+        &[],
+        &[],
+        &[],
+        0,
+        "table A 1 x\ntype keep a v\nlimit 1\npoint start\nnext\npath\nput A[a] v\ncommit\nundo\npath\nundone\n",
+    ),
+    (
+        "print_of_no_design",
+        &["print", "order"],
+        "",
+        &[],
+        &[],
+        &[],
+        2,
+        "refused syntax 1\n",
+    ),
+    (
+        "print_with_a_script",
+        &["print", "design", "script"],
+        "",
+        &[],
+        &[],
+        &[],
+        1,
+        "usage\n",
+    ),
     ("no_words", &[], "", &[], &[], &[], 1, "usage\n"),
     (
         "a_word_too_few",

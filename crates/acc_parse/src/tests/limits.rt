@@ -1,164 +1,209 @@
-//! Limits: met exactly a text is accepted, and one past them it is refused.
-use super::{EACH, is_refused, replaced};
+//! Each limit on both sides of its bound, with the line and the number of the limit that one more passes.
+use super::{REST, refusal, replaced};
+use crate::errors::ParseError;
 use std::alloc::{AllocError, Global};
 use std::test::Fail;
 
-/// What stands behind a type's name and parameters.
-const ONE_POINT: &str = "; limit 1; point s; next; path; commit; undo; path; undone\n";
+/// A piece of a design; what stands in its place, with `@` where other pieces go; such a piece, with `#` for its number;
+/// the most of them that pass no limit; the line that one more passes a limit on; and the limit's number.
+type Count = (&'static str, &'static str, &'static str, u32, u64, u32);
 
-/// So many times the same text.
-fn times(alloc: Global, n: u32, text: &str) -> Result<String, AllocError> {
-    let mut out = String::new(alloc);
-    for _i in 0..n {
-        out.push_str(text)?;
-    }
-    Ok(out)
-}
+const ABOVE_THE_POINTS: [Count; 11] = [
+    ("always forall", "@always forall", "table N# 1\n", 62, 65, 1),
+    ("private D 1 z", "private D 1 z@", " c#", 11, 2, 3),
+    (
+        "entry keep.end",
+        "@entry keep.end",
+        "type t#; limit 1; point s; next; path; commit; undo; path; undone\n",
+        62,
+        119,
+        4,
+    ),
+    // with its two parameters and with its two other locals
+    ("local p q", "local p q@", " l#", 44, 8, 6),
+    ("type keep a v", "type keep a v@", " l#", 44, 8, 6),
+    ("type other b", "type other b@", " l#", 47, 41, 6),
+    ("repairs p", "@repairs p", "ensures # = 1\n", 63, 73, 7),
+    ("point start", "@point start", "repairs # = 1\n", 63, 74, 7),
+    ("forall k", "forall k@", " v#", 7, 3, 8),
+    ("forall h i", "forall h i@", " v#", 6, 9, 8),
+    ("type keep", "@type keep", "always # = 1\n", 126, 131, 9),
+];
 
-/// So many texts, with a number of its own in the middle of each.
-fn numbered(alloc: Global, n: u32, before: &str, after: &str) -> Result<String, AllocError> {
+const FROM_THE_POINTS_ON: [Count; 10] = [
+    (
+        "entry keep.end",
+        "@entry keep.end",
+        "point p#; next; path; commit; undo; path; undone\n",
+        30,
+        87,
+        5,
+    ),
+    ("next\nget q", "@next\nget q", "holds # = 1\n", 62, 77, 7),
+    // the paths stand before the last one, which is the one too many
+    (
+        "path p = v",
+        "@path p = v",
+        "path p = #; commit\n",
+        14,
+        43,
+        10,
+    ),
+    (
+        "undo\npath\nundone\npoint end",
+        "undo\n@path\nundone\npoint end",
+        "path p = #; undone\n",
+        15,
+        47,
+        10,
+    ),
+    ("path p = v", "path @p = v", "p = #, ", 14, 25, 11),
+    ("has D[h] = 0", "@has D[h] = 0", "h = #, ", 14, 9, 11),
+    ("goto end", "@goto end", "del A[#]\n", 15, 42, 12),
+    ("path p = v", "@path p = v", "let p = #\n", 23, 48, 13),
+    (
+        "hint keep",
+        "@hint keep",
+        "entry keep.end by other.stop undo\n",
+        1022,
+        1081,
+        14,
+    ),
+    (
+        "hint keep",
+        "@hint keep",
+        "hint keep.end next #\n",
+        1023,
+        1083,
+        14,
+    ),
+];
+
+/// So many pieces, with a number of its own in each that has a place for it.
+fn pieces(alloc: Global, piece: &str, n: u64) -> Result<String, AllocError> {
+    let (before, after, numbered) = match piece.split_once("#") {
+        Some((before, after)) => (before, after, true),
+        None => (piece, "", false),
+    };
     let mut out = String::new(alloc);
     for i in 0..n {
-        out.push_str(format!(in alloc; "{before}{i}{after}")?.as_str())?;
+        out.push_str(before)?;
+        if numbered {
+            out.push_str(format!(in alloc; "{i}")?.as_str())?;
+        }
+        out.push_str(after)?;
     }
     Ok(out)
 }
 
-#[test]
-fn tables_and_types(rt: HostRuntime) -> Result<(), Fail> {
-    let alloc = rt.alloc();
-    for (n, refused) in [(64, false), (65, true)] {
-        let tables = numbered(alloc, n, "table T", " 1\n")?;
-        assert_eq!(rt; is_refused(alloc, tables.as_str())?, refused);
-        let types = numbered(alloc, n, "type t", ONE_POINT)?;
-        assert_eq!(rt; is_refused(alloc, types.as_str())?, refused);
-    }
-    Ok(())
+/// How the design is refused with so many pieces more.
+fn refusal_with(alloc: Global, count: &Count, n: u64) -> Result<Option<ParseError>, Fail> {
+    let (old, new, piece, _, _, _) = count;
+    let pieces = pieces(alloc, piece, n)?;
+    let new = replaced(alloc, new, "@", pieces.as_str())?;
+    let text = replaced(alloc, REST, old, new.as_str())?;
+    refusal(alloc, text.as_str())
 }
 
-#[test]
-fn locals_and_points(rt: HostRuntime) -> Result<(), Fail> {
-    let alloc = rt.alloc();
-    for (n, refused) in [(46, false), (47, true)] {
-        let names = numbered(alloc, n, " x", "")?;
-        let locals = format!(in alloc; "; limit 1; local{names}; point s")?;
-        let others = replaced(alloc, ONE_POINT, "; limit 1; point s", locals.as_str())?;
-        let text = format!(in alloc; "type t a b{others}")?;
-        assert_eq!(rt; is_refused(alloc, text.as_str())?, refused);
-        let others = replaced(alloc, ONE_POINT, "limit 1;", "limit 1; local a b;")?;
-        let text = format!(in alloc; "type t{names}{others}")?;
-        assert_eq!(rt; is_refused(alloc, text.as_str())?, refused);
-    }
-    for (n, refused) in [(32, false), (33, true)] {
-        let points = numbered(
-            alloc,
-            n,
-            "point p",
-            "; next; path; commit; undo; path; undone\n",
-        )?;
-        let text = format!(in alloc; "type t; limit 1\n{points}")?;
-        assert_eq!(rt; is_refused(alloc, text.as_str())?, refused);
-    }
-    Ok(())
-}
-
-/// A text with these reads, with these paths before another one, and with this guard and these
-/// actions in that.
-fn step_text(
-    alloc: Global,
-    reads: &str,
-    paths: &str,
-    guard: &str,
-    actions: &str,
-) -> Result<String, AllocError> {
-    let step = format!(in alloc; "{reads} {paths} path {guard}; {actions} commit; path; refuse 1")?;
-    format!(in alloc;
-        "table A 1\ntype t a; limit 1; local l; point s; next; {step}; undo; path; undone"
-    )
-}
-
-#[test]
-fn steps(rt: HostRuntime) -> Result<(), Fail> {
-    let alloc = rt.alloc();
-    for (more, refused) in [(0, false), (1, true)] {
-        let reads = times(alloc, 32 + more, "let l = 1;")?;
-        let text = step_text(alloc, reads.as_str(), "", "a = 1", "")?;
-        assert_eq!(rt; is_refused(alloc, text.as_str())?, refused);
-        let paths = times(alloc, 14 + more, "path a = 1; commit;")?;
-        let text = step_text(alloc, "", paths.as_str(), "a = 1", "")?;
-        assert_eq!(rt; is_refused(alloc, text.as_str())?, refused);
-        let rels = times(alloc, 15 + more, "a = 1, ")?;
-        let text = step_text(
-            alloc,
-            "",
-            "",
-            format!(in alloc; "{rels} a = 1")?.as_str(),
-            "",
-        )?;
-        assert_eq!(rt; is_refused(alloc, text.as_str())?, refused);
-        let actions = times(alloc, 16 + more, "del A[1];")?;
-        let text = step_text(alloc, "", "", "a = 1", actions.as_str())?;
-        assert_eq!(rt; is_refused(alloc, text.as_str())?, refused);
-    }
-    Ok(())
-}
-
-#[test]
-fn lengths_of_names(rt: HostRuntime) -> Result<(), Fail> {
-    let alloc = rt.alloc();
-    let cases = [
-        ("table B 2", "table B 2\ntable NAME 1"),
-        ("private D 1 z", "private D 1 NAME"),
-        ("type other", "type NAME"),
-        ("keep a v", "keep a v NAME"),
-        ("local p q", "local p q NAME"),
-        ("point start", "point NAME"),
-    ];
-    for (old, new) in cases {
-        let text = replaced(alloc, EACH, old, new)?;
-        for (length, refused) in [(32, false), (33, true)] {
-            let name = times(alloc, length, "n")?;
-            let named = replaced(alloc, text.as_str(), "NAME", name.as_str())?;
-            assert_eq!(rt; is_refused(alloc, named.as_str())?, refused, "{new}");
+/// The first piece of which another number than the most passes the limit.
+fn first_other(alloc: Global, counts: &[Count]) -> Result<Option<&'static str>, Fail> {
+    for count in counts {
+        let (_, _, piece, most, line, which) = count;
+        let passed = Some(ParseError::Limit(*line, *which));
+        let most = u64::from(*most);
+        if refusal_with(alloc, count, most)?.is_some()
+            || refusal_with(alloc, count, most + 1)? != passed
+        {
+            return Ok(Some(*piece));
         }
     }
+    Ok(None)
+}
+
+#[test]
+fn counts_above_the_points(rt: HostRuntime) -> Result<(), Fail> {
+    assert_eq!(rt; first_other(rt.alloc(), &ABOVE_THE_POINTS)?, None);
     Ok(())
 }
 
 #[test]
-fn single_numbers(rt: HostRuntime) -> Result<(), Fail> {
-    let cases = [
-        (
-            "table B 2",
-            "table B 2\ntable E 6 a b c d e f g h i j k l",
-            false,
-        ),
-        ("table B 2", "table B 2\ntable E 0", true),
-        ("table B 2", "table B 2\ntable E 7", true),
-        ("table B 2", "table B 2\ntable E 4294967297", true),
-        (
-            "table B 2",
-            "table B 2\ntable E 1 a b c d e f g h i j k l m",
-            true,
-        ),
-        ("limit 2", "limit 65536", false),
-        ("limit 2", "limit 65537", true),
-        ("limit 2", "limit 0", true),
-        ("limit 2", "limit 4294967297", true),
-        ("refuse 1", "refuse 255", false),
-        ("refuse 1", "refuse 256", true),
-        ("refuse 1", "refuse 0", true),
-        ("refuse 1", "refuse 4294967297", true),
-        ("v + 1", "v + 35184372088832", false),
-        ("v + 1", "v + 35184372088833", true),
-        ("2 * a", "35184372088833 * a", true),
-        ("p = 1", "p = 35184372088833", true),
-        ("A[a].x", "A[35184372088833].x", true),
-        ("v, 0", "v, 35184372088833", true),
-    ];
-    for (old, new, refused) in cases {
-        let text = replaced(rt.alloc(), EACH, old, new)?;
-        assert_eq!(rt; is_refused(rt.alloc(), text.as_str())?, refused, "{new}");
+fn counts_from_the_points_on(rt: HostRuntime) -> Result<(), Fail> {
+    assert_eq!(rt; first_other(rt.alloc(), &FROM_THE_POINTS_ON)?, None);
+    Ok(())
+}
+
+/// A piece of the design, what stands in its place with `@` for a name, and the line of the name's first use.
+const LENGTHS: [(&str, &str, u64); 10] = [
+    ("private D 1 z", "private D 1 z; table @ 1", 2),
+    ("private D 1 z", "private D 1 z @", 2),
+    ("forall k", "forall k @", 3),
+    ("type keep a v", "type keep a v @", 5),
+    ("local p q", "local p q @", 8),
+    ("forall h i", "forall h i @", 9),
+    // used on line 7, defined on line 8
+    ("returns v p\nlocal p q", "returns @\nlocal p q @", 7),
+    // used on line 27, defined on line 57
+    (
+        "goto end\npath\nrefuse 1\nundo\npath\nundone\npoint end",
+        "goto @\npath\nrefuse 1\nundo\npath\nundone\npoint end; next; path; commit; undo; path; undone\npoint @",
+        27,
+    ),
+    (
+        "type other b",
+        "type @; limit 1; point s; next; path; commit; undo; path; undone\ntype other b",
+        41,
+    ),
+    (
+        "point stop",
+        "point @; next; path; commit; undo; path; undone\npoint stop",
+        50,
+    ),
+];
+
+/// A name of 32 bytes passes no limit, one of 33 does.
+#[test]
+fn lengths_of_names(rt: HostRuntime) -> Result<(), Fail> {
+    assert_eq!(rt; first_other_length(rt.alloc())?, None);
+    Ok(())
+}
+
+/// How the design is refused with a name of so many bytes.
+fn refusal_of_name(
+    alloc: Global,
+    old: &str,
+    new: &str,
+    n: u64,
+) -> Result<Option<ParseError>, Fail> {
+    let name = pieces(alloc, "n", n)?;
+    let new = new.replace(alloc, "@", name.as_str())?;
+    let text = replaced(alloc, REST, old, new.as_str())?;
+    refusal(alloc, text.as_str())
+}
+
+/// The first case in which a name of 32 bytes is refused, or one of 33 isn't on its line.
+fn first_other_length(alloc: Global) -> Result<Option<&'static str>, Fail> {
+    for (old, new, line) in LENGTHS {
+        let passed = Some(ParseError::Limit(line, 15));
+        if refusal_of_name(alloc, old, new, 32)?.is_some()
+            || refusal_of_name(alloc, old, new, 33)? != passed
+        {
+            return Ok(Some(new));
+        }
+    }
+    Ok(None)
+}
+
+/// A key has 1 to 6 parts.
+#[test]
+fn key_widths(rt: HostRuntime) -> Result<(), Fail> {
+    for width in [1, 6] {
+        let text = format!(in rt.alloc(); "table A 1\ntable B {width}")?;
+        assert_eq!(rt; refusal(rt.alloc(), text.as_str())?, None);
+    }
+    for width in [0u64, 7, 4294967297, 35184372088833] {
+        let text = format!(in rt.alloc(); "table A 1\ntable B {width}")?;
+        let passed = Some(ParseError::Limit(2, 2));
+        assert_eq!(rt; refusal(rt.alloc(), text.as_str())?, passed, "{width}");
     }
     Ok(())
 }

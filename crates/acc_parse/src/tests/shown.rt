@@ -1,33 +1,24 @@
 //! A design, printed line by line.
-use acc_base::designs::{Design, Point, TxType};
-use acc_base::forms::{Lin, LinRel};
-use acc_base::sequences::{Seq, Text};
+use super::shown_forms::{clause_text, lin_rel_text, lin_text, lins_text, name_text, names_text};
+use crate::parsers::parse;
+use acc_base::designs::{At, Design, Entry, Hint, Point, TxType};
+use acc_base::forms::{Clause, Lin};
+use acc_base::sequences::Seq;
 use acc_base::steps::{Action, Path, Read, Step};
 use acc_base::tables::Table;
 use std::alloc::{AllocError, Global};
+use std::test::Fail;
 
-pub fn lin_text(alloc: Global, lin: &Lin) -> Result<String, AllocError> {
-    let mut out = String::new(alloc);
-    for (x, c) in lin.coeffs.as_slice() {
-        out.push_str(format!(in alloc; "{c}*{x} ")?.as_str())?;
-    }
-    out.push_str(format!(in alloc; "{}", lin.constant)?.as_str())?;
-    Ok(out)
-}
-
-fn lins_text(alloc: Global, lins: &Seq<Lin>) -> Result<String, AllocError> {
-    let mut out = String::new(alloc);
-    for lin in lins.as_slice() {
-        let text = lin_text(alloc, lin)?;
-        out.push_str(format!(in alloc; "[{text}]")?.as_str())?;
-    }
-    Ok(out)
-}
-
-pub fn rel_text(alloc: Global, rel: &LinRel) -> Result<String, AllocError> {
-    let lin = lin_text(alloc, &rel.lin)?;
-    let sign = if rel.equal { "=" } else { "<=" };
-    format!(in alloc; "{lin} {sign} 0")
+/// The local that is assigned, what does so, and the row or rows that it looks at.
+fn row_read(
+    alloc: Global,
+    word: &str,
+    local: u32,
+    table: u32,
+    key: &Seq<Lin>,
+) -> Result<String, AllocError> {
+    let key = lins_text(alloc, key)?;
+    format!(in alloc; "{word} {local} {table}{key}")
 }
 
 fn read_text(alloc: Global, read: &Read) -> Result<String, AllocError> {
@@ -37,14 +28,20 @@ fn read_text(alloc: Global, read: &Read) -> Result<String, AllocError> {
             format!(in alloc; "let {x} {lin}")
         }
         Read::Col(x, table, key, column) => {
-            let key = lins_text(alloc, key)?;
-            format!(in alloc; "get {x} {table}{key}.{column}")
+            let row = row_read(alloc, "get", *x, *table, key)?;
+            format!(in alloc; "{row}.{column}")
         }
-        Read::Has(x, table, key) => {
-            let key = lins_text(alloc, key)?;
-            format!(in alloc; "has {x} {table}{key}")
+        Read::Sum(x, table, key, column) => {
+            let row = row_read(alloc, "sum", *x, *table, key)?;
+            format!(in alloc; "{row}.{column}")
         }
-        _ => format!(in alloc; "other"),
+        Read::Has(x, table, key) => row_read(alloc, "has", *x, *table, key),
+        Read::Count(x, table, key) => row_read(alloc, "count", *x, *table, key),
+        Read::Least(x, table, key) => row_read(alloc, "least", *x, *table, key),
+        Read::Greatest(x, table, key) => row_read(alloc, "greatest", *x, *table, key),
+        Read::Take(x) => format!(in alloc; "take {x}"),
+        Read::Mul(x, a, b) => format!(in alloc; "mul {x} {a} {b}"),
+        Read::Div(x, a, n) => format!(in alloc; "div {x} {a} {n}"),
     }
 }
 
@@ -79,7 +76,7 @@ fn add_line(alloc: Global, out: &mut String, line: &str) -> Result<(), AllocErro
 fn add_path(alloc: Global, out: &mut String, path: &Path) -> Result<(), AllocError> {
     let mut guard = String::new(alloc);
     for rel in path.guard.as_slice() {
-        let rel = rel_text(alloc, rel)?;
+        let rel = lin_rel_text(alloc, rel)?;
         guard.push_str(format!(in alloc; " {rel},")?.as_str())?;
     }
     add_line(alloc, out, format!(in alloc; "path{guard}")?.as_str())?;
@@ -99,28 +96,28 @@ fn add_step(alloc: Global, out: &mut String, step: &Step) -> Result<(), AllocErr
     Ok(())
 }
 
-fn name_text(alloc: Global, name: &Text) -> Result<String, AllocError> {
-    String::from_utf8_lossy(alloc, name.as_slice())
-}
-
-fn names_text(alloc: Global, names: &Seq<Text>) -> Result<String, AllocError> {
-    let mut out = String::new(alloc);
-    for name in names.as_slice() {
-        let name = name_text(alloc, name)?;
-        out.push_str(format!(in alloc; " {name}")?.as_str())?;
+fn add_clauses(
+    alloc: Global,
+    out: &mut String,
+    word: &str,
+    clauses: &Seq<Clause>,
+) -> Result<(), AllocError> {
+    for clause in clauses.as_slice() {
+        let clause = clause_text(alloc, clause)?;
+        add_line(alloc, out, format!(in alloc; "{word}{clause}")?.as_str())?;
     }
-    Ok(out)
+    Ok(())
 }
 
 fn add_point(alloc: Global, out: &mut String, point: &Point) -> Result<(), AllocError> {
     let name = name_text(alloc, &point.name)?;
     let variant = lin_text(alloc, &point.variant)?;
-    let clauses = point.clauses.len();
     add_line(
         alloc,
         out,
-        format!(in alloc; "point {name} {variant} {clauses}")?.as_str(),
+        format!(in alloc; "point {name} {variant}")?.as_str(),
     )?;
+    add_clauses(alloc, out, "holds", &point.clauses)?;
     add_line(alloc, out, "next")?;
     add_step(alloc, out, &point.next)?;
     add_line(alloc, out, "undo")?;
@@ -137,6 +134,16 @@ fn type_line(alloc: Global, x: &TxType) -> Result<String, AllocError> {
     )
 }
 
+fn add_type(alloc: Global, out: &mut String, x: &TxType) -> Result<(), AllocError> {
+    add_line(alloc, out, type_line(alloc, x)?.as_str())?;
+    add_clauses(alloc, out, "ensures", &x.posts)?;
+    add_clauses(alloc, out, "repairs", &x.repairs)?;
+    for point in x.points.as_slice() {
+        add_point(alloc, out, point)?;
+    }
+    Ok(())
+}
+
 fn table_line(alloc: Global, table: &Table) -> Result<String, AllocError> {
     let name = name_text(alloc, &table.name)?;
     let columns = names_text(alloc, &table.cols)?;
@@ -144,17 +151,47 @@ fn table_line(alloc: Global, table: &Table) -> Result<String, AllocError> {
     format!(in alloc; "{word} {name} {}{columns}", table.width)
 }
 
+fn at_text(alloc: Global, at: &At) -> Result<String, AllocError> {
+    format!(in alloc; "{}.{}", at.ty, at.point)
+}
+
+fn entry_line(alloc: Global, entry: &Entry) -> Result<String, AllocError> {
+    let held = at_text(alloc, &entry.held)?;
+    let step = at_text(alloc, &entry.step)?;
+    let mut out = format!(in alloc; "entry {held} by {step} {:?}", entry.side)?;
+    for (x, y) in entry.pairs.as_slice() {
+        out.push_str(format!(in alloc; " {x}={y}")?.as_str())?;
+    }
+    Ok(out)
+}
+
+fn hint_line(alloc: Global, hint: &Hint) -> Result<String, AllocError> {
+    let at = at_text(alloc, &hint.at)?;
+    let lin = lin_text(alloc, &hint.lin)?;
+    format!(in alloc; "hint {at} {:?} {lin}", hint.side)
+}
+
 /// The whole design: for each name that is used, the number of what it names.
-pub fn design_text(alloc: Global, design: &Design) -> Result<String, AllocError> {
+fn design_text(alloc: Global, design: &Design) -> Result<String, AllocError> {
     let mut out = String::new(alloc);
     for table in design.tables.as_slice() {
         add_line(alloc, &mut out, table_line(alloc, table)?.as_str())?;
     }
+    add_clauses(alloc, &mut out, "always", &design.always)?;
     for x in design.types.as_slice() {
-        add_line(alloc, &mut out, type_line(alloc, x)?.as_str())?;
-        for point in x.points.as_slice() {
-            add_point(alloc, &mut out, point)?;
-        }
+        add_type(alloc, &mut out, x)?;
+    }
+    for entry in design.entries.as_slice() {
+        add_line(alloc, &mut out, entry_line(alloc, entry)?.as_str())?;
+    }
+    for hint in design.hints.as_slice() {
+        add_line(alloc, &mut out, hint_line(alloc, hint)?.as_str())?;
     }
     Ok(out)
+}
+
+/// The design of a text, printed.
+pub fn shown(alloc: Global, text: &str) -> Result<String, Fail> {
+    let design = parse(alloc, text.as_bytes())?;
+    Ok(design_text(alloc, &design)?)
 }

@@ -4,4 +4,4 @@ use Rattle.acc_names.proofs.Placed.{placed_stands}
 use Rattle.acc_names.proofs.names.NameIndex.has.Goals as goal
 
 pub returns : goal.returns
-returns c = c.is_some.ensures ∙ ap is_some c.find.ensures ∙ placed_stands c.args.name.now c.args.self.now
+returns c = c.is_some.ensures ∙ ap is_some c.find.ensures.place ∙ placed_stands c.args.name.now c.args.self.now

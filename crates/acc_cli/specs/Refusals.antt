@@ -1,0 +1,41 @@
+-- A design that is refused: by its text, or by the form rules.
+use Rattle.std.specs.Prelude.{◌⊎◌, ℕ, List, ◌++◌, codes}
+use Rattle.std.specs.Fmt.{decimal}
+use Rattle.acc_base.specs.declared.designs.Design.{Design}
+use Rattle.acc_base.specs.Lines.{line}
+use Rattle.acc_parse.specs.declared.errors.ParseError.{ParseError}
+use Rattle.acc_parse.specs.declared.errors.ParseError.TheVariants as errors
+use Rattle.acc_parse.specs.Texts.{IsDesignText}
+use Rattle.acc_parse.specs.Faults.{Refuses}
+use Rattle.acc_form.specs.Faults.{form_faults, is_before, IsLeast}
+use Rattle.acc_cli.specs.declared.status.Ending.TheVariants.{Refused}
+use Rattle.acc_cli.specs.Text.{Said, Says}
+
+-- what is said of a text that is no design's
+abbrev pub SaysError : ParseError → Said → Type 0
+SaysError (errors.Syntax at) said = Says Refused (line (codes "refused syntax " ++ decimal at)) said
+SaysError (errors.Name at) said = Says Refused (line (codes "refused name " ++ decimal at)) said
+SaysError (errors.Limit at which) said = Says Refused (line (codes "refused limit " ++ (decimal at ++ (codes " " ++ decimal which)))) said
+SaysError errors.Memory said = ⊥
+
+-- the text isn't of the grammar, or has a fault of names, or passes a limit
+pub record RefusesText (design : List ℕ) (said : Said) : Type 0 where
+  pub error : ParseError
+  pub refused : Refuses design error
+  pub says : SaysError error said
+
+-- what is said of a rule and the line that breaks it
+abbrev pub SaysRule : ℕ → ℕ → Said → Type 0
+SaysRule rule at said = Says Refused (line (codes "refused form " ++ (decimal rule ++ (codes " " ++ decimal at)))) said
+
+-- the text is that of this design, which breaks form rules: the lowest one, and the first line of its print that breaks it
+pub record RefusesForm (design : List ℕ) (said : Said) : Type 0 where
+  pub d : Design
+  pub is_text : IsDesignText design d
+  pub rule : ℕ
+  pub at : ℕ
+  pub first : IsLeast is_before (form_faults d) (rule, at)
+  pub says : SaysRule rule at said
+
+abbrev pub RefusesDesign : List ℕ → Said → Type 0
+RefusesDesign design said = RefusesText design said ⊎ RefusesForm design said

@@ -1,0 +1,4 @@
+pub mod Walked
+pub mod Endings
+pub mod Ended
+pub mod LoneLimit

@@ -1,0 +1,9 @@
+pub mod Rests
+pub mod Tokens
+pub mod SumParts
+pub mod ValueParts
+pub mod ClauseParts
+pub mod Lines
+pub mod StatementParts
+pub mod TypeParts
+pub mod DesignParts

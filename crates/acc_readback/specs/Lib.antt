@@ -1,0 +1,4 @@
+pub mod Trees
+pub mod TypeTrees
+pub mod Printable
+pub mod PrintableTypes

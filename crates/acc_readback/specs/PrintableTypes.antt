@@ -1,0 +1,126 @@
+-- Designs whose print can be read: steps, types and the whole.
+use Rattle.std.specs.Prelude.{◌≡◌, ◌≤◌, ◌^◌, ℕ, false, List, [], ◌∷◌, map, take, drop, slice_get}
+use Rattle.acc_grammar.specs.Readers.{AllIn}
+use Rattle.acc_base.specs.Numbers.{IsSmall}
+use Rattle.acc_base.specs.Lines.{type_name, point_name}
+use Rattle.acc_base.specs.Effects.{point_of}
+use Rattle.acc_base.specs.declared.tables.Table.{Table}
+use Rattle.acc_base.specs.declared.steps.Read.{Read}
+use Rattle.acc_base.specs.declared.steps.Read.TheVariants as read
+use Rattle.acc_base.specs.declared.steps.Action.{Action}
+use Rattle.acc_base.specs.declared.steps.Action.TheVariants as action
+use Rattle.acc_base.specs.declared.steps.Target.{Target}
+use Rattle.acc_base.specs.declared.steps.Target.TheVariants as target
+use Rattle.acc_base.specs.declared.steps.Path.{Path}
+use Rattle.acc_base.specs.declared.steps.Step.{Step}
+use Rattle.acc_base.specs.declared.designs.Point.{Point}
+use Rattle.acc_base.specs.declared.designs.TxType.{TxType}
+use Rattle.acc_base.specs.declared.designs.At.{At}
+use Rattle.acc_base.specs.declared.designs.Entry.{Entry}
+use Rattle.acc_base.specs.declared.designs.Hint.{Hint}
+use Rattle.acc_base.specs.declared.designs.Design.{Design}
+use Rattle.acc_print.specs.Sums.{is_negative}
+use Rattle.acc_print.specs.Names.{Scope, name_at, outside, within}
+use Rattle.acc_print.specs.Designs.{scope_at}
+use Rattle.acc_readback.specs.Printable.{IsName, IsVariable, IsLinSaid, IsRowSaid, IsCellSaid, IsLinRelSaid, IsClauseSaid}
+
+-- a number without sign
+abbrev pub IsCount : ℕ → Type 0
+IsCount n = n ≤ 2 ^ 45
+
+-- ---- steps
+
+-- what a read assigns, and what it reads
+abbrev pub IsReadSaid : Scope → Read → Type 0
+IsReadSaid s (read.Let x v) = IsVariable (name_at s.names x) × IsLinSaid s.names v
+IsReadSaid s (read.Col x table key column) = IsVariable (name_at s.names x) × IsCellSaid s table key column
+IsReadSaid s (read.Has x table key) = IsVariable (name_at s.names x) × IsRowSaid s table key
+IsReadSaid s (read.Count x table key) = IsVariable (name_at s.names x) × IsRowSaid s table key
+IsReadSaid s (read.Sum x table key column) = IsVariable (name_at s.names x) × IsCellSaid s table key column
+IsReadSaid s (read.Least x table key) = IsVariable (name_at s.names x) × IsRowSaid s table key
+IsReadSaid s (read.Greatest x table key) = IsVariable (name_at s.names x) × IsRowSaid s table key
+IsReadSaid s (read.Take x) = IsVariable (name_at s.names x)
+IsReadSaid s (read.Mul x a b) = IsVariable (name_at s.names x) × IsVariable (name_at s.names a) × IsVariable (name_at s.names b)
+IsReadSaid s (read.Div x a n) = IsVariable (name_at s.names x) × IsVariable (name_at s.names a) × (is_negative n ≡ false) × IsSmall n
+
+abbrev pub IsActionSaid : Scope → Action → Type 0
+IsActionSaid s (action.Put table key values) = IsRowSaid s table key × AllIn (IsLinSaid s.names) values
+IsActionSaid s (action.Del table key) = IsRowSaid s table key
+IsActionSaid s (action.Set table key column v) = IsCellSaid s table key column × IsLinSaid s.names v
+IsActionSaid s (action.Add table key column v) = IsCellSaid s table key column × IsLinSaid s.names v
+
+abbrev pub IsTargetSaid : List Point → Target → Type 0
+IsTargetSaid points (target.Point n) = IsName (point_name (slice_get points n))
+IsTargetSaid points target.Commit = Unit {0}
+IsTargetSaid points target.Undone = Unit {0}
+IsTargetSaid points (target.Refuse n) = IsCount n
+
+pub record IsPathSaid (s : Scope) (points : List Point) (p : Path) : Type 0 where
+  pub guard : AllIn (IsLinRelSaid s.names) p.guard
+  pub actions : AllIn (IsActionSaid s) p.actions
+  pub target : IsTargetSaid points p.target
+
+-- a step has a path
+abbrev pub ArePathsSaid : Scope → List Point → List Path → Type 0
+ArePathsSaid s points [] = ⊥
+ArePathsSaid s points (p ∷ ps) = AllIn (IsPathSaid s points) (p ∷ ps)
+
+pub record IsStepSaid (s : Scope) (points : List Point) (st : Step) : Type 0 where
+  pub reads : AllIn (IsReadSaid s) st.reads
+  pub paths : ArePathsSaid s points st.paths
+
+-- ---- types
+
+pub record IsPointSaid (s : Scope) (points : List Point) (p : Point) : Type 0 where
+  pub name : IsName p.name
+  pub variant : IsLinSaid s.names p.variant
+  pub clauses : AllIn (IsClauseSaid s) p.clauses
+  pub next : IsStepSaid s points p.next
+  pub undo : IsStepSaid s points p.undo
+
+-- a type has a point
+abbrev pub ArePointsSaid : Scope → List Point → List Point → Type 0
+ArePointsSaid s points [] = ⊥
+ArePointsSaid s points (p ∷ ps) = AllIn (IsPointSaid s points) (p ∷ ps)
+
+pub record IsTypeSaid (tables : List Table) (t : TxType) : Type 0 where
+  pub name : IsName t.name
+  pub parameters : AllIn IsName (take t.params t.locals)
+  pub locals : AllIn IsName (drop t.params t.locals)
+  pub returns : AllIn IsName (map (name_at t.locals) t.returns)
+  pub limit : IsCount t.limit
+  pub posts : AllIn (IsClauseSaid (within tables t)) t.posts
+  pub repairs : AllIn (IsClauseSaid (within tables t)) t.repairs
+  pub points : ArePointsSaid (within tables t) t.points t.points
+
+-- ---- the whole
+
+pub record IsTableSaid (t : Table) : Type 0 where
+  pub name : IsName t.name
+  pub width : IsCount t.width
+  pub columns : AllIn IsName t.cols
+
+-- a point of a type
+pub record IsAtSaid (d : Design) (at : At) : Type 0 where
+  pub ty : IsName (type_name (slice_get d.types at.ty))
+  pub point : IsName (point_name (point_of d at.ty at.point))
+
+abbrev pub IsPairSaid : List (List ℕ) → List (List ℕ) → ℕ × ℕ → Type 0
+IsPairSaid held step p = IsVariable (name_at held p.0) × IsVariable (name_at step p.1)
+
+pub record IsEntrySaid (d : Design) (e : Entry) : Type 0 where
+  pub held : IsAtSaid d e.held
+  pub step : IsAtSaid d e.step
+  pub pairs : AllIn (IsPairSaid (scope_at d e.held).names (scope_at d e.step).names) e.pairs
+
+pub record IsHintSaid (d : Design) (h : Hint) : Type 0 where
+  pub at : IsAtSaid d h.at
+  pub value : IsLinSaid (scope_at d h.at).names h.lin
+
+-- each part of the design can be spelled
+pub record IsSaid (d : Design) : Type 0 where
+  pub tables : AllIn IsTableSaid d.tables
+  pub always : AllIn (IsClauseSaid (outside d.tables)) d.always
+  pub types : AllIn (IsTypeSaid d.tables) d.types
+  pub entries : AllIn (IsEntrySaid d) d.entries
+  pub hints : AllIn (IsHintSaid d) d.hints
