@@ -1,5 +1,5 @@
 -- The printed text of a design spells its tree.
-use Rattle.std.proofs.Common.{ℕ, ◌^◌, ◌<◌, Bool, true, false, List, [], ◌∷◌, ◌++◌, refl, sym, subst, arith}
+use Rattle.std.proofs.Common.{ℕ, ◌^◌, ◌<◌, ◌≤◌, inl, Bool, true, false, List, [], ◌∷◌, ◌++◌, refl, sym, subst, arith}
 use Rattle.std.specs.Prelude.{map, if◌then◌else◌, slice_get, codes}
 use Rattle.std.specs.List.{flat_map}
 use Rattle.std.specs.Fmt.{decimal}
@@ -27,7 +27,7 @@ use Rattle.acc_print.specs.Designs.{table_line, side_text, scope_at, pair_text, 
 use Rattle.acc_readback.specs.Trees.{variable_tree, lin_tree, clause_tree}
 use Rattle.acc_readback.specs.TypeTrees.{table_tree, point_name_tree, side_of_tree, pair_tree, pairs_tree, entry_tree, hint_tree, type_tree, tree_of}
 use Rattle.acc_readback.specs.Printable.{IsClauseSaid}
-use Rattle.acc_readback.specs.PrintableTypes.{IsCount, IsTableSaid, IsAtSaid, IsPairSaid, IsEntrySaid, IsHintSaid, IsTypeSaid, IsSaid}
+use Rattle.acc_readback.specs.PrintableTypes.{IsTableSaid, IsAtSaid, IsPairSaid, IsEntrySaid, IsHintSaid, IsTypeSaid, IsSaid}
 use Rattle.acc_readback.proofs.Rests.{IsApart, Part, parts, fronts, empty, spaced_part}
 use Rattle.acc_readback.proofs.Tokens.{keyword, named, numbered, dot, colon, between, equals_between}
 use Rattle.acc_readback.proofs.ValueParts.{variable_part, lin_part, joined_map, ArePart, first_listed}
@@ -38,8 +38,8 @@ use Rattle.acc_readback.proofs.Lines.{Lines, more_lines, one_line, lines_mapped,
 
 -- ---- tables
 
-count_is_written : (n : ℕ) → IsCount n → n < 2 ^ 64
-count_is_written n h = omega arith
+width_is_written : (n : ℕ) → n ≤ 6 → n < 2 ^ 64
+width_is_written n h = omega arith
 
 table_by : (b : Bool) (text : List ℕ) (ws : List Word) → Part text ws → Lines (line ((if b then codes "private " else codes "table ") ++ text)) ((if b then just sign.Private else just sign.Table) ++ (ws ++ just sign.End))
 unfolding keyword_of
@@ -50,7 +50,7 @@ pub table_lines_are : (t : Table) → IsTableSaid t → Lines (table_line t) (ta
 table_lines_are t h =
     table_by t.own (t.name ++ (spaced (decimal t.width) ++ flat_map spaced t.cols)) (name t.name ++ (number t.width ++ joined name t.cols))
     (parts t.name (spaced (decimal t.width) ++ flat_map spaced t.cols) (name t.name) (number t.width ++ joined name t.cols) (named t.name h.name.0 h.name.1) refl
-    (parts (32 ∷ decimal t.width) (flat_map spaced t.cols) (number t.width) (joined name t.cols) (spaced_part (decimal t.width) (number t.width) (numbered t.width (count_is_written t.width h.width))) (names_apart t.cols) (names_part t.cols h.columns)))
+    (parts (32 ∷ decimal t.width) (flat_map spaced t.cols) (number t.width) (joined name t.cols) (spaced_part (decimal t.width) (number t.width) (numbered t.width (width_is_written t.width h.width))) (names_apart t.cols) (names_part t.cols h.columns)))
 
 -- ---- entries and hints
 
@@ -71,8 +71,8 @@ side_apart side.Undo text = refl
 
 pair_part : (held step : List (List ℕ)) (p : ℕ × ℕ) → IsPairSaid held step p → Part (pair_text held step p) (pair (pair_tree held step p))
 pair_part held step p h =
-    parts (name_at held p.0) (codes " = " ++ name_at step p.1) (variable (variable_tree held p.0)) (just sign.Equal ++ variable (variable_tree step p.1)) (variable_part (name_at held p.0) h.0) refl
-    (fronts (codes " = ") (name_at step p.1) (just sign.Equal) (variable (variable_tree step p.1)) equals_between (variable_part (name_at step p.1) h.1))
+    parts (name_at held p.0) (codes " = " ++ name_at step p.1) (variable (variable_tree held p.0)) (just sign.Equal ++ variable (variable_tree step p.1)) (variable_part (name_at held p.0) (inl h.0)) refl
+    (fronts (codes " = ") (name_at step p.1) (just sign.Equal) (variable (variable_tree step p.1)) equals_between (variable_part (name_at step p.1) (inl h.1)))
 
 pairs_are : (held step : List (List ℕ)) (ps : List (ℕ × ℕ)) → AllIn (IsPairSaid held step) ps → ArePart (pair_text held step) (λ p. pair (pair_tree held step p)) ps
 pairs_are held step [] h = tt

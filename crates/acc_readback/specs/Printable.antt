@@ -1,5 +1,6 @@
--- Designs whose print can be read: what is named can be spelled, numbers are small, and no part is missing that a text must have.
-use Rattle.std.specs.Prelude.{◌≡◌, ◌⊎◌, ℕ, List, [], ◌∷◌, slice_get, ℤ, codes}
+-- Designs that some text stands for: what is named can be spelled, terms are collected, numbers are small, no limit is passed, and
+-- no part is missing that a text must have. First values, rows and clauses.
+use Rattle.std.specs.Prelude.{◌≡◌, ◌≤◌, ◌⊎◌, ◌==◌, ℕ, Bool, None, false, List, [], ◌∷◌, length, filter, slice_get, ℤ, codes}
 use Rattle.acc_grammar.specs.Readers.{AllIn}
 use Rattle.acc_base.specs.Numbers.{IsSmall}
 use Rattle.acc_base.specs.declared.forms.Lin.{Lin}
@@ -9,21 +10,33 @@ use Rattle.acc_base.specs.declared.forms.Atom.TheVariants as atom
 use Rattle.acc_base.specs.declared.forms.Unknown.{Unknown}
 use Rattle.acc_base.specs.declared.forms.Rel.{Rel}
 use Rattle.acc_base.specs.declared.forms.Clause.{Clause}
-use Rattle.acc_lex.specs.declared.words.Word.TheVariants as word
-use Rattle.acc_lex.specs.Words.{CanSpell}
+use Rattle.acc_base.specs.UnknownEquality.{unknown_eq}
+use Rattle.acc_grammar.specs.Runs.{IsRun}
+use Rattle.acc_lex.specs.ByteKinds.{is_letter, is_inner}
+use Rattle.acc_lex.specs.Keywords.{keyword_of}
+use Rattle.acc_names.specs.Names.{defines_again}
+use Rattle.acc_terms.specs.Collected.{is_left, totals}
 use Rattle.acc_print.specs.Names.{Scope, name_at, table_name, column_name, with_own}
 
 -- ---- names
 
--- a name that can be spelled
+-- a name that can be spelled: a letter and then letters, digits and _, none of the words that the grammar fixes, and at most 32 bytes
 abbrev pub IsName : List ℕ → Type 0
-IsName x = CanSpell (word.Name x)
+IsName x = IsRun is_letter is_inner x × (keyword_of x ≡ None) × (length x ≤ 32)
 
 -- a name, or `self`
 abbrev pub IsVariable : List ℕ → Type 0
 IsVariable x = IsName x ⊎ (x ≡ codes "self")
 
+-- behind earlier names none is defined a second time
+abbrev pub AreNew : List (List ℕ) → List (List ℕ) → Type 0
+AreNew earlier names = defines_again earlier names ≡ false
+
 -- ---- values and rows
+
+-- terms with each unknown once and none that is zero: to collect them changes nothing
+abbrev pub AreCollected : {K : Type 0} → (K → K → Bool) → List (K × ℤ) → Type 0
+AreCollected is_same terms = filter is_left (totals is_same terms) ≡ terms
 
 -- a term of a variable that is there
 abbrev pub IsTermSaid : List (List ℕ) → ℕ × ℤ → Type 0
@@ -31,6 +44,7 @@ IsTermSaid names t = IsVariable (name_at names t.0) × IsSmall t.1
 
 pub record IsLinSaid (names : List (List ℕ)) (l : Lin) : Type 0 where
   pub terms : AllIn (IsTermSaid names) l.coeffs
+  pub collected : AreCollected ◌==◌ l.coeffs
   pub constant : IsSmall l.constant
 
 -- a key has a component
@@ -60,14 +74,20 @@ IsAtomSaid s (atom.Col table key column) = IsCellSaid s table key column
 IsAtomSaid s (atom.Count table key) = IsRowSaid s table key
 IsAtomSaid s (atom.Sum table key column) = IsCellSaid s table key column
 
+-- an unknown of a text counts always
 abbrev pub IsUnknownSaid : Scope → Unknown × ℤ → Type 0
-IsUnknownSaid s t = IsAtomSaid s t.0.atom × IsSmall t.1
+IsUnknownSaid s t = IsAtomSaid s t.0.atom × IsSmall t.1 × (t.0.under ≡ [])
 
 pub record IsRelSaid (s : Scope) (r : Rel) : Type 0 where
   pub terms : AllIn (IsUnknownSaid s) r.form.terms
+  pub collected : AreCollected unknown_eq r.form.terms
   pub constant : IsSmall r.form.constant
 
+-- its variables are new, at most 8, and there are at most 16 guards
 pub record IsClauseSaid (s : Scope) (c : Clause) : Type 0 where
   pub variables : AllIn IsName c.vars
+  pub few_variables : length c.vars ≤ 8
+  pub new : AreNew s.names c.vars
+  pub few_guards : length c.guards ≤ 16
   pub guards : AllIn (IsRelSaid (with_own s c.vars)) c.guards
   pub relation : IsRelSaid (with_own s c.vars) c.rel

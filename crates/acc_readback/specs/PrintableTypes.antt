@@ -1,5 +1,5 @@
--- Designs whose print can be read: steps, types and the whole.
-use Rattle.std.specs.Prelude.{◌≡◌, ◌≤◌, ◌^◌, ℕ, false, List, [], ◌∷◌, map, take, drop, slice_get}
+-- Designs that some text stands for: steps, types and the whole.
+use Rattle.std.specs.Prelude.{◌≡◌, ◌≤◌, ◌<◌, ◌^◌, ℕ, false, List, [], ◌∷◌, length, map, take, drop, slice_get, ℤ}
 use Rattle.acc_grammar.specs.Readers.{AllIn}
 use Rattle.acc_base.specs.Numbers.{IsSmall}
 use Rattle.acc_base.specs.Lines.{type_name, point_name}
@@ -22,11 +22,11 @@ use Rattle.acc_base.specs.declared.designs.Design.{Design}
 use Rattle.acc_print.specs.Sums.{is_negative}
 use Rattle.acc_print.specs.Names.{Scope, name_at, outside, within}
 use Rattle.acc_print.specs.Designs.{scope_at}
-use Rattle.acc_readback.specs.Printable.{IsName, IsVariable, IsLinSaid, IsRowSaid, IsCellSaid, IsLinRelSaid, IsClauseSaid}
+use Rattle.acc_readback.specs.Printable.{IsName, IsVariable, AreNew, IsLinSaid, IsRowSaid, IsCellSaid, IsLinRelSaid, IsClauseSaid}
 
--- a number without sign
+-- a type's limit, or the number of a refusal
 abbrev pub IsCount : ℕ → Type 0
-IsCount n = n ≤ 2 ^ 45
+IsCount n = n < 2 ^ 32
 
 -- ---- steps
 
@@ -55,7 +55,10 @@ IsTargetSaid points target.Commit = Unit {0}
 IsTargetSaid points target.Undone = Unit {0}
 IsTargetSaid points (target.Refuse n) = IsCount n
 
+-- at most 16 relations, and at most 16 actions
 pub record IsPathSaid (s : Scope) (points : List Point) (p : Path) : Type 0 where
+  pub few_relations : length p.guard ≤ 16
+  pub few_actions : length p.actions ≤ 16
   pub guard : AllIn (IsLinRelSaid s.names) p.guard
   pub actions : AllIn (IsActionSaid s) p.actions
   pub target : IsTargetSaid points p.target
@@ -65,14 +68,19 @@ abbrev pub ArePathsSaid : Scope → List Point → List Path → Type 0
 ArePathsSaid s points [] = ⊥
 ArePathsSaid s points (p ∷ ps) = AllIn (IsPathSaid s points) (p ∷ ps)
 
+-- at most 32 reads, and at most 16 paths
 pub record IsStepSaid (s : Scope) (points : List Point) (st : Step) : Type 0 where
+  pub few_reads : length st.reads ≤ 32
+  pub few_paths : length st.paths ≤ 16
   pub reads : AllIn (IsReadSaid s) st.reads
   pub paths : ArePathsSaid s points st.paths
 
 -- ---- types
 
+-- at most 64 clauses hold
 pub record IsPointSaid (s : Scope) (points : List Point) (p : Point) : Type 0 where
   pub name : IsName p.name
+  pub few_clauses : length p.clauses ≤ 64
   pub variant : IsLinSaid s.names p.variant
   pub clauses : AllIn (IsClauseSaid s) p.clauses
   pub next : IsStepSaid s points p.next
@@ -83,30 +91,43 @@ abbrev pub ArePointsSaid : Scope → List Point → List Point → Type 0
 ArePointsSaid s points [] = ⊥
 ArePointsSaid s points (p ∷ ps) = AllIn (IsPointSaid s points) (p ∷ ps)
 
+-- at most 48 locals, none twice, the parameters among them; at most 64 clauses of a kind; at most 32 points, none twice
 pub record IsTypeSaid (tables : List Table) (t : TxType) : Type 0 where
   pub name : IsName t.name
+  pub params : t.params ≤ length t.locals
+  pub few_locals : length t.locals ≤ 48
+  pub new_locals : AreNew [] t.locals
   pub parameters : AllIn IsName (take t.params t.locals)
   pub locals : AllIn IsName (drop t.params t.locals)
   pub returns : AllIn IsName (map (name_at t.locals) t.returns)
   pub limit : IsCount t.limit
+  pub few_posts : length t.posts ≤ 64
+  pub few_repairs : length t.repairs ≤ 64
+  pub few_points : length t.points ≤ 32
+  pub new_points : AreNew [] (map (λ (p : Point). p.name) t.points)
   pub posts : AllIn (IsClauseSaid (within tables t)) t.posts
   pub repairs : AllIn (IsClauseSaid (within tables t)) t.repairs
   pub points : ArePointsSaid (within tables t) t.points t.points
 
 -- ---- the whole
 
+-- keys of 1 to 6 components; at most 12 columns, none twice
 pub record IsTableSaid (t : Table) : Type 0 where
   pub name : IsName t.name
-  pub width : IsCount t.width
+  pub some_width : 1 ≤ t.width
+  pub width : t.width ≤ 6
   pub columns : AllIn IsName t.cols
+  pub few_columns : length t.cols ≤ 12
+  pub new_columns : AreNew [] t.cols
 
 -- a point of a type
 pub record IsAtSaid (d : Design) (at : At) : Type 0 where
   pub ty : IsName (type_name (slice_get d.types at.ty))
   pub point : IsName (point_name (point_of d at.ty at.point))
 
+-- `self` stands within types alone
 abbrev pub IsPairSaid : List (List ℕ) → List (List ℕ) → ℕ × ℕ → Type 0
-IsPairSaid held step p = IsVariable (name_at held p.0) × IsVariable (name_at step p.1)
+IsPairSaid held step p = IsName (name_at held p.0) × IsName (name_at step p.1)
 
 pub record IsEntrySaid (d : Design) (e : Entry) : Type 0 where
   pub held : IsAtSaid d e.held
@@ -115,11 +136,19 @@ pub record IsEntrySaid (d : Design) (e : Entry) : Type 0 where
 
 pub record IsHintSaid (d : Design) (h : Hint) : Type 0 where
   pub at : IsAtSaid d h.at
+  pub named : AllIn (λ (t : ℕ × ℤ). IsName (name_at (scope_at d h.at).names t.0)) h.lin.coeffs
   pub value : IsLinSaid (scope_at d h.at).names h.lin
 
--- each part of the design can be spelled
+-- some text stands for the design
 pub record IsSaid (d : Design) : Type 0 where
   pub tables : AllIn IsTableSaid d.tables
+  pub few_tables : length d.tables ≤ 64
+  pub new_tables : AreNew [] (map (λ (t : Table). t.name) d.tables)
+  pub few_always : length d.always ≤ 128
+  pub few_types : length d.types ≤ 64
+  pub new_types : AreNew [] (map (λ (t : TxType). t.name) d.types)
+  pub few_entries : length d.entries ≤ 1024
+  pub few_hints : length d.hints ≤ 1024
   pub always : AllIn (IsClauseSaid (outside d.tables)) d.always
   pub types : AllIn (IsTypeSaid d.tables) d.types
   pub entries : AllIn (IsEntrySaid d) d.entries
