@@ -4,6 +4,7 @@ pub mod SumParts
 pub mod ValueParts
 pub mod ClauseParts
 pub mod Lines
+pub mod StatementLines
 pub mod StatementParts
 pub mod TypeParts
 pub mod DesignParts

@@ -8,7 +8,7 @@ use Rattle.acc_base.specs.Lines.{line}
 use Rattle.acc_lex.specs.declared.words.Word.{Word}
 use Rattle.acc_lex.specs.declared.words.Sign.TheVariants as sign
 use Rattle.acc_lex.specs.Spellings.{Line, Statement, Statements, statement_bytes, line_bytes, next_line, lines_bytes, IsStatement, IsLine, AreLines}
-use Rattle.acc_lex.specs.LineWords.{ended, statement_words, line_words, lines_words}
+use Rattle.acc_lex.specs.LineWords.{item_word, ended, statement_words, line_words, lines_words}
 use Rattle.acc_lex.specs.Texts.{IsLexed}
 use Rattle.acc_syntax.specs.Spelling.{just}
 use Rattle.acc_readback.proofs.Rests.{Rest, Part, nothing}
@@ -17,14 +17,24 @@ use Rattle.acc_readback.proofs.Rests.{Rest, Part, nothing}
 abbrev pub ended_bytes : Statement → List ℕ
 ended_bytes s = line (statement_bytes s)
 
+-- there is a word
+abbrev is_said : List Word → Bool
+is_said [] = false
+is_said (w ∷ ws) = true
+
+-- a statement that has a word
+abbrev pub HasWords : Statement → Type 0
+HasWords s = is_said (map item_word s.items) ≡ true
+
 pub record Lines (text : List ℕ) (words : List Word) : Type 0 where
   pub statements : List Statement
   pub fit : AllIn IsStatement statements
+  pub some : AllIn HasWords statements
   pub spelled : text ≡ joined ended_bytes statements
   pub mean : words ≡ joined statement_words statements
 
 pub no_lines : Lines [] []
-no_lines = record { statements = []; fit = tt; spelled = refl; mean = refl }
+no_lines = record { statements = []; fit = tt; some = tt; spelled = refl; mean = refl }
 
 all_both : {T : Type 0} (P : T → Type 0) (xs ys : List T) → AllIn P xs → AllIn P ys → AllIn P (xs ++ ys)
 all_both P [] ys h g = g
@@ -38,16 +48,12 @@ pub more_lines : (text text' : List ℕ) (ws ws' : List Word) → Lines text ws 
 more_lines text text' ws ws' a b = record {
   statements = a.statements ++ b.statements;
   fit = all_both IsStatement a.statements b.statements a.fit b.fit;
+  some = all_both HasWords a.statements b.statements a.some b.some;
   spelled = ap (λ (bs : List ℕ). bs ++ text') a.spelled ∙ ap (λ (bs : List ℕ). joined ended_bytes a.statements ++ bs) b.spelled ∙ sym (joined_both ended_bytes a.statements b.statements);
   mean = ap (λ (vs : List Word). vs ++ ws') a.mean ∙ ap (λ (vs : List Word). joined statement_words a.statements ++ vs) b.mean ∙ sym (joined_both statement_words a.statements b.statements);
 }
 
 -- ---- one line
-
--- there is a word
-abbrev is_said : List Word → Bool
-is_said [] = false
-is_said (w ∷ ws) = true
 
 ended_is : (ws : List Word) → is_said ws ≡ true → ended ws ≡ ws ++ just sign.End
 ended_is [] h = absurd cc
@@ -60,6 +66,7 @@ by_rest : (text : List ℕ) (ws : List Word) → is_said ws ≡ true → Rest te
 by_rest text ws some r = record {
   statements = r.statement ∷ [];
   fit = (r.fit, tt);
+  some = (sym (ap is_said r.mean) ∙ some, tt);
   spelled = ap line r.spelled ∙ sym (append-nil (ended_bytes r.statement));
   mean = sym (ended_is ws some) ∙ ap ended r.mean ∙ sym (append-nil (statement_words r.statement));
 }
