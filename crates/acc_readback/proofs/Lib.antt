@@ -8,3 +8,6 @@ pub mod StatementLines
 pub mod StatementParts
 pub mod TypeParts
 pub mod DesignParts
+pub mod NewNames
+pub mod NamedVariables
+pub mod MeantTerms

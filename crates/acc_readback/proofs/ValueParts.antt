@@ -31,7 +31,7 @@ self_is : keyword_of (codes "self") ≡ Some sign.Oneself
 unfolding keyword_of
 self_is = refl
 
-not_self : (x : List ℕ) → keyword_of x ≡ None → bytes_eq x (codes "self") ≡ false
+pub not_self : (x : List ℕ) → keyword_of x ≡ None → bytes_eq x (codes "self") ≡ false
 not_self x h = elim (flag (bytes_eq x (codes "self"))) [
   | inl e ↦ absurd (let wrong = sym h ∙ ap keyword_of ((bytes_eq-Decides x (codes "self")).0 e) ∙ self_is in cc)
   | inr e ↦ e
