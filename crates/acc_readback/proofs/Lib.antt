@@ -11,3 +11,5 @@ pub mod DesignParts
 pub mod NewNames
 pub mod NamedVariables
 pub mod MeantTerms
+pub mod OnlyEnds
+pub mod MeantValues
