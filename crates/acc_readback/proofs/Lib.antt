@@ -13,3 +13,4 @@ pub mod NamedVariables
 pub mod MeantTerms
 pub mod OnlyEnds
 pub mod MeantValues
+pub mod NamedItems
