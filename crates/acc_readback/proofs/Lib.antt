@@ -14,3 +14,5 @@ pub mod MeantTerms
 pub mod OnlyEnds
 pub mod MeantValues
 pub mod NamedItems
+pub mod MeantRows
+pub mod MeantClauses
