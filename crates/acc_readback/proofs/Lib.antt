@@ -16,3 +16,4 @@ pub mod MeantValues
 pub mod NamedItems
 pub mod MeantRows
 pub mod MeantClauses
+pub mod MeantSteps

@@ -18,8 +18,8 @@ use Rattle.acc_syntax.specs.declared.trees.FormTerm.TheVariants as form_terms
 use Rattle.acc_names.specs.Names.{listed_or_none}
 use Rattle.acc_meaning.specs.Scopes.{Scope as Surroundings}
 use Rattle.acc_meaning.specs.Values.{multiple, alone, signed, collected_by, compared}
-use Rattle.acc_meaning.specs.Forms.{atom_of, unknown_of, form_part, signed_form_part, form_parts, rel_terms, form_by, rel_of, all_form_rels, with_own as with_own_names, clause_of}
-use Rattle.acc_meaning.specs.Sizes.{operand_sizes, form_term_sizes, signed_form_term_sizes, form_sizes, rel_sizes, clause_sizes}
+use Rattle.acc_meaning.specs.Forms.{atom_of, unknown_of, form_part, signed_form_part, form_parts, rel_terms, form_by, rel_of, all_form_rels, with_own as with_own_names, clause_scope, clause_of}
+use Rattle.acc_meaning.specs.Sizes.{operand_sizes, form_term_sizes, signed_form_term_sizes, form_sizes, rel_sizes, clause_sizes, clause_statement_sizes}
 use Rattle.acc_print.specs.Sums.{is_negative}
 use Rattle.acc_print.specs.Names.{Scope, with_own}
 use Rattle.acc_readback.specs.Trees.{relation_tree, operand_tree, form_term_tree, signed_form_tree, form_constant_trees, form_sum_tree, rel_tree, guards_tree, names_tree, clause_tree}
@@ -28,7 +28,7 @@ use Rattle.acc_readback.proofs.NamedVariables.{variable_back, fits_own}
 use Rattle.acc_readback.proofs.MeantTerms.{known, behind, written, terms_and, written_back, compared_back, relation_back}
 use Rattle.acc_readback.proofs.MeantValues.{all_back, signed_back, is_one}
 use Rattle.acc_readback.proofs.MeantRows.{Suits, table_back, key_back, column_back, row_ends}
-use Rattle.acc_readback.proofs.OnlyEnds.{AreEnds, AreSmall, ends_behind, ends_mapped, small_terms_end}
+use Rattle.acc_readback.proofs.OnlyEnds.{AreEnds, AreSmall, ends_behind, ended, ends_mapped, small_terms_end}
 
 term_back : (m : Surroundings) (n : ℕ) (o : Operand) → form_part m (form_term_tree n o) ≡ multiple n (unknown_of m o)
 term_back m n o = elim (flag (n == 1)) [
@@ -125,3 +125,23 @@ module _ (s : Scope) (m : Surroundings) (f : Suits s m) where
 pub names_back : (xs : List (List ℕ)) → listed_or_none (names_tree xs) ≡ xs
 names_back [] = refl
 names_back (x ∷ xs) = refl
+
+module _ (s : Scope) (m : Surroundings) (f : Suits s m) (none : m.variables.own ≡ []) where
+  own_suits : (c : Clause) → IsClauseSaid s c → Suits (with_own s c.vars) (clause_scope m (clause_tree s c))
+  own_suits c h =
+      subst (λ (own : List (List ℕ)). Suits (with_own s c.vars) (with_own_names m own)) (sym (names_back c.vars))
+      (record { tables = f.tables; said = f.said; few = f.few; new = f.new; variables = fits_own s.names m.variables c.vars f.variables none h.variables h.new h.few_variables })
+
+  pub clause_back : (c : Clause) → IsClauseSaid s c → clause_of m (clause_tree s c) ≡ c
+  clause_back c h =
+      let own = with_own s c.vars in
+      let suits = own_suits c h in
+      let inner = clause_scope m (clause_tree s c) in
+      λ i. record { vars = names_back c.vars i; guards = guards_back own inner suits c.guards h.guards i; rel = rel_back own inner suits c.rel h.relation i }
+
+  pub clause_ends : (c : Clause) → IsClauseSaid s c → AreEnds (clause_statement_sizes m (clause_tree s c))
+  clause_ends c h =
+      let own = with_own s c.vars in
+      let suits = own_suits c h in
+      let inner = clause_scope m (clause_tree s c) in
+      ended (clause_sizes m (clause_tree s c)) (ends_behind (flat_map (rel_sizes inner) (all_form_rels (guards_tree own c.guards))) (rel_sizes inner (rel_tree own c.rel)) (guards_end own inner suits c.guards h.guards) (rel_ends own inner suits c.rel h.relation))
