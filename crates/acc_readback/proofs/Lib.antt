@@ -17,3 +17,6 @@ pub mod NamedItems
 pub mod MeantRows
 pub mod MeantClauses
 pub mod MeantSteps
+pub mod MeantPoints
+pub mod MeantTypes
+pub mod MeantDesigns

@@ -1,0 +1,96 @@
+-- A printed design stands for itself, and passes no limit by what is collected.
+use Rattle.std.proofs.Common.{◌≡◌, ◌≤◌, ◌^◌, ℕ, List, [], ◌∷◌, ◌++◌, length, map, Option, Some, None, refl, sym, ap, subst, ◌∙◌, inl, arith}
+use Rattle.std.specs.Prelude.{slice_get, option_and_then}
+use Rattle.std.specs.List.{flat_map}
+use Rattle.acc_grammar.specs.Readers.{AllIn}
+use Rattle.acc_base.specs.Lines.{type_name, point_name}
+use Rattle.acc_base.specs.Effects.{point_of}
+use Rattle.acc_base.specs.declared.tables.Table.{Table}
+use Rattle.acc_base.specs.declared.designs.Point.{Point}
+use Rattle.acc_base.specs.declared.designs.TxType.{TxType}
+use Rattle.acc_base.specs.declared.designs.At.{At}
+use Rattle.acc_base.specs.declared.designs.Side.{Side}
+use Rattle.acc_base.specs.declared.designs.Side.TheVariants as side
+use Rattle.acc_base.specs.declared.designs.Entry.{Entry}
+use Rattle.acc_base.specs.declared.designs.Hint.{Hint}
+use Rattle.acc_base.specs.declared.designs.Design.{Design}
+use Rattle.acc_syntax.specs.declared.trees.TypeTree.{TypeTree}
+use Rattle.acc_syntax.specs.declared.trees.DesignTree.{DesignTree}
+use Rattle.acc_names.specs.Scopes.{point_names, type_named}
+use Rattle.acc_limits.specs.Marks.{Mark, ending}
+use Rattle.acc_meaning.specs.Scopes.{Variables, fitted, number_of, variable_of}
+use Rattle.acc_meaning.specs.Forms.{clause_of}
+use Rattle.acc_meaning.specs.Types.{type_of}
+use Rattle.acc_meaning.specs.Designs.{table_of, outside as outside_trees, type_names, points_or_none, at_of, side_of, variables_or_none, variables_at, pair_of, all_pairs, entry_of, hint_of, design_of}
+use Rattle.acc_meaning.specs.Sizes.{clause_statement_sizes, type_sizes, table_sizes, entry_sizes, hint_sizes, sum_sizes, design_sizes, size_faults}
+use Rattle.acc_print.specs.Names.{Scope, name_at, within, inside, outside}
+use Rattle.acc_print.specs.Designs.{scope_at}
+use Rattle.acc_readback.specs.Trees.{lin_tree, clause_tree}
+use Rattle.acc_readback.specs.TypeTrees.{table_tree, type_tree, point_name_tree, side_of_tree, pair_tree, pairs_tree, entry_tree, hint_tree, tree_of}
+use Rattle.acc_readback.specs.Printable.{IsName, IsClauseSaid, AreNew}
+use Rattle.acc_readback.specs.PrintableTypes.{IsTableSaid, IsTypeSaid, IsAtSaid, IsPairSaid, IsEntrySaid, IsHintSaid, IsSaid}
+use Rattle.acc_readback.proofs.NewNames.{fitted_small}
+use Rattle.acc_readback.proofs.NamedItems.{looked_up, number_item, found_item}
+use Rattle.acc_readback.proofs.NamedVariables.{Fits, variable_back}
+use Rattle.acc_readback.proofs.MeantValues.{all_back, lin_back, lin_ends}
+use Rattle.acc_readback.proofs.MeantRows.{Suits, name_of_table}
+use Rattle.acc_readback.proofs.MeantClauses.{clause_back, clause_ends}
+use Rattle.acc_readback.proofs.MeantSteps.{ArePoints, point_back}
+use Rattle.acc_readback.proofs.MeantTypes.{type_fits, type_points, type_back, type_ends}
+use Rattle.acc_readback.proofs.OnlyEnds.{AreEnds, no_faults, one_end, ends_behind, ended, ends_mapped}
+
+table_back : (t : Table) → IsTableSaid t → table_of (table_tree t) ≡ t
+table_back t h = λ i. record { name = t.name; width = fitted_small t.width (omega (arith, h.width)) i; cols = t.cols; own = t.own }
+
+side_back : (s : Side) → side_of (side_of_tree s) ≡ s
+side_back side.Next = refl
+side_back side.Undo = refl
+
+abbrev name_of_type : TxType → List ℕ
+name_of_type t = t.name
+
+trees_named : (tables : List Table) (ts : List TxType) → type_names (map (type_tree tables) ts) ≡ map name_of_type ts
+trees_named tables [] = refl
+trees_named tables (t ∷ ts) = ap (λ (xs : List (List ℕ)). t.name ∷ xs) (trees_named tables ts)
+
+type_there : (o : Option TxType) → IsName (type_name o) → (t : TxType) × (o ≡ Some t)
+type_there None h = absurd h.0
+type_there (Some t) h = (t, refl)
+
+pair_back : (held step : List (List ℕ)) (v w : Variables) → Fits held v → Fits step w → (p : ℕ × ℕ) → IsPairSaid held step p → pair_of v w (pair_tree held step p) ≡ p
+pair_back held step v w f g p h = λ i. (variable_back held v f p.0 (inl h.0) i, variable_back step w g p.1 (inl h.1) i)
+
+pairs_back : (held step : List (List ℕ)) (v w : Variables) → Fits held v → Fits step w → (ps : List (ℕ × ℕ)) → AllIn (IsPairSaid held step) ps → map (pair_of v w) (all_pairs (pairs_tree held step ps)) ≡ ps
+pairs_back held step v w f g [] h = refl
+pairs_back held step v w f g (p ∷ ps) h =
+    λ i. pair_back held step v w f g p h.0 i ∷ all_back (IsPairSaid held step) (pair_of v w) (pair_tree held step) ps (pair_back held step v w f g) h.1 i
+
+module _ (d : Design) (h : IsSaid d) where
+  abbrev types : List TypeTree
+  types = map (type_tree d.tables) d.types
+
+  -- ---- points by their names
+
+  type_at : (at : At) → IsAtSaid d at → (t : TxType) × (slice_get d.types at.ty ≡ Some t)
+  type_at at k = type_there (slice_get d.types at.ty) k.ty
+
+  found : (at : At) (t : TxType) → slice_get d.types at.ty ≡ Some t → type_named types (type_name (slice_get d.types at.ty)) ≡ Some (type_tree d.tables t)
+  found at t e =
+      ap (λ (o : Option TxType). type_named types (type_name o)) e ∙ found_item name_of_type (type_tree d.tables) (λ u. u.name) (λ u. refl) d.types at.ty t h.new_types e
+
+  type_number : (at : At) (t : TxType) → slice_get d.types at.ty ≡ Some t → number_of (type_name (slice_get d.types at.ty)) (type_names types) ≡ at.ty
+  type_number at t e =
+      ap (λ (o : Option TxType). number_of (type_name o) (type_names types)) e ∙ number_item name_of_type d.types (type_names types) at.ty t (trees_named d.tables d.types) h.new_types (omega (arith, h.few_types)) e
+
+  point_number : (at : At) (t : TxType) → slice_get d.types at.ty ≡ Some t → IsName (point_name (point_of d at.ty at.point))
+      → number_of (point_name (point_of d at.ty at.point)) (points_or_none (type_named types (type_name (slice_get d.types at.ty)))) ≡ at.point
+  point_number at t e k =
+      let said = looked_up (IsTypeSaid d.tables) d.types at.ty t h.types e in
+      let named = ap (λ (o : Option TxType). option_and_then (λ (x : TxType). slice_get x.points at.point) o) e in
+      let points = ap points_or_none (found at t e) in
+      (λ i. number_of (point_name (named i)) (points i)) ∙ point_back t.points (point_names (type_tree d.tables t)) (type_points d.tables h.tables h.few_tables h.new_tables t said) at.point (slice_get t.points at.point) refl (subst (λ (o : Option Point). IsName (point_name o)) named k)
+
+  at_back : (at : At) → IsAtSaid d at → at_of types (point_name_tree d at) ≡ at
+  at_back at k =
+      let there = type_at at k in
+      λ i. record { ty = type_number at there.0 there.1 i; point = point_number at there.0 there.1 k.point i }
