@@ -94,3 +94,69 @@ module _ (d : Design) (h : IsSaid d) where
   at_back at k =
       let there = type_at at k in
       λ i. record { ty = type_number at there.0 there.1 i; point = point_number at there.0 there.1 k.point i }
+
+  fits_at : (at : At) → IsAtSaid d at → Fits (scope_at d at).names (variables_at types (point_name_tree d at))
+  fits_at at k =
+      let there = type_at at k in
+      let fits = type_fits d.tables there.0 (looked_up (IsTypeSaid d.tables) d.types at.ty there.0 h.types there.1) in
+      subst (λ (o : Option TxType). Fits (inside d.tables o).names (variables_at types (point_name_tree d at))) (sym there.1)
+      (subst (λ (o : Option TypeTree). Fits (within d.tables there.0).names (variables_or_none o)) (sym (found at there.0 there.1)) fits)
+
+  -- ---- entries and hints
+
+  entry_back : (e : Entry) → IsEntrySaid d e → entry_of types (entry_tree d e) ≡ e
+  entry_back e k = λ i. record {
+    held = at_back e.held k.held i;
+    step = at_back e.step k.step i;
+    side = side_back e.side i;
+    pairs = pairs_back (scope_at d e.held).names (scope_at d e.step).names (variables_at types (point_name_tree d e.held)) (variables_at types (point_name_tree d e.step)) (fits_at e.held k.held) (fits_at e.step k.step) e.pairs k.pairs i;
+  }
+
+  hint_back : (x : Hint) → IsHintSaid d x → hint_of types (hint_tree d x) ≡ x
+  hint_back x k = λ i. record {
+    at = at_back x.at k.at i;
+    side = side_back x.side i;
+    lin = lin_back (scope_at d x.at).names (variables_at types (point_name_tree d x.at)) (fits_at x.at k.at) x.lin k.value i;
+  }
+
+  hint_ends : (x : Hint) → IsHintSaid d x → AreEnds (hint_sizes types (hint_tree d x))
+  hint_ends x k = ended (sum_sizes (variables_at types (point_name_tree d x.at)) (lin_tree (scope_at d x.at).names x.lin)) (lin_ends (scope_at d x.at).names (variables_at types (point_name_tree d x.at)) (fits_at x.at k.at) x.lin k.value)
+
+  -- ---- the whole
+
+  outside_suits : Suits (outside d.tables) (outside_trees (map table_tree d.tables))
+  outside_suits = record {
+    tables = refl;
+    said = h.tables;
+    few = h.few_tables;
+    new = h.new_tables;
+    variables = record { all = refl; first = refl; locals = tt; own = tt; new_locals = refl; new_own = refl; few_locals = omega arith; few_own = omega arith };
+  }
+
+  ends_of : AreEnds (design_sizes (tree_of d))
+  ends_of =
+      let trees = map table_tree d.tables in
+      let tables = flat_map table_sizes trees in
+      let always = flat_map (clause_statement_sizes (outside_trees trees)) (map (clause_tree (outside d.tables)) d.always) in
+      let typed = flat_map (type_sizes trees) types in
+      let entries = flat_map entry_sizes (map (entry_tree d) d.entries) in
+      let hints = flat_map (hint_sizes types) (map (hint_tree d) d.hints) in
+      ends_behind tables (always ++ (typed ++ (entries ++ hints))) (ends_mapped IsTableSaid table_sizes table_tree d.tables (λ t k. one_end) h.tables)
+      (ends_behind always (typed ++ (entries ++ hints)) (ends_mapped (IsClauseSaid (outside d.tables)) (clause_statement_sizes (outside_trees trees)) (clause_tree (outside d.tables)) d.always (clause_ends (outside d.tables) (outside_trees trees) outside_suits refl) h.always)
+      (ends_behind typed (entries ++ hints) (ends_mapped (IsTypeSaid d.tables) (type_sizes trees) (type_tree d.tables) d.types (type_ends d.tables h.tables h.few_tables h.new_tables) h.types)
+      (ends_behind entries hints (ends_mapped (IsEntrySaid d) entry_sizes (entry_tree d) d.entries (λ e k. one_end) h.entries) (ends_mapped (IsHintSaid d) (hint_sizes types) (hint_tree d) d.hints hint_ends h.hints))))
+
+  -- the design that the printed tree stands for
+  pub tree_means_design : design_of (tree_of d) ≡ d
+  tree_means_design = λ i. record {
+    tables = all_back IsTableSaid table_of table_tree d.tables table_back h.tables i;
+    always = all_back (IsClauseSaid (outside d.tables)) (clause_of (outside_trees (map table_tree d.tables))) (clause_tree (outside d.tables)) d.always (clause_back (outside d.tables) (outside_trees (map table_tree d.tables)) outside_suits refl) h.always i;
+    types = all_back (IsTypeSaid d.tables) (type_of (map table_tree d.tables)) (type_tree d.tables) d.types (type_back d.tables h.tables h.few_tables h.new_tables) h.types i;
+    entries = all_back (IsEntrySaid d) (entry_of types) (entry_tree d) d.entries entry_back h.entries i;
+    hints = all_back (IsHintSaid d) (hint_of types) (hint_tree d) d.hints hint_back h.hints i;
+  }
+
+  -- each number that it collects is small
+  pub tree_has_no_sizes : size_faults (tree_of d) ≡ []
+  unfolding size_faults
+  tree_has_no_sizes = no_faults 0 (design_sizes (tree_of d)) ends_of
