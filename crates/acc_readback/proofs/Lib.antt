@@ -8,12 +8,13 @@ pub mod StatementLines
 pub mod StatementParts
 pub mod TypeParts
 pub mod DesignParts
-pub mod NewNames
-pub mod NamedVariables
+pub mod NamePlaces
+pub mod VariableNumbers
 pub mod MeantTerms
 pub mod OnlyEnds
+pub mod SmallNumbers
 pub mod MeantValues
-pub mod NamedItems
+pub mod ItemNumbers
 pub mod MeantRows
 pub mod MeantClauses
 pub mod MeantSteps

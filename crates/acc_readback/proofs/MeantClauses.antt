@@ -1,12 +1,10 @@
 -- Printed clauses stand for themselves, and pass no limit.
-use Rattle.std.proofs.Common.{◌≡◌, ◌≤◌, ℕ, Bool, true, false, List, [], ◌∷◌, ◌++◌, map, Option, Some, None, refl, sym, ap, subst, ◌∙◌, inl, inr, zero, suc, ℤ, pos, negsuc, if◌then◌else◌}
+use Rattle.std.proofs.Common.{◌≡◌, ℕ, Bool, true, false, List, [], ◌∷◌, ◌++◌, map, Some, None, refl, sym, ap, subst, ◌∙◌, inl, inr, zero, suc, ℤ, pos, negsuc, if◌then◌else◌}
 use Rattle.std.specs.Prelude.{◌==◌, unsigned_abs}
 use Rattle.std.specs.List.{flat_map}
 use Rattle.acc_grammar.specs.Readers.{AllIn}
 use Rattle.acc_grammar.proofs.RunReaders.{flag}
-use Rattle.acc_base.specs.Numbers.{IsSmall}
 use Rattle.acc_base.specs.UnknownEquality.{unknown_eq}
-use Rattle.acc_base.specs.declared.forms.Lin.{Lin}
 use Rattle.acc_base.specs.declared.forms.Atom.{Atom}
 use Rattle.acc_base.specs.declared.forms.Atom.TheVariants as atom
 use Rattle.acc_base.specs.declared.forms.Unknown.{Unknown}
@@ -24,11 +22,12 @@ use Rattle.acc_print.specs.Sums.{is_negative}
 use Rattle.acc_print.specs.Names.{Scope, with_own}
 use Rattle.acc_readback.specs.Trees.{relation_tree, operand_tree, form_term_tree, signed_form_tree, form_constant_trees, form_sum_tree, rel_tree, guards_tree, names_tree, clause_tree}
 use Rattle.acc_readback.specs.Printable.{IsAtomSaid, IsUnknownSaid, IsRelSaid, IsClauseSaid}
-use Rattle.acc_readback.proofs.NamedVariables.{variable_back, fits_own}
-use Rattle.acc_readback.proofs.MeantTerms.{known, behind, written, terms_and, written_back, compared_back, relation_back}
+use Rattle.acc_readback.proofs.VariableNumbers.{variable_back, fits_own}
+use Rattle.acc_readback.proofs.MeantTerms.{known, behind, written, terms_and, compared_back, relation_back}
 use Rattle.acc_readback.proofs.MeantValues.{all_back, signed_back, is_one}
 use Rattle.acc_readback.proofs.MeantRows.{Suits, table_back, key_back, column_back, row_ends}
-use Rattle.acc_readback.proofs.OnlyEnds.{AreEnds, AreSmall, ends_behind, ended, ends_mapped, small_terms_end}
+use Rattle.acc_readback.proofs.OnlyEnds.{AreEnds, ends_behind, ended, ends_mapped}
+use Rattle.acc_readback.proofs.SmallNumbers.{AreSmall, small_terms_end}
 
 term_back : (m : Surroundings) (n : ℕ) (o : Operand) → form_part m (form_term_tree n o) ≡ multiple n (unknown_of m o)
 term_back m n o = elim (flag (n == 1)) [

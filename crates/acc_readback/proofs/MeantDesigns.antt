@@ -1,5 +1,5 @@
 -- A printed design stands for itself, and passes no limit by what is collected.
-use Rattle.std.proofs.Common.{◌≡◌, ◌≤◌, ◌^◌, ℕ, List, [], ◌∷◌, ◌++◌, length, map, Option, Some, None, refl, sym, ap, subst, ◌∙◌, inl, arith}
+use Rattle.std.proofs.Common.{◌≡◌, ℕ, List, [], ◌∷◌, ◌++◌, map, Option, Some, None, refl, sym, ap, subst, ◌∙◌, inl, arith}
 use Rattle.std.specs.Prelude.{slice_get, option_and_then}
 use Rattle.std.specs.List.{flat_map}
 use Rattle.acc_grammar.specs.Readers.{AllIn}
@@ -15,27 +15,25 @@ use Rattle.acc_base.specs.declared.designs.Entry.{Entry}
 use Rattle.acc_base.specs.declared.designs.Hint.{Hint}
 use Rattle.acc_base.specs.declared.designs.Design.{Design}
 use Rattle.acc_syntax.specs.declared.trees.TypeTree.{TypeTree}
-use Rattle.acc_syntax.specs.declared.trees.DesignTree.{DesignTree}
 use Rattle.acc_names.specs.Scopes.{point_names, type_named}
-use Rattle.acc_limits.specs.Marks.{Mark, ending}
-use Rattle.acc_meaning.specs.Scopes.{Variables, fitted, number_of, variable_of}
+use Rattle.acc_meaning.specs.Scopes.{Variables, number_of}
 use Rattle.acc_meaning.specs.Forms.{clause_of}
 use Rattle.acc_meaning.specs.Types.{type_of}
 use Rattle.acc_meaning.specs.Designs.{table_of, outside as outside_trees, type_names, points_or_none, at_of, side_of, variables_or_none, variables_at, pair_of, all_pairs, entry_of, hint_of, design_of}
 use Rattle.acc_meaning.specs.Sizes.{clause_statement_sizes, type_sizes, table_sizes, entry_sizes, hint_sizes, sum_sizes, design_sizes, size_faults}
-use Rattle.acc_print.specs.Names.{Scope, name_at, within, inside, outside}
+use Rattle.acc_print.specs.Names.{within, inside, outside}
 use Rattle.acc_print.specs.Designs.{scope_at}
 use Rattle.acc_readback.specs.Trees.{lin_tree, clause_tree}
 use Rattle.acc_readback.specs.TypeTrees.{table_tree, type_tree, point_name_tree, side_of_tree, pair_tree, pairs_tree, entry_tree, hint_tree, tree_of}
-use Rattle.acc_readback.specs.Printable.{IsName, IsClauseSaid, AreNew}
+use Rattle.acc_readback.specs.Printable.{IsName, IsClauseSaid}
 use Rattle.acc_readback.specs.PrintableTypes.{IsTableSaid, IsTypeSaid, IsAtSaid, IsPairSaid, IsEntrySaid, IsHintSaid, IsSaid}
-use Rattle.acc_readback.proofs.NewNames.{fitted_small}
-use Rattle.acc_readback.proofs.NamedItems.{looked_up, number_item, found_item}
-use Rattle.acc_readback.proofs.NamedVariables.{Fits, variable_back}
+use Rattle.acc_readback.proofs.NamePlaces.{fitted_small}
+use Rattle.acc_readback.proofs.ItemNumbers.{looked_up, trees_named, number_item, found_item}
+use Rattle.acc_readback.proofs.VariableNumbers.{Fits, variable_back}
 use Rattle.acc_readback.proofs.MeantValues.{all_back, lin_back, lin_ends}
-use Rattle.acc_readback.proofs.MeantRows.{Suits, name_of_table}
+use Rattle.acc_readback.proofs.MeantRows.{Suits}
 use Rattle.acc_readback.proofs.MeantClauses.{clause_back, clause_ends}
-use Rattle.acc_readback.proofs.MeantSteps.{ArePoints, point_back}
+use Rattle.acc_readback.proofs.MeantSteps.{point_back}
 use Rattle.acc_readback.proofs.MeantTypes.{type_fits, type_points, type_back, type_ends}
 use Rattle.acc_readback.proofs.OnlyEnds.{AreEnds, no_faults, one_end, ends_behind, ended, ends_mapped}
 
@@ -48,10 +46,6 @@ side_back side.Undo = refl
 
 abbrev name_of_type : TxType → List ℕ
 name_of_type t = t.name
-
-trees_named : (tables : List Table) (ts : List TxType) → type_names (map (type_tree tables) ts) ≡ map name_of_type ts
-trees_named tables [] = refl
-trees_named tables (t ∷ ts) = ap (λ (xs : List (List ℕ)). t.name ∷ xs) (trees_named tables ts)
 
 type_there : (o : Option TxType) → IsName (type_name o) → (t : TxType) × (o ≡ Some t)
 type_there None h = absurd h.0
@@ -80,7 +74,7 @@ module _ (d : Design) (h : IsSaid d) where
 
   type_number : (at : At) (t : TxType) → slice_get d.types at.ty ≡ Some t → number_of (type_name (slice_get d.types at.ty)) (type_names types) ≡ at.ty
   type_number at t e =
-      ap (λ (o : Option TxType). number_of (type_name o) (type_names types)) e ∙ number_item name_of_type d.types (type_names types) at.ty t (trees_named d.tables d.types) h.new_types (omega (arith, h.few_types)) e
+      ap (λ (o : Option TxType). number_of (type_name o) (type_names types)) e ∙ number_item name_of_type d.types (type_names types) at.ty t (trees_named name_of_type (type_tree d.tables) (λ u. u.name) (λ t. refl) d.types) h.new_types (omega (arith, h.few_types)) e
 
   point_number : (at : At) (t : TxType) → slice_get d.types at.ty ≡ Some t → IsName (point_name (point_of d at.ty at.point))
       → number_of (point_name (point_of d at.ty at.point)) (points_or_none (type_named types (type_name (slice_get d.types at.ty)))) ≡ at.point

@@ -1,53 +1,40 @@
 -- Printed points of a type stand for themselves, and pass no limit.
-use Rattle.std.proofs.Common.{◌≡◌, ◌≤◌, ◌^◌, ◌+◌, ℕ, Bool, true, false, List, [], ◌∷◌, ◌++◌, length, map, take, drop, Option, Some, None, refl, sym, ap, subst, ◌∙◌, inl, inr, arith, zero, suc, ℤ, pos, negsuc, if◌then◌else◌, append-nil, length-append}
-use Rattle.std.specs.Prelude.{slice_get, codes}
+use Rattle.std.proofs.Common.{◌≡◌, ℕ, true, List, [], ◌∷◌, map, drop, refl, ap, inl, inr, zero, suc, ℤ, pos, negsuc}
 use Rattle.std.specs.List.{flat_map}
-use Rattle.std.proofs.lemmas.List.{take-append-drop, length-take-le}
-use Rattle.acc_grammar.specs.Readers.{AllIn}
 use Rattle.acc_grammar.proofs.RunReaders.{flag}
 use Rattle.acc_base.specs.declared.forms.Lin.{Lin}
-use Rattle.acc_base.specs.declared.forms.Clause.{Clause}
-use Rattle.acc_base.specs.declared.tables.Table.{Table}
 use Rattle.acc_base.specs.declared.designs.Point.{Point}
-use Rattle.acc_base.specs.declared.designs.TxType.{TxType}
-use Rattle.acc_syntax.specs.declared.trees.Names.{Names}
-use Rattle.acc_names.specs.Names.{listed_or_none}
-use Rattle.acc_names.specs.Scopes.{locals_of, points_in, point_names}
 use Rattle.acc_limits.specs.Marks.{ending}
-use Rattle.acc_meaning.specs.Scopes.{Variables, Scope as Surroundings, fitted, number_of}
+use Rattle.acc_meaning.specs.Scopes.{Scope as Surroundings}
 use Rattle.acc_meaning.specs.Forms.{clause_of}
-use Rattle.acc_meaning.specs.Types.{zero_lin, variant_of, point_of, type_variables, type_scope, returned_of, type_of}
-use Rattle.acc_meaning.specs.Sizes.{clause_statement_sizes, step_sizes, variant_sizes, point_sizes, names_sizes, type_sizes}
+use Rattle.acc_meaning.specs.Types.{zero_lin, variant_of, point_of}
+use Rattle.acc_meaning.specs.Sizes.{clause_statement_sizes, step_sizes, variant_sizes, point_sizes}
 use Rattle.acc_print.specs.Types.{is_zero}
-use Rattle.acc_print.specs.Names.{Scope, name_at, names_within, within}
-use Rattle.acc_readback.specs.Trees.{lin_tree, names_tree, clause_tree}
-use Rattle.acc_readback.specs.TypeTrees.{table_tree, step_tree, variant_tree, point_tree, first_point, type_tree}
-use Rattle.acc_readback.specs.Printable.{IsName, IsLinSaid, IsClauseSaid, AreNew}
-use Rattle.acc_readback.specs.PrintableTypes.{IsTableSaid, IsPointSaid, ArePointsSaid, IsTypeSaid}
-use Rattle.acc_readback.proofs.NewNames.{fitted_small, number_new}
-use Rattle.acc_readback.proofs.NamedVariables.{Fits}
+use Rattle.acc_print.specs.Names.{Scope}
+use Rattle.acc_readback.specs.Trees.{clause_tree}
+use Rattle.acc_readback.specs.TypeTrees.{step_tree, variant_tree, point_tree, first_point}
+use Rattle.acc_readback.specs.Printable.{IsLinSaid, IsClauseSaid}
+use Rattle.acc_readback.specs.PrintableTypes.{IsPointSaid, ArePointsSaid}
+use Rattle.acc_readback.proofs.ItemNumbers.{trees_named}
 use Rattle.acc_readback.proofs.MeantValues.{all_back, lin_back, lin_ends}
-use Rattle.acc_readback.proofs.MeantRows.{Suits, name_of_table}
-use Rattle.acc_readback.proofs.MeantClauses.{names_back, clause_back, clause_ends}
+use Rattle.acc_readback.proofs.MeantRows.{Suits}
+use Rattle.acc_readback.proofs.MeantClauses.{clause_back, clause_ends}
 use Rattle.acc_readback.proofs.MeantSteps.{ArePoints, step_back, step_ends}
 use Rattle.acc_readback.proofs.OnlyEnds.{AreEnds, one_end, ends_behind, ended, ends_mapped}
 
 abbrev pub name_of_point : Point → List ℕ
 name_of_point p = p.name
 
-zero_back : (l : Lin) → is_zero l.coeffs l.constant ≡ true → zero_lin ≡ l
-zero_back l h = none l.coeffs l.constant h
-  where
-    none : (ts : List (ℕ × ℤ)) (n : ℤ) → is_zero ts n ≡ true → zero_lin ≡ record { coeffs = ts; constant = n }
-    none [] (pos zero) h = refl
-    none [] (pos (suc n)) h = absurd cc
-    none [] (negsuc n) h = absurd cc
-    none (t ∷ ts) n h = absurd cc
+zero_back : (ts : List (ℕ × ℤ)) (n : ℤ) → is_zero ts n ≡ true → zero_lin ≡ record { coeffs = ts; constant = n }
+zero_back [] (pos zero) h = refl
+zero_back [] (pos (suc n)) h = absurd cc
+zero_back [] (negsuc n) h = absurd cc
+zero_back (t ∷ ts) n h = absurd cc
 
 module _ (s : Scope) (m : Surroundings) (f : Suits s m) (none : m.variables.own ≡ []) where
   variant_back : (l : Lin) → IsLinSaid s.names l → variant_of m.variables (variant_tree s.names l) ≡ l
   variant_back l h = elim (flag (is_zero l.coeffs l.constant)) [
-    | inl e ↦ rw e (zero_back l e)
+    | inl e ↦ rw e (zero_back l.coeffs l.constant e)
     | inr e ↦ rw e (lin_back s.names m.variables f.variables l h)
   ]
 
@@ -81,10 +68,6 @@ module _ (s : Scope) (m : Surroundings) (f : Suits s m) (none : m.variables.own 
     points_back [] h = absurd h
     points_back (p ∷ ps) h = λ i. point_back p h.0 i ∷ all_back (IsPointSaid s points) (point_of m names) (point_tree s points) ps point_back h.1 i
 
-named_each : (s : Scope) (points ps : List Point) → map (λ p. p.name) (map (point_tree s points) ps) ≡ map name_of_point ps
-named_each s points [] = refl
-named_each s points (p ∷ ps) = ap (λ (xs : List (List ℕ)). p.name ∷ xs) (named_each s points ps)
-
 pub points_named : (s : Scope) (points ps : List Point) → ArePointsSaid s points ps → map (λ p. p.name) (first_point s points ps ∷ map (point_tree s points) (drop 1 ps)) ≡ map name_of_point ps
 points_named s points [] h = absurd h
-points_named s points (p ∷ ps) h = ap (λ (xs : List (List ℕ)). p.name ∷ xs) (named_each s points ps)
+points_named s points (p ∷ ps) h = ap (λ (xs : List (List ℕ)). p.name ∷ xs) (trees_named name_of_point (point_tree s points) (λ q. q.name) (λ q. refl) ps)

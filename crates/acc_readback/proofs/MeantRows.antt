@@ -1,5 +1,5 @@
 -- Printed rows and cells stand for themselves, and pass no limit.
-use Rattle.std.proofs.Common.{◌≡◌, ◌≤◌, ◌^◌, ℕ, List, [], ◌∷◌, length, map, Option, Some, None, refl, sym, ap, subst, ◌∙◌, arith}
+use Rattle.std.proofs.Common.{◌≡◌, ◌≤◌, ℕ, List, [], ◌∷◌, length, map, Option, Some, None, refl, ap, subst, ◌∙◌, arith}
 use Rattle.std.specs.Prelude.{slice_get, unwrap_or, option_map}
 use Rattle.std.specs.List.{find}
 use Rattle.std.specs.Str.{bytes_eq}
@@ -11,13 +11,13 @@ use Rattle.acc_meaning.specs.Scopes.{Scope as Surroundings, number_of, table_nam
 use Rattle.acc_meaning.specs.Rows.{key_in}
 use Rattle.acc_meaning.specs.Sizes.{place_sizes}
 use Rattle.acc_print.specs.Names.{Scope, name_at, table_name, column_name}
-use Rattle.acc_readback.specs.Trees.{sums_tree, place_tree, cell_tree}
+use Rattle.acc_readback.specs.Trees.{place_tree, cell_tree}
 use Rattle.acc_readback.specs.TypeTrees.{table_tree}
 use Rattle.acc_readback.specs.Printable.{IsName, IsKeySaid, IsRowSaid, IsCellSaid, AreNew}
 use Rattle.acc_readback.specs.PrintableTypes.{IsTableSaid}
-use Rattle.acc_readback.proofs.NewNames.{number_new}
-use Rattle.acc_readback.proofs.NamedItems.{looked_up, number_item, found_item}
-use Rattle.acc_readback.proofs.NamedVariables.{Fits}
+use Rattle.acc_readback.proofs.NamePlaces.{number_new}
+use Rattle.acc_readback.proofs.ItemNumbers.{looked_up, trees_named, number_item, found_item}
+use Rattle.acc_readback.proofs.VariableNumbers.{Fits}
 use Rattle.acc_readback.proofs.MeantValues.{lins_back, lins_end}
 use Rattle.acc_readback.proofs.OnlyEnds.{AreEnds}
 
@@ -32,10 +32,6 @@ pub record Suits (s : Scope) (m : Surroundings) : Type 0 where
   pub new : AreNew [] (map name_of_table s.tables)
   pub variables : Fits s.names m.variables
 
-trees_named : (ts : List Table) → table_names (map table_tree ts) ≡ map name_of_table ts
-trees_named [] = refl
-trees_named (t ∷ ts) = ap (λ (xs : List (List ℕ)). t.name ∷ xs) (trees_named ts)
-
 -- a table that has a name is there
 table_there : (o : Option Table) → IsName (table_name o) → (t : Table) × (o ≡ Some t)
 table_there None h = absurd h.0
@@ -43,7 +39,7 @@ table_there (Some t) h = (t, refl)
 
 module _ (s : Scope) (m : Surroundings) (f : Suits s m) where
   names_back : table_names m.tables ≡ map name_of_table s.tables
-  names_back = ap table_names f.tables ∙ trees_named s.tables
+  names_back = ap table_names f.tables ∙ trees_named name_of_table table_tree (λ u. u.name) (λ t. refl) s.tables
 
   pub table_back : (table : ℕ) (key : List Lin) → IsRowSaid s table key → table_in m (place_tree s table key) ≡ table
   table_back table key h =

@@ -1,8 +1,7 @@
 -- Printed steps stand for themselves, and pass no limit.
-use Rattle.std.proofs.Common.{◌≡◌, ◌≤◌, ◌^◌, ℕ, Bool, false, List, [], ◌∷◌, ◌++◌, length, map, Option, Some, None, refl, sym, ap, ◌∙◌, arith, ℤ, pos, negsuc}
+use Rattle.std.proofs.Common.{◌≡◌, ◌≤◌, ℕ, false, List, [], ◌∷◌, length, map, Option, Some, None, refl, ap, arith, ℤ, pos, negsuc}
 use Rattle.std.specs.Prelude.{drop, slice_get, unsigned_abs}
 use Rattle.std.specs.List.{flat_map}
-use Rattle.acc_grammar.specs.Readers.{AllIn}
 use Rattle.acc_base.specs.Numbers.{IsSmall}
 use Rattle.acc_base.specs.Lines.{point_name}
 use Rattle.acc_base.specs.declared.steps.Read.{Read}
@@ -16,18 +15,18 @@ use Rattle.acc_base.specs.declared.steps.Step.{Step}
 use Rattle.acc_base.specs.declared.designs.Point.{Point}
 use Rattle.acc_meaning.specs.Scopes.{Scope as Surroundings, number_of, variable_of}
 use Rattle.acc_meaning.specs.Values.{kept}
-use Rattle.acc_meaning.specs.Steps.{read_of, action_of, target_of, path_of, all_paths, step_of}
-use Rattle.acc_meaning.specs.Sizes.{read_words_sizes, read_sizes, action_words_sizes, action_sizes, guard_sizes, path_sizes, step_sizes}
+use Rattle.acc_meaning.specs.Steps.{read_of, action_of, target_of, path_of, step_of}
+use Rattle.acc_meaning.specs.Sizes.{read_sizes, action_sizes, guard_sizes, path_sizes, step_sizes}
 use Rattle.acc_limits.specs.Marks.{ending}
 use Rattle.acc_print.specs.Sums.{is_negative}
 use Rattle.acc_print.specs.Names.{Scope, name_at}
 use Rattle.acc_readback.specs.Trees.{variable_tree, guard_tree}
-use Rattle.acc_readback.specs.TypeTrees.{values_tree, read_statement_tree, action_statement_tree, target_statement_tree, path_tree, first_path, step_tree}
+use Rattle.acc_readback.specs.TypeTrees.{read_statement_tree, action_statement_tree, target_statement_tree, path_tree, first_path, step_tree}
 use Rattle.acc_readback.specs.Printable.{IsName, IsVariable, AreNew}
 use Rattle.acc_readback.specs.PrintableTypes.{IsReadSaid, IsActionSaid, IsTargetSaid, IsPathSaid, ArePathsSaid, IsStepSaid}
-use Rattle.acc_readback.proofs.NewNames.{fitted_small}
-use Rattle.acc_readback.proofs.NamedItems.{number_item}
-use Rattle.acc_readback.proofs.NamedVariables.{variable_back}
+use Rattle.acc_readback.proofs.NamePlaces.{fitted_small}
+use Rattle.acc_readback.proofs.ItemNumbers.{number_item}
+use Rattle.acc_readback.proofs.VariableNumbers.{variable_back}
 use Rattle.acc_readback.proofs.MeantValues.{all_back, number_kept, lin_back, lin_ends, values_back, values_end, guard_back, guard_ends}
 use Rattle.acc_readback.proofs.MeantRows.{Suits, table_back, key_back, column_back, row_ends}
 use Rattle.acc_readback.proofs.OnlyEnds.{AreEnds, one_end, ends_behind, ended, ends_mapped}
@@ -43,11 +42,7 @@ pub record ArePoints (points : List Point) (names : List (List ℕ)) : Type 0 wh
   pub new : AreNew [] (map (λ (p : Point). p.name) points)
   pub few : length points ≤ 32
 
--- a point that has a name is there
-pub point_there : (o : Option Point) → IsName (point_name o) → (p : Point) × (o ≡ Some p)
-point_there None h = absurd h.0
-point_there (Some p) h = (p, refl)
-
+-- the number of a point that has a name
 pub point_back : (points : List Point) (names : List (List ℕ)) → ArePoints points names → (n : ℕ) (o : Option Point) → slice_get points n ≡ o → IsName (point_name o) → number_of (point_name o) names ≡ n
 point_back points names f n None e h = absurd h.0
 point_back points names f n (Some p) e h = number_item (λ (q : Point). q.name) points names n p f.are f.new (omega (arith, f.few)) e

@@ -1,43 +1,35 @@
 -- Printed types stand for themselves, and pass no limit.
-use Rattle.std.proofs.Common.{◌≡◌, ◌≤◌, ◌^◌, ◌+◌, ℕ, Bool, true, false, List, [], ◌∷◌, ◌++◌, length, map, take, drop, Option, Some, None, refl, sym, ap, subst, ◌∙◌, inl, inr, arith, zero, suc, ℤ, pos, negsuc, if◌then◌else◌, append-nil, length-append}
-use Rattle.std.specs.Prelude.{slice_get, codes}
+use Rattle.std.proofs.Common.{◌≡◌, ◌≤◌, ℕ, true, List, [], ◌∷◌, ◌++◌, length, map, take, drop, refl, sym, ap, subst, ◌∙◌, arith, append-nil, length-append}
+use Rattle.std.specs.Prelude.{codes}
 use Rattle.std.specs.List.{flat_map}
 use Rattle.std.proofs.lemmas.List.{take-append-drop, length-take-le}
 use Rattle.acc_grammar.specs.Readers.{AllIn}
-use Rattle.acc_grammar.proofs.RunReaders.{flag}
-use Rattle.acc_base.specs.declared.forms.Lin.{Lin}
+use Rattle.acc_grammar.proofs.Exact.{AllIn-append}
 use Rattle.acc_base.specs.declared.forms.Clause.{Clause}
 use Rattle.acc_base.specs.declared.tables.Table.{Table}
-use Rattle.acc_base.specs.declared.designs.Point.{Point}
 use Rattle.acc_base.specs.declared.designs.TxType.{TxType}
 use Rattle.acc_syntax.specs.declared.trees.TypeTree.{TypeTree}
-use Rattle.acc_names.specs.Names.{listed_or_none}
 use Rattle.acc_names.specs.Scopes.{locals_of, points_in, point_names}
 use Rattle.acc_limits.specs.Marks.{ending}
-use Rattle.acc_meaning.specs.Scopes.{Variables, Scope as Surroundings, fitted, number_of}
+use Rattle.acc_meaning.specs.Scopes.{Scope as Surroundings, fitted, number_of}
 use Rattle.acc_meaning.specs.Forms.{clause_of}
-use Rattle.acc_meaning.specs.Types.{zero_lin, variant_of, point_of, type_variables, type_scope, returned_of, type_of}
-use Rattle.acc_meaning.specs.Sizes.{clause_statement_sizes, step_sizes, variant_sizes, point_sizes, names_sizes, type_sizes}
-use Rattle.acc_print.specs.Types.{is_zero}
-use Rattle.acc_print.specs.Names.{Scope, name_at, names_within, within}
-use Rattle.acc_readback.specs.Trees.{lin_tree, names_tree, clause_tree}
-use Rattle.acc_readback.specs.TypeTrees.{table_tree, step_tree, variant_tree, point_tree, first_point, type_tree}
-use Rattle.acc_readback.specs.Printable.{IsName, IsLinSaid, IsClauseSaid, AreNew}
-use Rattle.acc_readback.specs.PrintableTypes.{IsTableSaid, IsPointSaid, ArePointsSaid, IsTypeSaid}
-use Rattle.acc_readback.proofs.NewNames.{fitted_small, number_new}
-use Rattle.acc_readback.proofs.NamedVariables.{Fits}
-use Rattle.acc_readback.proofs.MeantValues.{all_back, lin_back, lin_ends}
+use Rattle.acc_meaning.specs.Types.{type_variables, type_scope, returned_of, type_of}
+use Rattle.acc_meaning.specs.Sizes.{clause_statement_sizes, point_sizes, names_sizes, type_sizes}
+use Rattle.acc_print.specs.Names.{name_at, names_within, within}
+use Rattle.acc_readback.specs.Trees.{names_tree, clause_tree}
+use Rattle.acc_readback.specs.TypeTrees.{table_tree, type_tree}
+use Rattle.acc_readback.specs.Printable.{IsName, IsClauseSaid, AreNew}
+use Rattle.acc_readback.specs.PrintableTypes.{IsTableSaid, IsTypeSaid}
+use Rattle.acc_readback.proofs.NamePlaces.{fitted_small, number_new}
+use Rattle.acc_readback.proofs.VariableNumbers.{Fits}
+use Rattle.acc_readback.proofs.MeantValues.{all_back}
 use Rattle.acc_readback.proofs.MeantRows.{Suits, name_of_table}
 use Rattle.acc_readback.proofs.MeantClauses.{names_back, clause_back, clause_ends}
 use Rattle.acc_readback.proofs.MeantPoints.{points_end, points_back, points_named}
-use Rattle.acc_readback.proofs.MeantSteps.{ArePoints, step_back, step_ends}
-use Rattle.acc_readback.proofs.OnlyEnds.{AreEnds, one_end, ends_behind, ended, ends_mapped}
+use Rattle.acc_readback.proofs.MeantSteps.{ArePoints}
+use Rattle.acc_readback.proofs.OnlyEnds.{AreEnds, one_end, ends_behind, ends_mapped}
 
 -- ---- the names of a type
-
-joined_all : {X : Type 0} (P : X → Type 0) (xs ys : List X) → AllIn P xs → AllIn P ys → AllIn P (xs ++ ys)
-joined_all P [] ys h k = k
-joined_all P (x ∷ xs) ys h k = (h.0, joined_all P xs ys h.1 k)
 
 names_end : (xs : List (List ℕ)) → AreEnds (names_sizes (names_tree xs))
 names_end [] = tt
@@ -56,7 +48,7 @@ returns_back tables t h =
     (λ i. map (λ x. number_of x (locals_back tables t i)) (names_back (map (name_at t.locals) t.returns) i)) ∙ numbers_back t.locals h.new_locals h.few_locals t.returns h.returns
 
 local_names : (tables : List Table) (t : TxType) → IsTypeSaid tables t → AllIn IsName t.locals
-local_names tables t h = subst (AllIn IsName) (take-append-drop t.params t.locals) (joined_all IsName (take t.params t.locals) (drop t.params t.locals) h.parameters h.locals)
+local_names tables t h = subst (AllIn IsName) (take-append-drop t.params t.locals) (AllIn-append IsName (take t.params t.locals) (drop t.params t.locals) h.parameters h.locals)
 
 -- the names within a type are its variables'
 pub type_fits : (tables : List Table) (t : TxType) → IsTypeSaid tables t → Fits (names_within t.locals) (type_variables (type_tree tables t))

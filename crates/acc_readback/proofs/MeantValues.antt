@@ -1,5 +1,5 @@
 -- Printed linear values, lists of them and guards stand for themselves, and pass no limit.
-use Rattle.std.proofs.Common.{◌≡◌, ℕ, Bool, true, false, List, [], ◌∷◌, ◌++◌, map, Option, Some, None, refl, sym, ap, ◌∙◌, inl, inr, arith, zero, suc, ℤ, pos, negsuc, ◌-ℤ◌, if◌then◌else◌}
+use Rattle.std.proofs.Common.{◌≡◌, ℕ, Bool, true, List, [], ◌∷◌, ◌++◌, map, Option, Some, None, refl, sym, ap, ◌∙◌, inl, inr, arith, zero, suc, ℤ, pos, negsuc, ◌-ℤ◌, if◌then◌else◌}
 use Rattle.std.specs.Prelude.{◌==◌, unsigned_abs}
 use Rattle.std.specs.List.{flat_map}
 use Rattle.std.proofs.lemmas.Int.{ints}
@@ -13,15 +13,16 @@ use Rattle.acc_terms.specs.declared.parts.Part.{Part}
 use Rattle.acc_syntax.specs.declared.trees.Variable.{Variable}
 use Rattle.acc_syntax.specs.declared.trees.Term.TheVariants.{Plain, Product}
 use Rattle.acc_meaning.specs.Scopes.{Variables, variable_of}
-use Rattle.acc_meaning.specs.Values.{multiple, alone, part_of, signed, signed_part, parts_of, collected_by, kept, kept_term, lin_by, terms_of, lin_of, lins_of, values_of, compared, lin_rel_terms, lin_rel_of, all_rels, guard_of}
+use Rattle.acc_meaning.specs.Values.{multiple, alone, part_of, signed, signed_part, parts_of, collected_by, kept, kept_term, lin_by, terms_of, lin_of, lins_of, values_of, compared, lin_rel_terms, lin_rel_of, guard_of}
 use Rattle.acc_meaning.specs.Sizes.{sum_sizes, sums_sizes, values_sizes, lin_rel_sizes, guard_sizes}
 use Rattle.acc_print.specs.Sums.{is_negative}
 use Rattle.acc_readback.specs.Trees.{variable_tree, term_tree, signed_tree, constant_trees, sum_tree, lin_tree, sums_tree, relation_tree, lin_rel_tree, guard_tree}
 use Rattle.acc_readback.specs.TypeTrees.{values_tree}
 use Rattle.acc_readback.specs.Printable.{IsTermSaid, IsLinSaid, IsLinRelSaid}
-use Rattle.acc_readback.proofs.NamedVariables.{Fits, variable_back}
-use Rattle.acc_readback.proofs.MeantTerms.{known, lone, behind, written, terms_and, written_back, compared_back, relation_back}
-use Rattle.acc_readback.proofs.OnlyEnds.{AreEnds, AreSmall, ends_behind, ends_mapped, small_test, small_terms_end}
+use Rattle.acc_readback.proofs.VariableNumbers.{Fits, variable_back}
+use Rattle.acc_readback.proofs.MeantTerms.{known, behind, written, terms_and, written_back, compared_back, relation_back}
+use Rattle.acc_readback.proofs.OnlyEnds.{AreEnds, ends_behind, ends_mapped}
+use Rattle.acc_readback.proofs.SmallNumbers.{AreSmall, small_test, small_terms_end}
 
 -- items whose trees stand for them
 pub all_back : {X Y : Type 0} (P : X → Type 0) (meant : Y → X) (tree : X → Y) (xs : List X) → ((x : X) → P x → meant (tree x) ≡ x) → AllIn P xs → map meant (map tree xs) ≡ xs

@@ -1,11 +1,10 @@
 -- Variables by their names: the variable that a name stands for is the one that has the name.
-use Rattle.std.proofs.Common.{◌≡◌, ◌<◌, ◌≤◌, ◌^◌, ◌+◌, ◌-◌, ℕ, zero, suc, Bool, true, false, List, [], ◌∷◌, ◌++◌, length, Option, Some, None, refl, sym, ap, subst, ◌∙◌, inl, inr, arith, append-nil, length-append}
-use Rattle.std.specs.Prelude.{if◌then◌else◌, ◌||◌, unwrap_or, codes}
+use Rattle.std.proofs.Common.{◌≡◌, ◌<◌, ◌≤◌, ◌+◌, ◌-◌, ℕ, zero, suc, Bool, true, false, List, [], ◌∷◌, ◌++◌, length, Option, refl, sym, ap, subst, ◌∙◌, inl, inr, arith, append-nil, length-append}
+use Rattle.std.specs.Prelude.{if◌then◌else◌, unwrap_or, codes}
 use Rattle.std.specs.Str.{bytes_eq}
 use Rattle.std.proofs.lemmas.Bool.{or_parts, cases_lt}
 use Rattle.std.proofs.lemmas.List.Folds.{list_any-append}
 use Rattle.acc_grammar.specs.Readers.{AllIn}
-use Rattle.acc_syntax.specs.declared.trees.Variable.{Variable}
 use Rattle.acc_syntax.specs.declared.trees.Variable.TheVariants.{Named, Oneself}
 use Rattle.acc_names.specs.Names.{stands_in}
 use Rattle.acc_names.specs.Places.{place_of}
@@ -13,7 +12,7 @@ use Rattle.acc_meaning.specs.Scopes.{Variables, fitted, first_own, named, variab
 use Rattle.acc_print.specs.Names.{name_at}
 use Rattle.acc_readback.specs.Trees.{variable_named, variable_tree}
 use Rattle.acc_readback.specs.Printable.{IsName, IsVariable, AreNew}
-use Rattle.acc_readback.proofs.NewNames.{new_apart, place_new, place_none, fitted_small}
+use Rattle.acc_readback.proofs.NamePlaces.{new_apart, place_new, place_none, fitted_small}
 use Rattle.acc_readback.proofs.ValueParts.{not_self}
 
 -- ---- names in a row

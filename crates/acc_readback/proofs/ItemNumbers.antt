@@ -1,5 +1,5 @@
 -- Items with names of which none is defined twice are found by their names.
-use Rattle.std.proofs.Common.{◌≡◌, ◌<◌, ◌≤◌, ◌^◌, ℕ, zero, suc, Bool, true, false, List, [], ◌∷◌, ◌++◌, length, map, Option, Some, None, refl, sym, ap, subst, ◌∙◌, arith}
+use Rattle.std.proofs.Common.{◌≡◌, ◌<◌, ◌≤◌, ◌^◌, ℕ, zero, suc, false, List, [], ◌∷◌, ◌++◌, length, map, Option, Some, refl, sym, ap, subst, ◌∙◌, arith}
 use Rattle.std.specs.Prelude.{option_map, unwrap_or, slice_get}
 use Rattle.std.specs.List.{find}
 use Rattle.std.specs.Str.{bytes_eq}
@@ -13,7 +13,7 @@ use Rattle.acc_names.specs.Names.{stands_in, defines_again}
 use Rattle.acc_meaning.specs.Scopes.{fitted, number_of}
 use Rattle.acc_print.specs.Names.{name_at}
 use Rattle.acc_readback.specs.Printable.{AreNew}
-use Rattle.acc_readback.proofs.NewNames.{new_apart, place_new, fitted_small}
+use Rattle.acc_readback.proofs.NamePlaces.{new_apart, place_new, fitted_small}
 
 -- what each has, one that is looked up has
 pub looked_up : {X : Type 0} (P : X → Type 0) (xs : List X) (i : ℕ) (x : X) → AllIn P xs → slice_get xs i ≡ Some x → P x
@@ -23,6 +23,11 @@ looked_up P (y ∷ ys) (suc i) x all e = looked_up P ys i x all.1 e
 
 pub mapped_at : {X Y : Type 0} (f : X → Y) (xs : List X) (i : ℕ) (x : X) → slice_get xs i ≡ Some x → slice_get (map f xs) i ≡ Some (f x)
 mapped_at f xs i x e = slice_get-map f xs i ∙ ap (option_map f) e
+
+-- the names of trees
+pub trees_named : {X Y : Type 0} (name : X → List ℕ) (tree : X → Y) (called : Y → List ℕ) → ((x : X) → called (tree x) ≡ name x) → (xs : List X) → map called (map tree xs) ≡ map name xs
+trees_named name tree called same [] = refl
+trees_named name tree called same (x ∷ xs) = λ i. same x i ∷ trees_named name tree called same xs i
 
 name_of_item : {X : Type 0} (name : X → List ℕ) (xs : List X) (i : ℕ) (x : X) → slice_get xs i ≡ Some x → name_at (map name xs) i ≡ name x
 name_of_item name xs i x e = ap (λ (o : Option (List ℕ)). unwrap_or o []) (mapped_at name xs i x e)
