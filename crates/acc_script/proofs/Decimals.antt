@@ -5,10 +5,11 @@ use Rattle.std.specs.Char.{is_ascii_digit, digit_value}
 use Rattle.std.specs.Cmp.{first_so, second_so}
 use Rattle.std.specs.Fmt.{decimal, signed_decimal}
 use Rattle.std.specs.List.{list_all}
+use Rattle.std.specs.Int.Signed.{mag}
 use Rattle.std.specs.Str.Parse.{digits_value}
 use Rattle.std.proofs.lemmas.Bool.Decides.{nat_tests}
 use Rattle.std.proofs.lemmas.Int.Digits.{digits_value_more}
-use Rattle.std.proofs.lemmas.Fmt.{decimal_digit, digits_decimal, digits_value-decimal, decimal_nonempty, first_decimal, decimal-digits_value, decimal_injective}
+use Rattle.std.proofs.lemmas.Fmt.{decimal_digit, digits_decimal, digits_value-decimal, decimal_nonempty, first_decimal, decimal-digits_value, decimal_injective, signed_decimal_injective}
 use Rattle.std.proofs.lemmas.Str.Parse.{IsNumeralModel, numerals_by_value, digits_value-take-le}
 use Rattle.acc_base.specs.Numbers.{IsSmall}
 use Rattle.acc_script.specs.Pieces.{is_blank}
@@ -102,3 +103,11 @@ no_minus n digits h e = let d : is_numeral (45 ∷ digits) ≡ true = ap is_nume
 pub no_negative : (word digits : List ℕ) → word ≡ 45 ∷ digits → ((n : ℕ) → n ≤ 2 ^ 45 → 0 < n → digits ≢ decimal n) → (v : ℤ) → IsSmall v → word ≢ signed_decimal v
 no_negative word digits w none (pos n) small e = no_minus n digits (omega arith) (sym w ∙ e)
 no_negative word digits w none (negsuc n) small e = none (suc n) small (omega arith) (let f : digits ≡ decimal (suc n) = cc in f)
+
+-- a number within 2^45 of 0 is spelled in one way
+pub small_once : (x y : ℤ) → IsSmall x → IsSmall y → signed_decimal x ≡ signed_decimal y → x ≡ y
+small_once x y p q e = signed_decimal_injective x y (magnitude x p) (magnitude y q) e
+  where
+    magnitude : (z : ℤ) → IsSmall z → mag z < 2 ^ 63
+    magnitude (pos n) h = omega arith
+    magnitude (negsuc n) h = omega arith

@@ -4,3 +4,4 @@ pub mod LineSteps
 pub mod OrderSteps
 pub mod Refusals
 pub mod CallSteps
+pub mod TapeSteps

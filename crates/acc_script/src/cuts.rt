@@ -1,5 +1,5 @@
 //! Texts that are cut into lines, and lines that are cut into words.
-ghost use Rattle.std.specs.Prelude.{◌≡◌, ℕ, ◌==◌, not, [], ◌∷◌, MatchOption, option_copied};
+ghost use Rattle.std.specs.Prelude.{◌≡◌, ◌≢◌, ℕ, ◌==◌, not, List, [], ◌∷◌, MatchBool, MatchOption, option_copied};
 ghost use Rattle.std.specs.List.{prefix_len};
 ghost use Rattle.acc_script.specs.Pieces.{pieces, pieces_left, words_in, words_of, is_skipped};
 
@@ -91,6 +91,33 @@ impl<'a> Words<'a> {
             }
         }
         None
+    }
+
+    /// The next word, which stays.
+    pub fn first(&self) -> Option<&'a [u8]>
+        ensures { MatchOption result (self.now ≡ []) (λ word. (left : List (List ℕ)) × (self.now ≡ word.now ∷ left)) }
+    {
+        let mut ahead = Words {
+            pieces: Pieces {
+                at: self.pieces.at,
+                rest: self.pieces.rest,
+            },
+        };
+        ahead.next()
+    }
+
+    /// Skips the next word where it is this one.
+    pub fn skip(&mut self, word: &[u8]) -> bool
+        ensures { MatchBool result (self.old ≡ word.now ∷ self.new)
+            ((self.new ≡ self.old) × ((left : List (List ℕ)) → self.old ≢ word.now ∷ left)) }
+    {
+        match self.first() {
+            Some(next) if next == word => {
+                self.next();
+                true
+            }
+            _ => false,
+        }
     }
 }
 

@@ -7,6 +7,7 @@ mod lines;
 mod numbers;
 mod orders;
 mod scripts;
+mod tapes;
 
 pub use errors::ScriptError;
 pub use lines::{

@@ -11,6 +11,9 @@ ghost use Rattle.acc_script.specs.OrderLines.{IsPlace};
 /// The largest absolute value of a script's numbers: 2^45.
 const LARGEST: u64 = 1 << 45;
 
+/// The largest number of steps after which a call can be asked to turn: 2^16.
+const LATEST: u64 = 1 << 16;
+
 fn are_digits(bytes: &[u8]) -> bool
     ensures { result ≡ list_all is_ascii_digit bytes.now }
 {
@@ -52,12 +55,27 @@ fn natural(word: &[u8]) -> Option<u64>
     }
 }
 
+/// The number up to a bound that a word spells, if there is one.
+fn bounded(word: &[u8], most: u64) -> Option<u64>
+    ensures { MatchOption result ((n : ℕ) → n ≤ most → word.now ≢ decimal n) (λ n. (n ≤ most) × (word.now ≡ decimal n)) }
+{
+    let n = natural(word)?;
+    if n <= most { Some(n) } else { None }
+}
+
 /// The number up to 2^45 that a word spells, if there is one.
 fn magnitude(word: &[u8]) -> Option<u64>
     ensures { MatchOption result ((n : ℕ) → n ≤ 2 ^ 45 → word.now ≢ decimal n) (λ n. (n ≤ 2 ^ 45) × (word.now ≡ decimal n)) }
 {
-    let n = natural(word)?;
-    if n <= LARGEST { Some(n) } else { None }
+    bounded(word, LARGEST)
+}
+
+/// The number of steps, up to 65,536, that a word spells, if there is one.
+pub fn steps(word: &[u8]) -> Option<u32>
+    ensures { MatchOption result ((n : ℕ) → n ≤ 65536 → word.now ≢ decimal n) (λ n. (n ≤ 65536) × (word.now ≡ decimal n)) }
+{
+    let n = bounded(word, LATEST)?;
+    Some(n as u32)
 }
 
 /// The number within 2^45 of 0 that a word spells, if there is one.

@@ -8,6 +8,7 @@ ghost use Rattle.acc_script.specs.CallParts.{IsCalled, AreParameters, BeginWith}
 use crate::cuts::{Pieces, Words, is_skipped};
 use crate::errors::{LineError, ScriptError};
 use crate::numbers::integer;
+use crate::tapes::{ask, tape};
 use acc_base::designs::Design;
 use acc_base::machines::Call;
 use acc_base::sequences::Seq;
@@ -69,14 +70,13 @@ fn read_call(alloc: Global, d: &Design, line: &[u8]) -> Result<Call, LineError>
         return Err(LineError::Refused);
     };
     let params = parameters(alloc, count, &mut words)?;
-    if words.next().is_some() {
-        return Err(LineError::Refused);
-    }
+    let tape = tape(alloc, &mut words)?;
+    let ask = ask(&mut words)?;
     Ok(Call {
         ty,
         params,
-        tape: Seq::new(alloc),
-        ask: None,
+        tape,
+        ask,
     })
 }
 
