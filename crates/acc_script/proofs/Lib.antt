@@ -5,3 +5,4 @@ pub mod OrderSteps
 pub mod Refusals
 pub mod CallSteps
 pub mod TapeSteps
+pub mod Sizes

@@ -4,3 +4,4 @@ pub mod LineReadings
 pub mod CallLines
 pub mod CallParts
 pub mod OrderLines
+pub mod BeginSizes

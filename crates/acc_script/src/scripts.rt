@@ -1,8 +1,9 @@
 //! Scripts: a line asks for a transaction.
-ghost use Rattle.std.specs.Prelude.{◌≡◌, ◌≢◌, ℕ, ◌<◌, ◌≤◌, ◌^◌, List, All, length, position, Some, None, IfSome, IfOk, OnOk, ℤ};
+ghost use Rattle.std.specs.Prelude.{◌≡◌, ◌≢◌, ℕ, ◌*◌, ◌<◌, ◌≤◌, ◌^◌, List, All, length, position, Some, None, IfSome, IfOk, OnOk, ℤ};
 ghost use Rattle.acc_base.specs.declared.machines.Call.{Call};
 ghost use Rattle.acc_script.specs.LineReadings.{AddsSaid, IsTooMuch};
 ghost use Rattle.acc_script.specs.CallLines.{is_named, FitsType, IsCallLine, SaysCall, IsScript, RefusesLine, most_calls};
+ghost use Rattle.acc_script.specs.BeginSizes.{begins_size};
 ghost use Rattle.acc_script.specs.CallParts.{IsCalled, AreParameters, BeginWith};
 
 use crate::cuts::{Pieces, Words, is_skipped};
@@ -99,6 +100,10 @@ pub fn calls(alloc: Global, d: &Design, text: &[u8]) -> Result<Seq<Call>, Script
     ensures ok { IfOk result (IsScript d.now text.now) }
     ensures only { (asked : List Call) → IsScript d.now text.now asked → IfOk result (λ found. found ≡ asked) }
     ensures fits { IfOk result (All (FitsType d.now)) }
+
+    // In a journal the events Begin of the calls take at most ten bytes for each byte of the script.
+    ensures short { IfOk result (λ found. begins_size found ≤ 10 * length text.now) }
+
     ensures line { (n : ℕ) → result ≡ Err (ScriptError.Line n) → RefusesLine d.now text.now n }
     ensures none { (n : ℕ) → result ≡ Err (ScriptError.Line n)
         → (asked : List Call) → ¬ IsScript d.now text.now asked }

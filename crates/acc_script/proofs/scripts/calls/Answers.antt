@@ -5,6 +5,7 @@ use Rattle.acc_script.specs.declared.errors.ScriptError.TheVariants as script_er
 use Rattle.acc_script.proofs.LineSteps.{next_number, one_skipped, one_said, one_refused, refused_none, all_read, one_said_by, holds_of_all}
 use Rattle.acc_script.proofs.CallSteps.{says_one, says_fitting}
 use Rattle.acc_script.proofs.Refusals.{named_line}
+use Rattle.acc_script.proofs.Sizes.{script_short}
 use Rattle.acc_script.proofs.scripts.calls.Goals as goal
 
 pub overflow_add-count : goal.overflow_add-count
@@ -32,3 +33,7 @@ returns-clause-only c = λ asked whole.
 pub returns-clause-fits : goal.returns-clause-fits
 returns-clause-fits c =
     holds_of_all (SaysCall c.args.d.now) (FitsType c.args.d.now) (says_fitting c.args.d.now) most_calls c.args.text.now c.loop-line.calls (all_read (SaysCall c.args.d.now) most_calls c.args.text.now c.loop-line.count c.loop-line.calls (rw c.in_default.ensures.0 at c.loop-line.invariant))
+
+pub returns-clause-short : goal.returns-clause-short
+returns-clause-short c =
+    script_short c.args.d.now c.args.text.now c.loop-line.calls (all_read (SaysCall c.args.d.now) most_calls c.args.text.now c.loop-line.count c.loop-line.calls (rw c.in_default.ensures.0 at c.loop-line.invariant))
