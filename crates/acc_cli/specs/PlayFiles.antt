@@ -1,5 +1,6 @@
 -- The command play: a script's calls, in the order that is given, on the plain machine of a design.
-use Rattle.std.specs.Prelude.{◌≡◌, ◌⊎◌, ℕ, List, length, Some, codes}
+use Rattle.std.specs.Prelude.{◌≡◌, ◌⊎◌, ℕ, List, ◌++◌, length, Some, codes}
+use Rattle.std.specs.Fmt.{decimal}
 use Rattle.acc_base.specs.declared.designs.Design.{Design}
 use Rattle.acc_base.specs.declared.machines.Call.{Call}
 use Rattle.acc_base.specs.Plays.{Play, Told, played}
@@ -7,8 +8,8 @@ use Rattle.acc_base.specs.Lines.{line, play_text}
 use Rattle.acc_parse.specs.Texts.{IsDesignText}
 use Rattle.acc_form.specs.WellFormed.{IsWellFormed}
 use Rattle.acc_cli.specs.Refusals.{RefusesDesign}
-use Rattle.acc_script.specs.CallLines.{IsScript}
-use Rattle.acc_script.specs.OrderLines.{IsOrder}
+use Rattle.acc_script.specs.CallLines.{IsScript, RefusesLine}
+use Rattle.acc_script.specs.OrderLines.{IsOrder, RefusesOrderLine}
 use Rattle.acc_cli.specs.declared.status.Ending.TheVariants.{Done, Script}
 use Rattle.acc_cli.specs.Text.{Said, Says}
 
@@ -21,10 +22,12 @@ pub record SaysPlay (d : Design) (calls : List Call) (order : List ℕ) (said : 
   pub text : said.text ≡ play_text d calls told play
   pub history : said.history ≡ play.world.events
 
--- the order is refused
+-- the order is refused, and the first line by which it is none is said
 pub record RefusesOrder (calls : List Call) (order : List ℕ) (said : Said) : Type 0 where
   pub none : (numbers : List ℕ) → ¬ IsOrder (length calls) order numbers
-  pub says : Says Script (line (codes "refused order")) said
+  pub at : ℕ
+  pub first : RefusesOrderLine (length calls) order at
+  pub says : Says Script (line (codes "refused order " ++ decimal at)) said
 
 -- the order has these numbers, and the calls are played in it
 pub record PlaysOrder (d : Design) (calls : List Call) (order : List ℕ) (said : Said) : Type 0 where
@@ -35,10 +38,12 @@ pub record PlaysOrder (d : Design) (calls : List Call) (order : List ℕ) (said 
 abbrev pub SaysOfOrder : Design → List Call → List ℕ → Said → Type 0
 SaysOfOrder d calls order said = RefusesOrder calls order said ⊎ PlaysOrder d calls order said
 
--- the script is refused
+-- the script is refused, and the first line by which it is none is said
 pub record RefusesScript (d : Design) (script : List ℕ) (said : Said) : Type 0 where
   pub none : (calls : List Call) → ¬ IsScript d script calls
-  pub says : Says Script (line (codes "refused script")) said
+  pub at : ℕ
+  pub first : RefusesLine d script at
+  pub says : Says Script (line (codes "refused script " ++ decimal at)) said
 
 -- the script has these calls, and then the order decides
 pub record PlaysScript (d : Design) (script order : List ℕ) (said : Said) : Type 0 where

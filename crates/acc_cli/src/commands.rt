@@ -50,7 +50,10 @@ fn play_order(alloc: Global, d: &Design, asked: &[Call], file: &[u8]) -> Result<
 {
     match order(alloc, asked.len() as u64, file) {
         Ok(places) => play(alloc, d, asked, places.as_slice()),
-        Err(ScriptError::Line(_)) => one_line(alloc, Ending::Script, "refused order"),
+        Err(ScriptError::Line(line)) => {
+            let text = format!(in alloc; "refused order {line}")?;
+            one_line(alloc, Ending::Script, text.as_str())
+        }
         Err(ScriptError::Memory) => Err(AllocError),
     }
 }
@@ -62,7 +65,10 @@ fn play_script(alloc: Global, d: &Design, script: &[u8], file: &[u8]) -> Result<
 {
     match calls(alloc, d, script) {
         Ok(asked) => play_order(alloc, d, asked.as_slice(), file),
-        Err(ScriptError::Line(_)) => one_line(alloc, Ending::Script, "refused script"),
+        Err(ScriptError::Line(line)) => {
+            let text = format!(in alloc; "refused script {line}")?;
+            one_line(alloc, Ending::Script, text.as_str())
+        }
         Err(ScriptError::Memory) => Err(AllocError),
     }
 }

@@ -1,7 +1,7 @@
 // Runs of the program and what each has to answer, worked out by hand. `examples/cases` holds the same runs as files.
 use crate::tests::designs::{
-    CELLS, KEEP, LARGE, NO_BRACKET, NO_LAST_PATH, SLOTS, SPIN, TOO_LARGE, TRANSFER, UNDEFINED,
-    WITH_ASSERTIONS,
+    CELLS, DRAW, KEEP, LARGE, NO_BRACKET, NO_LAST_PATH, SLOTS, SPIN, TOO_LARGE, TRANSFER,
+    UNDEFINED, WITH_ASSERTIONS,
 };
 
 // A name; the design, the script and the order; the status and what is printed.
@@ -14,7 +14,7 @@ pub type Play = (
     &'static str,
 );
 
-pub const PLAYED: [Play; 31] = [
+pub const PLAYED: [Play; 36] = [
     ("nothing", "", "", "", 0, "events 0\n"),
     (
         "kept",
@@ -104,6 +104,46 @@ pub const PLAYED: [Play; 31] = [
         0,
         "2 turned refused 1\n1 unbegun\n2 unfinished\n3 unbegun\nevents 2\n",
     ),
+    (
+        "a_tape",
+        KEEP,
+        "keep 1 5 | 2",
+        "1",
+        0,
+        "1 ended\n1 committed\nevents 2\n",
+    ),
+    (
+        "asked",
+        KEEP,
+        "keep 1 5 @ 0",
+        "1 1",
+        0,
+        "1 turned asked\n1 ended\n1 compensated asked\nevents 3\n",
+    ),
+    (
+        "taken",
+        DRAW,
+        "draw | 7 -8\ndraw | 1 2 3 4\ndraw",
+        "1 2 3 1 2 3",
+        0,
+        "1 stepped draw.more\n2 stepped draw.more\n3 stepped draw.more\n1 ended\n2 ended\n3 ended\n1 committed 7 -8 0\n2 committed 1 2 3\n3 committed 0 0 0\nevents 9\n",
+    ),
+    (
+        "asked_later",
+        DRAW,
+        "draw | 7 @ 1\ndraw @ 2",
+        "1 1 1 2 2 2",
+        0,
+        "1 stepped draw.more\n1 turned asked\n1 ended\n2 stepped draw.more\n2 ended\n2 over\n1 compensated asked\n2 committed 0 0 0\nevents 7\n",
+    ),
+    (
+        "asked_at_the_limit",
+        SPIN,
+        "spin 1 @ 3",
+        "1 1 1 1 1",
+        0,
+        "1 stepped spin.start\n1 stepped spin.start\n1 stepped spin.start\n1 turned asked\n1 ended\n1 compensated asked\nevents 6\n",
+    ),
     ("no_design", "tabel A 1", "x", "0", 2, "refused syntax 1\n"),
     (
         "assertions",
@@ -131,25 +171,25 @@ pub const PLAYED: [Play; 31] = [
         "keep 1 5\nkept 1 5",
         "9",
         3,
-        "refused script\n",
+        "refused script 2\n",
     ),
-    ("no_number", CELLS, "bump 1 x", "1", 3, "refused script\n"),
+    ("no_number", CELLS, "bump 1 x", "1", 3, "refused script 1\n"),
     (
         "past_largest",
         CELLS,
         "make 35184372088833",
         "1",
         3,
-        "refused script\n",
+        "refused script 1\n",
     ),
-    ("one_too_few", KEEP, "keep 1", "1", 3, "refused script\n"),
+    ("one_too_few", KEEP, "keep 1", "1", 3, "refused script 1\n"),
     (
         "one_too_many",
         KEEP,
         "keep 1 5 2",
         "1",
         3,
-        "refused script\n",
+        "refused script 1\n",
     ),
     (
         "another_design",
@@ -157,20 +197,41 @@ pub const PLAYED: [Play; 31] = [
         "keep 1 5",
         "1",
         3,
-        "refused script\n",
+        "refused script 1\n",
     ),
-    ("a_tape", KEEP, "keep 1 5 | 2", "1", 3, "refused script\n"),
-    ("asked", KEEP, "keep 1 5 @ 0", "1", 3, "refused script\n"),
-    ("no_place", KEEP, "keep 1 5", "2", 3, "refused order\n"),
-    ("place_none", KEEP, "keep 1 5", "0", 3, "refused order\n"),
-    ("no_order", KEEP, "keep 1 5", "1 one", 3, "refused order\n"),
+    (
+        "a_broken_tape",
+        KEEP,
+        "keep 1 5 | 2\n\nkeep 1 5 | 1|2",
+        "1",
+        3,
+        "refused script 3\n",
+    ),
+    (
+        "asked_too_late",
+        KEEP,
+        "keep 1 5 @ 65537",
+        "1",
+        3,
+        "refused script 1\n",
+    ),
+    ("no_place", KEEP, "keep 1 5", "2", 3, "refused order 1\n"),
+    ("place_none", KEEP, "keep 1 5", "0", 3, "refused order 1\n"),
+    (
+        "no_order",
+        KEEP,
+        "keep 1 5",
+        "1 one",
+        3,
+        "refused order 1\n",
+    ),
     (
         "signed_order",
         KEEP,
         "keep 1 5",
         "1\n-1",
         3,
-        "refused order\n",
+        "refused order 2\n",
     ),
 ];
 

@@ -49,6 +49,12 @@ pub const SPIN: &str = "type spin k; limit 3
 point start; next; path; goto start
 undo; path; undone";
 
+pub const DRAW: &str = "type draw; limit 2; returns a b c; local a b c
+point start; next; take a; take b; path; goto more
+undo; path; undone
+point more; next; take c; path; commit
+undo; path; undone";
+
 pub const SLOTS: &str = "table SLOT 1 n
 type make k; limit 1
 point start; next; path; put SLOT[k] 7; commit
