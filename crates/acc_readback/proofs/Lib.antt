@@ -21,3 +21,7 @@ pub mod MeantSteps
 pub mod MeantPoints
 pub mod MeantTypes
 pub mod MeantDesigns
+pub mod Ends
+pub mod LimitedValues
+pub mod LimitedClauses
+pub mod LimitedSteps
