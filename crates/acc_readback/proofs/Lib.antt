@@ -25,3 +25,5 @@ pub mod Ends
 pub mod LimitedValues
 pub mod LimitedClauses
 pub mod LimitedSteps
+pub mod LimitedTypes
+pub mod LimitedDesigns
