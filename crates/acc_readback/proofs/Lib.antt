@@ -27,3 +27,7 @@ pub mod LimitedClauses
 pub mod LimitedSteps
 pub mod LimitedTypes
 pub mod LimitedDesigns
+pub mod Faultless
+pub mod StandingNames
+pub mod NamedValues
+pub mod NamedClauses

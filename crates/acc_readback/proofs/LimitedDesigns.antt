@@ -26,16 +26,13 @@ use Rattle.acc_print.specs.Designs.{scope_at}
 use Rattle.acc_readback.specs.Trees.{variable_tree, lin_tree, clause_tree}
 use Rattle.acc_readback.specs.TypeTrees.{table_tree, point_name_tree, pair_tree, pairs_tree, entry_tree, hint_tree, type_tree, tree_of}
 use Rattle.acc_readback.specs.PrintableTypes.{IsTableSaid, IsAtSaid, IsPairSaid, IsEntrySaid, IsHintSaid, IsTypeSaid, IsSaid}
+use Rattle.acc_readback.proofs.Faultless.{neither}
 use Rattle.acc_readback.proofs.Ends.{AreEnds, ends_both, none_placed, not_past, not_above, all_mapped, ends_each, ends_counted}
 use Rattle.acc_readback.proofs.LimitedValues.{name_ends, names_end, variable_ends, lin_ends, few_others}
 use Rattle.acc_readback.proofs.LimitedClauses.{clauses_end}
 use Rattle.acc_readback.proofs.LimitedTypes.{type_ends}
 
 -- ---- tables
-
-neither : (a b : Bool) → a ≡ false → b ≡ false → (a || b) ≡ false
-neither true b h g = h
-neither false b h g = g
 
 not_less : (n most : ℕ) → n ≤ most → nat_lt most n ≡ false
 not_less n most h = grind (arith, nat_tests)
