@@ -31,3 +31,6 @@ pub mod Faultless
 pub mod StandingNames
 pub mod NamedValues
 pub mod NamedClauses
+pub mod NamedSteps
+pub mod NamedTypes
+pub mod NamedDesigns

@@ -32,6 +32,12 @@ stands_at [] n h = absurd h.0
 stands_at (y ∷ ys) zero h = or_first (bytes_eq y y) (stands_in y ys) (itself y)
 stands_at (y ∷ ys) (suc n) h = or_second (bytes_eq (name_at ys n) y) (stands_in (name_at ys n) ys) (stands_at ys n h)
 
+-- so is a name that stands at a number
+pub stands_there : (names : List (List ℕ)) (n : ℕ) (x : List ℕ) → slice_get names n ≡ Some x → stands_in x names ≡ true
+stands_there [] n x at = absurd cc
+stands_there (y ∷ ys) zero x at = let is : y ≡ x = cc in or_first (bytes_eq x y) (stands_in x ys) (ap (bytes_eq x) is ∙ itself x)
+stands_there (y ∷ ys) (suc n) x at = or_second (bytes_eq x y) (stands_in x ys) (stands_there ys n x at)
+
 -- ---- the same names, whether with `self` or without
 
 abbrev pub AreSame : List (List ℕ) → List (List ℕ) → Type 0
@@ -70,7 +76,7 @@ not_before earlier names n x y new at =
     let last = (not_either (stands_in x earlier) (stands_in x (y ∷ [])) (sym (list_any-append (bytes_eq x) earlier (y ∷ [])) ∙ later)).1 in
     (not_either (bytes_eq x y) false last).0
 
-named_at : {T : Type 0} (name : T → List ℕ) (ts : List T) (n : ℕ) (t : T) → slice_get ts n ≡ Some t → slice_get (map name ts) n ≡ Some (name t)
+pub named_at : {T : Type 0} (name : T → List ℕ) (ts : List T) (n : ℕ) (t : T) → slice_get ts n ≡ Some t → slice_get (map name ts) n ≡ Some (name t)
 named_at name [] n t at = absurd cc
 named_at name (s ∷ ts) zero t at = let is : s ≡ t = cc in ap (λ z. Some (name z)) is
 named_at name (s ∷ ts) (suc n) t at = named_at name ts n t at
