@@ -34,3 +34,7 @@ pub mod NamedClauses
 pub mod NamedSteps
 pub mod NamedTypes
 pub mod NamedDesigns
+pub mod OtherWords
+pub mod OtherValues
+pub mod OtherClauses
+pub mod OtherTypes
