@@ -38,3 +38,4 @@ pub mod OtherWords
 pub mod OtherValues
 pub mod OtherClauses
 pub mod OtherTypes
+pub mod OwnWordsSaid
