@@ -21,6 +21,7 @@ pub mod MeantSteps
 pub mod MeantPoints
 pub mod MeantTypes
 pub mod MeantDesigns
+pub mod Mapped
 pub mod Ends
 pub mod LimitedValues
 pub mod LimitedClauses
@@ -39,3 +40,4 @@ pub mod OtherValues
 pub mod OtherClauses
 pub mod OtherTypes
 pub mod OwnWordsSaid
+pub mod ReadBack

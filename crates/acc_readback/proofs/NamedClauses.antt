@@ -1,5 +1,5 @@
 -- Printed clauses use names that are defined, and define new ones.
-use Rattle.std.proofs.Common.{◌≡◌, ℕ, Bool, true, false, List, [], ◌∷◌, ◌++◌, map, Some, None, refl, sym, ap, ◌∙◌, zero, suc, ℤ, pos, negsuc}
+use Rattle.std.proofs.Common.{◌≡◌, ℕ, Bool, true, false, List, [], ◌∷◌, ◌++◌, map, refl, sym, ap, ◌∙◌, zero, suc, ℤ, pos, negsuc}
 use Rattle.std.specs.Prelude.{◌==◌, if◌then◌else◌, unsigned_abs}
 use Rattle.acc_grammar.specs.Readers.{AllIn}
 use Rattle.acc_grammar.proofs.Exact.{AllIn-append}
@@ -15,12 +15,12 @@ use Rattle.acc_syntax.specs.declared.trees.FormRelTree.{FormRelTree}
 use Rattle.acc_names.specs.Names.{stands_in, defines_again, listed_or_none}
 use Rattle.acc_names.specs.Scopes.{Scope as Known}
 use Rattle.acc_names.specs.Faults.{operand_fault, form_term_fault, form_fault, form_rel_fault, premises_fault, clause_scope, clause_fault}
-use Rattle.acc_print.specs.Names.{Scope, name_at, with_own}
+use Rattle.acc_print.specs.Names.{Scope, with_own}
 use Rattle.acc_readback.specs.Trees.{operand_tree, form_term_tree, signed_form_tree, form_constant_trees, form_sum_tree, zero_form_tree, rel_tree, guards_tree, names_tree, clause_tree}
-use Rattle.acc_readback.specs.Printable.{IsName, AreNew, IsAtomSaid, IsUnknownSaid, IsRelSaid, IsClauseSaid}
-use Rattle.acc_readback.proofs.Ends.{all_mapped}
+use Rattle.acc_readback.specs.Printable.{IsAtomSaid, IsUnknownSaid, IsRelSaid, IsClauseSaid}
+use Rattle.acc_readback.proofs.Mapped.{all_mapped}
 use Rattle.acc_readback.proofs.Faultless.{neither, none_any}
-use Rattle.acc_readback.proofs.StandingNames.{AreSame, same_with, same_new}
+use Rattle.acc_readback.proofs.StandingNames.{same_with, same_new}
 use Rattle.acc_readback.proofs.NamedValues.{Fits, variable_defined, row_defined, cell_defined}
 
 -- ---- forms

@@ -1,12 +1,10 @@
 -- Printed tables, entries and hints use names that are defined: no statement of a printed design has a fault of names.
-use Rattle.std.proofs.Common.{◌≡◌, ℕ, inl, Bool, true, false, ◌||◌, not, List, [], ◌∷◌, ◌++◌, map, Option, Some, None, refl, sym, ap, subst, ◌∙◌, zero, suc, ℤ}
+use Rattle.std.proofs.Common.{◌≡◌, ℕ, inl, false, not, List, [], ◌∷◌, ◌++◌, map, Option, Some, None, refl, sym, ap, subst, ◌∙◌, zero, suc}
 use Rattle.std.specs.Prelude.{slice_get, option_and_then}
 use Rattle.acc_grammar.specs.Readers.{AllIn}
 use Rattle.acc_base.specs.Lines.{type_name, point_name}
 use Rattle.acc_base.specs.Effects.{point_of}
-use Rattle.acc_base.specs.declared.forms.Clause.{Clause}
 use Rattle.acc_base.specs.declared.tables.Table.{Table}
-use Rattle.acc_base.specs.declared.designs.Point.{Point}
 use Rattle.acc_base.specs.declared.designs.TxType.{TxType}
 use Rattle.acc_base.specs.declared.designs.At.{At}
 use Rattle.acc_base.specs.declared.designs.Entry.{Entry}
@@ -15,15 +13,15 @@ use Rattle.acc_base.specs.declared.designs.Design.{Design}
 use Rattle.acc_syntax.specs.declared.trees.TypeTree.{TypeTree}
 use Rattle.acc_syntax.specs.declared.trees.PairTree.{PairTree}
 use Rattle.acc_names.specs.Names.{stands_in, defines_again}
-use Rattle.acc_names.specs.Scopes.{point_names, type_named}
-use Rattle.acc_names.specs.Faults.{outside as known_outside, variable_fault, sum_fault, clause_fault, types_faults, tables_faults, point_of_type_fault, point_name_fault, locals_or_none, locals_at, pair_fault, pairs_fault, entry_fault, hint_fault, statement_faults, first_fault_of}
-use Rattle.acc_print.specs.Names.{Scope, name_at, names_within, inside, outside}
+use Rattle.acc_names.specs.Scopes.{type_named}
+use Rattle.acc_names.specs.Faults.{outside as known_outside, variable_fault, clause_fault, types_faults, tables_faults, point_of_type_fault, point_name_fault, locals_or_none, locals_at, pair_fault, pairs_fault, entry_fault, hint_fault, statement_faults, first_fault_of}
+use Rattle.acc_print.specs.Names.{inside, outside}
 use Rattle.acc_print.specs.Designs.{scope_at}
-use Rattle.acc_readback.specs.Trees.{variable_tree, lin_tree, clause_tree}
+use Rattle.acc_readback.specs.Trees.{variable_tree, clause_tree}
 use Rattle.acc_readback.specs.TypeTrees.{table_tree, point_name_tree, pair_tree, pairs_tree, entry_tree, hint_tree, type_tree, tree_of}
 use Rattle.acc_readback.specs.Printable.{IsName, IsClauseSaid}
 use Rattle.acc_readback.specs.PrintableTypes.{IsTableSaid, IsAtSaid, IsPairSaid, IsEntrySaid, IsHintSaid, IsTypeSaid, IsSaid}
-use Rattle.acc_readback.proofs.Ends.{all_mapped}
+use Rattle.acc_readback.proofs.Mapped.{all_mapped}
 use Rattle.acc_readback.proofs.Faultless.{neither, not_either, none_any, AreFalse, false_both, false_mapped, none_first}
 use Rattle.acc_readback.proofs.StandingNames.{AreSame, found_new}
 use Rattle.acc_readback.proofs.NamedValues.{Fits, variable_defined, lin_defined}

@@ -1,5 +1,5 @@
 -- Printed steps use names that are defined.
-use Rattle.std.proofs.Common.{◌≡◌, ℕ, true, false, ◌||◌, not, List, [], ◌∷◌, ◌++◌, Option, Some, None, refl, sym, ap, ◌∙◌}
+use Rattle.std.proofs.Common.{◌≡◌, ℕ, true, false, not, List, [], ◌∷◌, ◌++◌, Option, Some, None, refl, ap, ◌∙◌}
 use Rattle.std.specs.Prelude.{map, drop, slice_get}
 use Rattle.std.specs.List.{flat_map}
 use Rattle.acc_grammar.specs.Readers.{AllIn}
@@ -17,13 +17,13 @@ use Rattle.acc_base.specs.declared.designs.Point.{Point}
 use Rattle.acc_syntax.specs.declared.trees.PathTree.{PathTree}
 use Rattle.acc_names.specs.Names.{stands_in}
 use Rattle.acc_names.specs.Scopes.{Scope as Known}
-use Rattle.acc_names.specs.Faults.{variable_fault, sum_fault, values_fault, place_fault, cell_fault, guard_fault, read_fault, action_fault, target_fault, path_faults, step_faults}
+use Rattle.acc_names.specs.Faults.{variable_fault, sum_fault, values_fault, place_fault, cell_fault, read_fault, action_fault, target_fault, path_faults, step_faults}
 use Rattle.acc_print.specs.Names.{Scope, name_at}
-use Rattle.acc_readback.specs.Trees.{variable_tree, lin_tree, place_tree, cell_tree, guard_tree}
+use Rattle.acc_readback.specs.Trees.{variable_tree, lin_tree, place_tree, cell_tree}
 use Rattle.acc_readback.specs.TypeTrees.{read_statement_tree, values_tree, action_statement_tree, target_statement_tree, path_tree, first_path, step_tree}
 use Rattle.acc_readback.specs.Printable.{IsName, IsVariable, IsLinSaid}
 use Rattle.acc_readback.specs.PrintableTypes.{IsReadSaid, IsActionSaid, IsTargetSaid, IsPathSaid, ArePathsSaid, IsStepSaid}
-use Rattle.acc_readback.proofs.Ends.{all_mapped}
+use Rattle.acc_readback.proofs.Mapped.{all_mapped}
 use Rattle.acc_readback.proofs.Faultless.{neither, AreFalse, false_both, false_each, false_mapped}
 use Rattle.acc_readback.proofs.StandingNames.{stands_there, named_at}
 use Rattle.acc_readback.proofs.NamedValues.{Fits, variable_defined, lin_defined, sums_defined, guard_defined, row_defined, cell_defined}
@@ -86,10 +86,11 @@ target_defined points (target.Refuse n) h = refl
 
 module _ (s : Scope) (v : Known) (fits : Fits s v) (points : List Point) where
   path_defined : (p : Path) → IsPathSaid s points p → AreFalse (path_faults v (titles points) (path_tree s points p))
-  path_defined p h =
-      (guard_defined s.names v.variables fits.same p.guard h.guard,
-      false_both (map (action_fault v) (map (action_statement_tree s) p.actions)) (target_fault (titles points) (target_statement_tree points p.target) ∷ [])
-      (false_mapped (IsActionSaid s) (action_fault v) (action_statement_tree s) (action_defined s v fits) p.actions h.actions) (target_defined points p.target h.target, tt))
+  path_defined p h = (
+    guard_defined s.names v.variables fits.same p.guard h.guard,
+    false_both (map (action_fault v) (map (action_statement_tree s) p.actions)) (target_fault (titles points) (target_statement_tree points p.target) ∷ [])
+        (false_mapped (IsActionSaid s) (action_fault v) (action_statement_tree s) (action_defined s v fits) p.actions h.actions) (target_defined points p.target h.target, tt),
+  )
 
   paths_defined : (ps : List Path) → ArePathsSaid s points ps → AreFalse (path_faults v (titles points) (first_path s points ps) ++ flat_map (path_faults v (titles points)) (map (path_tree s points) (drop 1 ps)))
   paths_defined [] h = absurd h
@@ -99,7 +100,8 @@ module _ (s : Scope) (v : Known) (fits : Fits s v) (points : List Point) where
       (all_mapped (IsPathSaid s points) (λ (t : PathTree). AreFalse (path_faults v (titles points) t)) (path_tree s points) path_defined ps h.1))
 
   pub step_defined : (st : Step) → IsStepSaid s points st → AreFalse (step_faults v (titles points) (step_tree s points st))
-  step_defined st h =
-      (refl,
-      false_both (map (read_fault v) (map (read_statement_tree s) st.reads)) _
-      (false_mapped (IsReadSaid s) (read_fault v) (read_statement_tree s) (read_defined s v fits) st.reads h.reads) (paths_defined st.paths h.paths))
+  step_defined st h = (
+    refl,
+    false_both (map (read_fault v) (map (read_statement_tree s) st.reads)) _
+        (false_mapped (IsReadSaid s) (read_fault v) (read_statement_tree s) (read_defined s v fits) st.reads h.reads) (paths_defined st.paths h.paths),
+  )

@@ -1,24 +1,21 @@
 -- Printed types use names that are defined, and define new ones.
 use Rattle.std.proofs.Common.{◌≡◌, ℕ, Bool, true, false, ◌||◌, not, List, [], ◌∷◌, ◌++◌, Some, None, refl, sym, ap, subst, ◌∙◌, append_assoc, take, drop}
 use Rattle.std.specs.Prelude.{map, if◌then◌else◌}
-use Rattle.std.specs.List.{list_any}
 use Rattle.std.proofs.lemmas.List.{append-nil, take-append-drop}
 use Rattle.acc_grammar.specs.Readers.{AllIn}
-use Rattle.acc_base.specs.declared.forms.Lin.{Lin}
-use Rattle.acc_base.specs.declared.forms.Clause.{Clause}
 use Rattle.acc_base.specs.declared.tables.Table.{Table}
 use Rattle.acc_base.specs.declared.designs.Point.{Point}
 use Rattle.acc_base.specs.declared.designs.TxType.{TxType}
 use Rattle.acc_syntax.specs.declared.trees.Sum.{Sum}
 use Rattle.acc_syntax.specs.declared.trees.PointTree.{PointTree}
-use Rattle.acc_names.specs.Names.{stands_in, defines_again, listed_or_none}
+use Rattle.acc_names.specs.Names.{stands_in, defines_again}
 use Rattle.acc_names.specs.Scopes.{Scope as Known, locals_of, points_in, point_names}
 use Rattle.acc_names.specs.Faults.{sum_fault, clause_fault, variant_faults, step_faults, point_faults, points_faults, returns_faults, locals_faults, head_faults, type_scope, type_faults, types_faults}
 use Rattle.acc_print.specs.Names.{Scope, name_at, names_within, within}
 use Rattle.acc_print.specs.Types.{is_zero}
 use Rattle.acc_readback.specs.Trees.{lin_tree, names_tree, clause_tree}
 use Rattle.acc_readback.specs.TypeTrees.{table_tree, step_tree, variant_tree, point_tree, first_point, type_tree}
-use Rattle.acc_readback.specs.Printable.{IsName, AreNew, IsLinSaid, IsClauseSaid}
+use Rattle.acc_readback.specs.Printable.{IsName, AreNew, IsClauseSaid}
 use Rattle.acc_readback.specs.PrintableTypes.{IsPointSaid, ArePointsSaid, IsTypeSaid}
 use Rattle.acc_readback.proofs.Faultless.{neither, not_either, none_any, AreFalse, false_both, false_mapped}
 use Rattle.acc_readback.proofs.StandingNames.{stands_at, AreSame, same_within}
@@ -34,12 +31,13 @@ by_zero false variables v h = (h, tt)
 
 module _ (s : Scope) (v : Known) (fits : Fits s v) (points : List Point) where
   point_defined : (again : Bool) (p : Point) → again ≡ false → IsPointSaid s points p → AreFalse (point_faults v (titles points) again (point_tree s points p))
-  point_defined again p new h =
-      (new,
-      false_both (variant_faults v.variables (variant_tree s.names p.variant)) _
-      (by_zero (is_zero p.variant.coeffs p.variant.constant) v.variables (lin_tree s.names p.variant) (lin_defined s.names v.variables fits.same p.variant h.variant))
-      (false_both (map (clause_fault v) (map (clause_tree s) p.clauses)) _ (false_mapped (IsClauseSaid s) (clause_fault v) (clause_tree s) (clause_defined s v fits) p.clauses h.clauses)
-      (false_both (step_faults v (titles points) (step_tree s points p.next)) _ (step_defined s v fits points p.next h.next) (step_defined s v fits points p.undo h.undo))))
+  point_defined again p new h = (
+    new,
+    false_both (variant_faults v.variables (variant_tree s.names p.variant)) _
+        (by_zero (is_zero p.variant.coeffs p.variant.constant) v.variables (lin_tree s.names p.variant) (lin_defined s.names v.variables fits.same p.variant h.variant))
+        (false_both (map (clause_fault v) (map (clause_tree s) p.clauses)) _ (false_mapped (IsClauseSaid s) (clause_fault v) (clause_tree s) (clause_defined s v fits) p.clauses h.clauses)
+        (false_both (step_faults v (titles points) (step_tree s points p.next)) _ (step_defined s v fits points p.next h.next) (step_defined s v fits points p.undo h.undo))),
+  )
 
   pub points_defined : (earlier : List (List ℕ)) (ps : List Point) → defines_again earlier (titles ps) ≡ false → AllIn (IsPointSaid s points) ps → AreFalse (points_faults v (titles points) earlier (map (point_tree s points) ps))
   points_defined earlier [] new h = tt
@@ -109,12 +107,15 @@ returns_defined locals (x ∷ xs) h = (none_any (λ y. not (stands_in y locals))
 head_defined : (tables : List Table) (again : Bool) (t : TxType) → again ≡ false → IsTypeSaid tables t → AreFalse (head_faults again (type_tree tables t))
 head_defined tables again t new h =
     let returned = map (name_at t.locals) t.returns in
-    let both = locals_new t.params t.locals h.new_locals in
-    (neither again (defines_again [] (take t.params t.locals)) new both.0,
-    (refl,
-    false_both (returns_faults (locals_of (type_tree tables t)) (names_tree returned)) _
-    (subst (λ (xs : List (List ℕ)). AreFalse (returns_faults xs (names_tree returned))) (sym (locals_are tables t)) (returns_defined t.locals returned (numbered_stand t.locals t.returns h.returns)))
-    (locals_defined (take t.params t.locals) (drop t.params t.locals) both.1)))
+    let both = locals_new t.params t.locals h.new_locals in (
+      neither again (defines_again [] (take t.params t.locals)) new both.0,
+      (
+        refl,
+        false_both (returns_faults (locals_of (type_tree tables t)) (names_tree returned)) _
+            (subst (λ (xs : List (List ℕ)). AreFalse (returns_faults xs (names_tree returned))) (sym (locals_are tables t)) (returns_defined t.locals returned (numbered_stand t.locals t.returns h.returns)))
+            (locals_defined (take t.params t.locals) (drop t.params t.locals) both.1),
+      ),
+    )
 
 -- ---- types
 

@@ -1,11 +1,9 @@
 -- Printed values, rows and guards use names that are defined.
-use Rattle.std.proofs.Common.{◌≡◌, ℕ, inl, inr, Bool, true, false, ◌||◌, not, List, [], ◌∷◌, ◌++◌, map, Option, Some, None, refl, sym, ap, subst, ◌∙◌, zero, suc, ℤ, pos, negsuc}
+use Rattle.std.proofs.Common.{◌≡◌, ℕ, inl, inr, Bool, true, false, not, List, [], ◌∷◌, ◌++◌, map, Option, Some, None, refl, sym, ap, subst, ◌∙◌, zero, suc, ℤ, pos, negsuc}
 use Rattle.std.specs.Prelude.{◌==◌, if◌then◌else◌, option_map, is_none, unsigned_abs, slice_get, codes}
-use Rattle.std.specs.List.{list_any}
 use Rattle.std.specs.Str.{bytes_eq}
 use Rattle.acc_grammar.specs.Readers.{AllIn}
 use Rattle.acc_grammar.proofs.Exact.{AllIn-append}
-use Rattle.acc_grammar.proofs.RunReaders.{flag}
 use Rattle.acc_base.specs.declared.forms.Lin.{Lin}
 use Rattle.acc_base.specs.declared.forms.LinRel.{LinRel}
 use Rattle.acc_base.specs.declared.tables.Table.{Table}
@@ -20,13 +18,12 @@ use Rattle.acc_names.specs.Names.{stands_in}
 use Rattle.acc_names.specs.Scopes.{Scope as Known, columns_of}
 use Rattle.acc_names.specs.Faults.{variable_fault, term_fault, sum_fault, sums_fault, lin_rel_fault, guard_fault, place_fault, column_fault, cell_fault}
 use Rattle.acc_print.specs.Names.{Scope, name_at, table_name, column_name}
-use Rattle.acc_readback.specs.Trees.{variable_named, variable_tree, term_tree, signed_tree, constant_trees, sum_tree, lin_tree, sums_tree, place_tree, cell_tree, lin_rel_tree, guard_tree, zero_tree}
+use Rattle.acc_readback.specs.Trees.{variable_tree, term_tree, signed_tree, constant_trees, sum_tree, lin_tree, sums_tree, place_tree, cell_tree, lin_rel_tree, guard_tree, zero_tree}
 use Rattle.acc_readback.specs.TypeTrees.{table_tree}
 use Rattle.acc_readback.specs.Printable.{IsName, IsVariable, AreNew, IsTermSaid, IsLinSaid, IsKeySaid, IsRowSaid, IsCellSaid, IsLinRelSaid}
-use Rattle.acc_readback.proofs.Ends.{all_mapped}
+use Rattle.acc_readback.proofs.Mapped.{all_mapped}
 use Rattle.acc_readback.proofs.Faultless.{neither, none_any}
 use Rattle.acc_readback.proofs.StandingNames.{itself, stands_at, AreSame, found_new}
-use Rattle.acc_readback.proofs.ValueParts.{not_self}
 
 -- ---- variables
 

@@ -1,5 +1,5 @@
 -- Words that printed clauses don't have, where their variables don't.
-use Rattle.std.proofs.Common.{◌≡◌, ℕ, Bool, true, false, List, [], ◌∷◌, ◌++◌, map, Some, None, refl, zero, suc, ℤ, pos, negsuc}
+use Rattle.std.proofs.Common.{◌≡◌, ℕ, Bool, true, false, List, [], ◌∷◌, ◌++◌, map, refl, zero, suc, ℤ, pos, negsuc}
 use Rattle.std.specs.Prelude.{◌==◌, if◌then◌else◌, unsigned_abs}
 use Rattle.acc_grammar.specs.Readers.{AllIn, joined}
 use Rattle.acc_grammar.proofs.Exact.{AllIn-append}
@@ -14,12 +14,12 @@ use Rattle.acc_syntax.specs.declared.trees.Operand.{Operand}
 use Rattle.acc_syntax.specs.declared.trees.FormTerm.TheVariants as form_terms
 use Rattle.acc_syntax.specs.declared.trees.SignedFormTerm.{SignedFormTerm}
 use Rattle.acc_syntax.specs.declared.trees.ClauseTree.{ClauseTree}
-use Rattle.acc_syntax.specs.Spelling.{just, name, number, place, cell, relation_sign, operand, form_term, signed_form_term, form, form_rel, form_rels, binder, premises, clause, clause_statement}
+use Rattle.acc_syntax.specs.Spelling.{just, name, number, place, cell, relation_sign, operand, form_term, signed_form_term, form, form_rel, binder, premises, clause, clause_statement}
 use Rattle.acc_print.specs.Sums.{is_negative}
 use Rattle.acc_print.specs.Names.{Scope, with_own}
 use Rattle.acc_readback.specs.Trees.{place_tree, cell_tree, relation_tree, operand_tree, form_term_tree, signed_form_tree, form_constant_trees, form_sum_tree, zero_form_tree, rel_tree, guards_tree, names_tree, clause_tree}
 use Rattle.acc_readback.specs.Printable.{IsAtomSaid, IsUnknownSaid, IsRelSaid, IsClauseSaid}
-use Rattle.acc_readback.proofs.Ends.{all_mapped}
+use Rattle.acc_readback.proofs.Mapped.{all_mapped}
 use Rattle.acc_readback.proofs.OtherWords.{Without, without_both, without_each}
 use Rattle.acc_readback.proofs.OtherValues.{is_placed, Spares, AreOther, other, names_other, minus_other, sign_other, further_other, relation_other, row_other, cell_other}
 

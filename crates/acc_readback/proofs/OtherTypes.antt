@@ -1,5 +1,5 @@
 -- Words that printed types don't have, where no variable has them.
-use Rattle.std.proofs.Common.{◌≡◌, ℕ, Bool, true, false, List, [], ◌∷◌, ◌++◌, Some, None, refl, ℤ, take, drop}
+use Rattle.std.proofs.Common.{◌≡◌, ℕ, Bool, true, false, List, [], ◌∷◌, ◌++◌, Some, None, refl, take, drop}
 use Rattle.std.specs.Prelude.{map, if◌then◌else◌, slice_get, unsigned_abs}
 use Rattle.acc_grammar.specs.Readers.{AllIn, joined}
 use Rattle.acc_base.specs.Lines.{point_name}
@@ -23,14 +23,14 @@ use Rattle.acc_syntax.specs.declared.trees.ReadTree.{ReadTree}
 use Rattle.acc_syntax.specs.declared.trees.ActionTree.{ActionTree}
 use Rattle.acc_syntax.specs.declared.trees.PathTree.{PathTree}
 use Rattle.acc_syntax.specs.declared.trees.PointTree.{PointTree}
-use Rattle.acc_syntax.specs.Spelling.{just, name, number, variable, sum, place, cell, guard, values, clause_statement, read_statement, action_statement, target_statement, names_statement, variant_statement, path, step, side, point, limit, type_words}
+use Rattle.acc_syntax.specs.Spelling.{just, name, number, variable, sum, place, cell, guard, values, clause_statement, read_statement, action_statement, target_statement, names_statement, variant_statement, path, side, point, limit, type_words}
 use Rattle.acc_print.specs.Names.{Scope, name_at, within, with_own}
 use Rattle.acc_print.specs.Types.{is_zero}
 use Rattle.acc_readback.specs.Trees.{variable_tree, lin_tree, place_tree, cell_tree, guard_tree, names_tree, clause_tree}
 use Rattle.acc_readback.specs.TypeTrees.{read_statement_tree, values_tree, action_statement_tree, target_statement_tree, path_tree, first_path, step_tree, variant_tree, point_tree, first_point, type_tree}
 use Rattle.acc_readback.specs.Printable.{IsVariable, IsLinSaid, IsCellSaid}
 use Rattle.acc_readback.specs.PrintableTypes.{IsReadSaid, IsActionSaid, IsTargetSaid, IsPathSaid, ArePathsSaid, IsStepSaid, IsPointSaid, ArePointsSaid, IsTypeSaid}
-use Rattle.acc_readback.proofs.Ends.{all_mapped}
+use Rattle.acc_readback.proofs.Mapped.{all_mapped}
 use Rattle.acc_readback.proofs.OtherWords.{Without, without_both, without_each}
 use Rattle.acc_readback.proofs.OtherValues.{is_placed, Spares, AreOther, other, names_other, lin_other, sums_other, guard_other, row_other, cell_other}
 use Rattle.acc_readback.proofs.OtherClauses.{clauses_other}
@@ -56,16 +56,20 @@ module _ (bad : Sign → Bool) (spares : Spares bad) (every : (names : List (Lis
     read_other (read.Least x table key) h = assigned_other sign.Least refl x h.0 (place (place_tree s table key)) (row_other bad spares s (every s.names) table key h.1)
     read_other (read.Greatest x table key) h = assigned_other sign.Greatest refl x h.0 (place (place_tree s table key)) (row_other bad spares s (every s.names) table key h.1)
     read_other (read.Take x) h = statement_other sign.Take refl (variable (variable_tree s.names x)) (every s.names x h)
-    read_other (read.Mul x a b) h =
-        (spares sign.Mul refl,
-        (without_both bad (variable (variable_tree s.names x)) _ (every s.names x h.0)
-        (spares sign.Equal refl,
-        (without_both bad (variable (variable_tree s.names a)) _ (every s.names a h.1) (without_both bad (variable (variable_tree s.names b)) (just sign.End) (every s.names b h.2) (other bad spares sign.End refl))))))
-    read_other (read.Div x a n) h =
-        (spares sign.Div refl,
-        (without_both bad (variable (variable_tree s.names x)) _ (every s.names x h.0)
-        (spares sign.Equal refl,
-        (without_both bad (variable (variable_tree s.names a)) (number (unsigned_abs n) ++ just sign.End) (every s.names a h.1) (tt, other bad spares sign.End refl)))))
+    read_other (read.Mul x a b) h = (
+      spares sign.Mul refl,
+      (without_both bad (variable (variable_tree s.names x)) _ (every s.names x h.0) (
+        spares sign.Equal refl,
+        (without_both bad (variable (variable_tree s.names a)) _ (every s.names a h.1) (without_both bad (variable (variable_tree s.names b)) (just sign.End) (every s.names b h.2) (other bad spares sign.End refl))),
+      )),
+    )
+    read_other (read.Div x a n) h = (
+      spares sign.Div refl,
+      (without_both bad (variable (variable_tree s.names x)) _ (every s.names x h.0) (
+        spares sign.Equal refl,
+        (without_both bad (variable (variable_tree s.names a)) (number (unsigned_abs n) ++ just sign.End) (every s.names a h.1) (tt, other bad spares sign.End refl)),
+      )),
+    )
 
     values_other : (ls : List Lin) → AllIn (IsLinSaid s.names) ls → Without bad (values (values_tree s.names ls))
     values_other [] h = tt
@@ -77,9 +81,10 @@ module _ (bad : Sign → Bool) (spares : Spares bad) (every : (names : List (Lis
         (without_both bad (sum (lin_tree s.names l)) (just sign.End) (lin_other bad spares s.names (every s.names) l g) (other bad spares sign.End refl))
 
     action_other : (a : Action) → IsActionSaid s a → Without bad (action_statement (action_statement_tree s a))
-    action_other (action.Put table key vs) h =
-        (spares sign.Put refl,
-        (without_both bad (place (place_tree s table key)) _ (row_other bad spares s (every s.names) table key h.0) (without_both bad (values (values_tree s.names vs)) (just sign.End) (values_other vs h.1) (other bad spares sign.End refl))))
+    action_other (action.Put table key vs) h = (
+      spares sign.Put refl,
+      (without_both bad (place (place_tree s table key)) _ (row_other bad spares s (every s.names) table key h.0) (without_both bad (values (values_tree s.names vs)) (just sign.End) (values_other vs h.1) (other bad spares sign.End refl))),
+    )
     action_other (action.Del table key) h = statement_other sign.Del refl (place (place_tree s table key)) (row_other bad spares s (every s.names) table key h)
     action_other (action.Set table key column l) h =
         (spares sign.Set refl, (cell_then table key column l h.0 h.1))
@@ -96,14 +101,16 @@ module _ (bad : Sign → Bool) (spares : Spares bad) (every : (names : List (Lis
 
   module _ (s : Scope) (points : List Point) where
     path_other : (p : Path) → IsPathSaid s points p → Without bad (path (path_tree s points p))
-    path_other p h =
-        (spares sign.Path refl,
-        (without_both bad (guard (guard_tree s.names p.guard)) _ (guard_other bad spares s.names (every s.names) p.guard h.guard)
-        (spares sign.End refl,
+    path_other p h = (
+      spares sign.Path refl,
+      (without_both bad (guard (guard_tree s.names p.guard)) _ (guard_other bad spares s.names (every s.names) p.guard h.guard) (
+        spares sign.End refl,
         (without_both bad (joined action_statement (map (action_statement_tree s) p.actions)) (target_statement (target_statement_tree points p.target))
-        (without_each bad action_statement (map (action_statement_tree s) p.actions)
-        (all_mapped (IsActionSaid s) (λ (t : ActionTree). Without bad (action_statement t)) (action_statement_tree s) (action_other s) p.actions h.actions))
-        (target_other points p.target h.target)))))
+            (without_each bad action_statement (map (action_statement_tree s) p.actions)
+            (all_mapped (IsActionSaid s) (λ (t : ActionTree). Without bad (action_statement t)) (action_statement_tree s) (action_other s) p.actions h.actions))
+            (target_other points p.target h.target)),
+      )),
+    )
 
     paths_other : (ps : List Path) → ArePathsSaid s points ps → Without bad (path (first_path s points ps) ++ joined path (map (path_tree s points) (drop 1 ps)))
     paths_other [] h = absurd h
@@ -112,13 +119,16 @@ module _ (bad : Sign → Bool) (spares : Spares bad) (every : (names : List (Lis
         (without_each bad path (map (path_tree s points) ps) (all_mapped (IsPathSaid s points) (λ (t : PathTree). Without bad (path t)) (path_tree s points) path_other ps h.1))
 
     side_other : (k : Sign) → is_placed k ≡ false → (st : Step) → IsStepSaid s points st → Without bad (side k (step_tree s points st))
-    side_other k kept st h =
-        (spares k kept,
-        (spares sign.End refl,
+    side_other k kept st h = (
+      spares k kept,
+      (
+        spares sign.End refl,
         (without_both bad (joined read_statement (map (read_statement_tree s) st.reads)) _
-        (without_each bad read_statement (map (read_statement_tree s) st.reads)
-        (all_mapped (IsReadSaid s) (λ (t : ReadTree). Without bad (read_statement t)) (read_statement_tree s) (read_other s) st.reads h.reads))
-        (paths_other st.paths h.paths))))
+            (without_each bad read_statement (map (read_statement_tree s) st.reads)
+            (all_mapped (IsReadSaid s) (λ (t : ReadTree). Without bad (read_statement t)) (read_statement_tree s) (read_other s) st.reads h.reads))
+            (paths_other st.paths h.paths)),
+      ),
+    )
 
     -- ---- points
 
@@ -127,14 +137,18 @@ module _ (bad : Sign → Bool) (spares : Spares bad) (every : (names : List (Lis
     by_zero false v h = statement_other sign.Variant refl (sum v) h
 
     point_other : (p : Point) → IsPointSaid s points p → Without bad (point (point_tree s points p))
-    point_other p h =
-        (spares sign.Point refl,
-        (tt, without_both bad (just sign.End) _ (other bad spares sign.End refl)
-        (without_both bad (variant_statement (variant_tree s.names p.variant)) _
-        (by_zero (is_zero p.variant.coeffs p.variant.constant) (lin_tree s.names p.variant) (lin_other bad spares s.names (every s.names) p.variant h.variant))
-        (without_both bad (joined (clause_statement sign.Holds) (map (clause_tree s) p.clauses)) _
-        (clauses_other bad spares sign.Holds refl s (λ c g. every (with_own s c.vars).names) p.clauses h.clauses)
-        (without_both bad (side sign.Next (step_tree s points p.next)) (side sign.Undo (step_tree s points p.undo)) (side_other sign.Next refl p.next h.next) (side_other sign.Undo refl p.undo h.undo))))))
+    point_other p h = (
+      spares sign.Point refl,
+      (
+        tt,
+        without_both bad (just sign.End) _ (other bad spares sign.End refl)
+            (without_both bad (variant_statement (variant_tree s.names p.variant)) _
+            (by_zero (is_zero p.variant.coeffs p.variant.constant) (lin_tree s.names p.variant) (lin_other bad spares s.names (every s.names) p.variant h.variant))
+            (without_both bad (joined (clause_statement sign.Holds) (map (clause_tree s) p.clauses)) _
+            (clauses_other bad spares sign.Holds refl s (λ c g. every (with_own s c.vars).names) p.clauses h.clauses)
+            (without_both bad (side sign.Next (step_tree s points p.next)) (side sign.Undo (step_tree s points p.undo)) (side_other sign.Next refl p.next h.next) (side_other sign.Undo refl p.undo h.undo)))),
+      ),
+    )
 
     points_other : (ps : List Point) → ArePointsSaid s points ps → Without bad (point (first_point s points ps) ++ joined point (map (point_tree s points) (drop 1 ps)))
     points_other [] h = absurd h
@@ -150,13 +164,18 @@ module _ (bad : Sign → Bool) (spares : Spares bad) (every : (names : List (Lis
 
   pub type_other : (tables : List Table) (t : TxType) → IsTypeSaid tables t → Without bad (type_words (type_tree tables t))
   type_other tables t h =
-      let s = within tables t in
-      (spares sign.Type refl,
-      (tt, without_both bad (joined name (take t.params t.locals)) _ (names_other bad spares (take t.params t.locals))
-      (spares sign.End refl,
-      (without_both bad (limit t.limit) _ (statement_other sign.Limit refl (number t.limit) (tt, tt))
-      (without_both bad (names_statement sign.Returns (names_tree (map (name_at t.locals) t.returns))) _ (names_line_other sign.Returns refl (map (name_at t.locals) t.returns))
-      (without_both bad (names_statement sign.Local (names_tree (drop t.params t.locals))) _ (names_line_other sign.Local refl (drop t.params t.locals))
-      (without_both bad (joined (clause_statement sign.Ensures) (map (clause_tree s) t.posts)) _ (clauses_other bad spares sign.Ensures refl s (λ c g. every (with_own s c.vars).names) t.posts h.posts)
-      (without_both bad (joined (clause_statement sign.Repairs) (map (clause_tree s) t.repairs)) _ (clauses_other bad spares sign.Repairs refl s (λ c g. every (with_own s c.vars).names) t.repairs h.repairs)
-      (points_other s t.points t.points h.points)))))))))
+      let s = within tables t in (
+        spares sign.Type refl,
+        (
+          tt,
+          without_both bad (joined name (take t.params t.locals)) _ (names_other bad spares (take t.params t.locals)) (
+            spares sign.End refl,
+            (without_both bad (limit t.limit) _ (statement_other sign.Limit refl (number t.limit) (tt, tt))
+                (without_both bad (names_statement sign.Returns (names_tree (map (name_at t.locals) t.returns))) _ (names_line_other sign.Returns refl (map (name_at t.locals) t.returns))
+                (without_both bad (names_statement sign.Local (names_tree (drop t.params t.locals))) _ (names_line_other sign.Local refl (drop t.params t.locals))
+                (without_both bad (joined (clause_statement sign.Ensures) (map (clause_tree s) t.posts)) _ (clauses_other bad spares sign.Ensures refl s (λ c g. every (with_own s c.vars).names) t.posts h.posts)
+                (without_both bad (joined (clause_statement sign.Repairs) (map (clause_tree s) t.repairs)) _ (clauses_other bad spares sign.Repairs refl s (λ c g. every (with_own s c.vars).names) t.repairs h.repairs)
+                (points_other s t.points t.points h.points)))))),
+          ),
+        ),
+      )

@@ -1,5 +1,5 @@
 -- Words that printed values, rows and guards don't have, where their variables don't.
-use Rattle.std.proofs.Common.{◌≡◌, ℕ, inl, inr, Bool, true, false, List, [], ◌∷◌, ◌++◌, map, Some, None, refl, zero, suc, ℤ, pos, negsuc}
+use Rattle.std.proofs.Common.{◌≡◌, ℕ, Bool, true, false, List, [], ◌∷◌, ◌++◌, map, refl, zero, suc, ℤ, pos, negsuc}
 use Rattle.std.specs.Prelude.{◌==◌, if◌then◌else◌, unsigned_abs, slice_get}
 use Rattle.acc_grammar.specs.Readers.{AllIn, joined}
 use Rattle.acc_grammar.proofs.Exact.{AllIn-append}
@@ -11,8 +11,6 @@ use Rattle.acc_lex.specs.declared.words.Word.{Word}
 use Rattle.acc_syntax.specs.declared.trees.Variable.{Variable}
 use Rattle.acc_syntax.specs.declared.trees.Term.TheVariants.{Plain, Product}
 use Rattle.acc_syntax.specs.declared.trees.SignedTerm.{SignedTerm}
-use Rattle.acc_syntax.specs.declared.trees.Sum.{Sum}
-use Rattle.acc_syntax.specs.declared.trees.LinRelTree.{LinRelTree}
 use Rattle.acc_syntax.specs.declared.trees.Relation.{Relation}
 use Rattle.acc_syntax.specs.declared.trees.Relation.TheVariants as relation
 use Rattle.acc_syntax.specs.Spelling.{just, name, number, further, variable, term as term_words, signed_term, sum, sums, place, cell, relation_sign, lin_rel, guard}
@@ -20,7 +18,7 @@ use Rattle.acc_print.specs.Sums.{is_negative}
 use Rattle.acc_print.specs.Names.{Scope, name_at, column_name}
 use Rattle.acc_readback.specs.Trees.{variable_tree, term_tree, signed_tree, constant_trees, sum_tree, lin_tree, zero_tree, sums_tree, place_tree, cell_tree, relation_tree, lin_rel_tree, guard_tree}
 use Rattle.acc_readback.specs.Printable.{IsVariable, IsTermSaid, IsLinSaid, IsKeySaid, IsRowSaid, IsCellSaid, IsLinRelSaid}
-use Rattle.acc_readback.proofs.Ends.{all_mapped}
+use Rattle.acc_readback.proofs.Mapped.{all_mapped}
 use Rattle.acc_readback.proofs.OtherWords.{Without, without_both, without_either, without_each}
 
 -- `self`, `entry` or `hint`
@@ -120,9 +118,11 @@ module _ (bad : Sign → Bool) (spares : Spares bad) (names : List (List ℕ)) (
 
 module _ (bad : Sign → Bool) (spares : Spares bad) (s : Scope) (variables : AreOther bad s.names) where
   pub row_other : (table : ℕ) (key : List Lin) → IsRowSaid s table key → Without bad (place (place_tree s table key))
-  row_other table key h =
-      (tt, without_both bad (just sign.Open) _ (other bad spares sign.Open refl)
-      (without_both bad (sums (sums_tree s.names key)) (just sign.Close) (key_other bad spares s.names variables key h.key) (other bad spares sign.Close refl)))
+  row_other table key h = (
+    tt,
+    without_both bad (just sign.Open) _ (other bad spares sign.Open refl)
+        (without_both bad (sums (sums_tree s.names key)) (just sign.Close) (key_other bad spares s.names variables key h.key) (other bad spares sign.Close refl)),
+  )
 
   pub cell_other : (table : ℕ) (key : List Lin) (column : ℕ) → IsCellSaid s table key column → Without bad (cell (cell_tree s table key column))
   cell_other table key column h =

@@ -1,5 +1,5 @@
 -- Words other than some that the grammar fixes; and where `self` stands among words, where some parts have none and others neither `entry` nor `hint`.
-use Rattle.std.proofs.Common.{◌≡◌, Bool, true, false, List, [], ◌∷◌, ◌++◌, if◌then◌else◌, map, refl, sym, ap, subst, ◌∙◌, ℕ, zero, suc, arith, inl, inr}
+use Rattle.std.proofs.Common.{◌≡◌, Bool, true, false, List, [], ◌∷◌, ◌++◌, if◌then◌else◌, refl, sym, subst, ◌∙◌, zero, suc, arith, inl, inr}
 use Rattle.std.specs.Prelude.{Contains}
 use Rattle.std.proofs.lemmas.List.Elements.{Contains-append_right, Contains-append_cases}
 use Rattle.acc_grammar.specs.Readers.{AllIn, joined}
@@ -8,7 +8,7 @@ use Rattle.acc_lex.specs.declared.words.Sign.{Sign}
 use Rattle.acc_lex.specs.declared.words.Sign.TheVariants as sign
 use Rattle.acc_lex.specs.declared.words.Word.{Word}
 use Rattle.acc_lex.specs.declared.words.Word.TheVariants as word
-use Rattle.acc_syntax.specs.OwnWords.{EndsInTypes, OwnInTypes}
+use Rattle.acc_syntax.specs.OwnWords.{OwnInTypes}
 use Rattle.acc_syntax.proofs.Following.{is_own}
 
 -- ---- other words

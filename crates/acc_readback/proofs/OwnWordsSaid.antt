@@ -1,11 +1,8 @@
 -- Among the words of a printed design `self` stands within the types alone.
-use Rattle.std.proofs.Common.{◌≡◌, ℕ, inl, inr, Bool, true, false, List, [], ◌∷◌, ◌++◌, Some, None, refl, sym, subst, append_assoc, zero, suc, ℤ}
-use Rattle.std.specs.Prelude.{map, drop, if◌then◌else◌, slice_get, codes}
+use Rattle.std.proofs.Common.{◌≡◌, ℕ, inl, inr, Bool, true, false, List, [], ◌∷◌, ◌++◌, refl, sym, subst, zero, suc, ℤ}
+use Rattle.std.specs.Prelude.{map, drop, if◌then◌else◌, codes}
 use Rattle.std.specs.Str.{bytes_eq}
 use Rattle.acc_grammar.specs.Readers.{AllIn, joined}
-use Rattle.acc_base.specs.Lines.{type_name, point_name}
-use Rattle.acc_base.specs.Effects.{point_of}
-use Rattle.acc_base.specs.declared.forms.Clause.{Clause}
 use Rattle.acc_base.specs.declared.tables.Table.{Table}
 use Rattle.acc_base.specs.declared.designs.TxType.{TxType}
 use Rattle.acc_base.specs.declared.designs.Entry.{Entry}
@@ -28,12 +25,12 @@ use Rattle.acc_print.specs.Names.{name_at, outside, with_own}
 use Rattle.acc_print.specs.Designs.{scope_at}
 use Rattle.acc_readback.specs.Trees.{variable_named, variable_tree, lin_tree, clause_tree}
 use Rattle.acc_readback.specs.TypeTrees.{table_tree, side_of_tree, pair_tree, pairs_tree, entry_tree, hint_tree, type_tree, tree_of}
-use Rattle.acc_readback.specs.Printable.{IsName, IsVariable, IsClauseSaid}
+use Rattle.acc_readback.specs.Printable.{IsName, IsVariable}
 use Rattle.acc_readback.specs.PrintableTypes.{IsPairSaid, IsEntrySaid, IsHintSaid, IsTypeSaid, IsSaid}
-use Rattle.acc_readback.proofs.Ends.{all_mapped}
+use Rattle.acc_readback.proofs.Mapped.{all_mapped}
 use Rattle.acc_readback.proofs.ValueParts.{not_self}
 use Rattle.acc_readback.proofs.OtherWords.{is_behind, Without, without_both, without_either, without_each, own_behind, none_own, own_within}
-use Rattle.acc_readback.proofs.OtherValues.{is_placed, Spares, AreOther, other, names_other, sum_other, further_other}
+use Rattle.acc_readback.proofs.OtherValues.{Spares, AreOther, other, names_other, sum_other, further_other}
 use Rattle.acc_readback.proofs.OtherClauses.{clauses_other}
 use Rattle.acc_readback.proofs.OtherTypes.{type_other}
 
@@ -120,8 +117,8 @@ types_own : (tables : List Table) (ts : List TxType) (vs : List Word) → AllIn 
 types_own tables [] vs h own = none_own vs own
 types_own tables (t ∷ ts) vs h own =
     let types : Without is_behind (joined type_words (map (type_tree tables) (t ∷ ts))) =
-        without_each is_behind type_words (map (type_tree tables) (t ∷ ts))
-        (all_mapped (IsTypeSaid tables) (λ (u : TypeTree). Without is_behind (type_words u)) (type_tree tables) (type_other is_behind behind_spares every_other tables) (t ∷ ts) h) in
+    without_each is_behind type_words (map (type_tree tables) (t ∷ ts))
+    (all_mapped (IsTypeSaid tables) (λ (u : TypeTree). Without is_behind (type_words u)) (type_tree tables) (type_other is_behind behind_spares every_other tables) (t ∷ ts) h) in
     own_within (drop 1 (joined type_words (map (type_tree tables) (t ∷ ts)))) vs types.1 own
 
 tree_owns : (d : Design) → IsSaid d → OwnInTypes (spelled_design (tree_of d))

@@ -1,5 +1,5 @@
 -- Each statement of a printed text stands on a line of its own.
-use Rattle.std.proofs.Common.{◌≡◌, ◌≢◌, ℕ, zero, suc, ◌+◌, ◌-◌, ◌<◌, ◌≤◌, Bool, true, false, List, [], ◌∷◌, ◌++◌, length, take, drop, refl, sym, ap, subst, ◌∙◌, inl, inr, arith, append_assoc}
+use Rattle.std.proofs.Common.{◌≡◌, ◌≢◌, ℕ, zero, suc, ◌-◌, ◌<◌, ◌≤◌, Bool, true, false, List, [], ◌∷◌, ◌++◌, length, take, drop, refl, sym, ap, subst, ◌∙◌, inl, inr, arith, append_assoc}
 use Rattle.std.specs.Prelude.{map, not, ◌==◌}
 use Rattle.std.specs.List.{list_all}
 use Rattle.std.specs.Str.{bytes_eq}
@@ -7,7 +7,6 @@ use Rattle.std.proofs.lemmas.List.{append-nil}
 use Rattle.acc_grammar.specs.Readers.{AllIn, joined}
 use Rattle.acc_grammar.specs.Runs.{IsRow}
 use Rattle.acc_grammar.proofs.RunReaders.{flag}
-use Rattle.acc_base.specs.Lines.{line}
 use Rattle.acc_lex.specs.declared.words.Word.{Word}
 use Rattle.acc_lex.specs.declared.words.Word.TheVariants as word
 use Rattle.acc_lex.specs.declared.words.Sign.{Sign}
@@ -22,7 +21,7 @@ use Rattle.acc_lex.proofs.LineFronts.{IsFed, fed_line}
 use Rattle.acc_statements.specs.Ends.{is_end, ends}
 use Rattle.acc_statements.specs.Lines.{feeds, first_lines, IsLineOf}
 use Rattle.acc_statements.proofs.Within.{ends_both, past_word, end_last}
-use Rattle.acc_statements.proofs.FirstLines.{feeds_both, feeds_at, feeds_past, lines_of}
+use Rattle.acc_statements.proofs.FirstLines.{feeds_both, feeds_past, lines_of}
 use Rattle.acc_readback.proofs.Lines.{Lines, HasWords, ended_bytes, lexed}
 
 -- ---- the words of a statement have one end

@@ -1,8 +1,9 @@
 //! Printed texts.
-ghost use Rattle.std.specs.Prelude.{◌≡◌, IfOk};
-ghost use Rattle.acc_lex.specs.Texts.{IsLexed};
-ghost use Rattle.acc_syntax.specs.Spelling.{spelled_design};
+ghost use Rattle.std.specs.Prelude.{◌≡◌, ◌+◌, ◌<◌, ℕ, IfOk};
+ghost use Rattle.acc_statements.specs.Counts.{statements_of};
+ghost use Rattle.acc_statements.specs.Lines.{IsLineOf};
 ghost use Rattle.acc_print.specs.Designs.{printed};
+ghost use Rattle.acc_parse.specs.Texts.{IsDesignText};
 ghost use Rattle.acc_readback.specs.TypeTrees.{tree_of};
 ghost use Rattle.acc_readback.specs.PrintableTypes.{IsSaid};
 
@@ -10,13 +11,15 @@ use acc_base::designs::Design;
 use acc_print::PrintError;
 use std::alloc::Global;
 
-/// The one printed spelling of a design. Where each part of the design can be spelled, the text is one that the lexer reads,
-/// and its words are those that spell the design's tree by the grammar.
+/// The one printed spelling of a design. A design that some text stands for is the one that its print stands for, so the parser
+/// reads it back as itself.
 ///
 /// `Memory` where memory ran out.
 pub fn print(alloc: Global, d: &Design) -> Result<Vec<u8>, PrintError>
     ensures value { IfOk result (λ text. text.items ≡ printed d.now) }
-    ensures lexed { IsSaid d.now → IfOk result (λ text. IsLexed text.items (spelled_design (tree_of d.now))) }
+    ensures read { IsSaid d.now → IfOk result (λ text. IsDesignText text.items d.now) }
+    // Each of its statements stands on a line of its own, in the order of the lines.
+    ensures lines { IsSaid d.now → IfOk result (λ text. (n : ℕ) → n < statements_of (tree_of d.now) → IsLineOf text.items n (n + 1)) }
 {
     let text = acc_print::print(alloc, d)?;
     Ok(text)
