@@ -41,3 +41,5 @@ pub mod OtherClauses
 pub mod OtherTypes
 pub mod OwnWordsSaid
 pub mod ReadBack
+pub mod SaidParts
+pub mod SaidTerms
