@@ -43,3 +43,5 @@ pub mod OwnWordsSaid
 pub mod ReadBack
 pub mod SaidParts
 pub mod SaidTerms
+pub mod SaidPlaces
+pub mod SaidNames
