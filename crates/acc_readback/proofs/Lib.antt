@@ -45,3 +45,4 @@ pub mod SaidParts
 pub mod SaidTerms
 pub mod SaidPlaces
 pub mod SaidNames
+pub mod SaidValues
