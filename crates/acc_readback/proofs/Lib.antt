@@ -46,3 +46,4 @@ pub mod SaidTerms
 pub mod SaidPlaces
 pub mod SaidNames
 pub mod SaidValues
+pub mod SaidRows

@@ -93,6 +93,7 @@ pub record Setting : Type 0 where
   pub no_self : in_type ≡ false → own ≡ false
   pub no_locals : in_type ≡ false → locals ≡ []
   pub few_tables : length trees ≤ 64
+  pub few_columns : AllIn (λ (t : TableTree). length t.columns ≤ 12) trees
   pub few_locals : length locals ≤ 48
   pub few_mine : length mine ≤ 8
 
@@ -147,7 +148,7 @@ or_second : (a b : Bool) → (a || b) ≡ true → a ≡ false → b ≡ true
 or_second true b h e = absurd cc
 or_second false b h e = h
 
-stands_true : (x : List ℕ) (names : List (List ℕ)) → not (stands_in x names) ≡ false → stands_in x names ≡ true
+pub stands_true : (x : List ℕ) (names : List (List ℕ)) → not (stands_in x names) ≡ false → stands_in x names ≡ true
 stands_true x names h = by (stands_in x names) h
   where
     by : (b : Bool) → not b ≡ false → b ≡ true

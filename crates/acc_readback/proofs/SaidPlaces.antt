@@ -1,12 +1,13 @@
 -- What stands at the number of a name is what has the name.
 use Rattle.std.proofs.Common.{◌≡◌, ℕ, zero, suc, ◌+◌, ◌^◌, ◌<◌, ◌≤◌, Bool, true, false, cond, List, [], ◌∷◌, ◌++◌, length, map, Option, Some, None, refl, ap, sym, ◌∙◌, subst, inl, inr, arith, if◌then◌else◌}
-use Rattle.std.specs.Prelude.{option_map, slice_get, nat_lt, is_some, not, unwrap_or}
+use Rattle.std.specs.Prelude.{option_map, slice_get, nat_lt, is_some, is_none, unwrap_or}
 use Rattle.std.specs.List.{find}
 use Rattle.std.specs.Str.{bytes_eq}
 use Rattle.std.proofs.lemmas.Bool.{cases_Bool}
 use Rattle.std.proofs.lemmas.Bool.Decides.{nat_tests}
 use Rattle.std.proofs.lemmas.Slice.Eq.{bytes_eq-Decides}
 use Rattle.std.proofs.lemmas.Option.{slice_get_within, slice_get-map}
+use Rattle.acc_grammar.specs.Readers.{AllIn}
 use Rattle.acc_names.specs.Names.{stands_in}
 use Rattle.acc_names.specs.Places.{place_of}
 use Rattle.acc_names.proofs.Placed.{placed_stands}
@@ -94,3 +95,17 @@ found_has name x (u ∷ us) t e =
       | inl h ↦ let same : u ≡ t = let one = sym (ap (λ (b : Bool). cond b (Some u) (find (λ v. bytes_eq x (name v)) us)) h) ∙ e in cc in ap name (sym same) ∙ sym ((bytes_eq-Decides x (name u)).0 h)
       | inr h ↦ found_has name x us t (sym (ap (λ (b : Bool). cond b (Some u) (find (λ v. bytes_eq x (name v)) us)) h) ∙ e)
     ]
+
+-- what holds of each holds of what is found
+pub found_all : {T : Type 0} (P : T → Type 0) (test : T → Bool) (ts : List T) (t : T) → find test ts ≡ Some t → AllIn P ts → P t
+found_all P test [] t e h = absurd cc
+found_all P test (u ∷ us) t e h =
+    elim (cases_Bool (test u)) [
+      | inl g ↦ let same : u ≡ t = let one = sym (ap (λ (b : Bool). cond b (Some u) (find test us)) g) ∙ e in cc in subst P same h.0
+      | inr g ↦ found_all P test us t (sym (ap (λ (b : Bool). cond b (Some u) (find test us)) g) ∙ e) h.1
+    ]
+
+-- what is found, where something is
+pub some_found : {T U : Type 0} (f : T → U) (o : Option T) → is_none (option_map f o) ≡ false → (t : T) × (o ≡ Some t)
+some_found f None h = absurd cc
+some_found f (Some t) h = (t, refl)
