@@ -47,3 +47,5 @@ pub mod SaidPlaces
 pub mod SaidNames
 pub mod SaidValues
 pub mod SaidRows
+pub mod SaidForms
+pub mod SaidClauses
