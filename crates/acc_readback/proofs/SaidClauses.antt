@@ -28,7 +28,7 @@ use Rattle.acc_meaning.specs.Sizes.{rel_sizes, clause_sizes, clause_statement_si
 use Rattle.acc_print.specs.Names.{names_within}
 use Rattle.acc_readback.specs.Printable.{IsName, AreNew, IsRelSaid, IsClauseSaid}
 use Rattle.acc_readback.proofs.ValueParts.{not_self}
-use Rattle.acc_readback.proofs.SaidParts.{OnlyEnd, IsEnd, not_past, all_parts, all_joined, all_flat, all_map, all_by_four, none_false}
+use Rattle.acc_readback.proofs.SaidParts.{OnlyEnd, IsEnd, not_past, all_parts, all_joined, all_flat, all_map, all_mapped, all_by_four, none_false, IsFalse}
 use Rattle.acc_readback.proofs.SaidNames.{AreHeard, IsHeard, Setting, names_by, are_names, is_name}
 use Rattle.acc_readback.proofs.SaidRows.{meant, known, shown, furthers}
 use Rattle.acc_readback.proofs.SaidForms.{rel_said}
@@ -72,12 +72,12 @@ new_said a xs h new =
 
 -- ---- within a clause
 
-names_more : (b : Bool) (locals mine xs : List (List ℕ)) → mine ≡ [] → names_by b locals mine ++ xs ≡ names_by b locals xs
+pub names_more : (b : Bool) (locals mine xs : List (List ℕ)) → mine ≡ [] → names_by b locals mine ++ xs ≡ names_by b locals xs
 names_more true locals mine xs e = ap (λ (ys : List (List ℕ)). (names_within locals ++ ys) ++ xs) e ∙ ap (λ (ys : List (List ℕ)). ys ++ xs) (append-nil (names_within locals))
 names_more false locals mine xs e = ap (λ (ys : List (List ℕ)). ys ++ xs) e
 
 -- with a clause's own variables
-pub within_clause : (a : Setting) (xs : List (List ℕ)) → a.mine ≡ [] → length xs ≤ 8 → Setting
+abbrev pub within_clause : (a : Setting) (xs : List (List ℕ)) → a.mine ≡ [] → length xs ≤ 8 → Setting
 within_clause a xs none few = record {
   own = a.own;
   in_type = a.in_type;
@@ -95,3 +95,79 @@ within_clause a xs none few = record {
   few_locals = a.few_locals;
   few_mine = few;
 }
+
+-- ---- clauses
+
+-- at most 8 names, each of which can be spelled
+pub record IsBinderSaid (ns : Option Names) : Type 0 where
+  pub few : length (listed_or_none ns) ≤ 8
+  pub each : AllIn IsName (listed_or_none ns)
+
+binder_said : (own : Bool) (ns : Option Names) → AreHeard own (binder ns) → OnlyEnd (binder_marks ns) → IsBinderSaid ns
+binder_said own None heard marks = record { few = omega arith; each = tt }
+binder_said own (Some ns) heard marks =
+    let words = all_parts (IsHeard own) (names ns) (just sign.Colon) heard.1 in
+    let ends = all_parts IsEnd (past limit.Variables (nat_lt 7 (length ns.others))) (names_marks ns) marks in
+    let short : nat_lt 7 (length ns.others) ≡ false = not_past limit.Variables (nat_lt 7 (length ns.others)) ends.0 in
+    let fewer : length ns.others ≤ 7 = grind (arith, nat_tests) in
+    record { few = omega (arith, fewer); each = names_said own ns words.0 ends.1 }
+
+-- at most 16 relations
+pub record ArePremisesSaid (a : Setting) (g : Option FormRels) : Type 0 where
+  pub few : length (map (rel_of (meant a)) (all_form_rels g)) ≤ 16
+  pub each : AllIn (IsRelSaid (shown a)) (map (rel_of (meant a)) (all_form_rels g))
+
+premises_said : (a : Setting) (g : Option FormRels) → AreHeard a.own (premises g) → premises_fault (known a) g ≡ false → OnlyEnd (premises_marks g) → OnlyEnd (flat_map (rel_sizes (meant a)) (all_form_rels g)) → ArePremisesSaid a g
+premises_said a None heard faults marks sizes = record { few = omega arith; each = tt }
+premises_said a (Some rs) heard faults marks sizes =
+    let all_words = all_parts (IsHeard a.own) (form_rels rs) (just sign.Implies) heard in
+    let words = all_parts (IsHeard a.own) (form_rel rs.first) (joined (further form_rel) rs.others) all_words.0 in
+    let none = or_parts (form_rel_fault (known a) rs.first) (list_any (form_rel_fault (known a)) rs.others) faults in
+    let ends = all_parts IsEnd (past limit.GuardRelations (nat_lt 15 (length rs.others))) (form_rel_marks rs.first ++ flat_map form_rel_marks rs.others) marks in
+    let each_end = all_parts IsEnd (form_rel_marks rs.first) (flat_map form_rel_marks rs.others) ends.1 in
+    let small = all_flat IsEnd (rel_sizes (meant a)) (rs.first ∷ rs.others) sizes in
+    let short : nat_lt 15 (length rs.others) ≡ false = not_past limit.GuardRelations (nat_lt 15 (length rs.others)) ends.0 in
+    let fewer : length rs.others ≤ 15 = grind (arith, nat_tests) in
+    let same = length-map rs.others (rel_of (meant a)) in
+    record {
+      few = omega (arith, fewer, same);
+      each = (rel_said a rs.first words.0 none.0 each_end.0 small.0,
+        all_map (IsRelSaid (shown a)) (rel_of (meant a)) rs.others
+        (all_by_four (λ r. AreHeard a.own (form_rel r)) (λ r. form_rel_fault (known a) r ≡ false) (λ r. OnlyEnd (form_rel_marks r)) (λ r. OnlyEnd (rel_sizes (meant a) r)) (λ r. IsRelSaid (shown a) (rel_of (meant a) r)) rs.others (rel_said a)
+          (furthers a.own form_rel rs.others words.1) (none_false (form_rel_fault (known a)) rs.others none.1) (all_flat IsEnd form_rel_marks rs.others each_end.1) small.1));
+    }
+
+-- no clause stands within a clause
+pub clause_said : (a : Setting) (c : ClauseTree) → a.mine ≡ [] → AreHeard a.own (clause c) → clause_fault (known a) c ≡ false → OnlyEnd (clause_marks c) → OnlyEnd (clause_sizes (meant a) c) → IsClauseSaid (shown a) (clause_of (meant a) c)
+clause_said a c none heard faults marks sizes =
+    let xs = listed_or_none c.variables in
+    let words = all_parts (IsHeard a.own) (binder c.variables) (premises c.guards ++ form_rel c.relation) heard in
+    let ends = all_parts IsEnd (binder_marks c.variables) (premises_marks c.guards ++ form_rel_marks c.relation) marks in
+    let bound = binder_said a.own c.variables words.0 ends.0 in
+    let b = within_clause a xs none bound.few in
+    let defined = or_parts (defines_again a.known xs) (premises_fault (known b) c.guards || form_rel_fault (known b) c.relation) faults in
+    let used = or_parts (premises_fault (known b) c.guards) (form_rel_fault (known b) c.relation) defined.1 in
+    let inner_words = all_parts (IsHeard a.own) (premises c.guards) (form_rel c.relation) words.1 in
+    let inner_ends = all_parts IsEnd (premises_marks c.guards) (form_rel_marks c.relation) ends.1 in
+    let small = all_parts IsEnd (flat_map (rel_sizes (meant b)) (all_form_rels c.guards)) (rel_sizes (meant b) c.relation) sizes in
+    let guards = premises_said b c.guards inner_words.0 used.0 inner_ends.0 small.0 in
+    record {
+      variables = bound.each;
+      few_variables = bound.few;
+      new = new_said a xs bound.each defined.0;
+      few_guards = guards.few;
+      guards = guards.each;
+      relation = rel_said b c.relation inner_words.1 used.1 inner_ends.1 small.1;
+    }
+
+statement_said : (s : Sign) (a : Setting) (c : ClauseTree) → a.mine ≡ [] → AreHeard a.own (clause_statement s c) → clause_fault (known a) c ≡ false → OnlyEnd (clause_statement_marks c) → OnlyEnd (clause_statement_sizes (meant a) c) → IsClauseSaid (shown a) (clause_of (meant a) c)
+statement_said s a c none heard faults marks sizes =
+    clause_said a c none (all_parts (IsHeard a.own) (clause c) (just sign.End) heard.1).0 faults (all_parts IsEnd (clause_marks c) ending marks).0 (all_parts IsEnd (clause_sizes (meant a) c) ending sizes).0
+
+-- statements of a word and a clause
+pub clauses_said : (s : Sign) (a : Setting) (cs : List ClauseTree) → a.mine ≡ [] → AreHeard a.own (joined (clause_statement s) cs) → AllIn IsFalse (map (clause_fault (known a)) cs) → AllIn (λ c. OnlyEnd (clause_statement_marks c)) cs
+    → OnlyEnd (flat_map (clause_statement_sizes (meant a)) cs) → AllIn (IsClauseSaid (shown a)) (map (clause_of (meant a)) cs)
+clauses_said s a cs none heard faults marks sizes =
+    all_map (IsClauseSaid (shown a)) (clause_of (meant a)) cs
+    (all_by_four (λ c. AreHeard a.own (clause_statement s c)) (λ c. clause_fault (known a) c ≡ false) (λ c. OnlyEnd (clause_statement_marks c)) (λ c. OnlyEnd (clause_statement_sizes (meant a) c)) (λ c. IsClauseSaid (shown a) (clause_of (meant a) c)) cs (λ c. statement_said s a c none)
+      (all_joined (IsHeard a.own) (clause_statement s) cs heard) (all_mapped IsFalse (clause_fault (known a)) cs faults) marks (all_flat IsEnd (clause_statement_sizes (meant a)) cs sizes))
