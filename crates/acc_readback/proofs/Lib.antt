@@ -49,3 +49,5 @@ pub mod SaidValues
 pub mod SaidRows
 pub mod SaidForms
 pub mod SaidClauses
+pub mod SaidReads
+pub mod SaidSteps
