@@ -51,3 +51,4 @@ pub mod SaidForms
 pub mod SaidClauses
 pub mod SaidReads
 pub mod SaidSteps
+pub mod SaidPoints
