@@ -52,3 +52,7 @@ pub mod SaidClauses
 pub mod SaidReads
 pub mod SaidSteps
 pub mod SaidPoints
+pub mod SaidLocals
+pub mod SaidTypes
+pub mod SaidWords
+pub mod SaidOwn
