@@ -56,3 +56,7 @@ pub mod SaidLocals
 pub mod SaidTypes
 pub mod SaidWords
 pub mod SaidOwn
+pub mod SaidTables
+pub mod SaidPointNames
+pub mod SaidEntries
+pub mod SaidDesigns

@@ -1,5 +1,5 @@
 -- The clauses of a tree that is a design's can be spelled.
-use Rattle.std.proofs.Common.{◌≡◌, ℕ, ◌+◌, ◌≤◌, Bool, true, false, List, [], ◌∷◌, ◌++◌, length, map, Option, Some, None, refl, ap, sym, ◌∙◌, subst, inl, inr, arith, append_assoc}
+use Rattle.std.proofs.Common.{◌≡◌, ℕ, ◌≤◌, Bool, true, false, List, [], ◌∷◌, ◌++◌, length, map, Option, Some, None, refl, ap, sym, ◌∙◌, arith}
 use Rattle.std.specs.Prelude.{◌||◌, nat_lt, codes}
 use Rattle.std.specs.List.{flat_map, list_any}
 use Rattle.std.specs.Str.{bytes_eq}
@@ -8,12 +8,9 @@ use Rattle.std.proofs.lemmas.Bool.Decides.{nat_tests}
 use Rattle.std.proofs.lemmas.List.{length-map, append-nil}
 use Rattle.std.proofs.lemmas.List.Folds.{list_any-append}
 use Rattle.acc_grammar.specs.Readers.{AllIn, joined}
-use Rattle.acc_lex.specs.declared.words.Word.{Word}
 use Rattle.acc_lex.specs.declared.words.Sign.{Sign}
 use Rattle.acc_lex.specs.declared.words.Sign.TheVariants as sign
-use Rattle.acc_lex.specs.Keywords.{keyword_of}
 use Rattle.acc_syntax.specs.declared.trees.Names.{Names}
-use Rattle.acc_syntax.specs.declared.trees.FormRelTree.{FormRelTree}
 use Rattle.acc_syntax.specs.declared.trees.FormRels.{FormRels}
 use Rattle.acc_syntax.specs.declared.trees.ClauseTree.{ClauseTree}
 use Rattle.acc_syntax.specs.Spelling.{just, name, names, further, form_rel, form_rels, binder, premises, clause, clause_statement}
@@ -131,10 +128,12 @@ premises_said a (Some rs) heard faults marks sizes =
     let same = length-map rs.others (rel_of (meant a)) in
     record {
       few = omega (arith, fewer, same);
-      each = (rel_said a rs.first words.0 none.0 each_end.0 small.0,
+      each = (
+        rel_said a rs.first words.0 none.0 each_end.0 small.0,
         all_map (IsRelSaid (shown a)) (rel_of (meant a)) rs.others
-        (all_by_four (λ r. AreHeard a.own (form_rel r)) (λ r. form_rel_fault (known a) r ≡ false) (λ r. OnlyEnd (form_rel_marks r)) (λ r. OnlyEnd (rel_sizes (meant a) r)) (λ r. IsRelSaid (shown a) (rel_of (meant a) r)) rs.others (rel_said a)
-          (furthers a.own form_rel rs.others words.1) (none_false (form_rel_fault (known a)) rs.others none.1) (all_flat IsEnd form_rel_marks rs.others each_end.1) small.1));
+            (all_by_four (λ r. AreHeard a.own (form_rel r)) (λ r. form_rel_fault (known a) r ≡ false) (λ r. OnlyEnd (form_rel_marks r)) (λ r. OnlyEnd (rel_sizes (meant a) r)) (λ r. IsRelSaid (shown a) (rel_of (meant a) r)) rs.others (rel_said a)
+            (furthers a.own form_rel rs.others words.1) (none_false (form_rel_fault (known a)) rs.others none.1) (all_flat IsEnd form_rel_marks rs.others each_end.1) small.1),
+      );
     }
 
 -- no clause stands within a clause
@@ -170,4 +169,4 @@ pub clauses_said : (s : Sign) (a : Setting) (cs : List ClauseTree) → a.mine �
 clauses_said s a cs none heard faults marks sizes =
     all_map (IsClauseSaid (shown a)) (clause_of (meant a)) cs
     (all_by_four (λ c. AreHeard a.own (clause_statement s c)) (λ c. clause_fault (known a) c ≡ false) (λ c. OnlyEnd (clause_statement_marks c)) (λ c. OnlyEnd (clause_statement_sizes (meant a) c)) (λ c. IsClauseSaid (shown a) (clause_of (meant a) c)) cs (λ c. statement_said s a c none)
-      (all_joined (IsHeard a.own) (clause_statement s) cs heard) (all_mapped IsFalse (clause_fault (known a)) cs faults) marks (all_flat IsEnd (clause_statement_sizes (meant a)) cs sizes))
+    (all_joined (IsHeard a.own) (clause_statement s) cs heard) (all_mapped IsFalse (clause_fault (known a)) cs faults) marks (all_flat IsEnd (clause_statement_sizes (meant a)) cs sizes))

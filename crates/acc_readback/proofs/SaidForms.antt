@@ -1,6 +1,6 @@
 -- The forms of a tree that is a design's, and relations between them, can be spelled.
-use Rattle.std.proofs.Common.{◌≡◌, ℕ, Bool, true, false, List, [], ◌∷◌, ◌++◌, map, Option, Some, None, refl, ap, sym, ◌∙◌, subst, arith, ℤ}
-use Rattle.std.specs.Prelude.{◌||◌, IfSome, if◌then◌else◌}
+use Rattle.std.proofs.Common.{◌≡◌, false, List, [], ◌++◌, refl, ℤ}
+use Rattle.std.specs.Prelude.{IfSome, if◌then◌else◌}
 use Rattle.std.specs.List.{flat_map, list_any}
 use Rattle.std.proofs.lemmas.Bool.{or_parts}
 use Rattle.acc_grammar.specs.Readers.{AllIn, joined}
@@ -15,7 +15,7 @@ use Rattle.acc_syntax.specs.declared.trees.FormTerm.TheVariants as form_terms
 use Rattle.acc_syntax.specs.declared.trees.SignedFormTerm.{SignedFormTerm}
 use Rattle.acc_syntax.specs.declared.trees.FormTree.{FormTree}
 use Rattle.acc_syntax.specs.declared.trees.FormRelTree.{FormRelTree}
-use Rattle.acc_syntax.specs.Spelling.{just, number, operand, form_term, signed_form_term, form, relation_sign, form_rel}
+use Rattle.acc_syntax.specs.Spelling.{just, operand, form_term, signed_form_term, form, relation_sign, form_rel}
 use Rattle.acc_names.specs.Faults.{operand_fault, form_term_fault, form_fault, form_rel_fault}
 use Rattle.acc_limits.specs.Words.{number_marks, operand_marks, form_term_marks, signed_form_term_marks, form_marks, form_rel_marks}
 use Rattle.acc_terms.specs.declared.parts.Part.{Part}
@@ -56,11 +56,12 @@ parts_have a f heard names marks sizes =
     let both = all_parts (IsHeard a.own) (form_term f.first) (joined signed_form_term f.others) words in
     let faults = or_parts (form_term_fault (known a) f.first) (list_any (λ (t : SignedFormTerm). form_term_fault (known a) t.term) f.others) names in
     let ends = all_parts IsEnd (form_term_marks f.first) (flat_map signed_form_term_marks f.others) marks in
-    let small = all_parts IsEnd (form_term_sizes (meant a) f.first) (flat_map (signed_form_term_sizes (meant a)) f.others) sizes in
-    (signed_has (IsUnknown a) f.minus (form_part (meant a) f.first) (term_has a f.first both.0 faults.0 ends.0 small.0),
-     all_map (λ (p : Part Unknown). IfSome p.of (IsUnknown a)) (signed_form_part (meant a)) f.others
-      (all_by_four (λ t. AreHeard a.own (signed_form_term t)) (λ (t : SignedFormTerm). form_term_fault (known a) t.term ≡ false) (λ t. OnlyEnd (signed_form_term_marks t)) (λ t. OnlyEnd (signed_form_term_sizes (meant a) t)) (λ t. IfSome (signed_form_part (meant a) t).of (IsUnknown a)) f.others (further_has a)
-        (all_joined (IsHeard a.own) signed_form_term f.others both.1) (none_false (λ (t : SignedFormTerm). form_term_fault (known a) t.term) f.others faults.1) (all_flat IsEnd signed_form_term_marks f.others ends.1) (all_flat IsEnd (signed_form_term_sizes (meant a)) f.others small.1)))
+    let small = all_parts IsEnd (form_term_sizes (meant a) f.first) (flat_map (signed_form_term_sizes (meant a)) f.others) sizes in (
+      signed_has (IsUnknown a) f.minus (form_part (meant a) f.first) (term_has a f.first both.0 faults.0 ends.0 small.0),
+      all_map (λ (p : Part Unknown). IfSome p.of (IsUnknown a)) (signed_form_part (meant a)) f.others
+          (all_by_four (λ t. AreHeard a.own (signed_form_term t)) (λ (t : SignedFormTerm). form_term_fault (known a) t.term ≡ false) (λ t. OnlyEnd (signed_form_term_marks t)) (λ t. OnlyEnd (signed_form_term_sizes (meant a) t)) (λ t. IfSome (signed_form_part (meant a) t).of (IsUnknown a)) f.others (further_has a)
+          (all_joined (IsHeard a.own) signed_form_term f.others both.1) (none_false (λ (t : SignedFormTerm). form_term_fault (known a) t.term) f.others faults.1) (all_flat IsEnd signed_form_term_marks f.others ends.1) (all_flat IsEnd (signed_form_term_sizes (meant a)) f.others small.1)),
+    )
 
 pub rel_said : (a : Setting) (r : FormRelTree) → AreHeard a.own (form_rel r) → form_rel_fault (known a) r ≡ false → OnlyEnd (form_rel_marks r) → OnlyEnd (rel_sizes (meant a) r) → IsRelSaid (shown a) (rel_of (meant a) r)
 rel_said a r heard names marks sizes =

@@ -1,17 +1,16 @@
 -- The names of a type of a tree that is a design's can be spelled: its own, its locals, and those that it returns.
-use Rattle.std.proofs.Common.{◌≡◌, ℕ, ◌+◌, ◌≤◌, ◌<◌, ◌^◌, Bool, true, false, List, [], ◌∷◌, ◌++◌, length, map, take, drop, Option, Some, None, refl, ap, sym, ◌∙◌, subst, arith, append_assoc, length-append}
-use Rattle.std.specs.Prelude.{◌||◌, not, nat_lt, nat_le, slice_get, unwrap_or}
-use Rattle.std.specs.List.{flat_map, list_any}
-use Rattle.std.proofs.lemmas.Bool.{or_parts}
+use Rattle.std.proofs.Common.{◌≡◌, ℕ, ◌+◌, ◌≤◌, ◌^◌, Bool, true, false, List, [], ◌∷◌, ◌++◌, length, map, Option, Some, None, refl, ap, sym, ◌∙◌, subst, arith, append_assoc, length-append}
+use Rattle.std.specs.Prelude.{◌||◌, not, nat_lt, unwrap_or}
+use Rattle.std.specs.List.{flat_map}
 use Rattle.std.proofs.lemmas.Bool.Decides.{nat_tests}
 use Rattle.std.proofs.lemmas.List.{append-nil}
-use Rattle.acc_grammar.specs.Readers.{AllIn, joined}
+use Rattle.acc_grammar.specs.Readers.{AllIn}
 use Rattle.acc_lex.specs.declared.words.Sign.{Sign}
 use Rattle.acc_lex.specs.declared.words.Sign.TheVariants as sign
 use Rattle.acc_syntax.specs.declared.trees.Names.{Names}
 use Rattle.acc_syntax.specs.declared.trees.TableTree.{TableTree}
 use Rattle.acc_syntax.specs.declared.trees.TypeTree.{TypeTree}
-use Rattle.acc_syntax.specs.Spelling.{just, name, names, names_statement}
+use Rattle.acc_syntax.specs.Spelling.{just, names, names_statement}
 use Rattle.acc_names.specs.Names.{stands_in, defines_again, listed, listed_or_none}
 use Rattle.acc_names.specs.Scopes.{locals_of}
 use Rattle.acc_names.specs.Faults.{returns_faults, locals_faults}
@@ -22,7 +21,7 @@ use Rattle.acc_limits.specs.Statements.{returns_marks, locals_marks, head_marks}
 use Rattle.acc_meaning.specs.Scopes.{number_of}
 use Rattle.acc_print.specs.Names.{name_at, names_within}
 use Rattle.acc_readback.specs.Printable.{IsName}
-use Rattle.acc_readback.proofs.SaidParts.{OnlyEnd, IsEnd, IsFalse, not_past, all_parts, all_map, all_by_two, none_false}
+use Rattle.acc_readback.proofs.SaidParts.{neither, OnlyEnd, IsEnd, IsFalse, not_past, all_parts, none_false}
 use Rattle.acc_readback.proofs.SaidPlaces.{named_there}
 use Rattle.acc_readback.proofs.SaidNames.{AreHeard, IsHeard, Setting, stands_true}
 use Rattle.acc_readback.proofs.SaidClauses.{names_said}
@@ -95,10 +94,6 @@ defines_both earlier (x ∷ xs) ys =
     ap (λ (b : Bool). stands_in x earlier || b) (defines_both (earlier ++ x ∷ []) xs ys)
     ∙ (ap (λ (zs : List (List ℕ)). stands_in x earlier || (defines_again (earlier ++ x ∷ []) xs || defines_again zs ys)) (append_assoc earlier (x ∷ []) xs)
     ∙ or_assoc (stands_in x earlier) (defines_again (earlier ++ x ∷ []) xs) (defines_again (earlier ++ (x ∷ xs)) ys))
-
-neither : (a b : Bool) → a ≡ false → b ≡ false → (a || b) ≡ false
-neither true b h g = absurd cc
-neither false b h g = g
 
 others_new : (params : List (List ℕ)) (ns : Option Names) → AllIn IsFalse (locals_faults params ns) → defines_again params (listed_or_none ns) ≡ false
 others_new params None h = refl

@@ -1,15 +1,13 @@
 -- The names of a tree that is a design's can be spelled, and the number of a variable has its name.
 use Rattle.std.proofs.Common.{◌≡◌, ℕ, ◌+◌, ◌^◌, ◌<◌, ◌≤◌, Bool, true, false, List, [], ◌∷◌, ◌++◌, length, get_or, Option, Some, None, refl, ap, sym, ◌∙◌, subst, inl, inr, arith, append_assoc, length-append}
-use Rattle.std.specs.Prelude.{◌⊎◌, ◌||◌, not, nat_lt, unwrap_or, codes, slice_get, is_some, if◌then◌else◌}
-use Rattle.std.specs.List.{list_any}
+use Rattle.std.specs.Prelude.{◌||◌, not, nat_lt, unwrap_or, codes, slice_get, is_some, if◌then◌else◌}
 use Rattle.std.specs.Str.{bytes_eq}
-use Rattle.std.proofs.lemmas.Bool.{cases_Bool}
 use Rattle.std.proofs.lemmas.Bool.Decides.{nat_tests}
 use Rattle.std.proofs.lemmas.List.{get_or_append_left, get_or-append-add}
 use Rattle.std.proofs.Math.Seq.{get_or-append_seam}
 use Rattle.std.proofs.lemmas.List.Folds.{list_any-append}
 use Rattle.std.proofs.lemmas.Option.{unwrap_or-slice_get, get_or_from_slice_get}
-use Rattle.acc_grammar.specs.Readers.{AllIn, joined}
+use Rattle.acc_grammar.specs.Readers.{AllIn}
 use Rattle.acc_lex.specs.declared.words.Word.{Word}
 use Rattle.acc_lex.specs.declared.words.Word.TheVariants as word
 use Rattle.acc_lex.specs.declared.words.Sign.TheVariants as sign
@@ -27,7 +25,7 @@ use Rattle.acc_limits.specs.Words.{name_marks, variable_marks}
 use Rattle.acc_meaning.specs.Scopes.{Variables, fitted, first_own, named, variable_of}
 use Rattle.acc_print.specs.Names.{name_at, names_within}
 use Rattle.acc_readback.specs.Printable.{IsName, IsVariable}
-use Rattle.acc_readback.proofs.SaidParts.{OnlyEnd, not_past, all_joined, all_by_two, all_flat, all_parts, IsEnd}
+use Rattle.acc_readback.proofs.SaidParts.{OnlyEnd, not_past, all_by_two}
 use Rattle.acc_readback.proofs.SaidPlaces.{IsPlacedAt, stands_there, fitted_same}
 
 -- ---- words

@@ -1,6 +1,6 @@
 -- What holds of each part of a whole: each of some words or marks, each statement's freedom from faults, each item that is counted.
-use Rattle.std.proofs.Common.{◌≡◌, ℕ, ◌+◌, ◌≤◌, Bool, true, false, List, [], ◌∷◌, ◌++◌, length, map, Option, Some, None, refl, ap, sym, ◌∙◌, arith}
-use Rattle.std.specs.Prelude.{◌==◌, position}
+use Rattle.std.proofs.Common.{◌≡◌, ℕ, ◌+◌, ◌≤◌, Bool, true, false, List, [], ◌∷◌, ◌++◌, length, map, None, refl, sym, arith}
+use Rattle.std.specs.Prelude.{◌==◌, ◌||◌, position}
 use Rattle.std.specs.List.{flat_map, list_any}
 use Rattle.std.proofs.lemmas.Bool.{or_parts}
 use Rattle.std.proofs.lemmas.Bool.Decides.{nat_tests}
@@ -54,6 +54,10 @@ all_by_four P Q R S U (t ∷ ts) f p q r s = (f t p.0 q.0 r.0 s.0, all_by_four P
 
 abbrev pub IsFalse : Bool → Type 0
 IsFalse b = b ≡ false
+
+pub neither : (a b : Bool) → a ≡ false → b ≡ false → (a || b) ≡ false
+neither true b h g = absurd cc
+neither false b h g = g
 
 pub none_false : {T : Type 0} (test : T → Bool) (ts : List T) → list_any test ts ≡ false → AllIn (λ t. test t ≡ false) ts
 none_false test [] h = tt

@@ -1,12 +1,12 @@
 -- What stands at the number of a name is what has the name.
-use Rattle.std.proofs.Common.{◌≡◌, ℕ, zero, suc, ◌+◌, ◌^◌, ◌<◌, ◌≤◌, Bool, true, false, cond, List, [], ◌∷◌, ◌++◌, length, map, Option, Some, None, refl, ap, sym, ◌∙◌, subst, inl, inr, arith, if◌then◌else◌}
+use Rattle.std.proofs.Common.{◌≡◌, ℕ, zero, suc, ◌^◌, ◌<◌, ◌≤◌, Bool, true, false, cond, List, [], ◌∷◌, length, map, Option, Some, None, refl, ap, sym, ◌∙◌, subst, inl, inr, arith, if◌then◌else◌}
 use Rattle.std.specs.Prelude.{option_map, slice_get, nat_lt, is_some, is_none, unwrap_or}
 use Rattle.std.specs.List.{find}
 use Rattle.std.specs.Str.{bytes_eq}
 use Rattle.std.proofs.lemmas.Bool.{cases_Bool}
 use Rattle.std.proofs.lemmas.Bool.Decides.{nat_tests}
 use Rattle.std.proofs.lemmas.Slice.Eq.{bytes_eq-Decides}
-use Rattle.std.proofs.lemmas.Option.{slice_get_within, slice_get-map}
+use Rattle.std.proofs.lemmas.Option.{slice_get_within}
 use Rattle.acc_grammar.specs.Readers.{AllIn}
 use Rattle.acc_names.specs.Names.{stands_in}
 use Rattle.acc_names.specs.Places.{place_of}
@@ -75,8 +75,8 @@ found_there {T} name x (u ∷ us) t e =
     elim (cases_Bool (bytes_eq x (name u))) [
       | inl h ↦ record { number = 0; is = ap (λ (b : Bool). cond b (Some 0) (option_map suc (place_of x (map name us)))) h; there = sym (ap (λ (b : Bool). cond b (Some u) (find (λ v. bytes_eq x (name v)) us)) h) ∙ e }
       | inr h ↦
-        let later = found_there name x us t (sym (ap (λ (b : Bool). cond b (Some u) (find (λ v. bytes_eq x (name v)) us)) h) ∙ e) in
-        record { number = suc later.number; is = some_place (bytes_eq x (name u)) (place_of x (map name us)) later.number h later.is; there = later.there }
+          let later = found_there name x us t (sym (ap (λ (b : Bool). cond b (Some u) (find (λ v. bytes_eq x (name v)) us)) h) ∙ e) in
+          record { number = suc later.number; is = some_place (bytes_eq x (name u)) (place_of x (map name us)) later.number h later.is; there = later.there }
     ]
 
 -- at the number of the name stands what is found by the name

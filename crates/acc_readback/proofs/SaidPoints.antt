@@ -1,16 +1,13 @@
 -- The points of a tree that is a design's can be spelled.
-use Rattle.std.proofs.Common.{◌≡◌, ℕ, ◌+◌, ◌≤◌, Bool, true, false, List, [], ◌∷◌, ◌++◌, length, map, Option, Some, None, refl, ap, sym, ◌∙◌, subst, arith, pos}
-use Rattle.std.specs.Prelude.{◌||◌}
+use Rattle.std.proofs.Common.{◌≡◌, ℕ, false, List, [], ◌∷◌, ◌++◌, map, Option, Some, None, refl, ap, arith}
 use Rattle.std.specs.List.{flat_map}
 use Rattle.std.proofs.lemmas.List.{length-map}
 use Rattle.acc_grammar.specs.Readers.{AllIn, joined}
 use Rattle.acc_base.specs.declared.designs.Point.{Point}
-use Rattle.acc_lex.specs.declared.words.Sign.{Sign}
 use Rattle.acc_lex.specs.declared.words.Sign.TheVariants as sign
 use Rattle.acc_syntax.specs.declared.trees.Sum.{Sum}
-use Rattle.acc_syntax.specs.declared.trees.StepTree.{StepTree}
 use Rattle.acc_syntax.specs.declared.trees.PointTree.{PointTree}
-use Rattle.acc_syntax.specs.Spelling.{just, name, sum, step, side, variant_statement, clause_statement, point}
+use Rattle.acc_syntax.specs.Spelling.{just, name, sum, side, variant_statement, clause_statement, point}
 use Rattle.acc_names.specs.Names.{stands_in, defines_again}
 use Rattle.acc_names.specs.Scopes.{Scope as KnownScope}
 use Rattle.acc_names.specs.Faults.{clause_fault, variant_faults, step_faults, point_faults, points_faults}
@@ -24,7 +21,7 @@ use Rattle.acc_meaning.specs.Types.{variant_of, point_of}
 use Rattle.acc_meaning.specs.Sizes.{sum_sizes, variant_sizes, clause_statement_sizes, step_sizes, point_sizes}
 use Rattle.acc_readback.specs.Printable.{IsLinSaid}
 use Rattle.acc_readback.specs.PrintableTypes.{IsPointSaid}
-use Rattle.acc_readback.proofs.SaidParts.{OnlyEnd, IsEnd, IsFalse, all_parts, all_flat, all_map, all_by_four, each_counted, at_most_counted}
+use Rattle.acc_readback.proofs.SaidParts.{neither, OnlyEnd, IsEnd, IsFalse, all_parts, each_counted, at_most_counted}
 use Rattle.acc_readback.proofs.SaidNames.{AreHeard, IsHeard, Setting, variables_of, is_name}
 use Rattle.acc_readback.proofs.SaidValues.{lin_said}
 use Rattle.acc_readback.proofs.SaidRows.{meant, known, shown}
@@ -42,10 +39,6 @@ variant_said a (Some s) heard faults marks sizes =
 pub record ArePointsRight (s : KnownScope) (names earlier : List (List ℕ)) (ps : List PointTree) : Type 0 where
   pub each : AllIn (λ p. AllIn IsFalse (point_faults s names false p)) ps
   pub new : defines_again earlier (map (λ (p : PointTree). p.name) ps) ≡ false
-
-neither : (a b : Bool) → a ≡ false → b ≡ false → (a || b) ≡ false
-neither true b h g = absurd cc
-neither false b h g = g
 
 pub points_right : (s : KnownScope) (names earlier : List (List ℕ)) (ps : List PointTree) → AllIn IsFalse (points_faults s names earlier ps) → ArePointsRight s names earlier ps
 points_right s names earlier [] h = record { each = tt; new = refl }

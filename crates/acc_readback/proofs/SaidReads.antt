@@ -1,12 +1,11 @@
 -- The reads and actions of a tree that is a design's can be spelled.
-use Rattle.std.proofs.Common.{◌≡◌, ℕ, ◌≤◌, ◌^◌, Bool, true, false, List, [], ◌∷◌, ◌++◌, map, Option, Some, None, refl, ap, sym, ◌∙◌, subst, arith, ℤ, pos}
+use Rattle.std.proofs.Common.{◌≡◌, ℕ, ◌≤◌, ◌^◌, Bool, false, List, ◌++◌, Option, Some, None, refl, sym, subst, arith, ℤ, pos}
 use Rattle.std.specs.Prelude.{◌||◌, nat_lt}
 use Rattle.std.proofs.lemmas.Bool.{or_parts}
 use Rattle.std.proofs.lemmas.Bool.Decides.{nat_tests}
 use Rattle.acc_grammar.specs.Readers.{AllIn}
 use Rattle.acc_base.specs.Numbers.{IsSmall}
 use Rattle.acc_lex.specs.declared.words.Word.{Word}
-use Rattle.acc_lex.specs.declared.words.Sign.{Sign}
 use Rattle.acc_lex.specs.declared.words.Sign.TheVariants as sign
 use Rattle.acc_syntax.specs.declared.trees.Variable.{Variable}
 use Rattle.acc_syntax.specs.declared.trees.Sums.{Sums}
@@ -17,7 +16,6 @@ use Rattle.acc_syntax.specs.declared.trees.ActionTree.TheVariants as action
 use Rattle.acc_syntax.specs.Spelling.{just, number, variable, sum, place, cell, values, read_statement, action_statement}
 use Rattle.acc_names.specs.Faults.{variable_fault, sum_fault, place_fault, cell_fault, values_fault, read_fault, action_fault}
 use Rattle.acc_limits.specs.declared.limits.Limit.TheVariants as limit
-use Rattle.acc_limits.specs.Marks.{ending}
 use Rattle.acc_limits.specs.Words.{number_marks, variable_marks, sum_marks, place_marks, cell_marks}
 use Rattle.acc_limits.specs.Statements.{read_words_marks, values_marks, action_words_marks}
 use Rattle.acc_meaning.specs.Values.{kept, values_of}

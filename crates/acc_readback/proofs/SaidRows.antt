@@ -1,6 +1,6 @@
 -- The rows and the guards of a tree that is a design's can be spelled.
-use Rattle.std.proofs.Common.{◌≡◌, ℕ, ◌+◌, ◌≤◌, ◌^◌, Bool, true, false, List, [], ◌∷◌, ◌++◌, length, map, Option, Some, None, refl, ap, sym, ◌∙◌, subst, arith}
-use Rattle.std.specs.Prelude.{◌||◌, not, nat_lt, is_none, option_map, unwrap_or, slice_get}
+use Rattle.std.proofs.Common.{◌≡◌, ℕ, ◌≤◌, ◌^◌, Bool, false, List, [], ◌∷◌, ◌++◌, length, map, Option, Some, None, ap, sym, ◌∙◌, subst, arith}
+use Rattle.std.specs.Prelude.{not, nat_lt, is_none, option_map, unwrap_or, slice_get}
 use Rattle.std.specs.List.{flat_map, list_any, find}
 use Rattle.std.specs.Str.{bytes_eq}
 use Rattle.std.proofs.lemmas.Bool.{or_parts}
@@ -9,10 +9,8 @@ use Rattle.std.proofs.lemmas.List.{length-map}
 use Rattle.std.proofs.lemmas.Option.{slice_get-map}
 use Rattle.acc_grammar.specs.Readers.{AllIn, joined}
 use Rattle.acc_base.specs.declared.tables.Table.{Table}
-use Rattle.acc_base.specs.declared.forms.Lin.{Lin}
 use Rattle.acc_lex.specs.declared.words.Word.{Word}
 use Rattle.acc_lex.specs.declared.words.Sign.TheVariants as sign
-use Rattle.acc_syntax.specs.declared.trees.Sum.{Sum}
 use Rattle.acc_syntax.specs.declared.trees.Sums.{Sums}
 use Rattle.acc_syntax.specs.declared.trees.Place.{Place}
 use Rattle.acc_syntax.specs.declared.trees.Cell.{Cell}
@@ -27,12 +25,12 @@ use Rattle.acc_limits.specs.declared.limits.Limit.TheVariants as limit
 use Rattle.acc_limits.specs.Marks.{past}
 use Rattle.acc_limits.specs.Words.{name_marks, sum_marks, sums_marks, place_marks, cell_marks, lin_rel_marks, guard_marks}
 use Rattle.acc_meaning.specs.Scopes.{Scope as MeantScope, table_names, table_in, column_in, number_of}
-use Rattle.acc_meaning.specs.Values.{parts_of, compared, lin_of, lins_of, all_sums, lin_rel_of, all_rels, guard_of}
+use Rattle.acc_meaning.specs.Values.{parts_of, compared, lin_of, lins_of, all_sums, lin_rel_of, guard_of}
 use Rattle.acc_meaning.specs.Rows.{key_in}
 use Rattle.acc_meaning.specs.Designs.{table_of}
 use Rattle.acc_meaning.specs.Sizes.{sum_sizes, sums_sizes, place_sizes, lin_rel_sizes, guard_sizes}
 use Rattle.acc_print.specs.Names.{Scope, name_at, table_name, column_name}
-use Rattle.acc_readback.specs.Printable.{IsName, IsVariable, IsLinSaid, IsKeySaid, IsRowSaid, IsCellSaid, IsLinRelSaid}
+use Rattle.acc_readback.specs.Printable.{IsName, IsVariable, IsLinSaid, IsRowSaid, IsCellSaid, IsLinRelSaid}
 use Rattle.acc_readback.proofs.SaidParts.{OnlyEnd, IsEnd, not_past, all_parts, all_joined, all_flat, all_map, all_by_four, none_false, all_weaker}
 use Rattle.acc_readback.proofs.SaidPlaces.{named_there, found_numbered, found_has, found_all, some_found}
 use Rattle.acc_readback.proofs.SaidNames.{AreHeard, IsHeard, Setting, variables_of, variable_said, is_name, stands_true}
@@ -61,11 +59,12 @@ sums_said a ss heard names marks sizes =
     let words = all_parts (IsHeard a.own) (sum ss.first) (joined (further sum) ss.others) heard in
     let faults = or_parts (sum_fault a.known ss.first) (list_any (sum_fault a.known) ss.others) names in
     let ends = all_parts IsEnd (sum_marks ss.first) (flat_map sum_marks ss.others) marks in
-    let small = all_flat IsEnd (sum_sizes v) (all_sums ss) sizes in
-    (lin_said a ss.first words.0 faults.0 ends.0 small.0,
-     all_map (IsLinSaid a.names) (lin_of v) ss.others
-      (all_by_four (λ s. AreHeard a.own (sum s)) (λ s. sum_fault a.known s ≡ false) (λ s. OnlyEnd (sum_marks s)) (λ s. OnlyEnd (sum_sizes v s)) (λ s. IsLinSaid a.names (lin_of v s)) ss.others (lin_said a)
-        (furthers a.own sum ss.others words.1) (none_false (sum_fault a.known) ss.others faults.1) (all_flat IsEnd sum_marks ss.others ends.1) small.1))
+    let small = all_flat IsEnd (sum_sizes v) (all_sums ss) sizes in (
+      lin_said a ss.first words.0 faults.0 ends.0 small.0,
+      all_map (IsLinSaid a.names) (lin_of v) ss.others
+          (all_by_four (λ s. AreHeard a.own (sum s)) (λ s. sum_fault a.known s ≡ false) (λ s. OnlyEnd (sum_marks s)) (λ s. OnlyEnd (sum_sizes v s)) (λ s. IsLinSaid a.names (lin_of v s)) ss.others (lin_said a)
+          (furthers a.own sum ss.others words.1) (none_false (sum_fault a.known) ss.others faults.1) (all_flat IsEnd sum_marks ss.others ends.1) small.1),
+    )
 
 -- ---- rows
 
@@ -160,8 +159,10 @@ guard_said a (Some rs) heard names marks sizes =
     let same = length-map rs.others (lin_rel_of v) in
     record {
       few = omega (arith, fewer, same);
-      each = (lin_rel_said a rs.first words.0 faults.0 each_end.0 small.0,
+      each = (
+        lin_rel_said a rs.first words.0 faults.0 each_end.0 small.0,
         all_map (IsLinRelSaid a.names) (lin_rel_of v) rs.others
-        (all_by_four (λ r. AreHeard a.own (lin_rel r)) (λ r. lin_rel_fault a.known r ≡ false) (λ r. OnlyEnd (lin_rel_marks r)) (λ r. OnlyEnd (lin_rel_sizes v r)) (λ r. IsLinRelSaid a.names (lin_rel_of v r)) rs.others (lin_rel_said a)
-          (furthers a.own lin_rel rs.others words.1) (none_false (lin_rel_fault a.known) rs.others faults.1) (all_flat IsEnd lin_rel_marks rs.others each_end.1) small.1));
+            (all_by_four (λ r. AreHeard a.own (lin_rel r)) (λ r. lin_rel_fault a.known r ≡ false) (λ r. OnlyEnd (lin_rel_marks r)) (λ r. OnlyEnd (lin_rel_sizes v r)) (λ r. IsLinRelSaid a.names (lin_rel_of v r)) rs.others (lin_rel_said a)
+            (furthers a.own lin_rel rs.others words.1) (none_false (lin_rel_fault a.known) rs.others faults.1) (all_flat IsEnd lin_rel_marks rs.others each_end.1) small.1),
+      );
     }

@@ -1,6 +1,6 @@
 -- The paths and steps of a tree that is a design's can be spelled.
-use Rattle.std.proofs.Common.{◌≡◌, ℕ, ◌+◌, ◌≤◌, ◌<◌, ◌^◌, Bool, true, false, List, [], ◌∷◌, ◌++◌, length, map, Option, Some, None, refl, ap, sym, ◌∙◌, subst, arith}
-use Rattle.std.specs.Prelude.{not, nat_le, option_map, slice_get}
+use Rattle.std.proofs.Common.{◌≡◌, ℕ, ◌≤◌, ◌<◌, ◌^◌, Bool, true, false, List, [], ◌∷◌, ◌++◌, length, map, Option, Some, None, refl, ap, sym, ◌∙◌, subst, arith}
+use Rattle.std.specs.Prelude.{nat_le, option_map, slice_get}
 use Rattle.std.specs.List.{flat_map}
 use Rattle.std.proofs.lemmas.Bool.Decides.{nat_tests}
 use Rattle.std.proofs.lemmas.List.{length-map}
@@ -20,7 +20,7 @@ use Rattle.acc_names.specs.Names.{stands_in}
 use Rattle.acc_names.specs.Faults.{read_fault, action_fault, target_fault, path_faults, step_faults}
 use Rattle.acc_limits.specs.declared.limits.Limit.TheVariants as limit
 use Rattle.acc_limits.specs.Marks.{ending, counted}
-use Rattle.acc_limits.specs.Words.{name_marks, guard_marks}
+use Rattle.acc_limits.specs.Words.{guard_marks}
 use Rattle.acc_limits.specs.Statements.{read_words_marks, read_marks, action_words_marks, action_marks, target_words_marks, target_marks, path_marks, step_marks}
 use Rattle.acc_meaning.specs.Scopes.{number_of}
 use Rattle.acc_meaning.specs.Steps.{read_of, action_of, target_of, path_of, all_paths, step_of}
@@ -87,7 +87,7 @@ module _ (a : Setting) (names : List (List ℕ)) (points : List Point) (n : AreN
         few_actions = omega (arith, few, same);
         guard = guarded.each;
         actions = all_map (IsActionSaid (shown a)) (action_of (meant a)) p.actions
-          (all_by_four (λ t. AreHeard a.own (action_statement t)) (λ t. action_fault (known a) t ≡ false) (λ t. OnlyEnd (action_marks t)) (λ t. OnlyEnd (action_sizes (meant a) t)) (λ t. IsActionSaid (shown a) (action_of (meant a) t)) p.actions ended_action
+            (all_by_four (λ t. AreHeard a.own (action_statement t)) (λ t. action_fault (known a) t ≡ false) (λ t. OnlyEnd (action_marks t)) (λ t. OnlyEnd (action_sizes (meant a) t)) (λ t. IsActionSaid (shown a) (action_of (meant a) t)) p.actions ended_action
             (all_joined (IsHeard a.own) action_statement p.actions behind.0) (all_mapped IsFalse (action_fault (known a)) p.actions none.0) (each_counted limit.Actions 16 action_marks p.actions last.0) (all_flat IsEnd (action_sizes (meant a)) p.actions smaller.0));
         target = target_said a.own names points p.target n behind.1 none.1.0 (all_parts IsEnd (target_words_marks p.target) ending last.1).0;
       }
@@ -116,10 +116,12 @@ module _ (a : Setting) (names : List (List ℕ)) (points : List Point) (n : AreN
         few_reads = omega (arith, reads_few, reads_same);
         few_paths = omega (arith, paths_few, paths_same);
         reads = all_map (IsReadSaid (shown a)) (read_of (meant a)) st.reads
-          (all_by_four (λ r. AreHeard a.own (read_statement r)) (λ r. read_fault (known a) r ≡ false) (λ r. OnlyEnd (read_marks r)) (λ r. OnlyEnd (read_sizes (meant a) r)) (λ r. IsReadSaid (shown a) (read_of (meant a) r)) st.reads ended_read
+            (all_by_four (λ r. AreHeard a.own (read_statement r)) (λ r. read_fault (known a) r ≡ false) (λ r. OnlyEnd (read_marks r)) (λ r. OnlyEnd (read_sizes (meant a) r)) (λ r. IsReadSaid (shown a) (read_of (meant a) r)) st.reads ended_read
             (all_joined (IsHeard a.own) read_statement st.reads words.0) (all_mapped IsFalse (read_fault (known a)) st.reads none.0) (each_counted limit.Reads 32 read_marks st.reads ends.0) (all_flat IsEnd (read_sizes (meant a)) st.reads small.0));
-        paths = (path_said st.first path_words.0 path_none.0 path_ends.0 path_small.0,
+        paths = (
+          path_said st.first path_words.0 path_none.0 path_ends.0 path_small.0,
           all_map (IsPathSaid (shown a) points) (path_of (meant a) names) st.others
-          (all_by_four (λ p. AreHeard a.own (path p)) (λ p. AllIn IsFalse (path_faults (known a) names p)) (λ p. OnlyEnd (path_marks p)) (λ p. OnlyEnd (path_sizes (meant a) p)) (λ p. IsPathSaid (shown a) points (path_of (meant a) names p)) st.others path_said
-            (all_joined (IsHeard a.own) path st.others path_words.1) (all_flat IsFalse (path_faults (known a) names) st.others path_none.1) (each_counted limit.Paths 15 path_marks st.others path_ends.1) path_small.1));
+              (all_by_four (λ p. AreHeard a.own (path p)) (λ p. AllIn IsFalse (path_faults (known a) names p)) (λ p. OnlyEnd (path_marks p)) (λ p. OnlyEnd (path_sizes (meant a) p)) (λ p. IsPathSaid (shown a) points (path_of (meant a) names p)) st.others path_said
+              (all_joined (IsHeard a.own) path st.others path_words.1) (all_flat IsFalse (path_faults (known a) names) st.others path_none.1) (each_counted limit.Paths 15 path_marks st.others path_ends.1) path_small.1),
+        );
       }

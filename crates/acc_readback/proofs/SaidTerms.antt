@@ -1,6 +1,6 @@
 -- Terms that were collected are collected: each unknown stands once, and none has the number zero. What holds of each unknown that is written holds of each that is left.
-use Rattle.std.proofs.Common.{◌≡◌, Bool, true, false, List, [], ◌∷◌, ◌++◌, map, Option, Some, None, refl, sym, ap, ◌∙◌, subst, arith, not, cond, ℤ, pos, ◌+ℤ◌}
-use Rattle.std.specs.Prelude.{filter, Decides, option_map, IfSome}
+use Rattle.std.proofs.Common.{◌≡◌, Bool, true, false, List, [], ◌∷◌, map, Option, Some, None, refl, sym, ap, ◌∙◌, arith, not, cond, ℤ, ◌+ℤ◌}
+use Rattle.std.specs.Prelude.{filter, Decides, IfSome}
 use Rattle.std.specs.List.{filter_map}
 use Rattle.std.proofs.lemmas.Int.{ints}
 use Rattle.acc_base.specs.Numbers.{total}

@@ -1,27 +1,25 @@
 -- The types of a tree that is a design's can be spelled.
-use Rattle.std.proofs.Common.{◌≡◌, ℕ, ◌+◌, ◌≤◌, ◌<◌, ◌^◌, Bool, true, false, List, [], ◌∷◌, ◌++◌, length, map, take, drop, Option, Some, None, refl, ap, sym, ◌∙◌, subst, arith, length-append}
-use Rattle.std.specs.Prelude.{◌||◌, nat_lt, nat_le}
+use Rattle.std.proofs.Common.{◌≡◌, ℕ, ◌+◌, ◌≤◌, ◌<◌, ◌^◌, Bool, true, false, List, [], ◌++◌, length, map, take, drop, refl, ap, sym, ◌∙◌, subst, arith, length-append}
+use Rattle.std.specs.Prelude.{nat_lt, nat_le}
 use Rattle.std.specs.List.{flat_map}
 use Rattle.std.proofs.Math.Seq.{take-append_seam, drop-append_seam}
 use Rattle.std.proofs.lemmas.Bool.{or_parts}
 use Rattle.std.proofs.lemmas.List.{length-map}
 use Rattle.acc_grammar.specs.Readers.{AllIn, joined}
-use Rattle.acc_base.specs.declared.designs.Point.{Point}
 use Rattle.acc_lex.specs.declared.words.Sign.TheVariants as sign
 use Rattle.acc_syntax.specs.declared.trees.PointTree.{PointTree}
 use Rattle.acc_syntax.specs.declared.trees.TableTree.{TableTree}
 use Rattle.acc_syntax.specs.declared.trees.TypeTree.{TypeTree}
-use Rattle.acc_syntax.specs.Spelling.{just, name, number, limit as limit_words, names_statement, clause_statement, point, type_words}
+use Rattle.acc_syntax.specs.Spelling.{just, name, limit as limit_words, names_statement, clause_statement, point, type_words}
 use Rattle.acc_names.specs.Names.{listed_or_none, defines_again}
 use Rattle.acc_names.specs.Scopes.{locals_of, points_in, point_names}
-use Rattle.acc_names.specs.Faults.{clause_fault, point_faults, points_faults, returns_faults, locals_faults, head_faults, type_scope as known_scope, type_faults}
+use Rattle.acc_names.specs.Faults.{clause_fault, point_faults, points_faults, returns_faults, locals_faults, head_faults, type_faults}
 use Rattle.acc_limits.specs.declared.limits.Limit.TheVariants as limit
 use Rattle.acc_limits.specs.Marks.{past, ending, counted}
 use Rattle.acc_limits.specs.Words.{name_marks, small_number_marks}
 use Rattle.acc_limits.specs.Statements.{clause_statement_marks, returns_marks, locals_marks, point_marks, head_marks, type_marks}
-use Rattle.acc_meaning.specs.Scopes.{fitted}
 use Rattle.acc_meaning.specs.Forms.{clause_of}
-use Rattle.acc_meaning.specs.Types.{point_of, type_scope, type_of}
+use Rattle.acc_meaning.specs.Types.{point_of, type_of}
 use Rattle.acc_meaning.specs.Designs.{table_of}
 use Rattle.acc_meaning.specs.Sizes.{clause_statement_sizes, names_sizes, point_sizes, type_sizes}
 use Rattle.acc_readback.specs.Printable.{IsName}
@@ -142,8 +140,10 @@ module _ (trees : List TableTree) (few : length trees ≤ 64) (columns : AllIn (
         new_points = ap (λ (xs : List (List ℕ)). defines_again [] xs) (points_named (meant a) names (points_in t)) ∙ right.new;
         posts = clauses_said sign.Ensures a t.ensured refl w_ensured.0 n_ensured.0 (each_counted limit.Clauses 64 clause_statement_marks t.ensured ends.ensured) s_ensured.0;
         repairs = clauses_said sign.Repairs a t.repaired refl w_repaired.0 n_repaired.0 (each_counted limit.Clauses 64 clause_statement_marks t.repaired ends.repaired) s_repaired.0;
-        points = (point_said a names points n refl t.first w_points.0 right.each.0 ends.first s_points.0,
+        points = (
+          point_said a names points n refl t.first w_points.0 right.each.0 ends.first s_points.0,
           all_map (IsPointSaid (shown a) points) (point_of (meant a) names) t.others
-          (all_by_four (λ p. AreHeard true (point p)) (λ p. AllIn IsFalse (point_faults (known a) names false p)) (λ p. OnlyEnd (point_marks p)) (λ p. OnlyEnd (point_sizes (meant a) p)) (λ p. IsPointSaid (shown a) points (point_of (meant a) names p)) t.others (point_said a names points n refl)
-            (all_joined H point t.others w_points.1) right.each.1 (each_counted limit.Points 31 point_marks t.others ends.others) s_points.1));
+              (all_by_four (λ p. AreHeard true (point p)) (λ p. AllIn IsFalse (point_faults (known a) names false p)) (λ p. OnlyEnd (point_marks p)) (λ p. OnlyEnd (point_sizes (meant a) p)) (λ p. IsPointSaid (shown a) points (point_of (meant a) names p)) t.others (point_said a names points n refl)
+              (all_joined H point t.others w_points.1) right.each.1 (each_counted limit.Points 31 point_marks t.others ends.others) s_points.1),
+        );
       }

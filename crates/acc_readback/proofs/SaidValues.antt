@@ -1,6 +1,6 @@
 -- The linear values of a tree that is a design's can be spelled.
-use Rattle.std.proofs.Common.{◌≡◌, ℕ, ◌≤◌, ◌^◌, Bool, true, false, List, [], ◌∷◌, ◌++◌, map, Option, Some, None, refl, ap, sym, ◌∙◌, subst, arith, ℤ, pos}
-use Rattle.std.specs.Prelude.{◌==◌, ◌||◌, not, nat_le, IfSome, unsigned_abs, if◌then◌else◌}
+use Rattle.std.proofs.Common.{◌≡◌, ℕ, ◌≤◌, ◌^◌, Bool, true, false, List, [], ◌∷◌, ◌++◌, map, refl, ap, sym, ◌∙◌, subst, arith, ℤ, pos}
+use Rattle.std.specs.Prelude.{◌==◌, not, nat_le, IfSome, unsigned_abs, if◌then◌else◌}
 use Rattle.std.specs.List.{flat_map, list_any}
 use Rattle.std.proofs.lemmas.Bool.{or_parts}
 use Rattle.std.proofs.lemmas.Bool.Decides.{nat_tests, Decides-eqb}
@@ -15,14 +15,14 @@ use Rattle.acc_syntax.specs.declared.trees.SignedTerm.{SignedTerm}
 use Rattle.acc_syntax.specs.declared.trees.Sum.{Sum}
 use Rattle.acc_syntax.specs.declared.trees.Relation.{Relation}
 use Rattle.acc_syntax.specs.declared.trees.Relation.TheVariants.{AtMost, AtLeast, Equal}
-use Rattle.acc_syntax.specs.Spelling.{just, number, variable, term, signed_term, sum}
+use Rattle.acc_syntax.specs.Spelling.{just, variable, term, signed_term, sum}
 use Rattle.acc_names.specs.Faults.{variable_fault, term_fault, sum_fault}
 use Rattle.acc_limits.specs.declared.limits.Limit.TheVariants as limit
 use Rattle.acc_limits.specs.Words.{number_marks, variable_marks, term_marks, signed_term_marks, sum_marks}
 use Rattle.acc_terms.specs.declared.parts.Part.{Part}
 use Rattle.acc_terms.specs.declared.collecting.Terms.{Terms}
-use Rattle.acc_terms.specs.Parts.{negated, difference}
-use Rattle.acc_meaning.specs.Scopes.{Variables, variable_of}
+use Rattle.acc_terms.specs.Parts.{negated}
+use Rattle.acc_meaning.specs.Scopes.{variable_of}
 use Rattle.acc_meaning.specs.Values.{part_of, signed, signed_part, parts_of, collected_by, kept, kept_term, lin_by, terms_of, lin_of, compared}
 use Rattle.acc_meaning.specs.Sizes.{size_mark, term_sizes, terms_sizes, sum_sizes}
 use Rattle.acc_print.specs.Names.{name_at}
@@ -99,11 +99,12 @@ module _ (a : Setting) (Q : List ℕ → Type 0) (each : (x : Variable) → AreH
       let words = (all_parts (IsHeard a.own) (if s.minus then just sign.Minus else []) (term s.first ++ joined signed_term s.others) heard).1 in
       let both = all_parts (IsHeard a.own) (term s.first) (joined signed_term s.others) words in
       let faults = or_parts (term_fault a.known s.first) (list_any (λ (t : SignedTerm). term_fault a.known t.term) s.others) known in
-      let ends = all_parts IsEnd (term_marks s.first) (flat_map signed_term_marks s.others) marks in
-      (signed_has Has s.minus (part_of (variables_of a) s.first) (term_has s.first both.0 faults.0 ends.0),
-       all_map (λ (p : Part ℕ). IfSome p.of Has) (signed_part (variables_of a)) s.others
-        (all_by_three (λ t. AreHeard a.own (signed_term t)) (λ (t : SignedTerm). term_fault a.known t.term ≡ false) (λ t. OnlyEnd (signed_term_marks t)) (λ t. IfSome (signed_part (variables_of a) t).of Has) s.others further_has
-          (all_joined (IsHeard a.own) signed_term s.others both.1) (none_false (λ (t : SignedTerm). term_fault a.known t.term) s.others faults.1) (all_flat IsEnd signed_term_marks s.others ends.1)))
+      let ends = all_parts IsEnd (term_marks s.first) (flat_map signed_term_marks s.others) marks in (
+        signed_has Has s.minus (part_of (variables_of a) s.first) (term_has s.first both.0 faults.0 ends.0),
+        all_map (λ (p : Part ℕ). IfSome p.of Has) (signed_part (variables_of a)) s.others
+            (all_by_three (λ t. AreHeard a.own (signed_term t)) (λ (t : SignedTerm). term_fault a.known t.term ≡ false) (λ t. OnlyEnd (signed_term_marks t)) (λ t. IfSome (signed_part (variables_of a) t).of Has) s.others further_has
+            (all_joined (IsHeard a.own) signed_term s.others both.1) (none_false (λ (t : SignedTerm). term_fault a.known t.term) s.others faults.1) (all_flat IsEnd signed_term_marks s.others ends.1)),
+      )
 
 -- ---- values
 
