@@ -1,10 +1,12 @@
 //! What each command makes of its files.
-ghost use Rattle.std.specs.Prelude.{◌≡◌, map, length, IfOk};
+ghost use Rattle.std.specs.Prelude.{◌≡◌, ◌++◌, map, length, IfOk};
+ghost use Rattle.std.specs.Fmt.{decimal};
 ghost use Rattle.acc_base.specs.Lines.{line};
 ghost use Rattle.acc_base.specs.Runnable.{IsRunnable};
 ghost use Rattle.acc_cli.specs.Words.{file_count};
 ghost use Rattle.acc_cli.specs.Meant.{Means};
 ghost use Rattle.acc_cli.specs.Text.{Says};
+ghost use Rattle.acc_cli.specs.declared.status.Ending.TheVariants.{Script};
 ghost use Rattle.acc_cli.specs.Outcome.{said_of};
 ghost use Rattle.acc_cli.specs.Stages.{AllFit};
 ghost use Rattle.acc_cli.specs.PlayFiles.{PlaysFiles, SaysOfScript, SaysOfOrder};
@@ -42,6 +44,14 @@ pub fn one_line(alloc: Global, ending: Ending, text: &str) -> Result<Outcome, Al
     })
 }
 
+/// What is answered to a text of which a line is refused; the label says which text.
+fn line_refusal(alloc: Global, label: &str, at: u64) -> Result<Outcome, AllocError>
+    ensures { IfOk result (λ a. Says Script (line (label.now ++ decimal at)) (said_of a)) }
+{
+    let text = format!(in alloc; "{label}{at}")?;
+    one_line(alloc, Ending::Script, text.as_str())
+}
+
 /// Plays the calls in the order that the file gives.
 fn play_order(alloc: Global, d: &Design, asked: &[Call], file: &[u8]) -> Result<Outcome, AllocError>
     requires runnable { IsRunnable d.now }
@@ -50,10 +60,7 @@ fn play_order(alloc: Global, d: &Design, asked: &[Call], file: &[u8]) -> Result<
 {
     match order(alloc, asked.len() as u64, file) {
         Ok(places) => play(alloc, d, asked, places.as_slice()),
-        Err(ScriptError::Line(line)) => {
-            let text = format!(in alloc; "refused order {line}")?;
-            one_line(alloc, Ending::Script, text.as_str())
-        }
+        Err(ScriptError::Line(at)) => line_refusal(alloc, "refused order ", at),
         Err(ScriptError::Memory) => Err(AllocError),
     }
 }
@@ -65,10 +72,7 @@ fn play_script(alloc: Global, d: &Design, script: &[u8], file: &[u8]) -> Result<
 {
     match calls(alloc, d, script) {
         Ok(asked) => play_order(alloc, d, asked.as_slice(), file),
-        Err(ScriptError::Line(line)) => {
-            let text = format!(in alloc; "refused script {line}")?;
-            one_line(alloc, Ending::Script, text.as_str())
-        }
+        Err(ScriptError::Line(at)) => line_refusal(alloc, "refused script ", at),
         Err(ScriptError::Memory) => Err(AllocError),
     }
 }
