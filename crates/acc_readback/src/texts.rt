@@ -1,5 +1,5 @@
 //! Printed texts.
-ghost use Rattle.std.specs.Prelude.{◌≡◌, ◌+◌, ◌<◌, ℕ, IfOk};
+ghost use Rattle.std.specs.Prelude.{◌≡◌, ◌+◌, ◌<◌, ℕ, List, IfOk};
 ghost use Rattle.acc_statements.specs.Counts.{statements_of};
 ghost use Rattle.acc_statements.specs.Lines.{IsLineOf};
 ghost use Rattle.acc_print.specs.Designs.{printed};
@@ -18,6 +18,8 @@ use std::alloc::Global;
 pub fn print(alloc: Global, d: &Design) -> Result<Vec<u8>, PrintError>
     ensures value { IfOk result (λ text. text.items ≡ printed d.now) }
     ensures read { IsSaid d.now → IfOk result (λ text. IsDesignText text.items d.now) }
+    // So is each design that the parser answers.
+    ensures law { (source : List ℕ) → IsDesignText source d.now → IfOk result (λ text. IsDesignText text.items d.now) }
     // Each of its statements stands on a line of its own, in the order of the lines.
     ensures lines { IsSaid d.now → IfOk result (λ text. (n : ℕ) → n < statements_of (tree_of d.now) → IsLineOf text.items n (n + 1)) }
 {

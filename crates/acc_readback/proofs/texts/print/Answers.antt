@@ -6,12 +6,17 @@ use Rattle.acc_parse.specs.Texts.{IsDesignText}
 use Rattle.acc_print.specs.Designs.{printed}
 use Rattle.acc_readback.specs.TypeTrees.{tree_of}
 use Rattle.acc_readback.proofs.ReadBack.{reads_back}
+use Rattle.acc_readback.proofs.SaidDesigns.{parsed_is_said}
 use Rattle.acc_readback.proofs.DesignParts.{printed_lines}
 use Rattle.acc_readback.proofs.StatementLines.{own_line}
 use Rattle.acc_readback.proofs.texts.print.Goals as goal
 
 pub returns-clause-read : goal.returns-clause-read
 returns-clause-read c = λ h. subst (λ (bs : List ℕ). IsDesignText bs c.args.d.now) (sym c.in_ok-text.ensures.value) (reads_back c.args.d.now h)
+
+pub returns-clause-law : goal.returns-clause-law
+returns-clause-law c = λ source is.
+    subst (λ (bs : List ℕ). IsDesignText bs c.args.d.now) (sym c.in_ok-text.ensures.value) (reads_back c.args.d.now (parsed_is_said source c.args.d.now is))
 
 pub returns-clause-lines : goal.returns-clause-lines
 returns-clause-lines c = λ h n less.
