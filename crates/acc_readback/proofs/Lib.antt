@@ -40,7 +40,6 @@ pub mod OtherValues
 pub mod OtherClauses
 pub mod OtherTypes
 pub mod OwnWordsSaid
-pub mod ReadBack
 pub mod SaidParts
 pub mod SaidTerms
 pub mod SaidPlaces
@@ -60,3 +59,19 @@ pub mod SaidTables
 pub mod SaidPointNames
 pub mod SaidEntries
 pub mod SaidDesigns
+pub mod ShortNumbers
+pub mod Weights
+pub mod WrittenSizes
+pub mod ShortSums
+pub mod ShortNames
+pub mod ShortLists
+pub mod ShortValues
+pub mod ShortForms
+pub mod ShortClauses
+pub mod ShortReads
+pub mod ShortSteps
+pub mod ShortPoints
+pub mod ShortTypes
+pub mod ShortEntries
+pub mod ShortDesigns
+pub mod ReadBack

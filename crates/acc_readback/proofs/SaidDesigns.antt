@@ -38,14 +38,14 @@ use Rattle.acc_readback.proofs.SaidEntries.{entries_said, hints_said}
 -- ---- types, one after another
 
 -- each type is free of faults, and none has the name of an earlier one
-abbrev IsTypeRight : List TableTree → TypeTree → Type 0
+abbrev pub IsTypeRight : List TableTree → TypeTree → Type 0
 IsTypeRight trees t = (again : Bool) × AllIn IsFalse (type_faults trees again t)
 
-record AreTypesRight (trees : List TableTree) (earlier : List (List ℕ)) (ts : List TypeTree) : Type 0 where
-  each : AllIn (IsTypeRight trees) ts
-  new : defines_again earlier (map (λ (t : TypeTree). t.name) ts) ≡ false
+pub record AreTypesRight (trees : List TableTree) (earlier : List (List ℕ)) (ts : List TypeTree) : Type 0 where
+  pub each : AllIn (IsTypeRight trees) ts
+  pub new : defines_again earlier (map (λ (t : TypeTree). t.name) ts) ≡ false
 
-types_right : (trees : List TableTree) (earlier : List (List ℕ)) (ts : List TypeTree) → AllIn IsFalse (types_faults trees earlier ts) → AreTypesRight trees earlier ts
+pub types_right : (trees : List TableTree) (earlier : List (List ℕ)) (ts : List TypeTree) → AllIn IsFalse (types_faults trees earlier ts) → AreTypesRight trees earlier ts
 types_right trees earlier [] h = record { each = tt; new = refl }
 types_right trees earlier (t ∷ ts) h =
     let again = stands_in t.name earlier in
@@ -63,7 +63,7 @@ is_few t marks = let ends = type_ends t marks in record { locals = type_locals t
 
 -- ---- outside types
 
-abbrev outside_types : (trees : List TableTree) → length trees ≤ 64 → AllIn (λ (t : TableTree). length t.columns ≤ 12) trees → Setting
+abbrev pub outside_types : (trees : List TableTree) → length trees ≤ 64 → AllIn (λ (t : TableTree). length t.columns ≤ 12) trees → Setting
 outside_types trees few columns = record {
   own = false;
   in_type = false;

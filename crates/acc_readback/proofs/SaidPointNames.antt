@@ -72,7 +72,7 @@ type_found d p b h =
       named = found_has (λ (t : TypeTree). t.name) p.type_name d.types some.0 some.1;
     }
 
-point_there : (d : DesignTree) (p : PointName) (f : IsTypeFound d p) → point_name (point_in (design_of d) (at_of d.types p).ty (at_of d.types p).point) ≡ p.point
+pub point_there : (d : DesignTree) (p : PointName) (f : IsTypeFound d p) → point_name (point_in (design_of d) (at_of d.types p).ty (at_of d.types p).point) ≡ p.point
 point_there d p f =
     let points = (type_of d.tables f.found).points in
     let names = point_names f.found in

@@ -32,7 +32,7 @@ use Rattle.acc_readback.proofs.SaidRows.{meant, known, shown, place_said, cell_s
 -- ---- reads
 
 -- the variable that is assigned, and what it is assigned
-assigned : (own : Bool) (x : Variable) (ws : List Word) → AreHeard own (variable x ++ (just sign.Equal ++ (ws ++ just sign.End))) → AreHeard own (variable x) × AreHeard own ws
+pub assigned : (own : Bool) (x : Variable) (ws : List Word) → AreHeard own (variable x ++ (just sign.Equal ++ (ws ++ just sign.End))) → AreHeard own (variable x) × AreHeard own ws
 assigned own x ws h =
     let parts = all_parts (IsHeard own) (variable x) (just sign.Equal ++ (ws ++ just sign.End)) h in
     (parts.0, (all_parts (IsHeard own) ws (just sign.End) parts.1.1).0)
