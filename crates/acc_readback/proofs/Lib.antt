@@ -75,3 +75,6 @@ pub mod ShortTypes
 pub mod ShortEntries
 pub mod ShortDesigns
 pub mod ReadBack
+pub mod ValueRanges
+pub mod TypeRanges
+pub mod SaidRanges

@@ -33,7 +33,7 @@ is_name_at (x ∷ xs) zero all lt = all.0
 is_name_at (x ∷ xs) (suc n) all lt = is_name_at xs n all.1 (omega arith)
 
 -- a variable that can be spelled is there
-variable_there : (names : List (List ℕ)) (n : ℕ) → IsVariable (name_at names n) → n < length names
+pub variable_there : (names : List (List ℕ)) (n : ℕ) → IsVariable (name_at names n) → n < length names
 variable_there [] n (inl h) = absurd h.0
 variable_there [] n (inr e) = absurd cc
 variable_there (x ∷ xs) zero h = omega arith
