@@ -78,3 +78,6 @@ pub mod ReadBack
 pub mod ValueRanges
 pub mod TypeRanges
 pub mod SaidRanges
+pub mod RuleMarks
+pub mod RuleStatements
+pub mod RuleTypes
