@@ -81,3 +81,4 @@ pub mod SaidRanges
 pub mod RuleMarks
 pub mod RuleStatements
 pub mod RuleTypes
+pub mod RuleLines
