@@ -81,4 +81,5 @@ pub mod SaidRanges
 pub mod RuleMarks
 pub mod RuleStatements
 pub mod RuleTypes
+pub mod StatementLimits
 pub mod RuleLines
