@@ -4,6 +4,7 @@ pub mod Text
 pub mod Status
 pub mod Refusals
 pub mod ReadDesigns
+pub mod Notes
 pub mod PlayFiles
 pub mod PrintFiles
 pub mod Outcome

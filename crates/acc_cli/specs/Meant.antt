@@ -6,9 +6,11 @@ use Rattle.acc_io.specs.declared.shelf.ShelfError.{ShelfError}
 use Rattle.acc_cli.specs.declared.words.Command.{Command}
 use Rattle.acc_cli.specs.declared.words.Command.TheVariants as command
 use Rattle.acc_cli.specs.declared.status.Ending.{Ending}
+use Rattle.acc_cli.specs.declared.status.Ending.TheVariants.{Done}
 use Rattle.acc_cli.specs.declared.status.Status.TheVariants.{Usage, File, Ran}
 use Rattle.acc_base.specs.Lines.{line}
-use Rattle.acc_cli.specs.Text.{Said, Reply}
+use Rattle.acc_cli.specs.Text.{Said, Reply, Says}
+use Rattle.acc_cli.specs.Notes.{help_text, version_text}
 use Rattle.acc_cli.specs.Words.{command_of, files_of}
 use Rattle.acc_cli.specs.Files.{AreFiles, IsFirstRefused, SaysRefused}
 use Rattle.acc_cli.specs.PlayFiles.{PlaysFiles}
@@ -18,6 +20,8 @@ use Rattle.acc_cli.specs.PrintFiles.{PrintsFile}
 unfoldable pub Means : Command → List (List ℕ) → Said → Type 0
 Means command.Play (design ∷ script ∷ order ∷ []) = PlaysFiles design script order
 Means command.Print (design ∷ []) = PrintsFile design
+Means command.Help [] = Says Done help_text
+Means command.Version [] = Says Done version_text
 Means _ _ = λ said. ⊥
 
 -- the first file that isn't given is refused

@@ -1,8 +1,10 @@
 -- A design that is refused: by its text, or by the form rules.
-use Rattle.std.specs.Prelude.{◌⊎◌, ℕ, List, ◌++◌, codes}
+use Rattle.std.specs.Prelude.{◌⊎◌, ℕ, ◌-◌, List, ◌++◌, codes}
 use Rattle.std.specs.Fmt.{decimal}
 use Rattle.acc_base.specs.declared.designs.Design.{Design}
 use Rattle.acc_base.specs.Lines.{line}
+use Rattle.acc_statements.specs.Lines.{IsLineOf}
+use Rattle.acc_print.specs.Designs.{printed}
 use Rattle.acc_parse.specs.declared.errors.ParseError.{ParseError}
 use Rattle.acc_parse.specs.declared.errors.ParseError.TheVariants as errors
 use Rattle.acc_parse.specs.Texts.{IsDesignText}
@@ -28,13 +30,15 @@ pub record RefusesText (design : List ℕ) (said : Said) : Type 0 where
 abbrev pub SaysRule : ℕ → ℕ → Said → Type 0
 SaysRule rule at said = Says Refused (line (codes "refused form " ++ (decimal rule ++ (codes " " ++ decimal at)))) said
 
--- the text is that of this design, which breaks form rules: the lowest one, and the first line of its print that breaks it
+-- The text is that of this design, which breaks form rules: the lowest one, and the first line that breaks it, which is the line
+-- of that statement in the design's print.
 pub record RefusesForm (design : List ℕ) (said : Said) : Type 0 where
   pub d : Design
   pub is_text : IsDesignText design d
   pub rule : ℕ
   pub at : ℕ
   pub first : IsLeast is_before (form_faults d) (rule, at)
+  pub on_line : IsLineOf (printed d) (at - 1) at
   pub says : SaysRule rule at said
 
 abbrev pub RefusesDesign : List ℕ → Said → Type 0

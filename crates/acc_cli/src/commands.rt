@@ -6,13 +6,14 @@ ghost use Rattle.acc_base.specs.Runnable.{IsRunnable};
 ghost use Rattle.acc_cli.specs.Words.{file_count};
 ghost use Rattle.acc_cli.specs.Meant.{Means};
 ghost use Rattle.acc_cli.specs.Text.{Says};
-ghost use Rattle.acc_cli.specs.declared.status.Ending.TheVariants.{Script};
+ghost use Rattle.acc_cli.specs.declared.status.Ending.TheVariants.{Done, Script};
 ghost use Rattle.acc_cli.specs.Outcome.{said_of};
 ghost use Rattle.acc_cli.specs.Stages.{AllFit};
 ghost use Rattle.acc_cli.specs.PlayFiles.{PlaysFiles, SaysOfScript, SaysOfOrder};
 ghost use Rattle.acc_cli.specs.PrintFiles.{PrintsFile};
 
 use crate::designs::{ReadDesign, read_design};
+use crate::notes;
 use crate::plays::play;
 use crate::status::Ending;
 use crate::words::Command;
@@ -109,6 +110,17 @@ fn print_file(alloc: Global, design: &[u8]) -> Result<Outcome, AllocError>
     }
 }
 
+/// An answer of a text alone.
+fn note(alloc: Global, text: Vec<u8>) -> Outcome
+    ensures { Says Done text.items (said_of result) }
+{
+    Outcome {
+        ending: Ending::Done,
+        text,
+        history: Seq::new(alloc),
+    }
+}
+
 /// The answer of a command to its files.
 #[tactic(auto, unfolding(crate::specs::Words::file_count, crate::specs::Meant::Means))]
 pub fn run(alloc: Global, command: Command, files: &[Vec<u8>]) -> Result<Outcome, AllocError>
@@ -118,6 +130,8 @@ pub fn run(alloc: Global, command: Command, files: &[Vec<u8>]) -> Result<Outcome
     match (command, files) {
         (Command::Play, [design, script, order]) => play_files(alloc, design, script, order),
         (Command::Print, [design]) => print_file(alloc, design),
+        (Command::Help, []) => Ok(note(alloc, notes::help_text(alloc)?)),
+        (Command::Version, []) => Ok(note(alloc, notes::version_text(alloc)?)),
         _ => unreachable!(),
     }
 }

@@ -4,6 +4,7 @@
 mod commands;
 mod designs;
 mod files;
+mod notes;
 mod plays;
 mod status;
 mod top;

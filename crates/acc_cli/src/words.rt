@@ -9,6 +9,10 @@ pub enum Command {
     Play,
     /// `print DESIGN`
     Print,
+    /// `--help`
+    Help,
+    /// `--version`
+    Version,
 }
 
 /// Whether the words are this verb and so many words behind it.
@@ -32,6 +36,10 @@ pub fn command_of(words: &[String]) -> Option<Command>
         Some(Command::Play)
     } else if is_form(words, "print", 1) {
         Some(Command::Print)
+    } else if is_form(words, "--help", 0) {
+        Some(Command::Help)
+    } else if is_form(words, "--version", 0) {
+        Some(Command::Version)
     } else {
         None
     }
@@ -45,5 +53,6 @@ pub fn file_count(command: Command) -> usize
     match command {
         Command::Play => 3,
         Command::Print => 1,
+        Command::Help | Command::Version => 0,
     }
 }

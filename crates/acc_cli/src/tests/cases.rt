@@ -248,9 +248,16 @@ pub type Outside = (
     &'static str,
 );
 
+const HELP: &str = "acc play DESIGN SCRIPT ORDER   plays the script's transactions in the order's turns, and prints the turns and replies
+acc print DESIGN               prints the design in its one spelling
+acc --help                     prints these lines
+acc --version                  prints the version of acc, and of the toolchain that proved it
+README.md tells what acc is for, and docs/DESIGN-LANGUAGE.md how a design is written and how to mend one that is refused.
+";
+
 pub const PLAY: &[&str] = &["play", "design", "script", "order"];
 
-pub const OUTSIDE: [Outside; 27] = [
+pub const OUTSIDE: [Outside; 30] = [
     (
         "printed",
         &["print", "design"],
@@ -274,6 +281,27 @@ pub const OUTSIDE: [Outside; 27] = [
     (
         "print_with_a_script",
         &["print", "design", "script"],
+        "",
+        &[],
+        &[],
+        &[],
+        1,
+        "usage\n",
+    ),
+    ("help", &["--help"], "design", &[1], &[], &[], 0, HELP),
+    (
+        "version",
+        &["--version"],
+        "design",
+        &[1],
+        &[],
+        &[],
+        0,
+        "acc 0.1.0\nrattle-kit-13f logic dac8208d650f15bf\n",
+    ),
+    (
+        "help_with_a_word",
+        &["--help", "play"],
         "",
         &[],
         &[],
