@@ -17,7 +17,7 @@ use Rattle.acc_store.specs.Bounds.{IsWithin, AreWithin}
 use Rattle.acc_store.specs.Rows.{columns_of}
 use Rattle.acc_store.proofs.Withins.{value_within}
 
-abs-add : (x y : ℤ) → unsigned_abs (x +ℤ y) ≤ unsigned_abs x + unsigned_abs y
+pub abs-add : (x y : ℤ) → unsigned_abs (x +ℤ y) ≤ unsigned_abs x + unsigned_abs y
 abs-add x y = omega (arith, ints)
 
 module _ (m n : ℕ) (more : m ≤ n) where

@@ -69,7 +69,7 @@ module _ (p : Place) (ws vs : List Write) (db : List Row) where
     may_add = not (list_any here (written ws db)) || may_store side (column_of (written ws db) p.0 p.1 c +ℤ v)
 
     -- whether the sum may be stored, by the row that is there
-    may_add_by : (o : Option Row) → find here (written ws db) ≡ o → may_add ≡ (elim o [ None ↦ true | Some r ↦ may_store side (sum_in c v r.cols) ])
+    pub may_add_by : (o : Option Row) → find here (written ws db) ≡ o → may_add ≡ (elim o [ None ↦ true | Some r ↦ may_store side (sum_in c v r.cols) ])
     may_add_by None f = ap (λ b. not b || may_store side (column_of (written ws db) p.0 p.1 c +ℤ v)) (any_none here (written ws db) f)
     may_add_by (Some r) f = (λ i. not (any_some here (written ws db) r f i) || may_store side (cell_of c (f i) +ℤ v))
 

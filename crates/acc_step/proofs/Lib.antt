@@ -6,4 +6,7 @@ pub mod Overlays
 pub mod ChangeWrites
 pub mod Bounds
 pub mod ActionSteps
+pub mod ColumnChanges
+pub mod RowWalks
+pub mod NearColumns
 pub mod Leaves

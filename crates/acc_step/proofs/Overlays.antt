@@ -20,7 +20,7 @@ pub written_in_order : (ws : List Write) (db : List Row) → IsInOrder db → Is
 written_in_order [] db order = order
 written_in_order (w ∷ ws) db order = written_in_order ws (write w db) (write_in_order w db order)
 
-columns_written : (p : Place) (w : Write) (db : List Row) → IsInOrder db → columns_step p w (columns_at p db) ≡ columns_at p (write w db)
+pub columns_written : (p : Place) (w : Write) (db : List Row) → IsInOrder db → columns_step p w (columns_at p db) ≡ columns_at p (write w db)
 columns_written p (Puts r) db order = by (is_at p.0 p.1 r) ∙ sym (ap columns_of (find_put p r db))
   where
     by : (b : Bool) → (if b then Some r.cols else columns_at p db) ≡ columns_of (if b then Some r else find (is_at p.0 p.1) db)

@@ -45,7 +45,7 @@ fn step_on(side: Side, point: &Point) -> &Step
 }
 
 /// The step of a point of a type, if there is one.
-fn step_for(d: &Design, ty: u32, point: u32, side: Side) -> Option<&Step>
+pub fn step_for(d: &Design, ty: u32, point: u32, side: Side) -> Option<&Step>
     requires runnable { IsRunnable d.now }
     ensures value { option_copied result ≡ step_of d.now ty point side }
     ensures can { IfSome (option_copied result) (CanStep side) }

@@ -5,14 +5,18 @@ mod actions;
 mod changes;
 pub mod effects;
 mod errors;
+pub mod looks;
 mod lookups;
 mod paths;
+mod ranges;
 mod reads;
 mod values;
+mod walks;
 mod writers;
 
 pub use effects::{StepEffect, effect};
 pub use errors::StepError;
+pub use looks::{Outlook, look};
 
 #[cfg(test)]
 mod tests;

@@ -9,7 +9,7 @@ use acc_store::{Store, Write};
 use std::cmp::Ordering;
 
 /// Whether two keys are the same.
-fn is_place(table: u32, key: &[i64], other_table: u32, other: &[i64]) -> bool
+pub fn is_place(table: u32, key: &[i64], other_table: u32, other: &[i64]) -> bool
     ensures { result ≡ is_eq (place_cmp (table, key.now) (other_table, other.now)) }
 {
     match table.cmp(&other_table) {

@@ -176,7 +176,7 @@ fn set_column<S: Store>(
 }
 
 /// A column, which is 0 where there is none.
-fn value_at(cols: &[i128], col: u32) -> i128
+pub fn value_at(cols: &[i128], col: u32) -> i128
     ensures { result ≡ slice_index_or cols.now col (pos 0) }
 {
     match cols.get(col as usize) {
@@ -186,7 +186,7 @@ fn value_at(cols: &[i128], col: u32) -> i128
 }
 
 /// A sum of numbers that are not far from 0.
-fn near_sum(value: i128, more: i64) -> i128
+pub fn near_sum(value: i128, more: i64) -> i128
     requires near { unsigned_abs value ≤ 2 ^ 121 }
     ensures { result ≡ value +ℤ more }
 {

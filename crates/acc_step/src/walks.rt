@@ -1,0 +1,163 @@
+//! The columns of one row as the actions of a path change it, without memory.
+ghost use Rattle.std.specs.Prelude.{◌≡◌, ◌≤◌, ◌^◌, length, All, slice_set, unsigned_abs};
+ghost use Rattle.acc_base.specs.Numbers.{IsSmall};
+ghost use Rattle.acc_base.specs.Linear.{variables};
+ghost use Rattle.acc_base.specs.Runnable.{CanAct};
+ghost use Rattle.acc_store.specs.Bounds.{AreWithin};
+ghost use Rattle.acc_step.specs.Overlay.{columns_at, sum_in};
+ghost use Rattle.acc_step.specs.Changing.{change_if_small, IsFitChange};
+ghost use Rattle.acc_step.specs.RowColumns.{acted_table, key_of, columns_made, columns_moved, columns_acted, columns_through, AreNear};
+
+use crate::changes::{Change, RowKey, evaluated};
+use crate::lookups::is_place;
+use crate::values::widened;
+use crate::writers::{near_sum, value_at};
+use acc_base::steps::Action;
+use acc_store::{Inline, Store};
+
+/// The columns with one of them set, where there is such a one.
+fn with_cell(cols: Inline<i128, 12>, col: u32, value: i128) -> Inline<i128, 12>
+    ensures { result ≡ slice_set cols col value }
+{
+    let mut cols = cols;
+    cols.set(col as usize, value);
+    cols
+}
+
+/// The columns with a number added to one of them, where there is such a one.
+fn with_sum(cols: Inline<i128, 12>, col: u32, more: i64) -> Inline<i128, 12>
+    requires near { All (λ v. unsigned_abs v ≤ 2 ^ 121) cols }
+    ensures { result ≡ slice_set cols col (sum_in col more cols) }
+{
+    let sum = near_sum(value_at(cols.as_slice(), col), more);
+    with_cell(cols, col, sum)
+}
+
+/// Numbers as columns.
+fn widened_columns(values: &[i64]) -> Inline<i128, 12>
+    requires few { length values.now ≤ 12 }
+    ensures { result ≡ values.now }
+{
+    let mut cols = Inline::new(0);
+    for value in values {
+        cols.push(widened(*value));
+    }
+    cols
+}
+
+/// The key of the row that a change is of.
+fn changed_key(change: &Change) -> &RowKey
+    ensures { result.now ≡ key_of change.now }
+{
+    match change {
+        Change::Put(key, _) => key,
+        Change::Drop(key) => key,
+        Change::Set(key, _, _) => key,
+        Change::Add(key, _, _) => key,
+    }
+}
+
+/// The columns of a row after a change of it.
+fn columns_after(cols: Option<Inline<i128, 12>>, change: &Change) -> Option<Inline<i128, 12>>
+    requires fit { IsFitChange change.now }
+    requires near { AreNear (2 ^ 121) cols }
+    ensures { result ≡ columns_made change.now cols }
+{
+    match change {
+        Change::Put(_, values) => Some(widened_columns(values.as_slice())),
+        Change::Drop(_) => None,
+        Change::Set(_, col, value) => Some(with_cell(cols?, *col, widened(*value))),
+        Change::Add(_, col, more) => Some(with_sum(cols?, *col, *more)),
+    }
+}
+
+/// The columns at a key after a change.
+fn columns_with_change(
+    cols: Option<Inline<i128, 12>>,
+    change: &Change,
+    table: u32,
+    key: &[i64],
+) -> Option<Inline<i128, 12>>
+    requires fit { IsFitChange change.now }
+    requires near { AreNear (2 ^ 121) cols }
+    ensures { result ≡ columns_moved (table, key.now) change.now cols }
+{
+    let other = changed_key(change);
+    if is_place(table, key, other.table, other.parts.as_slice()) {
+        columns_after(cols, change)
+    } else {
+        cols
+    }
+}
+
+/// The table that an action is of.
+fn table_of(action: &Action) -> u32
+    ensures { result ≡ acted_table action.now }
+{
+    match action {
+        Action::Put(table, _, _) => *table,
+        Action::Del(table, _) => *table,
+        Action::Set(table, _, _, _) => *table,
+        Action::Add(table, _, _, _) => *table,
+    }
+}
+
+/// The columns at a key after an action whose numbers are in range.
+fn columns_with_action(
+    cols: Option<Inline<i128, 12>>,
+    action: &Action,
+    table: u32,
+    key: &[i64],
+    locals: &[i64],
+    t: u64,
+) -> Option<Inline<i128, 12>>
+    requires small { All IsSmall locals.now }
+    requires number { t ≤ 2 ^ 45 }
+    requires can { CanAct action.now }
+    requires near { AreNear (2 ^ 121) cols }
+    ensures { result ≡ columns_acted (table, key.now) (change_if_small (variables t locals.now) action.now) cols }
+{
+    if table_of(action) != table {
+        return cols;
+    }
+    match evaluated(action, locals, t) {
+        Some(change) => columns_with_change(cols, &change, table, key),
+        None => cols,
+    }
+}
+
+/// The columns of the row at a key in a store, if there is one.
+fn columns_stored<S: Store>(s: &S, table: u32, key: &[i64]) -> Option<Inline<i128, 12>>
+    requires short { length key.now ≤ 6 }
+    ensures { result ≡ columns_at (table, key.now) (S.rows s.now) }
+{
+    match s.columns(table, key) {
+        Some(cols) => Some(Inline::from_slice(0, cols)),
+        None => None,
+    }
+}
+
+/// The columns of the row at a key after actions over the rows of a store, if there is one. It walks the actions.
+pub fn columns_past<S: Store>(
+    s: &S,
+    actions: &[Action],
+    table: u32,
+    key: &[i64],
+    locals: &[i64],
+    t: u64,
+) -> Option<Inline<i128, 12>>
+    requires small { All IsSmall locals.now }
+    requires number { t ≤ 2 ^ 45 }
+    requires can { All CanAct actions.now }
+    requires few { length actions.now ≤ 16 }
+    requires short { length key.now ≤ 6 }
+    requires within { AreWithin (2 ^ 120) (S.rows s.now) }
+    ensures value { result ≡ columns_through (variables t locals.now) (table, key.now) actions.now (columns_at (table, key.now) (S.rows s.now)) }
+    ensures near { AreNear (2 ^ 121) result }
+{
+    let mut cols = columns_stored(s, table, key);
+    for action in actions {
+        cols = columns_with_action(cols, action, table, key, locals, t);
+    }
+    cols
+}
