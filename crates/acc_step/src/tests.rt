@@ -396,3 +396,128 @@ fn reads_of_a_row(rt: HostRuntime) -> Result<(), Fail> {
     assert_eq!(rt; absent.locals.as_slice(), [0, 0, 0, 0, 0, 0].as_slice());
     Ok(())
 }
+
+/// Row 1 is put with a number.
+fn put_row(alloc: Global, n: i64) -> Result<Action, AllocError>
+    ensures { IfOk result CanAct }
+{
+    Ok(Action::Put(TABLE, key(alloc)?, one(alloc, number(alloc, n))?))
+}
+
+/// A number is added to row 1.
+fn add_to_row(alloc: Global, n: i64) -> Result<Action, AllocError>
+    ensures { IfOk result CanAct }
+{
+    Ok(Action::Add(TABLE, key(alloc)?, 0, number(alloc, n)))
+}
+
+/// Row 1 is dropped.
+fn drop_row(alloc: Global) -> Result<Action, AllocError>
+    ensures { IfOk result CanAct }
+{
+    Ok(Action::Del(TABLE, key(alloc)?))
+}
+
+/// A design whose step does an action, and then adds 1 to row 1.
+fn with_add(alloc: Global, first: Action) -> Result<Design, AllocError>
+    requires { CanAct first }
+    ensures { IfOk result IsRunnable }
+{
+    let mut actions = one(alloc, first)?;
+    actions.push(add_to_row(alloc, 1)?)?;
+    design(
+        alloc,
+        forward_step(alloc, Seq::new(alloc), actions)?,
+        idle(alloc),
+    )
+}
+
+/// How a step looks that does an action, and then adds 1 to row 1, which has this value.
+fn outlook_past(alloc: Global, first: Action, value: i128) -> Result<Outlook, StoreError>
+    requires can { CanAct first }
+    requires near { unsigned_abs value ≤ 2 ^ 100 }
+{
+    let d = with_add(alloc, first)?;
+    let f = frame(alloc, &[])?;
+    let s = row_one(alloc, value)?;
+    let mut after = [0; 48];
+    Ok(look(&d, &f, Side::Next, &s, &mut after))
+}
+
+#[test]
+fn looks_past_puts(rt: HostRuntime) -> Result<(), Fail> {
+    let alloc = rt.alloc();
+    let large = outlook_past(alloc, put_row(alloc, 35_184_372_088_832)?, 3)?;
+    assert_eq!(rt; large, Outlook::Range);
+    let small = outlook_past(alloc, put_row(alloc, 5)?, EDGE)?;
+    assert_eq!(rt; small, Outlook::Goes(Target::Commit));
+    Ok(())
+}
+
+#[test]
+fn looks_past_drops(rt: HostRuntime) -> Result<(), Fail> {
+    let alloc = rt.alloc();
+    let dropped = outlook_past(alloc, drop_row(alloc)?, EDGE)?;
+    assert_eq!(rt; dropped, Outlook::Goes(Target::Commit));
+    Ok(())
+}
+
+#[test]
+fn looks_past_sums(rt: HostRuntime) -> Result<(), Fail> {
+    let alloc = rt.alloc();
+    let second = outlook_past(alloc, add_to_row(alloc, 1)?, EDGE - 1)?;
+    assert_eq!(rt; second, Outlook::Range);
+    let room = outlook_past(alloc, add_to_row(alloc, 1)?, EDGE - 2)?;
+    assert_eq!(rt; room, Outlook::Goes(Target::Commit));
+    Ok(())
+}
+
+/// How an undo step looks that adds 1 to row 1, which has this value.
+fn outlook_back(alloc: Global, value: i128) -> Result<Outlook, StoreError>
+    requires { unsigned_abs value ≤ 2 ^ 100 }
+{
+    let d = design(alloc, idle(alloc), undo_step(alloc, adding(alloc)?)?)?;
+    let f = frame(alloc, &[])?;
+    let s = row_one(alloc, value)?;
+    let mut after = [0; 48];
+    Ok(look(&d, &f, Side::Undo, &s, &mut after))
+}
+
+#[test]
+fn looks_back(rt: HostRuntime) -> Result<(), Fail> {
+    let undone = outlook_back(rt.alloc(), EDGE)?;
+    assert_eq!(rt; undone, Outlook::Goes(Target::Undone));
+    Ok(())
+}
+
+/// How the step that chooses a path by local 0 looks.
+fn outlook_of(alloc: Global, local: i64) -> Result<Outlook, AllocError>
+    requires { IsSmall local }
+{
+    let d = design(alloc, choosing(alloc)?, idle(alloc))?;
+    let f = frame(alloc, &[local])?;
+    let mut after = [0; 48];
+    Ok(look(&d, &f, Side::Next, &no_rows(alloc), &mut after))
+}
+
+#[test]
+fn looks_at_paths(rt: HostRuntime) -> Result<(), Fail> {
+    let alloc = rt.alloc();
+    assert_eq!(rt; outlook_of(alloc, 3)?, Outlook::Goes(Target::Point(0)));
+    assert_eq!(rt; outlook_of(alloc, 5)?, Outlook::Refused(9));
+    assert_eq!(rt; outlook_of(alloc, 4)?, Outlook::Goes(Target::Commit));
+    Ok(())
+}
+
+#[test]
+fn looks_leave_locals(rt: HostRuntime) -> Result<(), Fail> {
+    let alloc = rt.alloc();
+    let next = forward_step(alloc, looking(alloc)?, Seq::new(alloc))?;
+    let d = design(alloc, next, idle(alloc))?;
+    let f = frame(alloc, &[9, 9, 9, 9, 9, 9])?;
+    let mut after = [7; 48];
+    let there = look(&d, &f, Side::Next, &row_one(alloc, 3)?, &mut after);
+    assert_eq!(rt; there, Outlook::Goes(Target::Commit));
+    assert_eq!(rt; &after[..8], [3, 1, 1, 3, 1, 1, 7, 7].as_slice());
+    Ok(())
+}
