@@ -15,9 +15,8 @@ use Rattle.acc_syntax.specs.declared.trees.TypeTree.{TypeTree}
 use Rattle.acc_syntax.specs.declared.trees.DesignTree.{DesignTree}
 use Rattle.acc_syntax.specs.OwnWords.{OwnInTypes}
 use Rattle.acc_syntax.specs.Spelling.{just, name, number, clause_statement, table, type_words, entry, hint, spelled_design}
-use Rattle.acc_names.specs.Names.{stands_in}
 use Rattle.acc_names.specs.Scopes.{points_in}
-use Rattle.acc_names.specs.Faults.{clause_fault, tables_faults, type_faults, types_faults, entry_fault, hint_fault, outside as known_outside, statement_faults}
+use Rattle.acc_names.specs.Faults.{clause_fault, tables_faults, types_faults, entry_fault, hint_fault, outside as known_outside, statement_faults}
 use Rattle.acc_meaning.specs.Scopes.{fitted}
 use Rattle.acc_meaning.specs.Forms.{clause_of}
 use Rattle.acc_meaning.specs.Types.{type_scope, point_of, type_of}

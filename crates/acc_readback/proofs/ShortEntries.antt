@@ -1,17 +1,13 @@
 -- Entries and hints are printed at most eight times as long as they were written.
 use Rattle.std.proofs.Common.{◌≡◌, ◌+◌, ◌*◌, ◌≤◌, Bool, false, ◌∷◌, ◌++◌, length, map, Option, Some, None, refl, ap, sym, ◌∙◌, subst, arith, length-append}
-use Rattle.std.specs.Prelude.{◌||◌, option_and_then, slice_get, codes}
+use Rattle.std.specs.Prelude.{◌||◌, slice_get, codes}
 use Rattle.std.specs.List.{list_any, flat_map}
 use Rattle.std.proofs.lemmas.Bool.{or_parts}
-use Rattle.std.proofs.lemmas.List.{length-map}
 use Rattle.acc_grammar.specs.Readers.{AllIn, joined}
 use Rattle.acc_base.specs.Lines.{at_text, type_name, point_name}
 use Rattle.acc_base.specs.Effects.{point_of as point_in}
-use Rattle.acc_base.specs.declared.designs.TxType.{TxType}
 use Rattle.acc_lex.specs.declared.words.Sign.TheVariants as sign
-use Rattle.acc_syntax.specs.declared.trees.PointTree.{PointTree}
 use Rattle.acc_syntax.specs.declared.trees.PointName.{PointName}
-use Rattle.acc_syntax.specs.declared.trees.TypeTree.{TypeTree}
 use Rattle.acc_syntax.specs.declared.trees.SideTree.{SideTree}
 use Rattle.acc_syntax.specs.declared.trees.SideTree.TheVariants as side_tree
 use Rattle.acc_syntax.specs.declared.trees.PairTree.{PairTree}
@@ -20,20 +16,16 @@ use Rattle.acc_syntax.specs.declared.trees.EntryTree.{EntryTree}
 use Rattle.acc_syntax.specs.declared.trees.HintTree.{HintTree}
 use Rattle.acc_syntax.specs.declared.trees.DesignTree.{DesignTree}
 use Rattle.acc_syntax.specs.Spelling.{just, variable, further, sum, side_sign, point_name as point_words, pair, pairs, entry, hint}
-use Rattle.acc_names.specs.Scopes.{points_in, point_names}
 use Rattle.acc_names.specs.Faults.{variable_fault, sum_fault, point_name_fault, locals_at, pair_fault, pairs_fault, entry_fault, hint_fault}
-use Rattle.acc_meaning.specs.Scopes.{number_of, variable_of}
+use Rattle.acc_meaning.specs.Scopes.{variable_of}
 use Rattle.acc_meaning.specs.Values.{lin_of}
-use Rattle.acc_meaning.specs.Types.{type_scope, type_of}
-use Rattle.acc_meaning.specs.Designs.{points_or_none, at_of, side_of, pair_of, all_pairs, entry_of, hint_of, design_of}
+use Rattle.acc_meaning.specs.Designs.{at_of, side_of, pair_of, all_pairs, entry_of, hint_of, design_of}
 use Rattle.acc_print.specs.Lists.{spaced, listed}
 use Rattle.acc_print.specs.Names.{name_at}
 use Rattle.acc_print.specs.Values.{lin_text}
 use Rattle.acc_print.specs.Designs.{side_text, pair_text, entry_line, hint_line}
 use Rattle.acc_readback.proofs.SaidParts.{all_parts, all_mapped, none_false, IsFalse}
 use Rattle.acc_readback.proofs.SaidNames.{IsHeard, AreHeard, Setting, variables_of}
-use Rattle.acc_readback.proofs.SaidSteps.{AreNamed, point_again}
-use Rattle.acc_readback.proofs.SaidPoints.{points_named}
 use Rattle.acc_readback.proofs.SaidPointNames.{IsBounded, IsTypeFound, type_found, at_point, point_there}
 use Rattle.acc_readback.proofs.Weights.{weight, weight-append}
 use Rattle.acc_readback.proofs.ShortLists.{further_short, joined_short}

@@ -248,7 +248,8 @@ pub type Outside = (
     &'static str,
 );
 
-const HELP: &str = "acc play DESIGN SCRIPT ORDER   plays the script's transactions in the order's turns, and prints the turns and replies
+const HELP: &str =
+    "acc play DESIGN SCRIPT ORDER   plays the script's transactions in the order's turns, and prints the turns and replies
 acc print DESIGN               prints the design in its one spelling
 acc --help                     prints these lines
 acc --version                  prints the version of acc, and of the toolchain that proved it

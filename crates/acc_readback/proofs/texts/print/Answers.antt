@@ -1,4 +1,4 @@
-use Rattle.std.proofs.Common.{◌≡◌, ℕ, ◌+◌, ◌*◌, ◌<◌, ◌≤◌, List, length, suc, sym, subst, arith}
+use Rattle.std.proofs.Common.{◌≡◌, ℕ, ◌+◌, ◌*◌, ◌≤◌, List, length, suc, sym, subst, arith}
 use Rattle.acc_statements.specs.Lines.{IsLineOf}
 use Rattle.acc_statements.proofs.Counted.{spelled_ends}
 use Rattle.acc_syntax.specs.Spelling.{spelled_design}
