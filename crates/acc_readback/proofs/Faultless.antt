@@ -22,8 +22,11 @@ none_any fault (x ∷ xs) h = neither (fault x) (list_any fault xs) h.0 (none_an
 
 -- ---- lists of faults
 
+abbrev pub IsFalse : Bool → Type 0
+IsFalse b = b ≡ false
+
 abbrev pub AreFalse : List Bool → Type 0
-AreFalse bs = AllIn (λ b. b ≡ false) bs
+AreFalse bs = AllIn IsFalse bs
 
 pub false_both : (bs cs : List Bool) → AreFalse bs → AreFalse cs → AreFalse (bs ++ cs)
 false_both bs cs h g = AllIn-append (λ b. b ≡ false) bs cs h g

@@ -1,5 +1,5 @@
 -- Printed clauses pass no limit.
-use Rattle.std.proofs.Common.{ℕ, ◌≤◌, Bool, true, false, List, [], ◌∷◌, ◌++◌, length, refl, arith, zero, suc, ℤ, pos, negsuc}
+use Rattle.std.proofs.Common.{ℕ, ◌≤◌, Bool, true, false, List, [], ◌∷◌, ◌++◌, length, arith, zero, suc, ℤ, pos, negsuc}
 use Rattle.std.specs.Prelude.{◌==◌, if◌then◌else◌, map, unsigned_abs}
 use Rattle.std.specs.List.{flat_map}
 use Rattle.acc_grammar.specs.Readers.{AllIn}
@@ -22,7 +22,7 @@ use Rattle.acc_limits.specs.Statements.{clause_statement_marks}
 use Rattle.acc_print.specs.Names.{Scope, name_at, with_own}
 use Rattle.acc_readback.specs.Trees.{operand_tree, form_term_tree, signed_form_tree, form_constant_trees, form_sum_tree, zero_form_tree, rel_tree, guards_tree, names_tree, clause_tree}
 use Rattle.acc_readback.specs.Printable.{IsName, IsAtomSaid, IsUnknownSaid, IsRelSaid, IsClauseSaid}
-use Rattle.acc_readback.proofs.OnlyEnds.{AreEnds, ends_behind}
+use Rattle.acc_readback.proofs.OnlyEnds.{AreEnds, ends_behind, one_end}
 use Rattle.acc_readback.proofs.Mapped.{all_mapped}
 use Rattle.acc_readback.proofs.Ends.{not_above, ends_each}
 use Rattle.acc_readback.proofs.LimitedValues.{name_ends, names_end, number_ends, variable_ends, row_ends, cell_ends, few_others}
@@ -81,7 +81,7 @@ clause_ends s c h =
     ends_behind (clause_marks (clause_tree s c)) ending
     (ends_behind (binder_marks (names_tree c.vars)) _ (binder_ends c.vars h.few_variables h.variables)
     (ends_behind (premises_marks (guards_tree own c.guards)) _ (premises_end own c.guards h.few_guards h.guards) (rel_ends own c.rel h.relation)))
-    (refl, tt)
+    one_end
 
 pub clauses_end : (s : Scope) (cs : List Clause) → AllIn (IsClauseSaid s) cs → AllIn (λ (t : ClauseTree). AreEnds (clause_statement_marks t)) (map (clause_tree s) cs)
 clauses_end s cs h = all_mapped (IsClauseSaid s) (λ (t : ClauseTree). AreEnds (clause_statement_marks t)) (clause_tree s) (clause_ends s) cs h

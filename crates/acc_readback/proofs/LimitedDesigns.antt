@@ -1,5 +1,5 @@
 -- A printed design passes no limit.
-use Rattle.std.proofs.Common.{◌≡◌, ℕ, ◌^◌, ◌≤◌, inl, false, ◌||◌, List, [], ◌∷◌, length, refl, arith, nat_lt}
+use Rattle.std.proofs.Common.{◌≡◌, ℕ, ◌^◌, ◌≤◌, inl, false, ◌||◌, List, [], ◌∷◌, length, arith, nat_lt}
 use Rattle.std.specs.Prelude.{map, slice_get}
 use Rattle.std.specs.List.{flat_map}
 use Rattle.std.proofs.lemmas.Bool.Decides.{nat_tests}
@@ -27,7 +27,7 @@ use Rattle.acc_readback.specs.Trees.{variable_tree, lin_tree, clause_tree}
 use Rattle.acc_readback.specs.TypeTrees.{table_tree, point_name_tree, pair_tree, pairs_tree, entry_tree, hint_tree, type_tree, tree_of}
 use Rattle.acc_readback.specs.PrintableTypes.{IsTableSaid, IsAtSaid, IsPairSaid, IsEntrySaid, IsHintSaid, IsTypeSaid, IsSaid}
 use Rattle.acc_readback.proofs.Faultless.{neither}
-use Rattle.acc_readback.proofs.OnlyEnds.{AreEnds, ends_behind, no_faults}
+use Rattle.acc_readback.proofs.OnlyEnds.{AreEnds, ends_behind, no_faults, one_end}
 use Rattle.acc_readback.proofs.Mapped.{all_mapped}
 use Rattle.acc_readback.proofs.Ends.{not_past, not_above, ends_each, ends_counted}
 use Rattle.acc_readback.proofs.LimitedValues.{name_ends, names_end, variable_ends, lin_ends, few_others}
@@ -45,7 +45,7 @@ table_ends t h =
     (ends_behind _ _ (not_above limit.Columns 12 (length t.cols) h.few_columns)
     (ends_behind (name_marks t.name) _ (name_ends t.name h.name)
     (ends_behind (number_marks t.width) _ (not_above limit.NumberSize (2 ^ 45) t.width (omega (arith, h.width)))
-    (ends_behind (flat_map name_marks t.cols) ending (names_end t.cols h.columns) (refl, tt)))))
+    (ends_behind (flat_map name_marks t.cols) ending (names_end t.cols h.columns) one_end))))
 
 -- ---- entries and hints
 
@@ -71,13 +71,13 @@ entry_ends d e h =
     let step = (scope_at d e.step).names in
     ends_behind (point_name_marks (point_name_tree d e.held)) _ (at_ends d e.held h.held)
     (ends_behind (point_name_marks (point_name_tree d e.step)) _ (at_ends d e.step h.step)
-    (ends_behind (pairs_marks (pairs_tree held step e.pairs)) ending (pairs_end held step e.pairs h.pairs) (refl, tt)))
+    (ends_behind (pairs_marks (pairs_tree held step e.pairs)) ending (pairs_end held step e.pairs h.pairs) one_end))
 
 pub hint_ends : (d : Design) (h : Hint) → IsHintSaid d h → AreEnds (hint_marks (hint_tree d h))
 hint_ends d h said =
     let names = (scope_at d h.at).names in
     ends_behind (point_name_marks (point_name_tree d h.at)) _ (at_ends d h.at said.at)
-    (ends_behind (sum_marks (lin_tree names h.lin)) ending (lin_ends names h.lin said.value) (refl, tt))
+    (ends_behind (sum_marks (lin_tree names h.lin)) ending (lin_ends names h.lin said.value) one_end)
 
 -- ---- the whole
 

@@ -1,5 +1,5 @@
 -- Printed steps pass no limit.
-use Rattle.std.proofs.Common.{ℕ, ◌^◌, ◌≤◌, List, [], ◌∷◌, ◌++◌, length, refl, arith}
+use Rattle.std.proofs.Common.{ℕ, ◌^◌, ◌≤◌, List, [], ◌∷◌, ◌++◌, length, arith}
 use Rattle.std.specs.Prelude.{map, drop, slice_get, unsigned_abs}
 use Rattle.acc_grammar.specs.Readers.{AllIn}
 use Rattle.acc_base.specs.Lines.{point_name}
@@ -25,7 +25,7 @@ use Rattle.acc_readback.specs.Trees.{variable_tree, lin_tree, place_tree, cell_t
 use Rattle.acc_readback.specs.TypeTrees.{read_statement_tree, values_tree, action_statement_tree, target_statement_tree, path_tree, first_path, step_tree}
 use Rattle.acc_readback.specs.Printable.{IsVariable, IsLinSaid}
 use Rattle.acc_readback.specs.PrintableTypes.{IsCount, IsReadSaid, IsActionSaid, IsTargetSaid, IsPathSaid, ArePathsSaid, IsStepSaid}
-use Rattle.acc_readback.proofs.OnlyEnds.{AreEnds, ends_behind}
+use Rattle.acc_readback.proofs.OnlyEnds.{AreEnds, ends_behind, one_end}
 use Rattle.acc_readback.proofs.Mapped.{all_mapped}
 use Rattle.acc_readback.proofs.Ends.{not_reached, ends_counted}
 use Rattle.acc_readback.proofs.LimitedValues.{name_ends, number_ends, variable_ends, lin_ends, sums_end, row_ends, cell_ends, guard_ends, few_others}
@@ -50,7 +50,7 @@ read_words_end s (read.Div x a n) h =
     ends_behind (variable_marks (variable_tree s.names x)) _ (variable_at s x h.0) (ends_behind (variable_marks (variable_tree s.names a)) (number_marks (unsigned_abs n)) (variable_at s a h.1) (number_ends n h.3))
 
 read_ends : (s : Scope) (r : Read) → IsReadSaid s r → AreEnds (read_marks (read_statement_tree s r))
-read_ends s r h = ends_behind (read_words_marks (read_statement_tree s r)) ending (read_words_end s r h) (refl, tt)
+read_ends s r h = ends_behind (read_words_marks (read_statement_tree s r)) ending (read_words_end s r h) one_end
 
 -- ---- actions and targets
 
@@ -65,7 +65,7 @@ action_words_end s (action.Set table key column v) h = ends_behind (cell_marks (
 action_words_end s (action.Add table key column v) h = ends_behind (cell_marks (cell_tree s table key column)) (sum_marks (lin_tree s.names v)) (cell_ends s table key column h.0) (lin_ends s.names v h.1)
 
 action_ends : (s : Scope) (a : Action) → IsActionSaid s a → AreEnds (action_marks (action_statement_tree s a))
-action_ends s a h = ends_behind (action_words_marks (action_statement_tree s a)) ending (action_words_end s a h) (refl, tt)
+action_ends s a h = ends_behind (action_words_marks (action_statement_tree s a)) ending (action_words_end s a h) one_end
 
 pub count_ends : (n : ℕ) → IsCount n → AreEnds (small_number_marks n)
 count_ends n h = not_reached limit.NumberSize (2 ^ 32) n h
@@ -77,14 +77,14 @@ target_words_end points target.Undone h = tt
 target_words_end points (target.Refuse n) h = count_ends n h
 
 target_ends : (points : List Point) (t : Target) → IsTargetSaid points t → AreEnds (target_marks (target_statement_tree points t))
-target_ends points t h = ends_behind (target_words_marks (target_statement_tree points t)) ending (target_words_end points t h) (refl, tt)
+target_ends points t h = ends_behind (target_words_marks (target_statement_tree points t)) ending (target_words_end points t h) one_end
 
 -- ---- paths and steps
 
 path_ends : (s : Scope) (points : List Point) (p : Path) → IsPathSaid s points p → AreEnds (path_marks (path_tree s points p))
 path_ends s points p h =
     ends_behind (guard_marks (guard_tree s.names p.guard)) _ (guard_ends s.names p.guard h.few_relations h.guard)
-    (ends_behind ending _ (refl, tt)
+    (ends_behind ending _ one_end
     (ends_behind (counted limit.Actions 16 action_marks (map (action_statement_tree s) p.actions)) (target_marks (target_statement_tree points p.target))
     (ends_counted limit.Actions 16 action_marks (map (action_statement_tree s) p.actions) (few_others (action_statement_tree s) 16 p.actions h.few_actions)
     (all_mapped (IsActionSaid s) (λ (t : ActionTree). AreEnds (action_marks t)) (action_statement_tree s) (action_ends s) p.actions h.actions))
@@ -99,7 +99,7 @@ paths_end s points (p ∷ ps) few h =
 
 pub step_ends : (s : Scope) (points : List Point) (st : Step) → IsStepSaid s points st → AreEnds (step_marks (step_tree s points st))
 step_ends s points st h =
-    ends_behind ending _ (refl, tt)
+    ends_behind ending _ one_end
     (ends_behind (counted limit.Reads 32 read_marks (map (read_statement_tree s) st.reads)) _
     (ends_counted limit.Reads 32 read_marks (map (read_statement_tree s) st.reads) (few_others (read_statement_tree s) 32 st.reads h.few_reads)
     (all_mapped (IsReadSaid s) (λ (t : ReadTree). AreEnds (read_marks t)) (read_statement_tree s) (read_ends s) st.reads h.reads))

@@ -1,5 +1,5 @@
 -- Printed types pass no limit.
-use Rattle.std.proofs.Common.{◌≡◌, ℕ, ◌+◌, ◌≤◌, Bool, true, false, List, [], ◌∷◌, ◌++◌, length, length-append, Some, None, refl, ap, arith, take, drop}
+use Rattle.std.proofs.Common.{◌≡◌, ℕ, ◌+◌, ◌≤◌, Bool, true, false, List, [], ◌∷◌, ◌++◌, length, length-append, Some, None, ap, arith, take, drop}
 use Rattle.std.specs.Prelude.{map, if◌then◌else◌}
 use Rattle.std.specs.List.{flat_map}
 use Rattle.std.proofs.lemmas.List.{take-append-drop}
@@ -20,7 +20,7 @@ use Rattle.acc_readback.specs.Trees.{lin_tree, names_tree, clause_tree}
 use Rattle.acc_readback.specs.TypeTrees.{step_tree, variant_tree, point_tree, first_point, type_tree}
 use Rattle.acc_readback.specs.Printable.{IsName, IsLinSaid}
 use Rattle.acc_readback.specs.PrintableTypes.{IsPointSaid, ArePointsSaid, IsTypeSaid}
-use Rattle.acc_readback.proofs.OnlyEnds.{AreEnds, ends_behind}
+use Rattle.acc_readback.proofs.OnlyEnds.{AreEnds, ends_behind, one_end}
 use Rattle.acc_readback.proofs.Mapped.{all_mapped}
 use Rattle.acc_readback.proofs.Ends.{not_above, ends_counted}
 use Rattle.acc_readback.proofs.LimitedValues.{name_ends, names_end, lin_ends, few_others}
@@ -31,7 +31,7 @@ use Rattle.acc_readback.proofs.LimitedSteps.{count_ends, step_ends}
 
 by_zero : (b : Bool) (v : Sum) → AreEnds (sum_marks v) → AreEnds (variant_marks (if b then None else Some v))
 by_zero true v h = tt
-by_zero false v h = ends_behind (sum_marks v) ending h (refl, tt)
+by_zero false v h = ends_behind (sum_marks v) ending h one_end
 
 variant_ends : (names : List (List ℕ)) (l : Lin) → IsLinSaid names l → AreEnds (variant_marks (variant_tree names l))
 variant_ends names l h = by_zero (is_zero l.coeffs l.constant) (lin_tree names l) (lin_ends names l h)
@@ -39,7 +39,7 @@ variant_ends names l h = by_zero (is_zero l.coeffs l.constant) (lin_tree names l
 point_ends : (s : Scope) (points : List Point) (p : Point) → IsPointSaid s points p → AreEnds (point_marks (point_tree s points p))
 point_ends s points p h =
     ends_behind (name_marks p.name) _ (name_ends p.name h.name)
-    (ends_behind ending _ (refl, tt)
+    (ends_behind ending _ one_end
     (ends_behind (variant_marks (variant_tree s.names p.variant)) _ (variant_ends s.names p.variant h.variant)
     (ends_behind (counted limit.Clauses 64 clause_statement_marks (map (clause_tree s) p.clauses)) _
     (ends_counted limit.Clauses 64 clause_statement_marks (map (clause_tree s) p.clauses) (few_others (clause_tree s) 64 p.clauses h.few_clauses) (clauses_end s p.clauses h.clauses))
@@ -56,12 +56,12 @@ points_end s points (p ∷ ps) few h =
 
 returns_end : (xs : List (List ℕ)) → AllIn IsName xs → AreEnds (returns_marks (names_tree xs))
 returns_end [] h = tt
-returns_end (x ∷ xs) h = ends_behind (name_marks x ++ flat_map name_marks xs) ending (names_end (x ∷ xs) h) (refl, tt)
+returns_end (x ∷ xs) h = ends_behind (name_marks x ++ flat_map name_marks xs) ending (names_end (x ∷ xs) h) one_end
 
 locals_end : (n : ℕ) (xs : List (List ℕ)) → n + length xs ≤ 48 → AllIn IsName xs → AreEnds (locals_marks n (names_tree xs))
 locals_end n [] few h = tt
 locals_end n (x ∷ xs) few h =
-    ends_behind _ _ (not_above limit.Locals 47 (n + length xs) (omega arith)) (ends_behind (name_marks x ++ flat_map name_marks xs) ending (names_end (x ∷ xs) h) (refl, tt))
+    ends_behind _ _ (not_above limit.Locals 47 (n + length xs) (omega arith)) (ends_behind (name_marks x ++ flat_map name_marks xs) ending (names_end (x ∷ xs) h) one_end)
 
 -- the parameters and what is behind them are as many as the locals
 parted : (n : ℕ) (xs : List (List ℕ)) → length (take n xs) + length (drop n xs) ≡ length xs
@@ -73,8 +73,8 @@ head_ends tables t h =
     ends_behind _ _ (not_above limit.Locals 48 (length params) (omega (arith, parted t.params t.locals, h.few_locals)))
     (ends_behind (name_marks t.name) _ (name_ends t.name h.name)
     (ends_behind (flat_map name_marks params) _ (names_end params h.parameters)
-    (ends_behind ending _ (refl, tt)
-    (ends_behind (small_number_marks t.limit) ending (count_ends t.limit h.limit) (refl, tt)))))
+    (ends_behind ending _ one_end
+    (ends_behind (small_number_marks t.limit) ending (count_ends t.limit h.limit) one_end))))
 
 -- ---- types
 

@@ -5,17 +5,21 @@ use Rattle.acc_grammar.specs.Readers.{AllIn}
 use Rattle.acc_limits.specs.Marks.{Mark, Past, End, ending}
 use Rattle.acc_limits.specs.Faults.{placed}
 
+abbrev pub IsEnd : Mark → Type 0
+IsEnd (Past limit) = ⊥
+IsEnd End = Unit {0}
+
 -- each mark is a statement's end
 abbrev pub AreEnds : List Mark → Type 0
-AreEnds ms = AllIn (λ m. m ≡ End) ms
+AreEnds ms = AllIn IsEnd ms
 
 pub no_faults : (n : ℕ) (ms : List Mark) → AreEnds ms → placed n ms ≡ []
 no_faults n [] h = refl
-no_faults n (Past limit ∷ ms) h = absurd (let wrong = h.0 in cc)
+no_faults n (Past limit ∷ ms) h = absurd h.0
 no_faults n (End ∷ ms) h = no_faults (n + 1) ms h.1
 
 pub one_end : AreEnds ending
-one_end = (refl, tt)
+one_end = (tt, tt)
 
 pub ends_behind : (a b : List Mark) → AreEnds a → AreEnds b → AreEnds (a ++ b)
 ends_behind [] b h k = k

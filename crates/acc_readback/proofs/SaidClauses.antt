@@ -25,14 +25,16 @@ use Rattle.acc_meaning.specs.Sizes.{rel_sizes, clause_sizes, clause_statement_si
 use Rattle.acc_print.specs.Names.{names_within}
 use Rattle.acc_readback.specs.Printable.{IsName, AreNew, IsRelSaid, IsClauseSaid}
 use Rattle.acc_readback.proofs.ValueParts.{not_self}
-use Rattle.acc_readback.proofs.SaidParts.{OnlyEnd, IsEnd, not_past, all_parts, all_joined, all_flat, all_map, all_mapped, all_by_four, none_false, IsFalse}
+use Rattle.acc_readback.proofs.OnlyEnds.{AreEnds, IsEnd}
+use Rattle.acc_readback.proofs.Faultless.{IsFalse}
+use Rattle.acc_readback.proofs.SaidParts.{not_past, all_parts, all_joined, all_flat, all_map, all_mapped, all_by_four, none_false}
 use Rattle.acc_readback.proofs.SaidNames.{AreHeard, IsHeard, Setting, names_by, are_names, is_name}
 use Rattle.acc_readback.proofs.SaidRows.{meant, known, shown, furthers}
 use Rattle.acc_readback.proofs.SaidForms.{rel_said}
 
 -- ---- names that are defined
 
-pub names_said : (own : Bool) (ns : Names) → AreHeard own (names ns) → OnlyEnd (names_marks ns) → AllIn IsName (listed ns)
+pub names_said : (own : Bool) (ns : Names) → AreHeard own (names ns) → AreEnds (names_marks ns) → AllIn IsName (listed ns)
 names_said own ns heard marks =
     let words = all_parts (IsHeard own) (name ns.first) (joined name ns.others) heard in
     let ends = all_parts IsEnd (name_marks ns.first) (flat_map name_marks ns.others) marks in
@@ -100,7 +102,7 @@ pub record IsBinderSaid (ns : Option Names) : Type 0 where
   pub few : length (listed_or_none ns) ≤ 8
   pub each : AllIn IsName (listed_or_none ns)
 
-binder_said : (own : Bool) (ns : Option Names) → AreHeard own (binder ns) → OnlyEnd (binder_marks ns) → IsBinderSaid ns
+binder_said : (own : Bool) (ns : Option Names) → AreHeard own (binder ns) → AreEnds (binder_marks ns) → IsBinderSaid ns
 binder_said own None heard marks = record { few = omega arith; each = tt }
 binder_said own (Some ns) heard marks =
     let words = all_parts (IsHeard own) (names ns) (just sign.Colon) heard.1 in
@@ -114,7 +116,7 @@ pub record ArePremisesSaid (a : Setting) (g : Option FormRels) : Type 0 where
   pub few : length (map (rel_of (meant a)) (all_form_rels g)) ≤ 16
   pub each : AllIn (IsRelSaid (shown a)) (map (rel_of (meant a)) (all_form_rels g))
 
-premises_said : (a : Setting) (g : Option FormRels) → AreHeard a.own (premises g) → premises_fault (known a) g ≡ false → OnlyEnd (premises_marks g) → OnlyEnd (flat_map (rel_sizes (meant a)) (all_form_rels g)) → ArePremisesSaid a g
+premises_said : (a : Setting) (g : Option FormRels) → AreHeard a.own (premises g) → premises_fault (known a) g ≡ false → AreEnds (premises_marks g) → AreEnds (flat_map (rel_sizes (meant a)) (all_form_rels g)) → ArePremisesSaid a g
 premises_said a None heard faults marks sizes = record { few = omega arith; each = tt }
 premises_said a (Some rs) heard faults marks sizes =
     let all_words = all_parts (IsHeard a.own) (form_rels rs) (just sign.Implies) heard in
@@ -131,13 +133,13 @@ premises_said a (Some rs) heard faults marks sizes =
       each = (
         rel_said a rs.first words.0 none.0 each_end.0 small.0,
         all_map (IsRelSaid (shown a)) (rel_of (meant a)) rs.others
-            (all_by_four (λ r. AreHeard a.own (form_rel r)) (λ r. form_rel_fault (known a) r ≡ false) (λ r. OnlyEnd (form_rel_marks r)) (λ r. OnlyEnd (rel_sizes (meant a) r)) (λ r. IsRelSaid (shown a) (rel_of (meant a) r)) rs.others (rel_said a)
+            (all_by_four (λ r. AreHeard a.own (form_rel r)) (λ r. form_rel_fault (known a) r ≡ false) (λ r. AreEnds (form_rel_marks r)) (λ r. AreEnds (rel_sizes (meant a) r)) (λ r. IsRelSaid (shown a) (rel_of (meant a) r)) rs.others (rel_said a)
             (furthers a.own form_rel rs.others words.1) (none_false (form_rel_fault (known a)) rs.others none.1) (all_flat IsEnd form_rel_marks rs.others each_end.1) small.1),
       );
     }
 
 -- no clause stands within a clause
-pub clause_said : (a : Setting) (c : ClauseTree) → a.mine ≡ [] → AreHeard a.own (clause c) → clause_fault (known a) c ≡ false → OnlyEnd (clause_marks c) → OnlyEnd (clause_sizes (meant a) c) → IsClauseSaid (shown a) (clause_of (meant a) c)
+pub clause_said : (a : Setting) (c : ClauseTree) → a.mine ≡ [] → AreHeard a.own (clause c) → clause_fault (known a) c ≡ false → AreEnds (clause_marks c) → AreEnds (clause_sizes (meant a) c) → IsClauseSaid (shown a) (clause_of (meant a) c)
 clause_said a c none heard faults marks sizes =
     let xs = listed_or_none c.variables in
     let words = all_parts (IsHeard a.own) (binder c.variables) (premises c.guards ++ form_rel c.relation) heard in
@@ -159,14 +161,14 @@ clause_said a c none heard faults marks sizes =
       relation = rel_said b c.relation inner_words.1 used.1 inner_ends.1 small.1;
     }
 
-statement_said : (s : Sign) (a : Setting) (c : ClauseTree) → a.mine ≡ [] → AreHeard a.own (clause_statement s c) → clause_fault (known a) c ≡ false → OnlyEnd (clause_statement_marks c) → OnlyEnd (clause_statement_sizes (meant a) c) → IsClauseSaid (shown a) (clause_of (meant a) c)
+statement_said : (s : Sign) (a : Setting) (c : ClauseTree) → a.mine ≡ [] → AreHeard a.own (clause_statement s c) → clause_fault (known a) c ≡ false → AreEnds (clause_statement_marks c) → AreEnds (clause_statement_sizes (meant a) c) → IsClauseSaid (shown a) (clause_of (meant a) c)
 statement_said s a c none heard faults marks sizes =
     clause_said a c none (all_parts (IsHeard a.own) (clause c) (just sign.End) heard.1).0 faults (all_parts IsEnd (clause_marks c) ending marks).0 (all_parts IsEnd (clause_sizes (meant a) c) ending sizes).0
 
 -- statements of a word and a clause
-pub clauses_said : (s : Sign) (a : Setting) (cs : List ClauseTree) → a.mine ≡ [] → AreHeard a.own (joined (clause_statement s) cs) → AllIn IsFalse (map (clause_fault (known a)) cs) → AllIn (λ c. OnlyEnd (clause_statement_marks c)) cs
-    → OnlyEnd (flat_map (clause_statement_sizes (meant a)) cs) → AllIn (IsClauseSaid (shown a)) (map (clause_of (meant a)) cs)
+pub clauses_said : (s : Sign) (a : Setting) (cs : List ClauseTree) → a.mine ≡ [] → AreHeard a.own (joined (clause_statement s) cs) → AllIn IsFalse (map (clause_fault (known a)) cs) → AllIn (λ c. AreEnds (clause_statement_marks c)) cs
+    → AreEnds (flat_map (clause_statement_sizes (meant a)) cs) → AllIn (IsClauseSaid (shown a)) (map (clause_of (meant a)) cs)
 clauses_said s a cs none heard faults marks sizes =
     all_map (IsClauseSaid (shown a)) (clause_of (meant a)) cs
-    (all_by_four (λ c. AreHeard a.own (clause_statement s c)) (λ c. clause_fault (known a) c ≡ false) (λ c. OnlyEnd (clause_statement_marks c)) (λ c. OnlyEnd (clause_statement_sizes (meant a) c)) (λ c. IsClauseSaid (shown a) (clause_of (meant a) c)) cs (λ c. statement_said s a c none)
+    (all_by_four (λ c. AreHeard a.own (clause_statement s c)) (λ c. clause_fault (known a) c ≡ false) (λ c. AreEnds (clause_statement_marks c)) (λ c. AreEnds (clause_statement_sizes (meant a) c)) (λ c. IsClauseSaid (shown a) (clause_of (meant a) c)) cs (λ c. statement_said s a c none)
     (all_joined (IsHeard a.own) (clause_statement s) cs heard) (all_mapped IsFalse (clause_fault (known a)) cs faults) marks (all_flat IsEnd (clause_statement_sizes (meant a)) cs sizes))

@@ -26,7 +26,9 @@ use Rattle.acc_meaning.specs.Designs.{table_of, outside, entry_of, hint_of, desi
 use Rattle.acc_meaning.specs.Sizes.{clause_statement_sizes, type_sizes, table_sizes, entry_sizes, hint_sizes, design_sizes, size_faults}
 use Rattle.acc_parse.specs.Texts.{IsDesignText}
 use Rattle.acc_readback.specs.PrintableTypes.{IsTypeSaid, IsSaid}
-use Rattle.acc_readback.proofs.SaidParts.{neither, OnlyEnd, IsEnd, IsFalse, none_first, none_placed, all_parts, all_joined, all_flat, all_map, all_weaker, all_by_four, each_counted, at_most_counted}
+use Rattle.acc_readback.proofs.OnlyEnds.{AreEnds, IsEnd}
+use Rattle.acc_readback.proofs.Faultless.{IsFalse, neither}
+use Rattle.acc_readback.proofs.SaidParts.{none_first, none_placed, all_parts, all_joined, all_flat, all_map, all_weaker, all_by_four, each_counted, at_most_counted}
 use Rattle.acc_readback.proofs.SaidNames.{AreHeard, IsHeard, Setting}
 use Rattle.acc_readback.proofs.SaidClauses.{clauses_said}
 use Rattle.acc_readback.proofs.SaidTypes.{type_said, type_ends, type_locals, type_points}
@@ -58,7 +60,7 @@ types_named : (trees : List TableTree) (ts : List TypeTree) → map (λ (t : TxT
 types_named trees [] = refl
 types_named trees (t ∷ ts) = ap (λ (xs : List (List ℕ)). t.name ∷ xs) (types_named trees ts)
 
-is_few : (t : TypeTree) → OnlyEnd (type_marks t) → IsFew t
+is_few : (t : TypeTree) → AreEnds (type_marks t) → IsFew t
 is_few t marks = let ends = type_ends t marks in record { locals = type_locals t ends; points = type_points t ends }
 
 -- ---- outside types
@@ -84,7 +86,7 @@ outside_types trees few columns = record {
 
 -- ---- the whole
 
-design_said : (d : DesignTree) → IsAllHeard d → AllIn IsFalse (statement_faults d) → OnlyEnd (design_marks d) → OnlyEnd (design_sizes d) → IsSaid (design_of d)
+design_said : (d : DesignTree) → IsAllHeard d → AllIn IsFalse (statement_faults d) → AreEnds (design_marks d) → AreEnds (design_sizes d) → IsSaid (design_of d)
 design_said d heard faults marks sizes =
     let trees = d.tables in
     let f_always = map (clause_fault (known_outside trees)) d.always in
@@ -121,8 +123,8 @@ design_said d heard faults marks sizes =
     let types_few = at_most_counted limit.Types 64 type_marks d.types e_types.0 in
     let entries_few = at_most_counted limit.EntriesAndHints 1024 entry_marks d.entries e_entries.0 in
     let hints_few = at_most_counted limit.EntriesAndHints 1024 hint_marks d.hints e_entries.1 in
-    let columns = all_weaker (λ t. OnlyEnd (table_marks t)) (λ (t : TableTree). length t.columns ≤ 12) trees few_columns t_ends in
-    let bounded : IsBounded d = record { tables = tables_few; columns = columns; types = types_few; each = all_weaker (λ t. OnlyEnd (type_marks t)) IsFew d.types is_few y_ends } in
+    let columns = all_weaker (λ t. AreEnds (table_marks t)) (λ (t : TableTree). length t.columns ≤ 12) trees few_columns t_ends in
+    let bounded : IsBounded d = record { tables = tables_few; columns = columns; types = types_few; each = all_weaker (λ t. AreEnds (type_marks t)) IsFew d.types is_few y_ends } in
     let a : Setting = outside_types trees tables_few columns in
     let tables_same = length-map trees table_of in
     let always_same = length-map d.always (clause_of (outside trees)) in
@@ -140,7 +142,7 @@ design_said d heard faults marks sizes =
       few_hints = omega (arith, hints_few, hints_same);
       always = clauses_said sign.Always a d.always refl heard.always n_always.0 (each_counted limit.AlwaysClauses 128 clause_statement_marks d.always e_always.0) s_always.0;
       types = all_map (IsTypeSaid (map table_of trees)) (type_of trees) d.types
-          (all_by_four (λ t. AreHeard true (type_words t)) (IsTypeRight trees) (λ t. OnlyEnd (type_marks t)) (λ t. OnlyEnd (type_sizes trees t)) (λ t. IsTypeSaid (map table_of trees) (type_of trees t)) d.types (λ t h f m z. type_said trees tables_few columns f.0 t h f.1 m z)
+          (all_by_four (λ t. AreHeard true (type_words t)) (IsTypeRight trees) (λ t. AreEnds (type_marks t)) (λ t. AreEnds (type_sizes trees t)) (λ t. IsTypeSaid (map table_of trees) (type_of trees t)) d.types (λ t h f m z. type_said trees tables_few columns f.0 t h f.1 m z)
           (all_joined (IsHeard true) type_words d.types heard.types) y_right.each y_ends (all_flat IsEnd (type_sizes trees) d.types s_types.0));
       entries = entries_said d bounded heard.entries n_entries.0 (each_counted limit.EntriesAndHints 1024 entry_marks d.entries e_entries.0);
       hints = hints_said d bounded heard.hints n_entries.1 (each_counted limit.EntriesAndHints 1024 hint_marks d.hints e_entries.1) s_entries.1;
@@ -152,11 +154,11 @@ no_parts : {T : Type 0} (xs ys : List T) → xs ++ ys ≡ [] → (xs ≡ []) × 
 no_parts [] ys h = (refl, h)
 no_parts (x ∷ xs) ys h = absurd cc
 
-no_limits : (d : DesignTree) → limit_faults d ≡ [] → OnlyEnd (design_marks d)
+no_limits : (d : DesignTree) → limit_faults d ≡ [] → AreEnds (design_marks d)
 unfolding limit_faults
 no_limits d h = none_placed 0 (design_marks d) h
 
-no_sizes : (d : DesignTree) → size_faults d ≡ [] → OnlyEnd (design_sizes d)
+no_sizes : (d : DesignTree) → size_faults d ≡ [] → AreEnds (design_sizes d)
 unfolding size_faults
 no_sizes d h = none_placed 0 (design_sizes d) h
 

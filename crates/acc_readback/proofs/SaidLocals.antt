@@ -21,7 +21,9 @@ use Rattle.acc_limits.specs.Statements.{returns_marks, locals_marks, head_marks}
 use Rattle.acc_meaning.specs.Scopes.{number_of}
 use Rattle.acc_print.specs.Names.{name_at, names_within}
 use Rattle.acc_readback.specs.Printable.{IsName}
-use Rattle.acc_readback.proofs.SaidParts.{neither, OnlyEnd, IsEnd, IsFalse, not_past, all_parts, none_false}
+use Rattle.acc_readback.proofs.OnlyEnds.{AreEnds, IsEnd}
+use Rattle.acc_readback.proofs.Faultless.{IsFalse, neither}
+use Rattle.acc_readback.proofs.SaidParts.{not_past, all_parts, none_false}
 use Rattle.acc_readback.proofs.SaidPlaces.{named_there}
 use Rattle.acc_readback.proofs.SaidNames.{AreHeard, IsHeard, Setting, stands_true}
 use Rattle.acc_readback.proofs.SaidClauses.{names_said}
@@ -54,13 +56,13 @@ within_type own trees locals few columns few_locals = record {
 
 -- ---- locals
 
-few_params : (t : TypeTree) → OnlyEnd (head_marks t) → length t.params ≤ 48
+few_params : (t : TypeTree) → AreEnds (head_marks t) → length t.params ≤ 48
 few_params t marks =
     let ends = all_parts IsEnd (past limit.Locals (nat_lt 48 (length t.params))) (name_marks t.name ++ (flat_map name_marks t.params ++ (ending ++ (small_number_marks t.limit ++ ending)))) marks in
     let short : nat_lt 48 (length t.params) ≡ false = not_past limit.Locals (nat_lt 48 (length t.params)) ends.0 in
     grind (arith, nat_tests)
 
-few_by : (params : List (List ℕ)) (ls : Option Names) → length params ≤ 48 → OnlyEnd (locals_marks (length params) ls) → length (params ++ listed_or_none ls) ≤ 48
+few_by : (params : List (List ℕ)) (ls : Option Names) → length params ≤ 48 → AreEnds (locals_marks (length params) ls) → length (params ++ listed_or_none ls) ≤ 48
 few_by params None few marks = let same = length-append params [] in omega (arith, few, same)
 few_by params (Some ns) few marks =
     let ends = all_parts IsEnd (past limit.Locals (nat_lt 47 (length params + length ns.others))) (names_marks ns ++ ending) marks in
@@ -70,15 +72,15 @@ few_by params (Some ns) few marks =
     omega (arith, fewer, same)
 
 -- a type has at most 48 locals
-pub few_locals : (t : TypeTree) → OnlyEnd (head_marks t) → OnlyEnd (locals_marks (length t.params) t.locals) → length (locals_of t) ≤ 48
+pub few_locals : (t : TypeTree) → AreEnds (head_marks t) → AreEnds (locals_marks (length t.params) t.locals) → length (locals_of t) ≤ 48
 few_locals t head marks = few_by t.params t.locals (few_params t head) marks
 
 -- the names of a statement that may be left out
-pub listed_said : (own : Bool) (s : Sign) (ns : Option Names) → AreHeard own (names_statement s ns) → OnlyEnd (returns_marks ns) → AllIn IsName (listed_or_none ns)
+pub listed_said : (own : Bool) (s : Sign) (ns : Option Names) → AreHeard own (names_statement s ns) → AreEnds (returns_marks ns) → AllIn IsName (listed_or_none ns)
 listed_said own s None heard marks = tt
 listed_said own s (Some ns) heard marks = names_said own ns (all_parts (IsHeard own) (names ns) (just sign.End) heard.1).0 (all_parts IsEnd (names_marks ns) ending marks).0
 
-pub locals_said : (own : Bool) (params : ℕ) (ns : Option Names) → AreHeard own (names_statement sign.Local ns) → OnlyEnd (locals_marks params ns) → AllIn IsName (listed_or_none ns)
+pub locals_said : (own : Bool) (params : ℕ) (ns : Option Names) → AreHeard own (names_statement sign.Local ns) → AreEnds (locals_marks params ns) → AllIn IsName (listed_or_none ns)
 locals_said own params None heard marks = tt
 locals_said own params (Some ns) heard marks =
     let ends = all_parts IsEnd (past limit.Locals (nat_lt 47 (params + length ns.others))) (names_marks ns ++ ending) marks in
@@ -117,6 +119,6 @@ returned_names locals (x ∷ xs) few h stand =
     let there = named_there x locals (stands_true x locals stand.0) fewer in
     (subst IsName (sym (ap (λ (o : Option (List ℕ)). unwrap_or o []) there)) h.0, returned_names locals xs few h.1 stand.1)
 
-pub returned_said : (own : Bool) (locals : List (List ℕ)) (ns : Option Names) → length locals ≤ 48 → AreHeard own (names_statement sign.Returns ns) → OnlyEnd (returns_marks ns) → AllIn IsFalse (returns_faults locals ns)
+pub returned_said : (own : Bool) (locals : List (List ℕ)) (ns : Option Names) → length locals ≤ 48 → AreHeard own (names_statement sign.Returns ns) → AreEnds (returns_marks ns) → AllIn IsFalse (returns_faults locals ns)
     → AllIn IsName (map (name_at locals) (map (λ (x : List ℕ). number_of x locals) (listed_or_none ns)))
 returned_said own locals ns few heard marks faults = returned_names locals (listed_or_none ns) few (listed_said own sign.Returns ns heard marks) (listed_stand locals ns faults)

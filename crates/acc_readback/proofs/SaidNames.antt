@@ -25,7 +25,8 @@ use Rattle.acc_limits.specs.Words.{name_marks, variable_marks}
 use Rattle.acc_meaning.specs.Scopes.{Variables, fitted, first_own, named, variable_of}
 use Rattle.acc_print.specs.Names.{name_at, names_within}
 use Rattle.acc_readback.specs.Printable.{IsName, IsVariable}
-use Rattle.acc_readback.proofs.SaidParts.{OnlyEnd, not_past, all_by_two}
+use Rattle.acc_readback.proofs.OnlyEnds.{AreEnds}
+use Rattle.acc_readback.proofs.SaidParts.{not_past, all_by_two}
 use Rattle.acc_readback.proofs.SaidPlaces.{IsPlacedAt, stands_there, fitted_same}
 
 -- ---- words
@@ -44,14 +45,14 @@ AreHeard own words = AllIn (IsHeard own) words
 
 -- ---- names
 
-pub is_name : (own : Bool) (x : List ℕ) → AreHeard own (name x) → OnlyEnd (name_marks x) → IsName x
+pub is_name : (own : Bool) (x : List ℕ) → AreHeard own (name x) → AreEnds (name_marks x) → IsName x
 is_name own x heard marks =
     let short : nat_lt 32 (length x) ≡ false = not_past limit.NameLength (nat_lt 32 (length x)) marks in
     let few : length x ≤ 32 = grind (arith, nat_tests) in
     (heard.0.0.0, heard.0.0.1, few)
 
-pub are_names : (own : Bool) (xs : List (List ℕ)) → AllIn (λ x. AreHeard own (name x)) xs → AllIn (λ x. OnlyEnd (name_marks x)) xs → AllIn IsName xs
-are_names own xs heard marks = all_by_two (λ x. AreHeard own (name x)) (λ x. OnlyEnd (name_marks x)) IsName xs (is_name own) heard marks
+pub are_names : (own : Bool) (xs : List (List ℕ)) → AllIn (λ x. AreHeard own (name x)) xs → AllIn (λ x. AreEnds (name_marks x)) xs → AllIn IsName xs
+are_names own xs heard marks = all_by_two (λ x. AreHeard own (name x)) (λ x. AreEnds (name_marks x)) IsName xs (is_name own) heard marks
 
 -- ---- variables
 
@@ -60,12 +61,12 @@ abbrev pub written : Variable → List ℕ
 written (Named x) = x
 written Oneself = codes "self"
 
-pub is_variable : (own : Bool) (x : Variable) → AreHeard own (variable x) → OnlyEnd (variable_marks x) → IsVariable (written x)
+pub is_variable : (own : Bool) (x : Variable) → AreHeard own (variable x) → AreEnds (variable_marks x) → IsVariable (written x)
 is_variable own (Named x) heard marks = inl (is_name own x heard marks)
 is_variable own Oneself heard marks = inr refl
 
 -- where `self` may not stand, the variable has a name
-pub is_named : (x : Variable) → AreHeard false (variable x) → OnlyEnd (variable_marks x) → IsName (written x)
+pub is_named : (x : Variable) → AreHeard false (variable x) → AreEnds (variable_marks x) → IsName (written x)
 is_named (Named x) heard marks = is_name false x heard marks
 is_named Oneself heard marks = absurd (let wrong = heard.0.1 refl in cc)
 
@@ -175,9 +176,9 @@ name_again a Oneself heard known =
     ap (λ (names : List (List ℕ)). name_at names (fitted (length a.locals))) a.names_are ∙ self_again a a.in_type refl heard
 
 -- a variable that is known can be spelled
-pub variable_said : (a : Setting) (x : Variable) → AreHeard a.own (variable x) → variable_fault a.known x ≡ false → OnlyEnd (variable_marks x) → IsVariable (name_at a.names (variable_of (variables_of a) x))
+pub variable_said : (a : Setting) (x : Variable) → AreHeard a.own (variable x) → variable_fault a.known x ≡ false → AreEnds (variable_marks x) → IsVariable (name_at a.names (variable_of (variables_of a) x))
 variable_said a x heard known marks = subst IsVariable (sym (name_again a x heard known)) (is_variable a.own x heard marks)
 
 -- where `self` may not stand, it has a name
-pub name_said : (a : Setting) (x : Variable) → a.own ≡ false → AreHeard a.own (variable x) → variable_fault a.known x ≡ false → OnlyEnd (variable_marks x) → IsName (name_at a.names (variable_of (variables_of a) x))
+pub name_said : (a : Setting) (x : Variable) → a.own ≡ false → AreHeard a.own (variable x) → variable_fault a.known x ≡ false → AreEnds (variable_marks x) → IsName (name_at a.names (variable_of (variables_of a) x))
 name_said a x e heard known marks = subst IsName (sym (name_again a x heard known)) (is_named x (subst (λ (b : Bool). AreHeard b (variable x)) e heard) marks)

@@ -1,6 +1,6 @@
 -- What holds of each part of a whole: each of some words or marks, each statement's freedom from faults, each item that is counted.
 use Rattle.std.proofs.Common.{◌≡◌, ℕ, ◌+◌, ◌≤◌, Bool, true, false, List, [], ◌∷◌, ◌++◌, length, map, None, refl, sym, arith}
-use Rattle.std.specs.Prelude.{◌==◌, ◌||◌, position}
+use Rattle.std.specs.Prelude.{◌==◌, position}
 use Rattle.std.specs.List.{flat_map, list_any}
 use Rattle.std.proofs.lemmas.Bool.{or_parts}
 use Rattle.std.proofs.lemmas.Bool.Decides.{nat_tests}
@@ -10,6 +10,8 @@ use Rattle.acc_names.proofs.Firsts.{least_is}
 use Rattle.acc_limits.specs.declared.limits.Limit.{Limit}
 use Rattle.acc_limits.specs.Marks.{Mark, Past, End, past, counted_from, counted}
 use Rattle.acc_limits.specs.Faults.{placed}
+use Rattle.acc_readback.proofs.OnlyEnds.{IsEnd, AreEnds}
+use Rattle.acc_readback.proofs.Faultless.{IsFalse}
 
 -- ---- lists
 
@@ -52,13 +54,6 @@ all_by_four P Q R S U (t ∷ ts) f p q r s = (f t p.0 q.0 r.0 s.0, all_by_four P
 
 -- ---- faults of names
 
-abbrev pub IsFalse : Bool → Type 0
-IsFalse b = b ≡ false
-
-pub neither : (a b : Bool) → a ≡ false → b ≡ false → (a || b) ≡ false
-neither true b h g = absurd cc
-neither false b h g = g
-
 pub none_false : {T : Type 0} (test : T → Bool) (ts : List T) → list_any test ts ≡ false → AllIn (λ t. test t ≡ false) ts
 none_false test [] h = tt
 none_false test (t ∷ ts) h = let parts = or_parts (test t) (list_any test ts) h in (parts.0, none_false test ts parts.1)
@@ -75,31 +70,24 @@ none_first bs h = none_marked 0 bs (least_is bs None (sym h))
 -- ---- marks
 
 -- no limit is passed
-abbrev pub IsEnd : Mark → Type 0
-IsEnd (Past limit) = ⊥
-IsEnd End = Unit {0}
-
-abbrev pub OnlyEnd : List Mark → Type 0
-OnlyEnd marks = AllIn IsEnd marks
-
-pub none_placed : (n : ℕ) (ms : List Mark) → placed n ms ≡ [] → OnlyEnd ms
+pub none_placed : (n : ℕ) (ms : List Mark) → placed n ms ≡ [] → AreEnds ms
 none_placed n [] h = tt
 none_placed n (Past limit ∷ ms) h = absurd cc
 none_placed n (End ∷ ms) h = (tt, none_placed (n + 1) ms h)
 
-pub not_past : (limit : Limit) (b : Bool) → OnlyEnd (past limit b) → b ≡ false
+pub not_past : (limit : Limit) (b : Bool) → AreEnds (past limit b) → b ≡ false
 not_past limit true h = absurd h.0
 not_past limit false h = refl
 
 module _ {T : Type 0} (limit : Limit) (most : ℕ) (marks : T → List Mark) where
-  counted_each : (i : ℕ) (ts : List T) → OnlyEnd (counted_from i limit most marks ts) → AllIn (λ t. OnlyEnd (marks t)) ts
+  counted_each : (i : ℕ) (ts : List T) → AreEnds (counted_from i limit most marks ts) → AllIn (λ t. AreEnds (marks t)) ts
   counted_each i [] h = tt
   counted_each i (t ∷ ts) h =
       let behind = (all_parts IsEnd (past limit (i == most)) (marks t ++ counted_from (i + 1) limit most marks ts) h).1 in
       let parts = all_parts IsEnd (marks t) (counted_from (i + 1) limit most marks ts) behind in
       (parts.0, counted_each (i + 1) ts parts.1)
 
-  few_counted : (i : ℕ) (ts : List T) → i ≤ most → OnlyEnd (counted_from i limit most marks ts) → i + length ts ≤ most
+  few_counted : (i : ℕ) (ts : List T) → i ≤ most → AreEnds (counted_from i limit most marks ts) → i + length ts ≤ most
   few_counted i [] le h = omega arith
   few_counted i (t ∷ ts) le h =
       let parts = all_parts IsEnd (past limit (i == most)) (marks t ++ counted_from (i + 1) limit most marks ts) h in
@@ -108,8 +96,8 @@ module _ {T : Type 0} (limit : Limit) (most : ℕ) (marks : T → List Mark) whe
       let one_more : i + 1 ≤ most = grind (arith, nat_tests) in
       let rest = few_counted (i + 1) ts one_more behind in omega (arith, rest)
 
-  pub each_counted : (ts : List T) → OnlyEnd (counted limit most marks ts) → AllIn (λ t. OnlyEnd (marks t)) ts
+  pub each_counted : (ts : List T) → AreEnds (counted limit most marks ts) → AllIn (λ t. AreEnds (marks t)) ts
   each_counted ts h = counted_each 0 ts h
 
-  pub at_most_counted : (ts : List T) → OnlyEnd (counted limit most marks ts) → length ts ≤ most
+  pub at_most_counted : (ts : List T) → AreEnds (counted limit most marks ts) → length ts ≤ most
   at_most_counted ts h = let all = few_counted 0 ts (omega arith) h in omega (arith, all)

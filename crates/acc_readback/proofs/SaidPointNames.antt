@@ -25,7 +25,8 @@ use Rattle.acc_print.specs.Names.{names_within, inside}
 use Rattle.acc_print.specs.Designs.{scope_at}
 use Rattle.acc_readback.specs.Printable.{IsName}
 use Rattle.acc_readback.specs.PrintableTypes.{IsAtSaid}
-use Rattle.acc_readback.proofs.SaidParts.{OnlyEnd, IsEnd, all_parts}
+use Rattle.acc_readback.proofs.OnlyEnds.{AreEnds, IsEnd}
+use Rattle.acc_readback.proofs.SaidParts.{all_parts}
 use Rattle.acc_readback.proofs.SaidPlaces.{found_numbered, found_has, found_all}
 use Rattle.acc_readback.proofs.SaidNames.{AreHeard, Setting, names_by, is_name, stands_true}
 use Rattle.acc_readback.proofs.SaidSteps.{AreNamed, point_again}
@@ -83,7 +84,7 @@ point_there d p f =
     ∙ (ap (λ (o : Option TypeTree). point_name (slice_get points (number_of p.point (points_or_none o)))) f.is
     ∙ point_again names points p.point n f.stands)
 
-pub at_said : (d : DesignTree) (p : PointName) → IsTypeFound d p → AreHeard false (point_words p) → OnlyEnd (point_name_marks p) → IsAtSaid (design_of d) (at_of d.types p)
+pub at_said : (d : DesignTree) (p : PointName) → IsTypeFound d p → AreHeard false (point_words p) → AreEnds (point_name_marks p) → IsAtSaid (design_of d) (at_of d.types p)
 at_said d p f heard marks =
     let ends = all_parts IsEnd (name_marks p.type_name) (name_marks p.point) marks in
     record {

@@ -21,14 +21,16 @@ use Rattle.acc_meaning.specs.Types.{variant_of, point_of}
 use Rattle.acc_meaning.specs.Sizes.{sum_sizes, variant_sizes, clause_statement_sizes, step_sizes, point_sizes}
 use Rattle.acc_readback.specs.Printable.{IsLinSaid}
 use Rattle.acc_readback.specs.PrintableTypes.{IsPointSaid}
-use Rattle.acc_readback.proofs.SaidParts.{neither, OnlyEnd, IsEnd, IsFalse, all_parts, each_counted, at_most_counted}
+use Rattle.acc_readback.proofs.OnlyEnds.{AreEnds, IsEnd}
+use Rattle.acc_readback.proofs.Faultless.{IsFalse, neither}
+use Rattle.acc_readback.proofs.SaidParts.{all_parts, each_counted, at_most_counted}
 use Rattle.acc_readback.proofs.SaidNames.{AreHeard, IsHeard, Setting, variables_of, is_name}
 use Rattle.acc_readback.proofs.SaidValues.{lin_said}
 use Rattle.acc_readback.proofs.SaidRows.{meant, known, shown}
 use Rattle.acc_readback.proofs.SaidClauses.{clauses_said}
 use Rattle.acc_readback.proofs.SaidSteps.{AreNamed, step_said}
 
-variant_said : (a : Setting) (v : Option Sum) → AreHeard a.own (variant_statement v) → AllIn IsFalse (variant_faults a.known v) → OnlyEnd (variant_marks v) → OnlyEnd (variant_sizes (variables_of a) v) → IsLinSaid a.names (variant_of (variables_of a) v)
+variant_said : (a : Setting) (v : Option Sum) → AreHeard a.own (variant_statement v) → AllIn IsFalse (variant_faults a.known v) → AreEnds (variant_marks v) → AreEnds (variant_sizes (variables_of a) v) → IsLinSaid a.names (variant_of (variables_of a) v)
 variant_said a None heard faults marks sizes = record { terms = tt; collected = refl; constant = omega arith }
 variant_said a (Some s) heard faults marks sizes =
     lin_said a s (all_parts (IsHeard a.own) (sum s) (just sign.End) heard.1).0 faults.0 (all_parts IsEnd (sum_marks s) ending marks).0 (all_parts IsEnd (sum_sizes (variables_of a) s) ending sizes).0
@@ -55,7 +57,7 @@ points_named s names (p ∷ ps) = ap (λ (xs : List (List ℕ)). p.name ∷ xs) 
 -- ---- a point
 
 module _ (a : Setting) (names : List (List ℕ)) (points : List Point) (n : AreNamed names points) (none : a.mine ≡ []) where
-  pub point_said : (p : PointTree) → AreHeard a.own (point p) → AllIn IsFalse (point_faults (known a) names false p) → OnlyEnd (point_marks p) → OnlyEnd (point_sizes (meant a) p) → IsPointSaid (shown a) points (point_of (meant a) names p)
+  pub point_said : (p : PointTree) → AreHeard a.own (point p) → AllIn IsFalse (point_faults (known a) names false p) → AreEnds (point_marks p) → AreEnds (point_sizes (meant a) p) → IsPointSaid (shown a) points (point_of (meant a) names p)
   point_said p heard faults marks sizes =
       let named = all_parts (IsHeard a.own) (name p.name) (just sign.End ++ (variant_statement p.variant ++ (joined (clause_statement sign.Holds) p.holds ++ (side sign.Next p.next ++ side sign.Undo p.undo)))) heard.1 in
       let varied = all_parts (IsHeard a.own) (variant_statement p.variant) (joined (clause_statement sign.Holds) p.holds ++ (side sign.Next p.next ++ side sign.Undo p.undo)) named.1.1 in

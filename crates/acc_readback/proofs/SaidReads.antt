@@ -24,7 +24,8 @@ use Rattle.acc_meaning.specs.Sizes.{sum_sizes, values_sizes, place_sizes, read_w
 use Rattle.acc_print.specs.Sums.{is_negative}
 use Rattle.acc_readback.specs.Printable.{IsLinSaid}
 use Rattle.acc_readback.specs.PrintableTypes.{IsReadSaid, IsActionSaid}
-use Rattle.acc_readback.proofs.SaidParts.{OnlyEnd, IsEnd, not_past, all_parts}
+use Rattle.acc_readback.proofs.OnlyEnds.{AreEnds, IsEnd}
+use Rattle.acc_readback.proofs.SaidParts.{not_past, all_parts}
 use Rattle.acc_readback.proofs.SaidNames.{AreHeard, IsHeard, Setting, variables_of, variable_said}
 use Rattle.acc_readback.proofs.SaidValues.{kept_same, lin_said}
 use Rattle.acc_readback.proofs.SaidRows.{meant, known, shown, place_said, cell_said, sums_said}
@@ -38,14 +39,14 @@ assigned own x ws h =
     (parts.0, (all_parts (IsHeard own) ws (just sign.End) parts.1.1).0)
 
 -- a divisor
-divisor_said : (n : ℕ) → OnlyEnd (number_marks n) → (is_negative (kept (pos n)) ≡ false) × IsSmall (kept (pos n))
+divisor_said : (n : ℕ) → AreEnds (number_marks n) → (is_negative (kept (pos n)) ≡ false) × IsSmall (kept (pos n))
 divisor_said n marks =
     let short : nat_lt (2 ^ 45) n ≡ false = not_past limit.NumberSize (nat_lt (2 ^ 45) n) marks in
     let small : n ≤ 2 ^ 45 = grind (arith, nat_tests) in
     let same = sym (kept_same (pos n) small) in
     (subst (λ (m : ℤ). is_negative m ≡ false) same refl, subst IsSmall same small)
 
-pub read_said : (a : Setting) (r : ReadTree) → AreHeard a.own (read_statement r) → read_fault (known a) r ≡ false → OnlyEnd (read_words_marks r) → OnlyEnd (read_words_sizes (meant a) r) → IsReadSaid (shown a) (read_of (meant a) r)
+pub read_said : (a : Setting) (r : ReadTree) → AreHeard a.own (read_statement r) → read_fault (known a) r ≡ false → AreEnds (read_words_marks r) → AreEnds (read_words_sizes (meant a) r) → IsReadSaid (shown a) (read_of (meant a) r)
 read_said a (read.Let x v) heard faults marks sizes =
     let words = assigned a.own x (sum v) heard.1 in
     let none = or_parts (variable_fault a.known x) (sum_fault a.known v) faults in
@@ -102,11 +103,11 @@ read_said a (read.Div x y n) heard faults marks sizes =
 
 -- ---- actions
 
-values_said : (a : Setting) (vs : Option Sums) → AreHeard a.own (values vs) → values_fault a.known vs ≡ false → OnlyEnd (values_marks vs) → OnlyEnd (values_sizes (variables_of a) vs) → AllIn (IsLinSaid a.names) (values_of (variables_of a) vs)
+values_said : (a : Setting) (vs : Option Sums) → AreHeard a.own (values vs) → values_fault a.known vs ≡ false → AreEnds (values_marks vs) → AreEnds (values_sizes (variables_of a) vs) → AllIn (IsLinSaid a.names) (values_of (variables_of a) vs)
 values_said a None heard faults marks sizes = tt
 values_said a (Some ss) heard faults marks sizes = sums_said a ss heard faults marks sizes
 
-pub action_said : (a : Setting) (t : ActionTree) → AreHeard a.own (action_statement t) → action_fault (known a) t ≡ false → OnlyEnd (action_words_marks t) → OnlyEnd (action_words_sizes (meant a) t) → IsActionSaid (shown a) (action_of (meant a) t)
+pub action_said : (a : Setting) (t : ActionTree) → AreHeard a.own (action_statement t) → action_fault (known a) t ≡ false → AreEnds (action_words_marks t) → AreEnds (action_words_sizes (meant a) t) → IsActionSaid (shown a) (action_of (meant a) t)
 action_said a (action.Put p vs) heard faults marks sizes =
     let words = all_parts (IsHeard a.own) (place p) (values vs ++ just sign.End) heard.1 in
     let behind = all_parts (IsHeard a.own) (values vs) (just sign.End) words.1 in

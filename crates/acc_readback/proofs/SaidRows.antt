@@ -31,7 +31,8 @@ use Rattle.acc_meaning.specs.Designs.{table_of}
 use Rattle.acc_meaning.specs.Sizes.{sum_sizes, sums_sizes, place_sizes, lin_rel_sizes, guard_sizes}
 use Rattle.acc_print.specs.Names.{Scope, name_at, table_name, column_name}
 use Rattle.acc_readback.specs.Printable.{IsName, IsVariable, IsLinSaid, IsRowSaid, IsCellSaid, IsLinRelSaid}
-use Rattle.acc_readback.proofs.SaidParts.{OnlyEnd, IsEnd, not_past, all_parts, all_joined, all_flat, all_map, all_by_four, none_false, all_weaker}
+use Rattle.acc_readback.proofs.OnlyEnds.{AreEnds, IsEnd}
+use Rattle.acc_readback.proofs.SaidParts.{not_past, all_parts, all_joined, all_flat, all_map, all_by_four, none_false, all_weaker}
 use Rattle.acc_readback.proofs.SaidPlaces.{named_there, found_numbered, found_has, found_all, some_found}
 use Rattle.acc_readback.proofs.SaidNames.{AreHeard, IsHeard, Setting, variables_of, variable_said, is_name, stands_true}
 use Rattle.acc_readback.proofs.SaidValues.{parts_have, compared_have, lin_by_said, lin_said}
@@ -53,7 +54,7 @@ shown a = record { tables = map table_of a.trees; names = a.names }
 pub furthers : {T : Type 0} (own : Bool) (spell : T → List Word) (ts : List T) → AreHeard own (joined (further spell) ts) → AllIn (λ t. AreHeard own (spell t)) ts
 furthers own spell ts h = all_weaker (λ t. AreHeard own (further spell t)) (λ t. AreHeard own (spell t)) ts (λ t p. p.1) (all_joined (IsHeard own) (further spell) ts h)
 
-pub sums_said : (a : Setting) (ss : Sums) → AreHeard a.own (sums ss) → sums_fault a.known ss ≡ false → OnlyEnd (sums_marks ss) → OnlyEnd (sums_sizes (variables_of a) ss) → AllIn (IsLinSaid a.names) (lins_of (variables_of a) ss)
+pub sums_said : (a : Setting) (ss : Sums) → AreHeard a.own (sums ss) → sums_fault a.known ss ≡ false → AreEnds (sums_marks ss) → AreEnds (sums_sizes (variables_of a) ss) → AllIn (IsLinSaid a.names) (lins_of (variables_of a) ss)
 sums_said a ss heard names marks sizes =
     let v = variables_of a in
     let words = all_parts (IsHeard a.own) (sum ss.first) (joined (further sum) ss.others) heard in
@@ -62,7 +63,7 @@ sums_said a ss heard names marks sizes =
     let small = all_flat IsEnd (sum_sizes v) (all_sums ss) sizes in (
       lin_said a ss.first words.0 faults.0 ends.0 small.0,
       all_map (IsLinSaid a.names) (lin_of v) ss.others
-          (all_by_four (λ s. AreHeard a.own (sum s)) (λ s. sum_fault a.known s ≡ false) (λ s. OnlyEnd (sum_marks s)) (λ s. OnlyEnd (sum_sizes v s)) (λ s. IsLinSaid a.names (lin_of v s)) ss.others (lin_said a)
+          (all_by_four (λ s. AreHeard a.own (sum s)) (λ s. sum_fault a.known s ≡ false) (λ s. AreEnds (sum_marks s)) (λ s. AreEnds (sum_sizes v s)) (λ s. IsLinSaid a.names (lin_of v s)) ss.others (lin_said a)
           (furthers a.own sum ss.others words.1) (none_false (sum_fault a.known) ss.others faults.1) (all_flat IsEnd sum_marks ss.others ends.1) small.1),
     )
 
@@ -92,7 +93,7 @@ table_found a x h =
 table_again : (a : Setting) (x : List ℕ) → IsTableFound a x → table_name (slice_get (map table_of a.trees) (number_of x (table_names a.trees))) ≡ x
 table_again a x f = ap table_name f.numbered ∙ f.named
 
-pub place_said : (a : Setting) (p : Place) → AreHeard a.own (place p) → place_fault (known a) p ≡ false → OnlyEnd (place_marks p) → OnlyEnd (place_sizes (meant a) p) → IsRowSaid (shown a) (table_in (meant a) p) (key_in (meant a) p)
+pub place_said : (a : Setting) (p : Place) → AreHeard a.own (place p) → place_fault (known a) p ≡ false → AreEnds (place_marks p) → AreEnds (place_sizes (meant a) p) → IsRowSaid (shown a) (table_in (meant a) p) (key_in (meant a) p)
 place_said a p heard names marks sizes =
     let words = all_parts (IsHeard a.own) (name p.table) (just sign.Open ++ (sums p.key ++ just sign.Close)) heard in
     let inner = all_parts (IsHeard a.own) (sums p.key) (just sign.Close) words.1.1 in
@@ -116,7 +117,7 @@ column_again a c f h =
     ∙ (ap (λ (o : Option (List (List ℕ))). name_at f.table.columns (number_of c.column (unwrap_or o []))) columns
     ∙ ap (λ (o : Option (List ℕ)). unwrap_or o []) (named_there c.column f.table.columns stands few))
 
-pub cell_said : (a : Setting) (c : Cell) → AreHeard a.own (cell c) → cell_fault (known a) c ≡ false → OnlyEnd (cell_marks c) → OnlyEnd (place_sizes (meant a) c.place) → IsCellSaid (shown a) (table_in (meant a) c.place) (key_in (meant a) c.place) (column_in (meant a) c)
+pub cell_said : (a : Setting) (c : Cell) → AreHeard a.own (cell c) → cell_fault (known a) c ≡ false → AreEnds (cell_marks c) → AreEnds (place_sizes (meant a) c.place) → IsCellSaid (shown a) (table_in (meant a) c.place) (key_in (meant a) c.place) (column_in (meant a) c)
 cell_said a c heard names marks sizes =
     let words = all_parts (IsHeard a.own) (place c.place) (just sign.Dot ++ name c.column) heard in
     let faults = or_parts (place_fault (known a) c.place) (column_fault (columns_of a.trees c.place.table) c.column) names in
@@ -129,7 +130,7 @@ cell_said a c heard names marks sizes =
 
 -- ---- relations
 
-pub lin_rel_said : (a : Setting) (r : LinRelTree) → AreHeard a.own (lin_rel r) → lin_rel_fault a.known r ≡ false → OnlyEnd (lin_rel_marks r) → OnlyEnd (lin_rel_sizes (variables_of a) r) → IsLinRelSaid a.names (lin_rel_of (variables_of a) r)
+pub lin_rel_said : (a : Setting) (r : LinRelTree) → AreHeard a.own (lin_rel r) → lin_rel_fault a.known r ≡ false → AreEnds (lin_rel_marks r) → AreEnds (lin_rel_sizes (variables_of a) r) → IsLinRelSaid a.names (lin_rel_of (variables_of a) r)
 lin_rel_said a r heard names marks sizes =
     let v = variables_of a in
     let P : ℕ → Type 0 = λ k. IsVariable (name_at a.names k) in
@@ -145,7 +146,7 @@ pub record IsGuardSaid (a : Setting) (g : Option LinRels) : Type 0 where
   pub few : length (guard_of (variables_of a) g) ≤ 16
   pub each : AllIn (IsLinRelSaid a.names) (guard_of (variables_of a) g)
 
-pub guard_said : (a : Setting) (g : Option LinRels) → AreHeard a.own (guard g) → guard_fault a.known g ≡ false → OnlyEnd (guard_marks g) → OnlyEnd (guard_sizes (variables_of a) g) → IsGuardSaid a g
+pub guard_said : (a : Setting) (g : Option LinRels) → AreHeard a.own (guard g) → guard_fault a.known g ≡ false → AreEnds (guard_marks g) → AreEnds (guard_sizes (variables_of a) g) → IsGuardSaid a g
 guard_said a None heard names marks sizes = record { few = omega arith; each = tt }
 guard_said a (Some rs) heard names marks sizes =
     let v = variables_of a in
@@ -162,7 +163,7 @@ guard_said a (Some rs) heard names marks sizes =
       each = (
         lin_rel_said a rs.first words.0 faults.0 each_end.0 small.0,
         all_map (IsLinRelSaid a.names) (lin_rel_of v) rs.others
-            (all_by_four (λ r. AreHeard a.own (lin_rel r)) (λ r. lin_rel_fault a.known r ≡ false) (λ r. OnlyEnd (lin_rel_marks r)) (λ r. OnlyEnd (lin_rel_sizes v r)) (λ r. IsLinRelSaid a.names (lin_rel_of v r)) rs.others (lin_rel_said a)
+            (all_by_four (λ r. AreHeard a.own (lin_rel r)) (λ r. lin_rel_fault a.known r ≡ false) (λ r. AreEnds (lin_rel_marks r)) (λ r. AreEnds (lin_rel_sizes v r)) (λ r. IsLinRelSaid a.names (lin_rel_of v r)) rs.others (lin_rel_said a)
             (furthers a.own lin_rel rs.others words.1) (none_false (lin_rel_fault a.known) rs.others faults.1) (all_flat IsEnd lin_rel_marks rs.others each_end.1) small.1),
       );
     }

@@ -17,7 +17,9 @@ use Rattle.acc_limits.specs.Words.{name_marks, number_marks}
 use Rattle.acc_limits.specs.Statements.{table_marks}
 use Rattle.acc_meaning.specs.Designs.{table_of}
 use Rattle.acc_readback.specs.PrintableTypes.{IsTableSaid}
-use Rattle.acc_readback.proofs.SaidParts.{neither, OnlyEnd, IsEnd, IsFalse, not_past, all_parts, all_joined, all_flat, all_map, all_by_three}
+use Rattle.acc_readback.proofs.OnlyEnds.{AreEnds, IsEnd}
+use Rattle.acc_readback.proofs.Faultless.{IsFalse, neither}
+use Rattle.acc_readback.proofs.SaidParts.{not_past, all_parts, all_joined, all_flat, all_map, all_by_three}
 use Rattle.acc_readback.proofs.SaidPlaces.{fitted_same}
 use Rattle.acc_readback.proofs.SaidNames.{AreHeard, IsHeard, is_name, are_names}
 
@@ -42,26 +44,26 @@ tables_named (t ∷ ts) = ap (λ (xs : List (List ℕ)). t.name ∷ xs) (tables_
 
 -- ---- a table
 
-columns_few : (t : TableTree) → OnlyEnd (past limit.Columns (nat_lt 12 (length t.columns))) → length t.columns ≤ 12
+columns_few : (t : TableTree) → AreEnds (past limit.Columns (nat_lt 12 (length t.columns))) → length t.columns ≤ 12
 columns_few t h = let short : nat_lt 12 (length t.columns) ≡ false = not_past limit.Columns (nat_lt 12 (length t.columns)) h in grind (arith, nat_tests)
 
-behind_width : (t : TableTree) → OnlyEnd (table_marks t) → OnlyEnd (past limit.KeyWidth (nat_lt t.width 1 || nat_lt 6 t.width)) × OnlyEnd (past limit.Columns (nat_lt 12 (length t.columns)) ++ (name_marks t.name ++ (number_marks t.width ++ (flat_map name_marks t.columns ++ ending))))
+behind_width : (t : TableTree) → AreEnds (table_marks t) → AreEnds (past limit.KeyWidth (nat_lt t.width 1 || nat_lt 6 t.width)) × AreEnds (past limit.Columns (nat_lt 12 (length t.columns)) ++ (name_marks t.name ++ (number_marks t.width ++ (flat_map name_marks t.columns ++ ending))))
 behind_width t marks =
     all_parts IsEnd (past limit.KeyWidth (nat_lt t.width 1 || nat_lt 6 t.width)) (past limit.Columns (nat_lt 12 (length t.columns)) ++ (name_marks t.name ++ (number_marks t.width ++ (flat_map name_marks t.columns ++ ending)))) marks
 
 -- a table has at most 12 columns
-pub few_columns : (t : TableTree) → OnlyEnd (table_marks t) → length t.columns ≤ 12
+pub few_columns : (t : TableTree) → AreEnds (table_marks t) → length t.columns ≤ 12
 few_columns t marks = columns_few t (all_parts IsEnd (past limit.Columns (nat_lt 12 (length t.columns))) (name_marks t.name ++ (number_marks t.width ++ (flat_map name_marks t.columns ++ ending))) (behind_width t marks).1).0
 
 -- keys of 1 to 6 components
-width_said : (n : ℕ) → OnlyEnd (past limit.KeyWidth (nat_lt n 1 || nat_lt 6 n)) → (1 ≤ n) × (n ≤ 6)
+width_said : (n : ℕ) → AreEnds (past limit.KeyWidth (nat_lt n 1 || nat_lt 6 n)) → (1 ≤ n) × (n ≤ 6)
 width_said n h =
     let parts = or_parts (nat_lt n 1) (nat_lt 6 n) (not_past limit.KeyWidth (nat_lt n 1 || nat_lt 6 n) h) in
     let low : nat_lt n 1 ≡ false = parts.0 in
     let high : nat_lt 6 n ≡ false = parts.1 in
     (grind (arith, nat_tests), grind (arith, nat_tests))
 
-table_said : (t : TableTree) → AreHeard false (table t) → defines_again [] t.columns ≡ false → OnlyEnd (table_marks t) → IsTableSaid (table_of t)
+table_said : (t : TableTree) → AreHeard false (table t) → defines_again [] t.columns ≡ false → AreEnds (table_marks t) → IsTableSaid (table_of t)
 table_said t heard new marks =
     let H = IsHeard false in
     let first = all_parts H (if t.private then just sign.Private else just sign.Table) (name t.name ++ (number t.width ++ (joined name t.columns ++ just sign.End))) heard in
@@ -86,7 +88,7 @@ table_said t heard new marks =
       new_columns = new;
     }
 
-pub tables_said : (ts : List TableTree) → AreHeard false (joined table ts) → AllIn (λ (t : TableTree). defines_again [] t.columns ≡ false) ts → AllIn (λ t. OnlyEnd (table_marks t)) ts → AllIn IsTableSaid (map table_of ts)
+pub tables_said : (ts : List TableTree) → AreHeard false (joined table ts) → AllIn (λ (t : TableTree). defines_again [] t.columns ≡ false) ts → AllIn (λ t. AreEnds (table_marks t)) ts → AllIn IsTableSaid (map table_of ts)
 tables_said ts heard new marks =
     all_map IsTableSaid table_of ts
-    (all_by_three (λ t. AreHeard false (table t)) (λ (t : TableTree). defines_again [] t.columns ≡ false) (λ t. OnlyEnd (table_marks t)) (λ t. IsTableSaid (table_of t)) ts table_said (all_joined (IsHeard false) table ts heard) new marks)
+    (all_by_three (λ t. AreHeard false (table t)) (λ (t : TableTree). defines_again [] t.columns ≡ false) (λ t. AreEnds (table_marks t)) (λ t. IsTableSaid (table_of t)) ts table_said (all_joined (IsHeard false) table ts heard) new marks)

@@ -24,7 +24,9 @@ use Rattle.acc_meaning.specs.Designs.{table_of}
 use Rattle.acc_meaning.specs.Sizes.{clause_statement_sizes, names_sizes, point_sizes, type_sizes}
 use Rattle.acc_readback.specs.Printable.{IsName}
 use Rattle.acc_readback.specs.PrintableTypes.{IsCount, IsPointSaid, IsTypeSaid}
-use Rattle.acc_readback.proofs.SaidParts.{OnlyEnd, IsEnd, IsFalse, not_past, all_parts, all_joined, all_flat, all_map, all_by_four, each_counted, at_most_counted}
+use Rattle.acc_readback.proofs.OnlyEnds.{AreEnds, IsEnd}
+use Rattle.acc_readback.proofs.Faultless.{IsFalse}
+use Rattle.acc_readback.proofs.SaidParts.{not_past, all_parts, all_joined, all_flat, all_map, all_by_four, each_counted, at_most_counted}
 use Rattle.acc_readback.proofs.SaidPlaces.{fitted_same}
 use Rattle.acc_readback.proofs.SaidNames.{AreHeard, IsHeard, Setting, is_name, are_names}
 use Rattle.acc_readback.proofs.SaidRows.{meant, known, shown}
@@ -36,15 +38,15 @@ use Rattle.acc_readback.proofs.SaidLocals.{within_type, few_locals, locals_said,
 -- ---- the parts of a type's marks
 
 pub record HasEnds (t : TypeTree) : Type 0 where
-  pub head : OnlyEnd (head_marks t)
-  pub returns : OnlyEnd (returns_marks t.returns)
-  pub locals : OnlyEnd (locals_marks (length t.params) t.locals)
-  pub ensured : OnlyEnd (counted limit.Clauses 64 clause_statement_marks t.ensured)
-  pub repaired : OnlyEnd (counted limit.Clauses 64 clause_statement_marks t.repaired)
-  pub first : OnlyEnd (point_marks t.first)
-  pub others : OnlyEnd (counted limit.Points 31 point_marks t.others)
+  pub head : AreEnds (head_marks t)
+  pub returns : AreEnds (returns_marks t.returns)
+  pub locals : AreEnds (locals_marks (length t.params) t.locals)
+  pub ensured : AreEnds (counted limit.Clauses 64 clause_statement_marks t.ensured)
+  pub repaired : AreEnds (counted limit.Clauses 64 clause_statement_marks t.repaired)
+  pub first : AreEnds (point_marks t.first)
+  pub others : AreEnds (counted limit.Points 31 point_marks t.others)
 
-pub type_ends : (t : TypeTree) → OnlyEnd (type_marks t) → HasEnds t
+pub type_ends : (t : TypeTree) → AreEnds (type_marks t) → HasEnds t
 type_ends t marks =
     let points = point_marks t.first ++ counted limit.Points 31 point_marks t.others in
     let repaired = counted limit.Clauses 64 clause_statement_marks t.repaired in
@@ -71,7 +73,7 @@ names_sized t = length-map (points_in t) (λ (p : PointTree). p.name)
 -- ---- a type
 
 module _ (trees : List TableTree) (few : length trees ≤ 64) (columns : AllIn (λ (t : TableTree). length t.columns ≤ 12) trees) where
-  pub type_said : (again : Bool) (t : TypeTree) → AreHeard true (type_words t) → AllIn IsFalse (type_faults trees again t) → OnlyEnd (type_marks t) → OnlyEnd (type_sizes trees t) → IsTypeSaid (map table_of trees) (type_of trees t)
+  pub type_said : (again : Bool) (t : TypeTree) → AreHeard true (type_words t) → AllIn IsFalse (type_faults trees again t) → AreEnds (type_marks t) → AreEnds (type_sizes trees t) → IsTypeSaid (map table_of trees) (type_of trees t)
   type_said again t heard faults marks sizes =
       let H = IsHeard true in
       let ends = type_ends t marks in
@@ -143,7 +145,7 @@ module _ (trees : List TableTree) (few : length trees ≤ 64) (columns : AllIn (
         points = (
           point_said a names points n refl t.first w_points.0 right.each.0 ends.first s_points.0,
           all_map (IsPointSaid (shown a) points) (point_of (meant a) names) t.others
-              (all_by_four (λ p. AreHeard true (point p)) (λ p. AllIn IsFalse (point_faults (known a) names false p)) (λ p. OnlyEnd (point_marks p)) (λ p. OnlyEnd (point_sizes (meant a) p)) (λ p. IsPointSaid (shown a) points (point_of (meant a) names p)) t.others (point_said a names points n refl)
+              (all_by_four (λ p. AreHeard true (point p)) (λ p. AllIn IsFalse (point_faults (known a) names false p)) (λ p. AreEnds (point_marks p)) (λ p. AreEnds (point_sizes (meant a) p)) (λ p. IsPointSaid (shown a) points (point_of (meant a) names p)) t.others (point_said a names points n refl)
               (all_joined H point t.others w_points.1) right.each.1 (each_counted limit.Points 31 point_marks t.others ends.others) s_points.1),
         );
       }

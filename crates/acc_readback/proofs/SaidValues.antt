@@ -27,13 +27,14 @@ use Rattle.acc_meaning.specs.Values.{part_of, signed, signed_part, parts_of, col
 use Rattle.acc_meaning.specs.Sizes.{size_mark, term_sizes, terms_sizes, sum_sizes}
 use Rattle.acc_print.specs.Names.{name_at}
 use Rattle.acc_readback.specs.Printable.{IsName, IsVariable, AreCollected, IsTermSaid, IsLinSaid}
-use Rattle.acc_readback.proofs.SaidParts.{OnlyEnd, IsEnd, not_past, all_parts, all_joined, all_flat, all_map, all_by_two, all_by_three, none_false}
+use Rattle.acc_readback.proofs.OnlyEnds.{AreEnds, IsEnd}
+use Rattle.acc_readback.proofs.SaidParts.{not_past, all_parts, all_joined, all_flat, all_map, all_by_two, all_by_three, none_false}
 use Rattle.acc_readback.proofs.SaidTerms.{collected_again, collected_each}
 use Rattle.acc_readback.proofs.SaidNames.{AreHeard, IsHeard, Setting, variables_of, variable_said, name_said}
 
 -- ---- numbers
 
-pub small_size : (n : ℤ) → OnlyEnd (size_mark n) → IsSmall n
+pub small_size : (n : ℤ) → AreEnds (size_mark n) → IsSmall n
 small_size n h =
     let is : not (nat_le (unsigned_abs n) (2 ^ 45)) ≡ false = not_past limit.NumberSize (not (is_small n)) h in
     by (unsigned_abs n) is
@@ -55,12 +56,12 @@ kept_terms : (ts : List (ℕ × ℤ)) → AllIn (λ t. IsSmall t.1) ts → map k
 kept_terms [] h = refl
 kept_terms (t ∷ ts) h = ap (λ z. (t.0, z) ∷ map kept_term ts) (kept_same t.1 h.0) ∙ ap (λ (us : List (ℕ × ℤ)). t ∷ us) (kept_terms ts h.1)
 
-pub small_terms : {K : Type 0} (ts : List (K × ℤ)) → AllIn (λ t. OnlyEnd (size_mark t.1)) ts → AllIn (λ t. IsSmall t.1) ts
+pub small_terms : {K : Type 0} (ts : List (K × ℤ)) → AllIn (λ t. AreEnds (size_mark t.1)) ts → AllIn (λ t. IsSmall t.1) ts
 small_terms [] h = tt
 small_terms (t ∷ ts) h = (small_size t.1 h.0, small_terms ts h.1)
 
 -- the collected numbers are small
-pub sizes_small : {K : Type 0} (t : Terms K) → OnlyEnd (terms_sizes t) → AllIn (λ u. IsSmall u.1) t.terms × IsSmall t.constant
+pub sizes_small : {K : Type 0} (t : Terms K) → AreEnds (terms_sizes t) → AllIn (λ u. IsSmall u.1) t.terms × IsSmall t.constant
 sizes_small t h =
     let parts = all_parts IsEnd (flat_map term_sizes t.terms) (size_mark t.constant) h in
     (small_terms t.terms (all_flat IsEnd term_sizes t.terms parts.0), small_size t.constant parts.1)
@@ -81,20 +82,20 @@ compared_have P AtLeast a b h g = AllIn-append (λ p. IfSome p.of P) b (map nega
 compared_have P Equal a b h g = AllIn-append (λ p. IfSome p.of P) a (map negated b) h (negated_have P b g)
 
 -- what holds of the name of each variable there holds of the name of each unknown
-module _ (a : Setting) (Q : List ℕ → Type 0) (each : (x : Variable) → AreHeard a.own (variable x) → variable_fault a.known x ≡ false → OnlyEnd (variable_marks x) → Q (name_at a.names (variable_of (variables_of a) x))) where
+module _ (a : Setting) (Q : List ℕ → Type 0) (each : (x : Variable) → AreHeard a.own (variable x) → variable_fault a.known x ≡ false → AreEnds (variable_marks x) → Q (name_at a.names (variable_of (variables_of a) x))) where
   abbrev Has : ℕ → Type 0
   Has k = Q (name_at a.names k)
 
-  term_has : (t : Term) → AreHeard a.own (term t) → term_fault a.known t ≡ false → OnlyEnd (term_marks t) → IfSome (part_of (variables_of a) t).of Has
+  term_has : (t : Term) → AreHeard a.own (term t) → term_fault a.known t ≡ false → AreEnds (term_marks t) → IfSome (part_of (variables_of a) t).of Has
   term_has (Constant n) heard known marks = tt
   term_has (Plain x) heard known marks = each x heard known marks
   term_has (Product n x) heard known marks = each x heard.1.1 known (all_parts IsEnd (number_marks n) (variable_marks x) marks).1
 
-  further_has : (t : SignedTerm) → AreHeard a.own (signed_term t) → term_fault a.known t.term ≡ false → OnlyEnd (signed_term_marks t) → IfSome (signed_part (variables_of a) t).of Has
+  further_has : (t : SignedTerm) → AreHeard a.own (signed_term t) → term_fault a.known t.term ≡ false → AreEnds (signed_term_marks t) → IfSome (signed_part (variables_of a) t).of Has
   further_has t heard known marks =
       signed_has Has t.minus (part_of (variables_of a) t.term) (term_has t.term (all_parts (IsHeard a.own) (if t.minus then just sign.Minus else just sign.Plus) (term t.term) heard).1 known marks)
 
-  pub parts_have : (s : Sum) → AreHeard a.own (sum s) → sum_fault a.known s ≡ false → OnlyEnd (sum_marks s) → AllIn (λ p. IfSome p.of Has) (parts_of (variables_of a) s)
+  pub parts_have : (s : Sum) → AreHeard a.own (sum s) → sum_fault a.known s ≡ false → AreEnds (sum_marks s) → AllIn (λ p. IfSome p.of Has) (parts_of (variables_of a) s)
   parts_have s heard known marks =
       let words = (all_parts (IsHeard a.own) (if s.minus then just sign.Minus else []) (term s.first ++ joined signed_term s.others) heard).1 in
       let both = all_parts (IsHeard a.own) (term s.first) (joined signed_term s.others) words in
@@ -102,14 +103,14 @@ module _ (a : Setting) (Q : List ℕ → Type 0) (each : (x : Variable) → AreH
       let ends = all_parts IsEnd (term_marks s.first) (flat_map signed_term_marks s.others) marks in (
         signed_has Has s.minus (part_of (variables_of a) s.first) (term_has s.first both.0 faults.0 ends.0),
         all_map (λ (p : Part ℕ). IfSome p.of Has) (signed_part (variables_of a)) s.others
-            (all_by_three (λ t. AreHeard a.own (signed_term t)) (λ (t : SignedTerm). term_fault a.known t.term ≡ false) (λ t. OnlyEnd (signed_term_marks t)) (λ t. IfSome (signed_part (variables_of a) t).of Has) s.others further_has
+            (all_by_three (λ t. AreHeard a.own (signed_term t)) (λ (t : SignedTerm). term_fault a.known t.term ≡ false) (λ t. AreEnds (signed_term_marks t)) (λ t. IfSome (signed_part (variables_of a) t).of Has) s.others further_has
             (all_joined (IsHeard a.own) signed_term s.others both.1) (none_false (λ (t : SignedTerm). term_fault a.known t.term) s.others faults.1) (all_flat IsEnd signed_term_marks s.others ends.1)),
       )
 
 -- ---- values
 
 -- collected terms with small numbers, of variables that can be spelled
-pub lin_by_said : (names : List (List ℕ)) (parts : List (Part ℕ)) → AllIn (λ p. IfSome p.of (λ k. IsVariable (name_at names k))) parts → OnlyEnd (terms_sizes (collected_by ◌==◌ parts)) → IsLinSaid names (lin_by (collected_by ◌==◌ parts))
+pub lin_by_said : (names : List (List ℕ)) (parts : List (Part ℕ)) → AllIn (λ p. IfSome p.of (λ k. IsVariable (name_at names k))) parts → AreEnds (terms_sizes (collected_by ◌==◌ parts)) → IsLinSaid names (lin_by (collected_by ◌==◌ parts))
 lin_by_said names parts h sizes =
     let t : Terms ℕ = collected_by ◌==◌ parts in
     let small = sizes_small t sizes in
@@ -120,11 +121,11 @@ lin_by_said names parts h sizes =
       constant = subst IsSmall (sym (kept_same t.constant small.1)) small.1;
     }
 
-pub lin_said : (a : Setting) (s : Sum) → AreHeard a.own (sum s) → sum_fault a.known s ≡ false → OnlyEnd (sum_marks s) → OnlyEnd (sum_sizes (variables_of a) s) → IsLinSaid a.names (lin_of (variables_of a) s)
+pub lin_said : (a : Setting) (s : Sum) → AreHeard a.own (sum s) → sum_fault a.known s ≡ false → AreEnds (sum_marks s) → AreEnds (sum_sizes (variables_of a) s) → IsLinSaid a.names (lin_of (variables_of a) s)
 lin_said a s heard known marks sizes = lin_by_said a.names (parts_of (variables_of a) s) (parts_have a IsVariable (variable_said a) s heard known marks) sizes
 
 -- where `self` may not stand, each variable of a value has a name
-pub lin_named : (a : Setting) (s : Sum) → a.own ≡ false → AreHeard a.own (sum s) → sum_fault a.known s ≡ false → OnlyEnd (sum_marks s) → OnlyEnd (sum_sizes (variables_of a) s) → AllIn (λ (t : ℕ × ℤ). IsName (name_at a.names t.0)) (lin_of (variables_of a) s).coeffs
+pub lin_named : (a : Setting) (s : Sum) → a.own ≡ false → AreHeard a.own (sum s) → sum_fault a.known s ≡ false → AreEnds (sum_marks s) → AreEnds (sum_sizes (variables_of a) s) → AllIn (λ (t : ℕ × ℤ). IsName (name_at a.names t.0)) (lin_of (variables_of a) s).coeffs
 lin_named a s e heard known marks sizes =
     let t : Terms ℕ = terms_of (variables_of a) s in
     let same = sym (kept_terms t.terms (sizes_small t sizes).0) in

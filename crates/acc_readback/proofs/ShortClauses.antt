@@ -16,7 +16,8 @@ use Rattle.acc_meaning.specs.Forms.{rel_of, all_form_rels, clause_of}
 use Rattle.acc_print.specs.Lists.{spaced, listed}
 use Rattle.acc_print.specs.Clauses.{rel_text, binder_text, guards_text, clause_text, clause_line}
 use Rattle.acc_readback.specs.Printable.{IsClauseSaid}
-use Rattle.acc_readback.proofs.SaidParts.{all_parts, all_by_two, all_mapped, none_false, IsFalse}
+use Rattle.acc_readback.proofs.Faultless.{IsFalse}
+use Rattle.acc_readback.proofs.SaidParts.{all_parts, all_by_two, all_mapped, none_false}
 use Rattle.acc_readback.proofs.SaidNames.{IsHeard, AreHeard, Setting}
 use Rattle.acc_readback.proofs.SaidRows.{meant, known, shown}
 use Rattle.acc_readback.proofs.SaidClauses.{within_clause}

@@ -28,7 +28,8 @@ use Rattle.acc_print.specs.Clauses.{clause_line}
 use Rattle.acc_print.specs.Types.{type_lines}
 use Rattle.acc_print.specs.Designs.{table_line, entry_line, hint_line, printed}
 use Rattle.acc_readback.specs.PrintableTypes.{IsTableSaid, IsTypeSaid, IsSaid}
-use Rattle.acc_readback.proofs.SaidParts.{IsFalse, none_first, all_parts, all_mapped, all_by_two, all_weaker}
+use Rattle.acc_readback.proofs.Faultless.{IsFalse}
+use Rattle.acc_readback.proofs.SaidParts.{none_first, all_parts, all_mapped, all_by_two, all_weaker}
 use Rattle.acc_readback.proofs.SaidNames.{Setting}
 use Rattle.acc_readback.proofs.SaidOwn.{IsAllHeard, all_heard}
 use Rattle.acc_readback.proofs.SaidPointNames.{IsFew, IsBounded}

@@ -24,7 +24,8 @@ use Rattle.acc_print.specs.Lists.{spaced, listed}
 use Rattle.acc_print.specs.Names.{name_at}
 use Rattle.acc_print.specs.Values.{lin_text}
 use Rattle.acc_print.specs.Designs.{side_text, pair_text, entry_line, hint_line}
-use Rattle.acc_readback.proofs.SaidParts.{all_parts, all_mapped, none_false, IsFalse}
+use Rattle.acc_readback.proofs.Faultless.{IsFalse}
+use Rattle.acc_readback.proofs.SaidParts.{all_parts, all_mapped, none_false}
 use Rattle.acc_readback.proofs.SaidNames.{IsHeard, AreHeard, Setting, variables_of}
 use Rattle.acc_readback.proofs.SaidPointNames.{IsBounded, IsTypeFound, type_found, at_point, point_there}
 use Rattle.acc_readback.proofs.Weights.{weight, weight-append}

@@ -19,7 +19,8 @@ use Rattle.acc_print.specs.Clauses.{clause_line}
 use Rattle.acc_print.specs.Steps.{step_lines}
 use Rattle.acc_print.specs.Types.{is_zero, variant_lines, point_lines}
 use Rattle.acc_readback.specs.PrintableTypes.{IsPointSaid}
-use Rattle.acc_readback.proofs.SaidParts.{all_parts, IsFalse}
+use Rattle.acc_readback.proofs.Faultless.{IsFalse}
+use Rattle.acc_readback.proofs.SaidParts.{all_parts}
 use Rattle.acc_readback.proofs.SaidNames.{IsHeard, AreHeard, Setting, variables_of}
 use Rattle.acc_readback.proofs.SaidRows.{meant, known, shown}
 use Rattle.acc_readback.proofs.SaidSteps.{AreNamed}

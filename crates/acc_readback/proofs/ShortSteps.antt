@@ -19,7 +19,8 @@ use Rattle.acc_meaning.specs.Steps.{read_of, action_of, target_of, path_of, step
 use Rattle.acc_print.specs.Lists.{listed}
 use Rattle.acc_print.specs.Values.{lin_rel_text}
 use Rattle.acc_print.specs.Steps.{read_line, action_line, target_text, path_lines, step_lines}
-use Rattle.acc_readback.proofs.SaidParts.{all_parts, all_flat, all_mapped, IsFalse}
+use Rattle.acc_readback.proofs.Faultless.{IsFalse}
+use Rattle.acc_readback.proofs.SaidParts.{all_parts, all_flat, all_mapped}
 use Rattle.acc_readback.proofs.SaidNames.{IsHeard, AreHeard, Setting, variables_of, stands_true}
 use Rattle.acc_readback.proofs.SaidRows.{meant, known, shown}
 use Rattle.acc_readback.proofs.SaidSteps.{AreNamed, point_again}

@@ -26,7 +26,8 @@ use Rattle.acc_print.specs.Names.{name_at}
 use Rattle.acc_print.specs.Clauses.{clause_line}
 use Rattle.acc_print.specs.Types.{names_lines, head_lines, point_lines, type_lines}
 use Rattle.acc_readback.specs.PrintableTypes.{IsPointSaid, IsTypeSaid}
-use Rattle.acc_readback.proofs.SaidParts.{all_parts, all_by_two, all_mapped, none_false, IsFalse}
+use Rattle.acc_readback.proofs.Faultless.{IsFalse}
+use Rattle.acc_readback.proofs.SaidParts.{all_parts, all_by_two, all_mapped, none_false}
 use Rattle.acc_readback.proofs.SaidPlaces.{fitted_same}
 use Rattle.acc_readback.proofs.SaidNames.{IsHeard, AreHeard, Setting}
 use Rattle.acc_readback.proofs.SaidRows.{meant, known, shown}
