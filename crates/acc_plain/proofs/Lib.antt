@@ -5,3 +5,5 @@ pub mod Turning
 pub mod Fitting
 pub mod Steady
 pub mod Ready
+pub mod Taking
+pub mod Given

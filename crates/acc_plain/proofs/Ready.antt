@@ -36,7 +36,8 @@ pub record IsReady (t : ℕ) (w : World) : Type 0 where
   pub order : IsInOrder w.rows
   pub within : AreWithin (2 ^ 120) w.rows
 
-frame_fits : (t : ℕ) (o : Option Frame) → IfSome o (IsOwn t) → t ≤ 2 ^ 45 → IfSome o FrameFits
+-- its frame, if it has one, fits
+pub frame_fits : (t : ℕ) (o : Option Frame) → IfSome o (IsOwn t) → t ≤ 2 ^ 45 → IfSome o FrameFits
 frame_fits t None h le = tt
 frame_fits t (Some f) h le = fits_frame t f h le
 

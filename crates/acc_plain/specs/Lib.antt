@@ -3,3 +3,4 @@ pub mod Reached
 pub mod Change
 pub mod Ahead
 pub mod Turned
+pub mod Taken

@@ -2,7 +2,9 @@
 #![tactic(auto)]
 
 mod changes;
+mod fittings;
 mod machines;
+mod takes;
 
 pub use changes::PlainError;
 pub use machines::Machine;

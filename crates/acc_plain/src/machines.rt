@@ -1,7 +1,7 @@
 //! The machine: transactions that take their turns over a store.
-ghost use Rattle.std.specs.Prelude.{◌≡◌, ◌≤◌, ◌<◌, ◌^◌, ◌+◌, ◌-◌, [], ◌∷◌, ◌++◌, length, true, slice_get, slice_set, vec_len, All, Some, None, IfOk, IfSome, OnErr, OnOk, option_copied, MatchOption, replicate, pos};
+ghost use Rattle.std.specs.Prelude.{◌≡◌, ◌≤◌, ◌<◌, ◌^◌, ◌+◌, ◌-◌, [], ◌∷◌, ◌++◌, length, true, slice_get, slice_set, vec_len, All, Some, None, IfOk, IfSome, OnErr, OnOk, option_copied, option_and_then, IsTrue, ◌↔◌, MatchOption, replicate, pos};
 ghost use Rattle.acc_base.specs.Tables.{IsInOrder};
-ghost use Rattle.acc_base.specs.Machine.{start, next_number, call_fits, locals_in, begun, transaction_at, frame_in, after_event};
+ghost use Rattle.acc_base.specs.Machine.{start, next_number, call_fits, locals_in, begun, transaction_at, frame_in, reply_in, after_event};
 ghost use Rattle.acc_base.specs.Turns.{next_event, said};
 ghost use Rattle.acc_base.specs.Runnable.{IsRunnable, FrameFits};
 ghost use Rattle.acc_base.specs.declared.machines.Event.TheVariants.{Begin};
@@ -11,9 +11,12 @@ ghost use Rattle.acc_store.specs.Bounds.{AreWithin};
 ghost use Rattle.acc_store.specs.Rows.{written, IsNarrow, SumsFit};
 ghost use Rattle.acc_plain.specs.Change.{left_by, IsNextChange};
 ghost use Rattle.acc_plain.specs.Reached.{IsReached};
+ghost use Rattle.acc_plain.specs.Taken.{number_in, IsTaken};
 ghost use Rattle.acc_plain.specs.Turned.{cause_in, IsUnfinished, IsTurned};
 
 use crate::changes::{Becomes, Change, PlainError, forward_change, undo_change};
+use crate::fittings::call_fits;
+use crate::takes::change_by;
 use acc_base::designs::{At, Design, Side};
 use acc_base::machines::{Call, Cause, Event, Frame, Outcome, Reply, Transaction, Turn};
 use acc_base::sequences::{Seq, copied};
@@ -362,5 +365,87 @@ impl<'a, S: Store> Machine<'a, S> {
         log_writes(&mut self.events, &mut self.store, event, writes.as_slice())?;
         replace(&mut self.transactions, place, becomes);
         Ok(Some(said(cause, &self.transactions[place])))
+    }
+
+    /// Does an event, where the machine allows it in its state: true, and then the event is the last; else false, and
+    /// nothing changes. There are to be fewer than 2^30 events.
+    pub fn take(&mut self, event: &Event) -> Result<bool, PlainError>
+        requires room { length self.old.world.events < 2 ^ 30 }
+        ensures ok { IfOk result (IsTaken self.old.design self.old.world self.new.world event.now) }
+        ensures err { OnErr result (self.new.world ≡ self.old.world) }
+        ensures design { self.new.design ≡ self.old.design }
+        ensures count { length self.new.world.events ≤ length self.old.world.events + 1 }
+    {
+        match event {
+            Event::Begin(call) => self.take_call(call),
+            Event::Step(t) | Event::Abort(t, _) | Event::Undo(t) => self.take_of(*t, event),
+        }
+    }
+
+    /// Begins a call, where it fits its type.
+    fn take_call(&mut self, call: &Call) -> Result<bool, PlainError>
+        requires room { length self.old.world.events < 2 ^ 30 }
+        ensures ok { IfOk result (IsTaken self.old.design self.old.world self.new.world (Begin call.now)) }
+        ensures err { OnErr result (self.new.world ≡ self.old.world) }
+        ensures design { self.new.design ≡ self.old.design }
+        ensures count { length self.new.world.events ≤ length self.old.world.events + 1 }
+    {
+        if !call_fits(self.design, call) {
+            return Ok(false);
+        }
+        self.begin(call)?;
+        Ok(true)
+    }
+
+    /// Does an event of this transaction, where it is allowed.
+    fn take_of(&mut self, t: u64, event: &Event) -> Result<bool, PlainError>
+        requires of { number_in event.now ≡ Some t }
+        requires room { length self.old.world.events < 2 ^ 30 }
+        ensures ok { IfOk result (IsTaken self.old.design self.old.world self.new.world event.now) }
+        ensures err { OnErr result (self.new.world ≡ self.old.world) }
+        ensures design { self.new.design ≡ self.old.design }
+        ensures count { length self.new.world.events ≤ length self.old.world.events + 1 }
+    {
+        let Some(x) = self.transaction(t) else {
+            return Ok(false);
+        };
+        let Some(change) = change_by(self.alloc, self.design, event, x, &self.store)? else {
+            return Ok(false);
+        };
+        let Change {
+            event: done,
+            writes,
+            becomes,
+        } = change;
+        log_writes(&mut self.events, &mut self.store, done, writes.as_slice())?;
+        replace(&mut self.transactions, place_of(t), becomes);
+        Ok(true)
+    }
+
+    /// The rows, kept in the store.
+    pub fn store(&self) -> &S
+        ensures { S.rows result.now ≡ self.now.world.rows }
+    {
+        &self.store
+    }
+
+    /// The reply of a transaction that has ended.
+    pub fn reply(&self, t: u64) -> Option<&Reply>
+        ensures { option_copied result ≡ option_and_then reply_in (transaction_at t self.now.world.transactions) }
+    {
+        match self.transaction(t) {
+            Some(Transaction::Ended(reply)) => Some(reply),
+            _ => None,
+        }
+    }
+
+    /// Whether a transaction has begun and hasn't ended.
+    pub fn is_unfinished(&self, t: u64) -> bool
+        ensures { IsTrue result ↔ IsUnfinished t self.now.world }
+    {
+        matches!(
+            self.transaction(t),
+            Some(Transaction::Forward(_) | Transaction::Undoing(_, _))
+        )
     }
 }
