@@ -8,3 +8,6 @@ mod takes;
 
 pub use changes::PlainError;
 pub use machines::Machine;
+
+#[cfg(test)]
+mod tests;
