@@ -1,5 +1,5 @@
 -- The line of a form rule that is broken is the line of the statement in print that breaks it.
-use Rattle.std.proofs.Common.{◌≡◌, ◌≤◌, ◌<◌, ◌^◌, ℕ, suc, ◌+◌, ◌-◌, List, [], ◌∷◌, ◌++◌, refl, sym, ap, subst, arith, All}
+use Rattle.std.proofs.Common.{◌≡◌, ◌≤◌, ◌<◌, ◌^◌, ℕ, suc, ◌+◌, ◌-◌, List, [], ◌∷◌, ◌++◌, refl, sym, ap, subst, ◌∙◌, arith, All}
 use Rattle.std.specs.Prelude.{Contains}
 use Rattle.std.proofs.lemmas.Bool.{lt-ltb}
 use Rattle.std.proofs.lemmas.List.Elements.{All-nil, All-cons, All-contains}
@@ -15,6 +15,7 @@ use Rattle.acc_parse.specs.Texts.{IsDesignText}
 use Rattle.acc_print.specs.Designs.{printed}
 use Rattle.acc_readback.specs.TypeTrees.{tree_of}
 use Rattle.acc_readback.specs.PrintableTypes.{IsSaid}
+use Rattle.acc_readback.specs.Judged.{judged, IsBroken, IsJudgedAt}
 use Rattle.acc_readback.proofs.DesignParts.{printed_lines}
 use Rattle.acc_readback.proofs.StatementLines.{own_line}
 use Rattle.acc_readback.proofs.SaidDesigns.{parsed_is_said}
@@ -22,6 +23,9 @@ use Rattle.acc_readback.proofs.SaidRanges.{said_in_range}
 use Rattle.acc_readback.proofs.StatementLimits.{few_statements}
 use Rattle.acc_readback.proofs.RuleMarks.{ends_of, AreEnded}
 use Rattle.acc_readback.proofs.RuleTypes.{design_counts}
+use Rattle.acc_readback.proofs.JudgedDesigns.{design_judged, judged_is_marked}
+use Rattle.acc_readback.proofs.JudgedRules.{broken_at}
+use Rattle.acc_readback.proofs.JudgedLines.{judged_at}
 
 -- ---- the statement that breaks a rule
 
@@ -109,3 +113,15 @@ rule_line d h rule line c =
 -- so is the first fault of a text's design, as it is said of the text
 pub first_fault_line : (source : List ℕ) (d : Design) → IsDesignText source d → (rule line : ℕ) → IsLeast is_before (form_faults d) (rule, line) → IsLineOf (printed d) (line - 1) line
 first_fault_line source d is rule line first = rule_line d (parsed_is_said source d is) rule line first.there
+
+-- ---- the statement on the line breaks the rule by its own marks
+
+pub rule_judged : (d : Design) → IsSaid d → (rule line : ℕ) → Contains (form_faults d) (rule, line) → (1 ≤ line) × IsJudgedAt d rule (line - 1)
+rule_judged d h rule line c =
+    let b = rule_breaks d h rule line c in
+    let at = broken_at (judged d) (design_judged d).ones b.1.earlier b.1.later rule (judged_is_marked d ∙ b.1.is) in
+    (b.0, judged_at d h rule (line - 1) (subst (IsBroken (judged d) rule) b.1.number at))
+
+-- so does the first fault of a text's design
+pub first_fault_judged : (source : List ℕ) (d : Design) → IsDesignText source d → (rule line : ℕ) → IsLeast is_before (form_faults d) (rule, line) → IsJudgedAt d rule (line - 1)
+first_fault_judged source d is rule line first = (rule_judged d (parsed_is_said source d is) rule line first.there).1

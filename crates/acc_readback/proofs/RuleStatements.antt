@@ -35,16 +35,16 @@ use Rattle.acc_readback.proofs.RuleMarks.{Counts, recounted, one_statement, one_
 pub clause_counts : (tables : List Table) (names : List (List ℕ)) (most i : ℕ) (c : Clause) → Counts (clause_marks tables names most i c) 1
 clause_counts tables names most i c = asks 2 (clause_fits tables c) (asks 4 (not (i == most) && clause_small c) (asks 6 (are_new names c.vars) one_statement))
 
-read_counts : (tables : List Table) (t : TxType) (side : Side) (i : ℕ) (r : Read) → Counts (read_marks tables t side i r) 1
+pub read_counts : (tables : List Table) (t : TxType) (side : Side) (i : ℕ) (r : Read) → Counts (read_marks tables t side i r) 1
 read_counts tables t side i r =
     asks 2 (read_fits tables r) (asks 3 (read_leaves_a_component tables r) (asks 4 (not (i == 32) && read_small r)
     (asks 5 (divides r) (asks 11 (assigns_local t r) (asks 12 (may_read side r) one_statement)))))
 
-action_counts : (tables : List Table) (t : TxType) (is_bare : Bool) (i : ℕ) (a : Action) → Counts (action_marks tables t is_bare i a) 1
+pub action_counts : (tables : List Table) (t : TxType) (is_bare : Bool) (i : ℕ) (a : Action) → Counts (action_marks tables t is_bare i a) 1
 action_counts tables t is_bare i a =
     asks 2 (action_fits tables a) (asks 4 (not (i == 16) && action_small a) (asks 10 (action_is_own tables (length t.locals) a) (asks 13 (not is_bare) one_statement)))
 
-target_counts : (t : TxType) (side : Side) (is_bare : Bool) (p : Path) → Counts (target_marks t side is_bare p) 1
+pub target_counts : (t : TxType) (side : Side) (is_bare : Bool) (p : Path) → Counts (target_marks t side is_bare p) 1
 target_counts t side is_bare p =
     asks 4 (target_small t.points p.target) (asks 5 (refuses_by_number p.target) (asks 8 (may_end side p.target)
     (asks 9 (refuses_plainly p.actions p.target) (asks 13 (not is_bare || is_undone p.target) one_statement))))
@@ -71,7 +71,7 @@ step_counts s points tables t side is_bare st h =
 
 -- ---- points
 
-same_zero : (l : Lin) → is_zero l ≡ is_left_out l.coeffs l.constant
+pub same_zero : (l : Lin) → is_zero l ≡ is_left_out l.coeffs l.constant
 same_zero l = by_parts l.coeffs l.constant
   where
     by_parts : (ts : List (ℕ × ℤ)) (n : ℤ) → ((length ts == 0) && int_eq n (pos 0)) ≡ is_left_out ts n

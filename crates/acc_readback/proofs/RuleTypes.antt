@@ -59,14 +59,14 @@ type_counts tables types i t h =
 
 -- ---- the whole
 
-table_counts : (tables : List Table) (i : ℕ) (t : Table) → Counts (table_marks tables i t) 1
+pub table_counts : (tables : List Table) (i : ℕ) (t : Table) → Counts (table_marks tables i t) 1
 table_counts tables i t = asks 4 (not (i == 64) && table_small t) (asks 6 (not (names_table (take i tables) t.name) && are_distinct t.cols) one_statement)
 
-entry_counts : (types : List TxType) (entries : List Entry) (i : ℕ) (e : Entry) → Counts (entry_marks types entries i e) 1
+pub entry_counts : (types : List TxType) (entries : List Entry) (i : ℕ) (e : Entry) → Counts (entry_marks types entries i e) 1
 entry_counts types entries i e =
     asks 4 (not (i == 1024)) (asks 14 (leaves_starts e) (asks 15 (not (list_any (same_entry e) (take i entries))) (asks 16 (pairs_stay types e) one_statement)))
 
-hint_counts : (i : ℕ) (h : Hint) → Counts (hint_marks i h) 1
+pub hint_counts : (i : ℕ) (h : Hint) → Counts (hint_marks i h) 1
 hint_counts i h = asks 4 (not (i == 1024) && lin_small h.lin) one_statement
 
 -- each rule is asked of a statement that is printed, and of each statement that is printed the rules are asked

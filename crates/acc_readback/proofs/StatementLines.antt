@@ -102,6 +102,10 @@ all_feeds (s ∷ ss) h =
     let one = line_feeds s h.0 in
     let others = all_feeds ss h.1 in omega (arith, both, one, others)
 
+-- lines have as many line feeds as their words have ends
+pub lines_feeds : (text : List ℕ) (words : List Word) → Lines text words → feeds text ≡ ends words
+lines_feeds text words l = ap feeds l.spelled ∙ all_feeds l.statements l.fit ∙ sym (ap ends l.mean ∙ all_ends l.statements l.fit l.some)
+
 fed_behind : (f : List ℕ) (ss : List Statement) → IsFed f → IsFed (f ++ joined ended_bytes ss)
 fed_behind f [] h = subst IsFed (sym (append-nil f)) h
 fed_behind f (s ∷ ss) h = subst IsFed (append_assoc f (ended_bytes s) (joined ended_bytes ss)) (fed_behind (f ++ ended_bytes s) ss (fed_line f (statement_bytes s) h))

@@ -2,3 +2,4 @@ pub mod Trees
 pub mod TypeTrees
 pub mod Printable
 pub mod PrintableTypes
+pub mod Judged

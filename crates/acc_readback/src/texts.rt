@@ -1,5 +1,7 @@
 //! Printed texts.
 ghost use Rattle.std.specs.Prelude.{◌≡◌, ◌+◌, ◌*◌, ◌<◌, ◌≤◌, ℕ, List, length, IfOk};
+ghost use Rattle.acc_lex.specs.Texts.{IsLexed};
+ghost use Rattle.acc_syntax.specs.Spelling.{spelled_design};
 ghost use Rattle.acc_statements.specs.Counts.{statements_of};
 ghost use Rattle.acc_statements.specs.Lines.{IsLineOf};
 ghost use Rattle.acc_print.specs.Designs.{printed};
@@ -22,6 +24,8 @@ pub fn print(alloc: Global, d: &Design) -> Result<Vec<u8>, PrintError>
     ensures law { (source : List ℕ) → IsDesignText source d.now → IfOk result (λ text. IsDesignText text.items d.now) }
     // The print has at most 16 bytes for each byte of a text that stands for the design.
     ensures short { (source : List ℕ) → IsDesignText source d.now → IfOk result (λ text. length text.items ≤ 16 * length source) }
+    // The words of the print spell the tree of the design.
+    ensures lexed { IsSaid d.now → IfOk result (λ text. IsLexed text.items (spelled_design (tree_of d.now))) }
     // Each of its statements stands on a line of its own, in the order of the lines.
     ensures lines { IsSaid d.now → IfOk result (λ text. (n : ℕ) → n < statements_of (tree_of d.now) → IsLineOf text.items n (n + 1)) }
 {

@@ -1,4 +1,5 @@
 use Rattle.std.proofs.Common.{◌≡◌, ℕ, ◌+◌, ◌*◌, ◌≤◌, List, length, suc, sym, subst, arith}
+use Rattle.acc_lex.specs.Texts.{IsLexed}
 use Rattle.acc_statements.specs.Lines.{IsLineOf}
 use Rattle.acc_statements.proofs.Counted.{spelled_ends}
 use Rattle.acc_syntax.specs.Spelling.{spelled_design}
@@ -8,7 +9,7 @@ use Rattle.acc_readback.specs.TypeTrees.{tree_of}
 use Rattle.acc_readback.proofs.ReadBack.{reads_back}
 use Rattle.acc_readback.proofs.SaidDesigns.{parsed_is_said}
 use Rattle.acc_readback.proofs.ShortDesigns.{printed_is_short}
-use Rattle.acc_readback.proofs.DesignParts.{printed_lines}
+use Rattle.acc_readback.proofs.DesignParts.{printed_lines, printed_is_lexed}
 use Rattle.acc_readback.proofs.StatementLines.{own_line}
 use Rattle.acc_readback.proofs.texts.print.Goals as goal
 
@@ -22,6 +23,9 @@ returns-clause-law c = λ source is.
 pub returns-clause-short : goal.returns-clause-short
 returns-clause-short c = λ source is.
     subst (λ (bs : List ℕ). length bs ≤ 16 * length source) (sym c.in_ok-text.ensures.value) (printed_is_short source c.args.d.now is)
+
+pub returns-clause-lexed : goal.returns-clause-lexed
+returns-clause-lexed c = λ h. subst (λ (bs : List ℕ). IsLexed bs (spelled_design (tree_of c.args.d.now))) (sym c.in_ok-text.ensures.value) (printed_is_lexed c.args.d.now h)
 
 pub returns-clause-lines : goal.returns-clause-lines
 returns-clause-lines c = λ h n less.
