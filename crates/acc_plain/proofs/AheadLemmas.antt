@@ -1,6 +1,6 @@
 -- What lies ahead of a frame, by its step's effect.
-use Rattle.std.proofs.Common.{◌≡◌, ℕ, ◌<◌, ◌+◌, ◌^◌, Bool, true, false, cond, List, [], ◌∷◌, Option, Some, None, refl, sym, ap, subst, ◌∙◌, arith}
-use Rattle.std.specs.Prelude.{nat_lt, All, IsSome, slice_get, option_and_then, if◌then◌else◌}
+use Rattle.std.proofs.Common.{◌≡◌, ℕ, ◌<◌, ◌+◌, ◌^◌, false, List, Option, Some, None, refl, sym, ap, subst, ◌∙◌}
+use Rattle.std.specs.Prelude.{All, IsSome, slice_get, option_and_then}
 use Rattle.std.proofs.lemmas.Bool.{lt-ltb}
 use Rattle.acc_base.specs.declared.tables.Row.{Row}
 use Rattle.acc_base.specs.declared.designs.Design.{Design}
@@ -10,15 +10,13 @@ use Rattle.acc_base.specs.declared.designs.Side.{Side}
 use Rattle.acc_base.specs.declared.designs.Side.TheVariants.{Next, Undo as UndoSide}
 use Rattle.acc_base.specs.declared.machines.Frame.{Frame}
 use Rattle.acc_base.specs.declared.machines.Cause.{Cause}
-use Rattle.acc_base.specs.declared.machines.Cause.TheVariants.{Refused, Range, Limit}
 use Rattle.acc_base.specs.declared.steps.Target.{Target}
 use Rattle.acc_base.specs.declared.steps.Target.TheVariants.{Point as ToPoint, Commit, Undone, Refuse}
 use Rattle.acc_base.specs.declared.steps.Path.{Path}
-use Rattle.acc_base.specs.declared.steps.Step.{Step}
 use Rattle.acc_base.specs.Linear.{variables}
 use Rattle.acc_base.specs.Reads.{Reading, unread, after_reads}
 use Rattle.acc_base.specs.Actions.{after_actions}
-use Rattle.acc_base.specs.Effects.{Effect, Goes, Refuses, OutOfRange, point_of, step_at, step_of, leads, path_end, path_effect, taken_path, choice, reads_end, step_effect, effect_of}
+use Rattle.acc_base.specs.Effects.{OutOfRange, step_at, leads, path_end, path_effect, taken_path, choice, reads_end, step_effect, effect_of}
 use Rattle.acc_base.specs.Machine.{stop_of, stop_by, is_asked, limit_of, forward_to, back_to}
 use Rattle.acc_base.specs.Runnable.{IsRunnable, IsRunnableType, IsRunnablePoint, CanStep, CanGo, CanEnd}
 use Rattle.acc_base.proofs.Items.{at_slice_get}

@@ -1,7 +1,6 @@
 -- An event that the machine is given, in its state: what the state after it is.
-use Rattle.std.proofs.Common.{◌≡◌, ℕ, ◌+◌, ◌-◌, ◌<◌, ◌≤◌, ◌^◌, List, [], ◌∷◌, ◌++◌, length, Option, Some, None, refl, sym, ap, subst, ◌∙◌, arith, set, length-append}
+use Rattle.std.proofs.Common.{◌≡◌, ℕ, ◌-◌, ◌<◌, ◌≤◌, ◌^◌, List, [], ◌∷◌, ◌++◌, length, Option, Some, None, refl, sym, ap, subst, ◌∙◌, arith, set, length-append}
 use Rattle.std.specs.Prelude.{slice_get, IfSome}
-use Rattle.std.proofs.lemmas.Option.{slice_get_within}
 use Rattle.acc_base.specs.declared.tables.Row.{Row}
 use Rattle.acc_base.specs.declared.designs.Design.{Design}
 use Rattle.acc_base.specs.declared.machines.Event.{Event}
@@ -51,9 +50,6 @@ begun_so d w t x e r few at number =
       order = s.order;
       within = within_weaker (reach (length w.events)) (2 ^ 120) (omega arith) w.rows s.within;
     }
-
-pub begun_within : (t : ℕ) (w : World) (x : Transaction) (e : Event) → IsBegun t w x e → (place : ℕ) → place ≡ t - 1 → place < length w.transactions
-begun_within t w x e r place at = let k = slice_get_within w.transactions (t - 1) x r.got in omega arith
 
 -- what an event of a transaction does
 pub event_of : (d : Design) (w : World) (t : ℕ) (e : Event) → number_in e ≡ Some t → after_event d w e ≡ becomes w e t (changed d w.rows e (transaction_at t w.transactions))

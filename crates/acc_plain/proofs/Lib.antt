@@ -2,6 +2,8 @@ pub mod AheadLemmas
 pub mod Runs
 pub mod Sets
 pub mod Turning
+pub mod Keeping
+pub mod Slots
 pub mod Fitting
 pub mod Steady
 pub mod Ready

@@ -1,14 +1,11 @@
 -- An unfinished transaction of a state that is reached can take its turn.
-use Rattle.std.proofs.Common.{◌≡◌, ℕ, ◌+◌, ◌-◌, ◌*◌, ◌<◌, ◌≤◌, ◌^◌, List, [], ◌∷◌, ◌++◌, length, Option, Some, None, refl, sym, ap, subst, ◌∙◌, arith, set, get_or, length-append}
-use Rattle.std.specs.Prelude.{slice_get, IfSome, IsSome}
-use Rattle.std.proofs.lemmas.Option.{get_or_from_slice_get, slice_get_within}
+use Rattle.std.proofs.Common.{◌≡◌, ℕ, ◌-◌, ◌<◌, ◌≤◌, ◌^◌, List, [], ◌∷◌, ◌++◌, length, Option, Some, None, sym, ap, ◌∙◌, arith, set, length-append}
+use Rattle.std.specs.Prelude.{slice_get, IfSome}
 use Rattle.acc_base.specs.declared.tables.Row.{Row}
 use Rattle.acc_base.specs.declared.designs.Design.{Design}
-use Rattle.acc_base.specs.declared.machines.Cause.{Cause}
 use Rattle.acc_base.specs.declared.machines.Event.{Event}
 use Rattle.acc_base.specs.declared.machines.Frame.{Frame}
 use Rattle.acc_base.specs.declared.machines.Transaction.{Transaction}
-use Rattle.acc_base.specs.declared.machines.Transaction.TheVariants.{Forward, Undoing, Ended}
 use Rattle.acc_base.specs.declared.machines.Turn.{Turn}
 use Rattle.acc_base.specs.Tables.{IsInOrder}
 use Rattle.acc_base.specs.Machine.{World, transaction_at, frame_in, became, after_event}
@@ -20,11 +17,12 @@ use Rattle.acc_step.proofs.Bounds.{within_weaker}
 use Rattle.acc_plain.specs.declared.changes.Change.{Change}
 use Rattle.acc_plain.specs.Change.{left_by, IsNextChange}
 use Rattle.acc_plain.specs.Reached.{IsReached}
-use Rattle.acc_plain.specs.Turned.{IsUnfinished, cause_in}
-use Rattle.acc_plain.proofs.Fitting.{IsOwn, Fits, fits_frame}
+use Rattle.acc_plain.specs.Turned.{IsUnfinished}
+use Rattle.acc_plain.proofs.Fitting.{IsOwn, fits_frame}
 use Rattle.acc_plain.proofs.Runs.{reached_next}
-use Rattle.acc_plain.proofs.Steady.{IsSteadyWorld, reach, fits_at, steady_reached, sums_stay}
-use Rattle.acc_plain.proofs.Turning.{IsNumbered, found, turn_happens, turn_is}
+use Rattle.acc_plain.proofs.Steady.{reach, fits_at, steady_reached, sums_stay}
+use Rattle.acc_plain.specs.Kept.{IsNumbered}
+use Rattle.acc_plain.proofs.Turning.{found, turn_happens, turn_is}
 
 pub record IsReady (t : ℕ) (w : World) : Type 0 where
   pub x : Transaction
@@ -62,13 +60,9 @@ ready d w t r few open_t =
       within = within_weaker (reach (length w.events)) (2 ^ 120) (omega arith) w.rows s.within;
     }
 
--- what was read at the transaction's place
-pub read_is : (t : ℕ) (w : World) (r : IsReady t w) (place : ℕ) (y : Transaction) → place ≡ t - 1 → y ≡ get_or w.transactions place y → r.x ≡ y
-read_is t w r place y at read =
-    sym (read ∙ ap (λ (i : ℕ). get_or w.transactions i y) at ∙ get_or_from_slice_get w.transactions (t - 1) r.x y r.got)
-
-pub place_within : (t : ℕ) (w : World) (r : IsReady t w) (place : ℕ) → place ≡ t - 1 → place < length w.transactions
-place_within t w r place at = let k = slice_get_within w.transactions (t - 1) r.x r.got in omega arith
+-- what is read of the transaction
+pub read_is : (t : ℕ) (w : World) (r : IsReady t w) (y : Transaction) → transaction_at t w.transactions ≡ Some y → r.x ≡ y
+read_is t w r y at = let e : Some r.x ≡ Some y = sym r.at ∙ at in cc
 
 -- ---- a turn by a change of the transaction that was read
 

@@ -1,6 +1,6 @@
 -- Every state that a run reaches is steady: rows in order, few and near 0, and frames that fit.
-use Rattle.std.proofs.Common.{◌≡◌, ℕ, zero, suc, ◌+◌, ◌-◌, ◌*◌, ◌<◌, ◌≤◌, ◌^◌, List, [], ◌∷◌, ◌++◌, length, Bool, true, false, Option, Some, None, refl, sym, ap, subst, ◌∙◌, arith, set, length-append, length-set, get_or}
-use Rattle.std.specs.Prelude.{option_and_then, slice_get, All, IfSome, if◌then◌else◌, unsigned_abs}
+use Rattle.std.proofs.Common.{◌≡◌, ℕ, ◌+◌, ◌-◌, ◌*◌, ◌<◌, ◌≤◌, ◌^◌, List, [], ◌∷◌, ◌++◌, length, Bool, true, false, Option, Some, None, refl, sym, ap, subst, ◌∙◌, arith, set, length-append, length-set}
+use Rattle.std.specs.Prelude.{option_and_then, slice_get, if◌then◌else◌}
 use Rattle.std.proofs.lemmas.Option.{slice_get_within}
 use Rattle.acc_base.specs.declared.tables.Row.{Row}
 use Rattle.acc_base.specs.declared.designs.Design.{Design}
@@ -16,19 +16,19 @@ use Rattle.acc_base.specs.declared.machines.Frame.{Frame}
 use Rattle.acc_base.specs.declared.machines.Outcome.TheVariants.{Compensated}
 use Rattle.acc_base.specs.declared.machines.Transaction.{Transaction}
 use Rattle.acc_base.specs.declared.machines.Transaction.TheVariants.{Forward, Undoing, Ended}
-use Rattle.acc_base.specs.Tables.{IsInOrder, cell}
+use Rattle.acc_base.specs.Tables.{IsInOrder}
 use Rattle.acc_base.specs.Reads.{Reading}
 use Rattle.acc_base.specs.Effects.{Effect, Goes, Refuses, OutOfRange, effect_of}
-use Rattle.acc_base.specs.Machine.{World, start, world, stop_of, may_turn, after_event, after_events, becomes, became, with_begun, begun, next_number, call_fits, changed, stepped, turned, undone, step_by, forward_by, back_by, forward_to, back_to, with_rows, transaction_at, frame_in, moved, committed}
-use Rattle.acc_base.specs.Runnable.{IsRunnable, FrameFits}
-use Rattle.acc_store.specs.Bounds.{AreWithin, IsWithin}
+use Rattle.acc_base.specs.Machine.{World, start, stop_of, may_turn, after_event, after_events, becomes, became, with_begun, begun, next_number, call_fits, changed, stepped, turned, undone, step_by, forward_by, back_by, forward_to, back_to, with_rows, transaction_at, moved, committed}
+use Rattle.acc_base.specs.Runnable.{IsRunnable}
+use Rattle.acc_store.specs.Bounds.{AreWithin}
 use Rattle.acc_store.specs.Rows.{SumsFit}
 use Rattle.acc_base.proofs.RowOrder.{order_to}
 use Rattle.acc_store.proofs.Withins.{sums_fit}
 use Rattle.acc_step.proofs.Bounds.{within_weaker}
 use Rattle.acc_step.proofs.Leaves.{Leaves, goes_leaves}
 use Rattle.acc_plain.specs.Reached.{IsReached}
-use Rattle.acc_plain.proofs.Fitting.{IsFitting, IsOwn, Fits, AreFit, fit_push, fit_set, fit_get, fits_frame, begun_fits}
+use Rattle.acc_plain.proofs.Fitting.{IsOwn, Fits, AreFit, fit_push, fit_set, fit_get, fits_frame, begun_fits}
 use Rattle.acc_plain.proofs.Turning.{at_place}
 use Rattle.acc_plain.proofs.Runs.{event_logged}
 

@@ -1,23 +1,22 @@
 -- A turn of an unfinished transaction, by the change that its next event makes.
-use Rattle.std.proofs.Common.{◌≡◌, ℕ, zero, suc, ◌+◌, ◌-◌, ◌<◌, ◌≤◌, List, [], ◌∷◌, ◌++◌, length, Bool, true, false, Option, Some, None, refl, sym, ap, subst, ◌∙◌, arith, get_or, set}
-use Rattle.std.specs.Prelude.{◌==◌, option_and_then, slice_get, IsSome, IsSomeAnd, IfSome, if◌then◌else◌}
+use Rattle.std.proofs.Common.{◌≡◌, ℕ, zero, suc, ◌-◌, ◌<◌, List, [], ◌∷◌, Bool, true, false, Option, Some, None, refl, sym, ap, subst, ◌∙◌, arith, set}
+use Rattle.std.specs.Prelude.{◌==◌, option_and_then, slice_get, IsSome, IsSomeAnd, if◌then◌else◌}
 use Rattle.std.proofs.lemmas.Bool.Decides.{nat_tests}
-use Rattle.acc_base.specs.declared.tables.Row.{Row}
 use Rattle.acc_base.specs.declared.designs.Design.{Design}
 use Rattle.acc_base.specs.declared.designs.Side.TheVariants.{Undo as UndoSide}
 use Rattle.acc_base.specs.declared.machines.Cause.{Cause}
 use Rattle.acc_base.specs.declared.machines.Event.{Event}
-use Rattle.acc_base.specs.declared.machines.Event.TheVariants.{Begin, Step, Abort, Undo}
+use Rattle.acc_base.specs.declared.machines.Event.TheVariants.{Step, Abort, Undo}
 use Rattle.acc_base.specs.declared.machines.Frame.{Frame}
 use Rattle.acc_base.specs.declared.machines.Transaction.{Transaction}
 use Rattle.acc_base.specs.declared.machines.Transaction.TheVariants.{Forward, Undoing, Ended}
-use Rattle.acc_base.specs.declared.machines.Turn.{Turn}
 use Rattle.acc_base.specs.Effects.{Effect, Goes, Refuses, OutOfRange, effect_of}
 use Rattle.acc_base.specs.Machine.{World, stop_of, after_event, becomes, became, changed, transaction_at, frame_in}
 use Rattle.acc_base.specs.Turns.{forward_event, undo_event, next_event, said, said_of, turn_of}
 use Rattle.acc_store.specs.Rows.{written}
 use Rattle.acc_plain.specs.declared.changes.Change.{Change}
 use Rattle.acc_plain.specs.Change.{left_by, IsNextChange}
+use Rattle.acc_plain.specs.Kept.{IsNumbered}
 use Rattle.acc_plain.specs.Turned.{IsUnfinished}
 
 -- an unfinished transaction stands at its place
@@ -39,6 +38,19 @@ at_place t ts x h = by (t == 0) refl h
     by true e k = absurd cc
     by false e k = (grind (arith, nat_tests), k)
 
+set_got : (ts : List Transaction) (i : ℕ) (x y : Transaction) → slice_get ts i ≡ Some x → slice_get (set ts i y) i ≡ Some y
+set_got [] i x y h = absurd cc
+set_got (z ∷ ts) zero x y h = refl
+set_got (z ∷ ts) (suc i) x y h = set_got ts i x y h
+
+-- what a transaction is set to is there
+pub at_set : (t : ℕ) (ts : List Transaction) (x y : Transaction) → transaction_at t ts ≡ Some x → transaction_at t (set ts (t - 1) y) ≡ Some y
+at_set t ts x y h = by (t == 0) h
+  where
+    by : (b : Bool) → (if b then None else slice_get ts (t - 1)) ≡ Some x → (if b then None else slice_get (set ts (t - 1) y) (t - 1)) ≡ Some y
+    by true k = absurd cc
+    by false k = set_got ts (t - 1) x y k
+
 pub found : (t : ℕ) (w : World) → IsUnfinished t w → IsFound t w
 found t w h =
     let k = some_from (λ x. IsSome (frame_in x)) (transaction_at t w.transactions) h in
@@ -46,10 +58,6 @@ found t w h =
     record { x = k.0; at = k.1; from_one = place.0; got = place.1; open_frame = k.2 }
 
 -- ---- the event of a turn is the transaction's own
-
--- the frame's number is t
-abbrev pub IsNumbered : ℕ → Transaction → Type 0
-IsNumbered t x = IfSome (frame_in x) (λ f. f.t ≡ t)
 
 own_forward : (d : Design) (w : World) (t : ℕ) (f : Frame) (stop : Option Cause) (e : Event) → f.t ≡ t → forward_event f.t stop ≡ e → after_event d w e ≡ becomes w e t (changed d w.rows e (transaction_at t w.transactions))
 own_forward d w t f None e n h = subst (λ (z : Event). after_event d w z ≡ becomes w z t (changed d w.rows z (transaction_at t w.transactions))) (ap Step (sym n) ∙ h) refl

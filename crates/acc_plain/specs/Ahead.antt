@@ -2,15 +2,14 @@
 use Rattle.std.specs.Prelude.{◌≡◌, ◌<◌, ◌+◌, ◌^◌, List, None, Some, All, IsSome}
 use Rattle.acc_base.specs.declared.tables.Row.{Row}
 use Rattle.acc_base.specs.declared.designs.Design.{Design}
-use Rattle.acc_base.specs.declared.designs.Side.TheVariants.{Next, Undo as UndoSide}
+use Rattle.acc_base.specs.declared.designs.Side.TheVariants.{Next}
 use Rattle.acc_base.specs.declared.machines.Frame.{Frame}
-use Rattle.acc_base.specs.declared.machines.Cause.{Cause}
 use Rattle.acc_base.specs.declared.machines.Cause.TheVariants.{Refused}
 use Rattle.acc_base.specs.declared.steps.Target.{Target}
 use Rattle.acc_base.specs.declared.steps.Target.TheVariants.{Point as ToPoint, Commit, Undone, Refuse}
 use Rattle.acc_base.specs.Reads.{Reading}
 use Rattle.acc_base.specs.Effects.{effect_of}
-use Rattle.acc_base.specs.Machine.{stop_of, forward_to, back_to}
+use Rattle.acc_base.specs.Machine.{stop_of, forward_to}
 use Rattle.acc_store.specs.Rows.{IsNarrow}
 use Rattle.acc_step.specs.Seen.{seen}
 use Rattle.acc_step.specs.declared.effects.StepEffect.{StepEffect}

@@ -15,15 +15,24 @@ use Rattle.acc_plain.specs.declared.changes.Becomes.{Becomes}
 use Rattle.acc_plain.specs.declared.changes.Becomes.TheVariants.{Turns, Stands, Ends}
 use Rattle.acc_step.specs.declared.effects.StepEffect.{StepEffect}
 use Rattle.acc_plain.specs.declared.changes.Change.{Change}
+use Rattle.acc_plain.specs.declared.changes.Standing.{Standing}
 use Rattle.acc_plain.specs.Ahead.{reading_of}
+
+-- a frame whose transaction is undone from here on
+abbrev pub turned_back : Frame → Frame
+turned_back f = record f { side = UndoSide }
+
+-- a frame that goes on from a point
+abbrev pub standing_at : Standing → Frame → Frame
+standing_at s f = record f { locals = s.locals; pos = s.pos; point = s.point; steps = s.steps }
 
 -- the transaction that a change leaves
 abbrev pub left_by : Becomes → Transaction → Transaction
-left_by (Turns c) (Forward f) = Undoing (record f { side = UndoSide }) c
-left_by (Turns c) (Undoing f e) = Undoing f e
+left_by (Turns c) (Forward f) = Undoing (turned_back f) c
+left_by (Turns c) (Undoing f e) = Undoing (turned_back f) c
 left_by (Turns c) (Ended reply) = Ended reply
-left_by (Stands s) (Forward f) = Forward (record f { locals = s.locals; pos = s.pos; point = s.point; steps = s.steps })
-left_by (Stands s) (Undoing f c) = Undoing (record f { locals = s.locals; pos = s.pos; point = s.point; steps = s.steps }) c
+left_by (Stands s) (Forward f) = Forward (standing_at s f)
+left_by (Stands s) (Undoing f c) = Undoing (standing_at s f) c
 left_by (Stands s) (Ended reply) = Ended reply
 left_by (Ends reply) x = Ended reply
 

@@ -4,7 +4,6 @@ use Rattle.acc_base.specs.declared.designs.Design.{Design}
 use Rattle.acc_base.specs.declared.machines.Cause.{Cause}
 use Rattle.acc_base.specs.declared.machines.Event.{Event}
 use Rattle.acc_base.specs.declared.machines.Event.TheVariants.{Begin, Step, Abort, Undo}
-use Rattle.acc_base.specs.declared.machines.Transaction.{Transaction}
 use Rattle.acc_base.specs.declared.machines.Turn.{Turn}
 use Rattle.acc_base.specs.Machine.{World, transaction_at, frame_in}
 use Rattle.acc_base.specs.Turns.{turn_of}

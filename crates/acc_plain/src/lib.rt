@@ -3,8 +3,10 @@
 
 mod changes;
 mod fittings;
+mod frames;
 mod machines;
 mod takes;
+mod transactions;
 
 pub use changes::PlainError;
 pub use machines::Machine;

@@ -1,39 +1,41 @@
 //! The machine: transactions that take their turns over a store.
-ghost use Rattle.std.specs.Prelude.{◌≡◌, ◌≤◌, ◌<◌, ◌^◌, ◌+◌, ◌-◌, [], ◌∷◌, ◌++◌, length, true, slice_get, slice_set, vec_len, All, Some, None, IfOk, IfSome, OnErr, OnOk, option_copied, option_and_then, IsTrue, ◌↔◌, MatchOption, replicate, pos};
+ghost use Rattle.std.specs.Prelude.{◌≡◌, ◌≤◌, ◌<◌, ◌^◌, ◌+◌, ◌-◌, [], ◌∷◌, ◌++◌, length, true, slice_get, slice_set, vec_len, All, Some, None, IfOk, IfSome, OnErr, OnOk, option_copied, option_and_then, option_map, IsTrue, ◌↔◌, MatchOption, replicate, pos};
 ghost use Rattle.acc_base.specs.Tables.{IsInOrder};
-ghost use Rattle.acc_base.specs.Machine.{start, next_number, call_fits, locals_in, begun, transaction_at, frame_in, reply_in, after_event};
+ghost use Rattle.acc_base.specs.Machine.{start, next_number, call_fits, locals_in, begun, transaction_at, frame_in, reply_in, unfinished, after_event};
 ghost use Rattle.acc_base.specs.Turns.{next_event, said};
 ghost use Rattle.acc_base.specs.Runnable.{IsRunnable, FrameFits};
 ghost use Rattle.acc_base.specs.declared.machines.Event.TheVariants.{Begin};
 ghost use Rattle.acc_base.specs.declared.machines.Event.{Event as TheEvent};
-ghost use Rattle.acc_base.specs.declared.machines.Transaction.{Transaction as TheTransaction};
 ghost use Rattle.acc_store.specs.Bounds.{AreWithin};
 ghost use Rattle.acc_store.specs.Rows.{written, IsNarrow, SumsFit};
-ghost use Rattle.acc_plain.specs.Change.{left_by, IsNextChange};
+ghost use Rattle.acc_base.specs.declared.machines.Transaction.TheVariants.{Forward};
+ghost use Rattle.acc_plain.specs.Change.{IsNextChange};
+ghost use Rattle.acc_plain.specs.Kept.{transaction_of};
 ghost use Rattle.acc_plain.specs.Reached.{IsReached};
 ghost use Rattle.acc_plain.specs.Taken.{number_in, IsTaken};
 ghost use Rattle.acc_plain.specs.Turned.{cause_in, IsUnfinished, IsTurned};
 
-use crate::changes::{Becomes, Change, PlainError, forward_change, undo_change};
+use crate::changes::{Change, PlainError, forward_change, undo_change};
 use crate::fittings::call_fits;
 use crate::takes::change_by;
+use crate::transactions::{TransactionRef, Transactions};
 use acc_base::designs::{At, Design, Side};
-use acc_base::machines::{Call, Cause, Event, Frame, Outcome, Reply, Transaction, Turn};
+use acc_base::machines::{Call, Cause, Event, Frame, Reply, Turn};
 use acc_base::sequences::{Seq, copied};
 use acc_store::{Store, StoreError, Write};
 use std::alloc::{AllocError, Global};
 use std::marker::Model;
-use std::mem;
 
 /// A machine over a design. Contracts see the design and the state after the events so far.
 ///
-/// A transaction is found in constant time; a turn costs what its step's look-ups and writes cost.
+/// An unfinished transaction is found in time that grows with the logarithm of how many are unfinished, another in constant
+/// time; a turn costs what its step's look-ups and writes cost.
 #[derive(Drop)]
 pub struct Machine<'a, S: Store> {
     alloc: Global,
     design: &'a Design,
     store: S,
-    transactions: Vec<Transaction>,
+    transactions: Transactions,
     events: Vec<Event>,
 }
 
@@ -43,9 +45,9 @@ impl<'a, S: Store> Model for Machine<'a, S> {
 
     ghost Value = { Running };
 
-    ghost view = { λ m. record { design = m.design.now; world = record { rows = S.rows m.store; transactions = m.transactions.items; events = m.events.items } } };
+    ghost view = { λ m. record { design = m.design.now; world = record { rows = S.rows m.store; transactions = m.transactions; events = m.events.items } } };
 
-    ghost invariant = { λ m. IsReached m.design.now (record { rows = S.rows m.store; transactions = m.transactions.items; events = m.events.items }) };
+    ghost invariant = { λ m. IsReached m.design.now (record { rows = S.rows m.store; transactions = m.transactions; events = m.events.items }) };
 }
 
 /// A call again.
@@ -97,42 +99,6 @@ fn first_frame(alloc: Global, d: &Design, t: u64, call: &Call) -> Result<Frame, 
     })
 }
 
-/// The transaction that a change leaves.
-fn left_by(becomes: Becomes, x: Transaction) -> Transaction
-    ensures { result ≡ left_by becomes x }
-{
-    match (becomes, x) {
-        (Becomes::Turns(cause), Transaction::Forward(f)) => {
-            Transaction::Undoing(
-                Frame {
-                    side: Side::Undo,
-                    ..f
-                },
-                cause,
-            )
-        }
-        (Becomes::Stands(s), Transaction::Forward(f)) => Transaction::Forward(Frame {
-            locals: s.locals,
-            pos: s.pos,
-            point: s.point,
-            steps: s.steps,
-            ..f
-        }),
-        (Becomes::Stands(s), Transaction::Undoing(f, cause)) => Transaction::Undoing(
-            Frame {
-                locals: s.locals,
-                pos: s.pos,
-                point: s.point,
-                steps: s.steps,
-                ..f
-            },
-            cause,
-        ),
-        (Becomes::Ends(reply), _) => Transaction::Ended(reply),
-        (_, x) => x,
-    }
-}
-
 /// The point at which a frame stands.
 fn standing_at(f: &Frame) -> At
     ensures { result ≡ record { ty = f.now.ty; point = f.now.point } }
@@ -154,59 +120,38 @@ fn cause_in(event: &Event) -> Option<Cause>
 }
 
 /// What is said of a turn: why the transaction turned, if it did, and else where it stands now.
-fn said(cause: Option<Cause>, x: &Transaction) -> Turn
-    ensures { (event : TheEvent) → cause ≡ cause_in event → result ≡ said event x.now }
+fn said(cause: Option<Cause>, x: Option<TransactionRef>) -> Option<Turn>
+    ensures { (event : TheEvent) → cause ≡ cause_in event → result ≡ option_map (said event) (option_map transaction_of x.entry) }
 {
+    let x = x?;
     if let Some(cause) = cause {
-        return Turn::Turned(cause);
+        return Some(Turn::Turned(cause));
     }
-    match x {
-        Transaction::Forward(f) => Turn::Stepped(standing_at(f)),
-        Transaction::Undoing(f, _) => Turn::Back(standing_at(f)),
-        Transaction::Ended(_) => Turn::Ended,
-    }
-}
-
-/// A transaction's place among all.
-fn place_of(t: u64) -> usize
-    requires { 0 < t }
-    ensures { result ≡ t - 1 }
-{
-    (t - 1) as usize
+    Some(match x {
+        TransactionRef::Forward(f) => Turn::Stepped(standing_at(f)),
+        TransactionRef::Undoing(f, _) => Turn::Back(standing_at(f)),
+        TransactionRef::Ended(_) => Turn::Ended,
+    })
 }
 
 /// What the next turn of a transaction changes, if it has one.
 fn next_change<S: Store>(
     alloc: Global,
     d: &Design,
-    x: &Transaction,
+    x: TransactionRef,
     s: &S,
 ) -> Result<Option<Change>, PlainError>
     requires runnable { IsRunnable d.now }
-    requires fits { IfSome (frame_in x.now) FrameFits }
+    requires fits { IfSome (frame_in (transaction_of x)) FrameFits }
     requires order { IsInOrder (S.rows s.now) }
     requires within { AreWithin (2 ^ 120) (S.rows s.now) }
-    ensures { IfOk result (λ c. MatchOption c (next_event d.now (S.rows s.now) (Some x.now) ≡ None) (IsNextChange d.now (S.rows s.now) x.now)) }
+    ensures { IfOk result (λ c. MatchOption c (next_event d.now (S.rows s.now) (Some (transaction_of x.entry)) ≡ None) (IsNextChange d.now (S.rows s.now) (transaction_of x.entry))) }
 {
     match x {
-        Transaction::Forward(f) => Ok(Some(forward_change(alloc, d, f, s)?)),
-        Transaction::Undoing(f, cause) => undo_change(alloc, d, f, *cause, s),
-        Transaction::Ended(_) => Ok(None),
+        TransactionRef::Forward(f) => Ok(Some(forward_change(alloc, d, f, s)?)),
+        TransactionRef::Undoing(f, cause) => undo_change(alloc, d, f, cause, s),
+        TransactionRef::Ended(_) => Ok(None),
     }
-}
-
-/// Replaces a transaction by what a change leaves of it.
-fn replace(transactions: &mut Vec<Transaction>, place: usize, becomes: Becomes)
-    requires within { place < vec_len transactions.old }
-    ensures len { vec_len transactions.new ≡ vec_len transactions.old }
-    ensures items { (x : TheTransaction) → slice_get transactions.old.items place ≡ Some x → transactions.new.items ≡ slice_set transactions.old.items place (left_by becomes x) }
-{
-    let nothing = Transaction::Ended(Reply {
-        t: 0,
-        outcome: Outcome::Compensated(Cause::Crash),
-    });
-    let x = mem::replace(&mut transactions[place], nothing);
-    transactions[place] = left_by(becomes, x);
 }
 
 /// Adds an event and does its writes, or neither.
@@ -236,17 +181,18 @@ fn log_writes<S: Store>(
 /// Adds an event and the transaction that begins by it, or neither.
 fn log_begin(
     events: &mut Vec<Event>,
-    transactions: &mut Vec<Transaction>,
+    transactions: &mut Transactions,
     event: Event,
-    x: Transaction,
+    frame: Frame,
 ) -> Result<(), PlainError>
+    requires number { frame.t ≡ length transactions.old + 1 }
     ensures events { OnOk result (events.new.items ≡ events.old.items ++ event ∷ []) }
-    ensures transactions { OnOk result (transactions.new.items ≡ transactions.old.items ++ x ∷ []) }
+    ensures transactions { OnOk result (transactions.new ≡ transactions.old ++ Forward frame ∷ []) }
     ensures events_stay { OnErr result (events.new.items ≡ events.old.items) }
-    ensures transactions_stay { OnErr result (transactions.new.items ≡ transactions.old.items) }
+    ensures transactions_stay { OnErr result (transactions.new ≡ transactions.old) }
 {
     events.push(event)?;
-    match transactions.push(x) {
+    match transactions.push(frame) {
         Ok(()) => Ok(()),
         Err(_) => {
             events.pop();
@@ -267,24 +213,16 @@ impl<'a, S: Store> Machine<'a, S> {
             alloc,
             design,
             store,
-            transactions: Vec::new(alloc),
+            transactions: Transactions::new(alloc),
             events: Vec::new(alloc),
         }
     }
 
-    /// How many transactions have begun.
-    pub fn count(&self) -> u64
-        ensures { result ≡ length self.now.world.transactions }
+    /// The frames of the transactions that have begun and haven't ended, in order of number.
+    pub fn unfinished(&self) -> &[Frame]
+        ensures { result.now ≡ unfinished self.now.world }
     {
-        self.transactions.len() as u64
-    }
-
-    /// The transaction with this number, if it has begun.
-    pub fn transaction(&self, t: u64) -> Option<&Transaction>
-        ensures { option_copied result ≡ transaction_at t self.now.world.transactions }
-    {
-        let place = t.checked_sub(1)?;
-        self.transactions.get(place as usize)
+        self.transactions.unfinished()
     }
 
     /// The events so far, oldest first. They are a run of the plain machine, and the machine's state is the one after it.
@@ -321,14 +259,14 @@ impl<'a, S: Store> Machine<'a, S> {
         ensures design { self.new.design ≡ self.old.design }
         ensures count { length self.new.world.events ≤ length self.old.world.events + 1 }
     {
-        let t = self.transactions.len() as u64 + 1;
+        let t = self.transactions.next_number();
         let frame = first_frame(self.alloc, self.design, t, call)?;
         let again = call_again(call)?;
         log_begin(
             &mut self.events,
             &mut self.transactions,
             Event::Begin(again),
-            Transaction::Forward(frame),
+            frame,
         )?;
         Ok(t)
     }
@@ -346,14 +284,10 @@ impl<'a, S: Store> Machine<'a, S> {
         ensures design { self.new.design ≡ self.old.design }
         ensures count { length self.new.world.events ≤ length self.old.world.events + 1 }
     {
-        let place = place_of(t);
-        let Some(change) = next_change(
-            self.alloc,
-            self.design,
-            &self.transactions[place],
-            &self.store,
-        )?
-        else {
+        let Some(x) = self.transactions.get(t) else {
+            return Ok(None);
+        };
+        let Some(change) = next_change(self.alloc, self.design, x, &self.store)? else {
             return Ok(None);
         };
         let Change {
@@ -363,8 +297,8 @@ impl<'a, S: Store> Machine<'a, S> {
         } = change;
         let cause = cause_in(&event);
         log_writes(&mut self.events, &mut self.store, event, writes.as_slice())?;
-        replace(&mut self.transactions, place, becomes);
-        Ok(Some(said(cause, &self.transactions[place])))
+        self.transactions.change(t, becomes);
+        Ok(said(cause, self.transactions.get(t)))
     }
 
     /// Does an event, where the machine allows it in its state: true, and then the event is the last; else false, and
@@ -406,7 +340,7 @@ impl<'a, S: Store> Machine<'a, S> {
         ensures design { self.new.design ≡ self.old.design }
         ensures count { length self.new.world.events ≤ length self.old.world.events + 1 }
     {
-        let Some(x) = self.transaction(t) else {
+        let Some(x) = self.transactions.get(t) else {
             return Ok(false);
         };
         let Some(change) = change_by(self.alloc, self.design, event, x, &self.store)? else {
@@ -418,7 +352,7 @@ impl<'a, S: Store> Machine<'a, S> {
             becomes,
         } = change;
         log_writes(&mut self.events, &mut self.store, done, writes.as_slice())?;
-        replace(&mut self.transactions, place_of(t), becomes);
+        self.transactions.change(t, becomes);
         Ok(true)
     }
 
@@ -433,8 +367,8 @@ impl<'a, S: Store> Machine<'a, S> {
     pub fn reply(&self, t: u64) -> Option<&Reply>
         ensures { option_copied result ≡ option_and_then reply_in (transaction_at t self.now.world.transactions) }
     {
-        match self.transaction(t) {
-            Some(Transaction::Ended(reply)) => Some(reply),
+        match self.transactions.get(t) {
+            Some(TransactionRef::Ended(reply)) => Some(reply),
             _ => None,
         }
     }
@@ -444,8 +378,8 @@ impl<'a, S: Store> Machine<'a, S> {
         ensures { IsTrue result ↔ IsUnfinished t self.now.world }
     {
         matches!(
-            self.transaction(t),
-            Some(Transaction::Forward(_) | Transaction::Undoing(_, _))
+            self.transactions.get(t),
+            Some(TransactionRef::Forward(_) | TransactionRef::Undoing(_, _))
         )
     }
 }

@@ -6,11 +6,13 @@ ghost use Rattle.acc_base.specs.Runnable.{IsRunnable, FrameFits};
 ghost use Rattle.acc_base.specs.declared.machines.Event.TheVariants.{Step, Abort};
 ghost use Rattle.acc_base.specs.declared.machines.Transaction.TheVariants.{Forward};
 ghost use Rattle.acc_store.specs.Bounds.{AreWithin};
+ghost use Rattle.acc_plain.specs.Kept.{transaction_of};
 ghost use Rattle.acc_plain.specs.Taken.{IsOf, IsChangeBy, if_step, if_abort};
 
 use crate::changes::{Becomes, Change, PlainError, forward_change, undo_change};
+use crate::transactions::TransactionRef;
 use acc_base::designs::Design;
-use acc_base::machines::{Cause, Event, Frame, Transaction};
+use acc_base::machines::{Cause, Event, Frame};
 use acc_base::sequences::Seq;
 use acc_store::Store;
 use std::alloc::Global;
@@ -93,22 +95,22 @@ pub fn change_by<S: Store>(
     alloc: Global,
     d: &Design,
     event: &Event,
-    x: &Transaction,
+    x: TransactionRef,
     s: &S,
 ) -> Result<Option<Change>, PlainError>
     requires runnable { IsRunnable d.now }
-    requires of { IsOf x.now event.now }
-    requires fits { IfSome (frame_in x.now) FrameFits }
+    requires of { IsOf (transaction_of x) event.now }
+    requires fits { IfSome (frame_in (transaction_of x)) FrameFits }
     requires order { IsInOrder (S.rows s.now) }
     requires within { AreWithin (2 ^ 120) (S.rows s.now) }
-    ensures { IfOk result (λ c. MatchOption c (changed d.now (S.rows s.now) event.now (Some x.now) ≡ None) (IsChangeBy d.now (S.rows s.now) x.now event.now)) }
+    ensures { IfOk result (λ c. MatchOption c (changed d.now (S.rows s.now) event.now (Some (transaction_of x.entry)) ≡ None) (IsChangeBy d.now (S.rows s.now) (transaction_of x.entry) event.now)) }
 {
     match (event, x) {
-        (Event::Step(_), Transaction::Forward(f)) => change_by_step(alloc, d, f, s),
-        (Event::Abort(_, cause), Transaction::Forward(f)) => {
+        (Event::Step(_), TransactionRef::Forward(f)) => change_by_step(alloc, d, f, s),
+        (Event::Abort(_, cause), TransactionRef::Forward(f)) => {
             change_by_abort(alloc, d, f, *cause, s)
         }
-        (Event::Undo(_), Transaction::Undoing(f, cause)) => undo_change(alloc, d, f, *cause, s),
+        (Event::Undo(_), TransactionRef::Undoing(f, cause)) => undo_change(alloc, d, f, cause, s),
         _ => Ok(None),
     }
 }

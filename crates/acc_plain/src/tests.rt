@@ -175,3 +175,32 @@ fn a_stopped_step_is_refused(rt: HostRuntime) -> Result<(), Fail> {
     assert!(rt; as_told);
     Ok(())
 }
+
+/// The numbers of the unfinished transactions.
+fn unfinished(alloc: Global, machine: &Machine<MapStore>) -> Result<Vec<u64>, AllocError> {
+    machine
+        .unfinished()
+        .iter()
+        .map(|frame| frame.t)
+        .collect(alloc)
+}
+
+#[test]
+fn the_unfinished_in_order_of_number(rt: HostRuntime) -> Result<(), Fail> {
+    let alloc = rt.alloc();
+    let d = design(alloc, 9)?;
+    let mut machine = Machine::new(alloc, &d, MapStore::new(alloc));
+    for _ in 0..5 {
+        let begun = machine.take(&call(alloc, 0))?;
+        assert!(rt; begun);
+    }
+    for t in [1, 1, 4, 4, 2, 2, 3] {
+        let stepped = machine.take(&Event::Step(t))?;
+        assert!(rt; stepped);
+    }
+    let left = unfinished(alloc, &machine)?;
+    assert_eq!(rt; left.as_slice(), [3, 5].as_slice());
+    assert!(rt; !machine.is_unfinished(4));
+    assert!(rt; machine.reply(2).is_some());
+    Ok(())
+}
