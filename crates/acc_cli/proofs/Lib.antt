@@ -1,6 +1,5 @@
 pub mod FilesLemmas
 pub mod RowsLemmas
-pub mod Mentioning
 pub mod SaidLemmas
 pub mod StatusLemmas
 pub mod FewTerms

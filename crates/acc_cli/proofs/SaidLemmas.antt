@@ -1,15 +1,15 @@
 -- What is said of each item of a script or an order holds of all.
-use Rattle.std.proofs.Common.{◌≡◌, ℕ, ◌<◌, ◌≤◌, Bool, true, false, List, [], ◌∷◌, ◌++◌, length, Result, Ok, Err, subst, sym, arith, ap}
+use Rattle.std.proofs.Common.{◌≡◌, ℕ, Bool, true, false, List, [], ◌∷◌, Result, Ok, Err, subst, sym, arith}
 use Rattle.std.specs.Prelude.{All, IfOk, MatchBool, slice_get}
 use Rattle.std.proofs.lemmas.List.Elements.{All-append, All-cons}
 use Rattle.acc_base.specs.declared.designs.Design.{Design}
 use Rattle.acc_base.specs.declared.machines.Call.{Call}
 use Rattle.acc_base.specs.Machine.{call_fits}
 use Rattle.acc_script.specs.Pieces.{lines_of, is_skipped}
-use Rattle.acc_script.specs.LineReadings.{Says, AreSaid, IsSaid}
+use Rattle.acc_script.specs.LineReadings.{Says, AreSaid}
 use Rattle.acc_script.specs.CallLines.{SaysCall, IsScript}
 use Rattle.acc_script.specs.OrderLines.{IsPlace, SaysPlaces, IsOrder}
-use Rattle.acc_cli.specs.Stages.{AllFit}
+use Rattle.acc_play.specs.Stages.{AllFit}
 
 pub if_ok : {T E : Type 0} {P Q : T → Type 0} (r : Result T E) → ((x : T) → P x → Q x) → IfOk r P → IfOk r Q
 if_ok (Ok x) f h = f x h

@@ -11,4 +11,3 @@ pub mod Outcome
 pub mod Meant
 pub mod Answered
 pub mod Rows
-pub mod Stages

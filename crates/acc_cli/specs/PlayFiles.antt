@@ -1,26 +1,21 @@
 -- The command play: a script's calls, in the order that is given, on the plain machine of a design.
-use Rattle.std.specs.Prelude.{◌≡◌, ◌⊎◌, ℕ, List, ◌++◌, length, Some, codes}
+use Rattle.std.specs.Prelude.{◌≡◌, ◌⊎◌, ℕ, List, ◌++◌, length, codes}
 use Rattle.std.specs.Fmt.{decimal}
 use Rattle.acc_base.specs.declared.designs.Design.{Design}
 use Rattle.acc_base.specs.declared.machines.Call.{Call}
-use Rattle.acc_base.specs.Plays.{Play, Told, played}
-use Rattle.acc_base.specs.Lines.{line, play_text}
+use Rattle.acc_base.specs.Lines.{line}
 use Rattle.acc_parse.specs.Texts.{IsDesignText}
 use Rattle.acc_form.specs.WellFormed.{IsWellFormed}
+use Rattle.acc_play.specs.Tells.{Tells}
 use Rattle.acc_cli.specs.Refusals.{RefusesDesign}
 use Rattle.acc_script.specs.CallLines.{IsScript, RefusesLine}
 use Rattle.acc_script.specs.OrderLines.{IsOrder, RefusesOrderLine}
 use Rattle.acc_cli.specs.declared.status.Ending.TheVariants.{Done, Script}
 use Rattle.acc_cli.specs.Text.{Said, Says}
 
--- what is said of the play of these calls in this order: its lines, and the history whose lines they are
-pub record SaysPlay (d : Design) (calls : List Call) (order : List ℕ) (said : Said) : Type 0 where
-  pub told : List Told
-  pub play : Play
-  pub is_played : played d calls order ≡ Some (told, play)
-  pub ending : said.ending ≡ Done
-  pub text : said.text ≡ play_text d calls told play
-  pub history : said.history ≡ play.world.events
+-- the play of these calls in this order is told
+abbrev pub SaysPlay : Design → List Call → List ℕ → Said → Type 0
+SaysPlay d calls order said = (said.ending ≡ Done) × Tells d calls order said.text said.history
 
 -- the order is refused, and the first line by which it is none is said
 pub record RefusesOrder (calls : List Call) (order : List ℕ) (said : Said) : Type 0 where

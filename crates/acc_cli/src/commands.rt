@@ -8,18 +8,18 @@ ghost use Rattle.acc_cli.specs.Meant.{Means};
 ghost use Rattle.acc_cli.specs.Text.{Says};
 ghost use Rattle.acc_cli.specs.declared.status.Ending.TheVariants.{Done, Script};
 ghost use Rattle.acc_cli.specs.Outcome.{said_of};
-ghost use Rattle.acc_cli.specs.Stages.{AllFit};
+ghost use Rattle.acc_play.specs.Stages.{AllFit};
 ghost use Rattle.acc_cli.specs.PlayFiles.{PlaysFiles, SaysOfScript, SaysOfOrder};
 ghost use Rattle.acc_cli.specs.PrintFiles.{PrintsFile};
 
 use crate::designs::{ReadDesign, read_design};
 use crate::notes;
-use crate::plays::play;
 use crate::status::Ending;
 use crate::words::Command;
 use acc_base::designs::Design;
 use acc_base::machines::{Call, Event};
 use acc_base::sequences::Seq;
+use acc_play::{Transcript, play};
 use acc_print::PrintError;
 use acc_readback::print;
 use acc_script::{ScriptError, calls, order};
@@ -53,6 +53,18 @@ fn line_refusal(alloc: Global, label: &str, at: u64) -> Result<Outcome, AllocErr
     one_line(alloc, Ending::Script, text.as_str())
 }
 
+/// The answer of a play.
+fn played(transcript: Transcript) -> Outcome
+    ensures { said_of result ≡ record { ending = Done; text = transcript.text.items; history = transcript.history } }
+{
+    let Transcript { text, history } = transcript;
+    Outcome {
+        ending: Ending::Done,
+        text,
+        history,
+    }
+}
+
 /// Plays the calls in the order that the file gives.
 fn play_order(alloc: Global, d: &Design, asked: &[Call], file: &[u8]) -> Result<Outcome, AllocError>
     requires runnable { IsRunnable d.now }
@@ -60,7 +72,7 @@ fn play_order(alloc: Global, d: &Design, asked: &[Call], file: &[u8]) -> Result<
     ensures { IfOk result (λ a. SaysOfOrder d.now asked.now file.now (said_of a)) }
 {
     match order(alloc, asked.len() as u64, file) {
-        Ok(places) => play(alloc, d, asked, places.as_slice()),
+        Ok(places) => Ok(played(play(alloc, d, asked, places.as_slice())?)),
         Err(ScriptError::Line(at)) => line_refusal(alloc, "refused order ", at),
         Err(ScriptError::Memory) => Err(AllocError),
     }

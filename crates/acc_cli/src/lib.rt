@@ -5,7 +5,6 @@ mod commands;
 mod designs;
 mod files;
 mod notes;
-mod plays;
 mod status;
 mod top;
 mod words;

@@ -1,8 +1,8 @@
 -- Mentions of places, one after the other.
-use Rattle.std.proofs.Common.{◌≡◌, ℕ, ◌+◌, ◌-◌, List, [], ◌∷◌, ◌++◌, length, Option, Some, None, Result, Ok, Err, refl, sym, ap, subst, ◌∙◌, append_assoc, zero, suc, add-one, arith}
+use Rattle.std.proofs.Common.{◌≡◌, ℕ, ◌+◌, List, [], ◌∷◌, ◌++◌, length, Option, Some, None, Result, Ok, Err, refl, sym, ap, ◌∙◌, append_assoc, zero, suc, add-one, arith}
 use Rattle.std.specs.Fmt.{decimal}
 use Rattle.std.specs.List.{flat_map, range_with_len}
-use Rattle.std.specs.Prelude.{codes, OnOk, IsSome, IsSomeAnd, option_and_then, option_map, slice_get}
+use Rattle.std.specs.Prelude.{codes, OnOk, IsSome, IsSomeAnd, option_and_then, option_map}
 use Rattle.std.proofs.lemmas.Grind.{flat_map-append}
 use Rattle.std.proofs.lemmas.List.{append-nil}
 use Rattle.acc_base.specs.declared.designs.Design.{Design}
@@ -11,16 +11,15 @@ use Rattle.acc_base.specs.declared.machines.Reply.{Reply}
 use Rattle.acc_base.specs.declared.machines.Transaction.{Transaction}
 use Rattle.acc_base.specs.declared.machines.Transaction.TheVariants.{Forward, Undoing, Ended}
 use Rattle.acc_base.specs.declared.machines.Turn.{Turn}
-use Rattle.acc_base.specs.Machine.{World, transaction_at, frame_in}
+use Rattle.acc_base.specs.Machine.{World, transaction_at, frame_in, reply_in}
 use Rattle.acc_base.specs.Turns.{turn_of}
-use Rattle.acc_base.specs.Plays.{Play, Told, Turns, IsStuck, IsOver, number_of, has_begun, told_turn, told_of, turned_place, mention, told_more, mentions, opening, played}
-use Rattle.acc_base.specs.Lines.{told_line, reply_line, line, play_text}
+use Rattle.acc_base.specs.Plays.{Play, Told, Turns, IsStuck, IsOver, number_of, has_begun, told_turn, told_of, turned_place, mention, told_more, mentions, played}
+use Rattle.acc_base.specs.Lines.{told_line, reply_line, line}
 use Rattle.acc_plain.specs.Turned.{IsUnfinished}
 use Rattle.acc_base.specs.declared.machines.Event.{Event}
-use Rattle.acc_cli.specs.declared.plays.Stage.{Stage}
-use Rattle.acc_cli.specs.declared.status.Ending.TheVariants.{Done}
-use Rattle.acc_cli.specs.PlayFiles.{SaysPlay}
-use Rattle.acc_cli.specs.Stages.{play_of, TakesTurn, Mentions}
+use Rattle.acc_play.specs.declared.plays.Stage.{Stage}
+use Rattle.acc_play.specs.Tells.{Tells}
+use Rattle.acc_play.specs.Stages.{play_of, Mentions}
 
 pub on_ok : {T E P Q : Type 0} (r : Result T E) → (P → Q) → OnOk r P → OnOk r Q
 on_ok (Ok x) f h = f h
@@ -42,6 +41,26 @@ turn_told d place p t turn w h e = told_open d place p t h ∙ ap (told_turn pla
 pub stuck_told : (d : Design) (place : ℕ) (p : Play) (t : ℕ) (w : World) → IsUnfinished t p.world → turn_of d p.world t ≡ None → w ≡ p.world → told_of d place p t (transaction_at t p.world.transactions) ≡ (IsStuck place, record { world = w; numbers = p.numbers })
 stuck_told d place p t w h e same =
     told_open d place p t h ∙ ap (told_turn place p) e ∙ ap (λ (z : World). (IsStuck place, record { world = z; numbers = p.numbers })) (sym same)
+
+-- a transaction that has ended is told to be over
+pub has_ended : (d : Design) (place : ℕ) (p : Play) (t : ℕ) (reply : Reply) → option_and_then reply_in (transaction_at t p.world.transactions) ≡ Some reply → told_of d place p t (transaction_at t p.world.transactions) ≡ (IsOver place, p)
+has_ended d place p t reply h = by (transaction_at t p.world.transactions) h
+  where
+    by : (o : Option Transaction) → option_and_then reply_in o ≡ Some reply → told_of d place p t o ≡ (IsOver place, p)
+    by None k = absurd cc
+    by (Some (Forward f)) k = absurd cc
+    by (Some (Undoing f c)) k = absurd cc
+    by (Some (Ended r)) k = refl
+
+-- one that hasn't begun is told to be stuck
+pub not_begun : (d : Design) (place : ℕ) (p : Play) (t : ℕ) → (IsUnfinished t p.world → ⊥) → option_and_then reply_in (transaction_at t p.world.transactions) ≡ None → told_of d place p t (transaction_at t p.world.transactions) ≡ (IsStuck place, p)
+not_begun d place p t closed h = by (transaction_at t p.world.transactions) closed h
+  where
+    by : (o : Option Transaction) → (IsSomeAnd o (λ x. IsSome (frame_in x)) → ⊥) → option_and_then reply_in o ≡ None → told_of d place p t o ≡ (IsStuck place, p)
+    by None u k = refl
+    by (Some (Forward f)) u k = absurd (u refl)
+    by (Some (Undoing f c)) u k = absurd (u refl)
+    by (Some (Ended r)) u k = absurd cc
 
 -- a place that has begun takes its turn
 pub mention_is : (d : Design) (calls : List Call) (p q : Play) (place t : ℕ) (told : Told × Play) → has_begun d calls p place (number_of p place) ≡ Some q → number_of q place ≡ Some t → told_of d place q t (transaction_at t q.world.transactions) ≡ told → mention d calls p place ≡ Some told
@@ -83,8 +102,8 @@ replies_more p q first text new n so_far same more =
 
 -- ---- the whole
 
-pub says_play : (d : Design) (calls : List Call) (order : List ℕ) (s after : Stage) (text : List ℕ) (history : List Event) → IsPlayedSoFar d calls order [] s → length s.numbers.items ≡ length calls → after.text.items ≡ s.text.items ++ flat_map (reply_line (play_of s)) (range_with_len 1 (length s.numbers.items)) → play_of after ≡ play_of s → history ≡ after.machine.world.events → text ≡ after.text.items ++ line (codes "events " ++ decimal (length history)) → SaysPlay d calls order (record { ending = Done; text = text; history = history })
-says_play d calls order s after text history so_far count replies same events more =
+pub tells_play : (d : Design) (calls : List Call) (order : List ℕ) (s after : Stage) (text : List ℕ) (history : List Event) → IsPlayedSoFar d calls order [] s → length s.numbers.items ≡ length calls → after.text.items ≡ s.text.items ++ flat_map (reply_line (play_of s)) (range_with_len 1 (length s.numbers.items)) → play_of after ≡ play_of s → history ≡ after.machine.world.events → text ≡ after.text.items ++ line (codes "events " ++ decimal (length history)) → Tells d calls order text history
+tells_play d calls order s after text history so_far count replies same events more =
     let logged : history ≡ s.machine.world.events = events ∙ ap (λ (p : Play). p.world.events) same in
     let told = flat_map (told_line d) so_far.told in
     let replied = flat_map (reply_line (play_of s)) (range_with_len 1 (length calls)) in
@@ -92,7 +111,6 @@ says_play d calls order s after text history so_far count replies same events mo
       told = so_far.told;
       play = play_of s;
       is_played = sym so_far.whole;
-      ending = refl;
-      text = more ∙ (λ i. (replies ∙ (λ j. so_far.text j ++ flat_map (reply_line (play_of s)) (range_with_len 1 (count j)))) i ++ line (codes "events " ++ decimal (length (logged i)))) ∙ append_assoc told replied (line (codes "events " ++ decimal (length s.machine.world.events)));
-      history = logged;
+      text_is = more ∙ (λ i. (replies ∙ (λ j. so_far.text j ++ flat_map (reply_line (play_of s)) (range_with_len 1 (count j)))) i ++ line (codes "events " ++ decimal (length (logged i)))) ∙ append_assoc told replied (line (codes "events " ++ decimal (length s.machine.world.events)));
+      history_is = logged;
     }

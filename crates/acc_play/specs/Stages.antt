@@ -5,7 +5,7 @@ use Rattle.acc_base.specs.declared.machines.Call.{Call}
 use Rattle.acc_base.specs.Machine.{call_fits, transaction_at}
 use Rattle.acc_base.specs.Plays.{Play, Told, told_of, mention}
 use Rattle.acc_base.specs.Lines.{told_line}
-use Rattle.acc_cli.specs.declared.plays.Stage.{Stage}
+use Rattle.acc_play.specs.declared.plays.Stage.{Stage}
 
 -- the machine's state, and the number of each place's transaction
 abbrev pub play_of : Stage → Play

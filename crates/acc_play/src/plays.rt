@@ -7,20 +7,25 @@ ghost use Rattle.acc_base.specs.Lines.{reply_line, line};
 ghost use Rattle.acc_base.specs.Runnable.{IsRunnable};
 ghost use Rattle.acc_plain.specs.Turned.{IsUnfinished};
 ghost use Rattle.acc_script.specs.OrderLines.{IsPlace};
-ghost use Rattle.acc_cli.specs.Outcome.{said_of};
-ghost use Rattle.acc_cli.specs.PlayFiles.{SaysPlay};
-ghost use Rattle.acc_cli.specs.Stages.{play_of, AllFit, IsStage, TakesTurn, Mentions};
+ghost use Rattle.acc_play.specs.Stages.{play_of, AllFit, IsStage, TakesTurn, Mentions};
+ghost use Rattle.acc_play.specs.Tells.{Tells};
 
-use crate::commands::Outcome;
-use crate::status::Ending;
 use acc_base::designs::Design;
-use acc_base::machines::{Call, Transaction};
+use acc_base::machines::{Call, Event};
+use acc_base::sequences::Seq;
 use acc_plain::{Machine, PlainError};
 use acc_script::{
-    push_events, push_over, push_rest, push_stuck, push_turn, push_unbegun, push_unfinished,
+    push_events, push_over, push_reply, push_stuck, push_turn, push_unbegun, push_unfinished,
 };
 use acc_store::MapStore;
 use std::alloc::{AllocError, Global};
+
+/// What is told of a play: its lines, each with a line feed, and the events of its machine, oldest first.
+#[derive(Drop)]
+pub struct Transcript {
+    pub text: Vec<u8>,
+    pub history: Seq<Event>,
+}
 
 /// The machine, the number of each place's transaction, and the lines so far.
 #[derive(Drop)]
@@ -77,10 +82,12 @@ fn take_turn(stage: &mut Stage, d: &Design, place: u64, t: u64) -> Result<(), Al
     ensures numbers { stage.new.numbers.items ≡ stage.old.numbers.items }
     ensures count { length stage.new.machine.world.events ≤ length stage.old.machine.world.events + 1 }
 {
-    match stage.machine.transaction(t) {
-        Some(Transaction::Ended(_)) => push_over(&mut stage.text, place),
+    if stage.machine.is_unfinished(t) {
+        return take_open_turn(stage, d, place, t);
+    }
+    match stage.machine.reply(t) {
+        Some(_) => push_over(&mut stage.text, place),
         None => push_stuck(&mut stage.text, place),
-        Some(_) => take_open_turn(stage, d, place, t),
     }
 }
 
@@ -106,33 +113,40 @@ fn push_replies(stage: &mut Stage) -> Result<(), AllocError>
     ensures play { play_of stage.new ≡ play_of stage.old }
 {
     for at in 0..stage.numbers.len() {
-        push_reply(stage, at as u64 + 1)?;
+        push_reply_line(stage, at as u64 + 1)?;
     }
     Ok(())
 }
 
 /// Writes the reply line of a place.
-fn push_reply(stage: &mut Stage, place: u64) -> Result<(), AllocError>
+fn push_reply_line(stage: &mut Stage, place: u64) -> Result<(), AllocError>
     requires place { IsPlace (length stage.old.numbers.items) place }
     ensures text { OnOk result (stage.new.text.items ≡ stage.old.text.items ++ reply_line (play_of stage.old) place) }
     ensures play { play_of stage.new ≡ play_of stage.old }
 {
     match stage.numbers[(place - 1) as usize] {
         None => push_unbegun(&mut stage.text, place),
-        Some(t) => match stage.machine.transaction(t) {
-            Some(x) => push_rest(&mut stage.text, place, x),
+        Some(t) => match stage.machine.reply(t) {
+            Some(reply) => push_reply(&mut stage.text, place, reply),
             None => push_unfinished(&mut stage.text, place),
         },
     }
 }
 
-/// Plays the calls in the order, and tells the lines and the events.
-pub fn play(alloc: Global, d: &Design, calls: &[Call], order: &[u64]) -> Result<Outcome, AllocError>
+/// Plays the calls, on the plain machine of the design, in the order: each number names a call by its place from 1, which begins
+/// at its first mention and takes a turn at each. It tells a line each mention, the reply of each place in the order of the calls,
+/// and how many events there were. Its one error is want of memory.
+pub fn play(
+    alloc: Global,
+    d: &Design,
+    calls: &[Call],
+    order: &[u64],
+) -> Result<Transcript, AllocError>
     requires runnable { IsRunnable d.now }
     requires fit { AllFit d.now calls.now }
     requires places { All (IsPlace (length calls.now)) order.now }
     requires few { length order.now ≤ 2 ^ 20 }
-    ensures { IfOk result (λ a. SaysPlay d.now calls.now order.now (said_of a)) }
+    ensures { IfOk result (λ t. Tells d.now calls.now order.now t.text.items t.history) }
 {
     let mut stage = Stage {
         machine: Machine::new(alloc, d, MapStore::new(alloc)),
@@ -150,9 +164,5 @@ pub fn play(alloc: Global, d: &Design, calls: &[Call], order: &[u64]) -> Result<
     } = stage;
     let (_, history) = machine.into_parts();
     push_events(&mut text, history.len() as u64)?;
-    Ok(Outcome {
-        ending: Ending::Done,
-        text,
-        history,
-    })
+    Ok(Transcript { text, history })
 }

@@ -11,7 +11,7 @@ mod tapes;
 
 pub use errors::ScriptError;
 pub use lines::{
-    push_events, push_over, push_rest, push_stuck, push_turn, push_unbegun, push_unfinished,
+    push_events, push_over, push_reply, push_stuck, push_turn, push_unbegun, push_unfinished,
 };
 pub use orders::order;
 pub use scripts::calls;

@@ -4,10 +4,10 @@ ghost use Rattle.std.specs.List.{flat_map};
 ghost use Rattle.std.specs.Fmt.{decimal};
 ghost use Rattle.acc_base.specs.Effects.{point_of};
 ghost use Rattle.acc_base.specs.Plays.{Turns};
-ghost use Rattle.acc_base.specs.Lines.{line, told_line, at_text, cause_text, turn_text, spaced, outcome_text, rest_text, type_name, point_name};
+ghost use Rattle.acc_base.specs.Lines.{line, told_line, at_text, cause_text, turn_text, spaced, outcome_text, type_name, point_name};
 
 use acc_base::designs::{At, Design};
-use acc_base::machines::{Cause, Outcome, Transaction, Turn};
+use acc_base::machines::{Cause, Outcome, Reply, Turn};
 use itoa::Buffer;
 use std::alloc::AllocError;
 
@@ -169,23 +169,12 @@ fn push_outcome(out: &mut Vec<u8>, outcome: &Outcome) -> Result<(), AllocError>
     }
 }
 
-fn push_rest_text(out: &mut Vec<u8>, transaction: &Transaction) -> Result<(), AllocError>
-    ensures { OnOk result (out.new.items ≡ out.old.items ++ rest_text (Some transaction.now)) }
-{
-    match transaction {
-        Transaction::Ended(reply) => push_outcome(out, &reply.outcome),
-        Transaction::Forward(_) | Transaction::Undoing(_, _) => out.extend_from_slice(
-            b" unfinished",
-        ),
-    }
-}
-
-/// Writes what became of the transaction of a place.
-pub fn push_rest(out: &mut Vec<u8>, place: u64, transaction: &Transaction) -> Result<(), AllocError>
-    ensures { OnOk result (out.new.items ≡ out.old.items ++ line (decimal place ++ rest_text (Some transaction.now))) }
+/// Writes the reply to the call at a place.
+pub fn push_reply(out: &mut Vec<u8>, place: u64, reply: &Reply) -> Result<(), AllocError>
+    ensures { OnOk result (out.new.items ≡ out.old.items ++ line (decimal place ++ outcome_text reply.now.outcome)) }
 {
     push_number(out, place)?;
-    push_rest_text(out, transaction)?;
+    push_outcome(out, &reply.outcome)?;
     out.extend_from_slice(b"\n")
 }
 

@@ -1,25 +1,12 @@
 use super::design;
-use crate::{push_events, push_over, push_rest, push_stuck, push_turn, push_unbegun};
-use acc_base::designs::{At, Side};
-use acc_base::machines::{Cause, Frame, Outcome, Reply, Transaction, Turn};
+use crate::{
+    push_events, push_over, push_reply, push_stuck, push_turn, push_unbegun, push_unfinished,
+};
+use acc_base::designs::At;
+use acc_base::machines::{Cause, Outcome, Reply, Turn};
 use acc_base::sequences::Seq;
-use std::alloc::Global;
 use std::process::Abort;
 use std::test::Fail;
-
-fn forward(alloc: Global) -> Frame {
-    Frame {
-        t: 1,
-        ty: 0,
-        point: 0,
-        side: Side::Next,
-        locals: Seq::new(alloc),
-        tape: Seq::new(alloc),
-        pos: 0,
-        steps: 0,
-        ask: None,
-    }
-}
 
 #[test]
 fn the_lines_of_turns(rt: HostRuntime) -> Result<(), Fail> {
@@ -51,48 +38,43 @@ fn the_lines_of_replies(rt: HostRuntime) -> Result<(), Fail> {
     let alloc = rt.alloc();
     let mut values = Seq::new(alloc);
     let mut out = Vec::new(alloc);
-    push_rest(
+    push_reply(
         &mut out,
         1,
-        &Transaction::Ended(Reply {
+        &Reply {
             t: 1,
             outcome: Outcome::Committed(Seq::new(alloc)),
-        }),
+        },
     )?;
     values.push(30)?;
     values.push(-9223372036854775808)?;
-    push_rest(
+    push_reply(
         &mut out,
         2,
-        &Transaction::Ended(Reply {
+        &Reply {
             t: 2,
             outcome: Outcome::Committed(values),
-        }),
+        },
     )?;
-    push_rest(
+    push_reply(
         &mut out,
         3,
-        &Transaction::Ended(Reply {
+        &Reply {
             t: 3,
             outcome: Outcome::Compensated(Cause::Refused(1)),
-        }),
+        },
     )?;
-    push_rest(
+    push_reply(
         &mut out,
         4,
-        &Transaction::Ended(Reply {
+        &Reply {
             t: 4,
             outcome: Outcome::Compensated(Cause::Victim),
-        }),
+        },
     )?;
-    push_rest(&mut out, 5, &Transaction::Forward(forward(alloc)))?;
-    push_rest(
-        &mut out,
-        6,
-        &Transaction::Undoing(forward(alloc), Cause::Limit),
-    )?;
+    push_unfinished(&mut out, 5)?;
     let want =
-        b"1 committed\n2 committed 30 -9223372036854775808\n3 compensated refused 1\n4 compensated victim\n5 unfinished\n6 unfinished\n";
+        b"1 committed\n2 committed 30 -9223372036854775808\n3 compensated refused 1\n4 compensated victim\n5 unfinished\n";
     assert_eq!(rt; out.as_slice(), want.as_slice());
     Ok(())
 }

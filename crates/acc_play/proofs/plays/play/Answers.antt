@@ -1,7 +1,7 @@
 use Rattle.std.proofs.Common.{◌≡◌, ℕ, ◌+◌, ◌∷◌, ◌<◌, ◌≤◌, [], List, length, drop, get_or, subst, arith, add-one, drop-cons}
 use Rattle.std.proofs.lemmas.List.{drop_all}
-use Rattle.acc_cli.proofs.Mentioning.{IsPlayedSoFar, played_more, says_play}
-use Rattle.acc_cli.proofs.plays.play.Goals as goal
+use Rattle.acc_play.proofs.Mentioning.{IsPlayedSoFar, played_more, tells_play}
+use Rattle.acc_play.proofs.plays.play.Goals as goal
 
 pub loop-place-preserved : goal.loop-place-preserved
 loop-place-preserved c =
@@ -26,4 +26,4 @@ returns c =
     let s = c.loop-place.stage in
     let past : length order ≤ c.loop-place.place-index = omega arith in
     let over : drop c.loop-place.place-index order ≡ [] = drop_all c.loop-place.place-index order past in
-    says_play d calls order s c.push_replies.new.stage c.push_events.new.out.items c.into_parts-history.result.1 (subst (λ (zs : List ℕ). IsPlayedSoFar d calls order zs s) over c.loop-place.invariant.played) c.loop-place.invariant.stage.numbers c.in_ok-push_replies.ensures.text c.push_replies.ensures.play c.into_parts-history.ensures.events (rw c.len.ensures at c.in_ok-push_events.ensures)
+    tells_play d calls order s c.push_replies.new.stage c.push_events.new.out.items c.into_parts-history.result.1 (subst (λ (zs : List ℕ). IsPlayedSoFar d calls order zs s) over c.loop-place.invariant.played) c.loop-place.invariant.stage.numbers c.in_ok-push_replies.ensures.text c.push_replies.ensures.play c.into_parts-history.ensures.events (rw c.len.ensures at c.in_ok-push_events.ensures)

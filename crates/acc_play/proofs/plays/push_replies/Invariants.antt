@@ -1,8 +1,8 @@
 use Rattle.std.proofs.Common.{◌≡◌, ◌++◌}
 use Rattle.std.specs.List.{flat_map, range_with_len}
 use Rattle.acc_base.specs.Lines.{reply_line}
-use Rattle.acc_cli.specs.Stages.{play_of}
-use Rattle.acc_cli.proofs.plays.push_replies.Given as goal
+use Rattle.acc_play.specs.Stages.{play_of}
+use Rattle.acc_play.proofs.plays.push_replies.Given as goal
 
 abbrev pub invariant-loop-at : goal.invariant-loop-at
 invariant-loop-at l = record {

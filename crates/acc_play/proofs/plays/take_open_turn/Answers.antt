@@ -1,7 +1,7 @@
 use Rattle.acc_base.specs.Plays.{Turns, IsStuck}
-use Rattle.acc_cli.specs.Stages.{play_of}
-use Rattle.acc_cli.proofs.Mentioning.{on_ok, turn_told, stuck_told}
-use Rattle.acc_cli.proofs.plays.take_open_turn.Goals as goal
+use Rattle.acc_play.specs.Stages.{play_of}
+use Rattle.acc_play.proofs.Mentioning.{on_ok, turn_told, stuck_told}
+use Rattle.acc_play.proofs.plays.take_open_turn.Goals as goal
 
 pub returns-in-Ok-Some-clause-turn : goal.returns-in-Ok-Some-clause-turn
 returns-in-Ok-Some-clause-turn c =
