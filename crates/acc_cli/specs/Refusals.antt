@@ -10,6 +10,7 @@ use Rattle.acc_parse.specs.declared.errors.ParseError.TheVariants as errors
 use Rattle.acc_parse.specs.Texts.{IsDesignText}
 use Rattle.acc_parse.specs.Faults.{Refuses}
 use Rattle.acc_form.specs.Faults.{form_faults, is_before, IsLeast}
+use Rattle.acc_readback.specs.Judged.{IsJudgedAt}
 use Rattle.acc_cli.specs.declared.status.Ending.TheVariants.{Refused}
 use Rattle.acc_cli.specs.Text.{Said, Says}
 
@@ -30,8 +31,8 @@ pub record RefusesText (design : List ℕ) (said : Said) : Type 0 where
 abbrev pub SaysRule : ℕ → ℕ → Said → Type 0
 SaysRule rule at said = Says Refused (line (codes "refused form " ++ (decimal rule ++ (codes " " ++ decimal at)))) said
 
--- The text is that of this design, which breaks form rules: the lowest one, and the first line that breaks it, which is the line
--- of that statement in the design's print.
+-- The text is that of this design, which breaks form rules: the lowest one, and the first line that breaks it. In the design's
+-- print a statement ends on that line, and it is the one that breaks the rule.
 pub record RefusesForm (design : List ℕ) (said : Said) : Type 0 where
   pub d : Design
   pub is_text : IsDesignText design d
@@ -39,6 +40,7 @@ pub record RefusesForm (design : List ℕ) (said : Said) : Type 0 where
   pub at : ℕ
   pub first : IsLeast is_before (form_faults d) (rule, at)
   pub on_line : IsLineOf (printed d) (at - 1) at
+  pub breaks : IsJudgedAt d rule (at - 1)
   pub says : SaysRule rule at said
 
 abbrev pub RefusesDesign : List ℕ → Said → Type 0

@@ -3,7 +3,7 @@ use Rattle.acc_base.specs.Runnable.{IsRunnable}
 use Rattle.acc_form.specs.declared.rules.FormError.TheVariants.{Bad}
 use Rattle.acc_form.specs.Faults.{IsFirstFault}
 use Rattle.acc_form.specs.WellFormed.{IsWellFormed}
-use Rattle.acc_readback.proofs.RuleLines.{first_fault_line}
+use Rattle.acc_readback.proofs.RuleLines.{first_fault_line, first_fault_judged}
 use Rattle.acc_cli.proofs.Runs.{parsed_runs}
 use Rattle.acc_cli.proofs.designs.read_design.Goals as goal
 
@@ -31,5 +31,6 @@ returns-in-Err-Bad c =
       at = c.in-Err-Bad.line;
       first = first;
       on_line = first_fault_line c.args.file.now d is_text c.in-Err-Bad.rule c.in-Err-Bad.line first;
+      breaks = first_fault_judged c.args.file.now d is_text c.in-Err-Bad.rule c.in-Err-Bad.line first;
       says = c.in_ok-form_refusal-in-Err-Bad.ensures;
     })
