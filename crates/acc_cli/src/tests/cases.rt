@@ -298,7 +298,7 @@ pub const OUTSIDE: [Outside; 30] = [
         &[],
         &[],
         0,
-        "acc 0.1.0\nrattle-kit-13f logic dac8208d650f15bf\n",
+        "acc 0.1.0\nrattle-kit-13b logic dac8208d650f15bf\n",
     ),
     (
         "help_with_a_word",
