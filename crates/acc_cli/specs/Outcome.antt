@@ -1,4 +1,5 @@
 -- What the code's values say.
+-- The clauses below `acc` speak of this.
 use Rattle.acc_cli.specs.declared.commands.Outcome.{Outcome}
 use Rattle.acc_cli.specs.declared.top.Answer.{Answer}
 use Rattle.acc_cli.specs.Text.{Said, Reply}

@@ -1,4 +1,5 @@
 -- What stands after the calls that changed a file in memory.
+-- Only the disk in memory speaks of this.
 use Rattle.std.specs.Prelude.{List, [], ◌∷◌}
 use Rattle.acc_disk.specs.declared.history.Change.{Change}
 use Rattle.acc_disk.specs.declared.history.Change.TheVariants.{Wrote, Cut, Synced}

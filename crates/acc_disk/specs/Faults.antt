@@ -1,4 +1,5 @@
 -- What a disk counts.
+-- The contract of every disk speaks of this.
 use Rattle.std.specs.Prelude.{◌≡◌, ◌≤◌, ℕ, Result, MatchResult}
 use Rattle.acc_io.specs.Causes.{Rose}
 

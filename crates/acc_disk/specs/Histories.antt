@@ -1,4 +1,5 @@
 -- What a history of calls shows.
+-- Only the disk in memory speaks of this.
 use Rattle.std.specs.Prelude.{◌≡◌, ◌≤◌, ℕ, nat_le, List, [], ◌∷◌, ◌++◌, length, take}
 use Rattle.std.specs.List.{prefix_len}
 use Rattle.acc_disk.specs.Standings.{Standing, settled, IsImage}

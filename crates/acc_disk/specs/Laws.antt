@@ -1,4 +1,5 @@
 -- What holds of the moments of a history, for the laws of a disk.
+-- Proofs of the disk in memory speak of this.
 use Rattle.std.specs.Prelude.{◌≡◌, ◌≤◌, ℕ, List}
 use Rattle.std.proofs.Common.{sym, subst, ap, arith}
 use Rattle.std.proofs.lemmas.List.{take_all}

@@ -1,4 +1,5 @@
 -- What a disk in memory shows, and what its calls do to it.
+-- Only the disk in memory speaks of this.
 use Rattle.std.specs.Prelude.{◌≡◌, ◌⊎◌, ◌+◌, ◌<◌, ◌≤◌, ℕ, List, Contains, Option, Some, IsSomeAnd, Result, Ok, Err}
 use Rattle.acc_io.specs.Causes.{one_more}
 use Rattle.acc_disk.specs.Standings.{Standing, settled, after_sync, IsImage}

@@ -1,4 +1,5 @@
 -- Crashes at the moments of a run of calls, told apart by the disk's clock.
+-- The contract of every disk speaks of this.
 use Rattle.std.specs.Prelude.{◌⊎◌, ℕ, ◌≤◌, List}
 
 -- Time goes on by a call: a crash since an earlier time may have left what it might have left before the call, or

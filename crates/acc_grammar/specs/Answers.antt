@@ -1,4 +1,5 @@
 -- A parser's answer.
+-- The parsers' contracts speak of this.
 use Rattle.std.specs.Prelude.{◌≡◌, List, ◌++◌, Result, Ok, Err}
 use Rattle.acc_grammar.specs.Readers.{OutcomeOf}
 use Rattle.acc_grammar.specs.declared.faults.Fault.{Fault}

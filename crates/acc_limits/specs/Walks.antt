@@ -1,4 +1,5 @@
 -- What a walk over a design keeps of the marks that it met.
+-- Only the code that meets limits speaks of this, here and in acc_meaning; Statements and Faults say what they are.
 use Rattle.std.specs.Prelude.{◌+◌, ◌-◌, ◌^◌, Bool, ◌&&◌, List, Option, Some, None, if◌then◌else◌, nat_lt, nat_le, fold}
 use Rattle.acc_limits.specs.declared.walks.Walk.{Walk}
 use Rattle.acc_limits.specs.Numbers.{is_lower, is_before}

@@ -1,4 +1,5 @@
 -- What the structs of the code stand for.
+-- Only the code speaks of this.
 use Rattle.acc_meaning.specs.declared.scopes.VariableNames.{VariableNames}
 use Rattle.acc_meaning.specs.declared.scopes.Surroundings.{Surroundings}
 use Rattle.acc_meaning.specs.Scopes.{Variables, Scope}

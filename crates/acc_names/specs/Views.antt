@@ -1,4 +1,5 @@
 -- What the structs of the code stand for.
+-- Only the code that looks for faults speaks of this; Faults says what they are.
 use Rattle.std.specs.Prelude.{ℕ, List, ◌++◌}
 use Rattle.acc_names.specs.declared.scopes.Variables.{Variables}
 use Rattle.acc_names.specs.declared.scopes.Definitions.{Definitions}

@@ -1,5 +1,6 @@
 -- Designs that some text stands for: what is named can be spelled, terms are collected, numbers are small, no limit is passed, and
 -- no part is missing that a text must have. First values, rows and clauses.
+-- Clause `read` of `print` speaks of this.
 use Rattle.std.specs.Prelude.{◌≡◌, ◌≤◌, ◌⊎◌, ◌==◌, ℕ, Bool, None, false, List, [], ◌∷◌, length, filter, slice_get, ℤ, codes}
 use Rattle.acc_grammar.specs.Readers.{AllIn}
 use Rattle.acc_base.specs.Numbers.{IsSmall}

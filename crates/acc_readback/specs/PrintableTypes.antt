@@ -1,4 +1,5 @@
 -- Designs that some text stands for: steps, types and the whole.
+-- Clause `read` of `print` speaks of this.
 use Rattle.std.specs.Prelude.{◌≡◌, ◌≤◌, ◌<◌, ◌^◌, ℕ, false, List, [], ◌∷◌, length, map, take, drop, slice_get, ℤ}
 use Rattle.acc_grammar.specs.Readers.{AllIn}
 use Rattle.acc_base.specs.Numbers.{IsSmall}

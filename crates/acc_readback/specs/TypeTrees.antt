@@ -1,4 +1,5 @@
 -- The tree that the printed text of a design spells: steps, types, entries, hints and the whole.
+-- Clause `lexed` of `print` speaks of this.
 use Rattle.std.specs.Prelude.{ℕ, if◌then◌else◌, List, [], ◌∷◌, map, take, drop, Option, Some, None, slice_get, unsigned_abs}
 use Rattle.acc_base.specs.Lines.{type_name, point_name}
 use Rattle.acc_base.specs.Effects.{point_of}

@@ -1,4 +1,5 @@
 -- How many bytes the events Begin of calls take in a journal.
+-- Clause `short` of `calls` speaks of this, for the journal.
 use Rattle.std.specs.Prelude.{ℕ, ◌+◌, ◌*◌, List, length}
 use Rattle.std.specs.List.{sum_by}
 use Rattle.acc_base.specs.declared.machines.Call.{Call}

@@ -1,4 +1,5 @@
 -- The parts of a line that asks for a call.
+-- Only the code that reads a line speaks of this; CallLines says what a line is.
 use Rattle.std.specs.Prelude.{◌≡◌, ◌≢◌, ℕ, ◌<◌, ◌≤◌, ◌^◌, true, List, ◌∷◌, ◌++◌, length, map, position, slice_get, Option, Some, ℤ}
 use Rattle.std.specs.List.{list_all}
 use Rattle.std.specs.Fmt.{signed_decimal}

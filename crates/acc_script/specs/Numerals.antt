@@ -1,4 +1,5 @@
 -- Words that spell a whole number.
+-- Only the code that reads a number speaks of this; CallLines and OrderLines say what is read.
 use Rattle.std.specs.Prelude.{ℕ, Bool, false, ◌==◌, ◌||◌, ◌&&◌, not, List, [], ◌∷◌}
 use Rattle.std.specs.Char.{is_ascii_digit}
 use Rattle.std.specs.List.{list_all}

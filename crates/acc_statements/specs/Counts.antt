@@ -1,4 +1,5 @@
 -- How many statements the parts of a design have.
+-- What numbers statements speaks of this: the faults of names, the limits, what a part means and the print.
 use Rattle.std.specs.Prelude.{ℕ, ◌+◌, length, Option, Some, None, sum_by}
 use Rattle.acc_syntax.specs.declared.trees.PathTree.{PathTree}
 use Rattle.acc_syntax.specs.declared.trees.StepTree.{StepTree}

@@ -1,4 +1,5 @@
 -- What holds of the statements of all designs and texts.
+-- The laws of this crate state it.
 use Rattle.std.specs.Prelude.{◌≡◌, ℕ, List}
 use Rattle.acc_syntax.specs.declared.trees.DesignTree.{DesignTree}
 use Rattle.acc_syntax.specs.Spelling.{spelled_design}

@@ -1,4 +1,5 @@
 -- Reading clauses and variants, each a statement up to its end.
+-- Only the parser's code speaks of this; Spelling says what a text is.
 use Rattle.std.specs.Prelude.{Bool, ◌||◌, List, Option, Some, None, Ok, if◌then◌else◌}
 use Rattle.acc_grammar.specs.Readers.{◌>>=◌, many}
 use Rattle.acc_lex.specs.declared.words.Sign.{Sign}

@@ -1,4 +1,5 @@
 -- Reading paths, steps, points, types and the whole design.
+-- Only the parser's code speaks of this; Spelling says what a text is.
 use Rattle.std.specs.Prelude.{ℕ, List, Ok}
 use Rattle.acc_grammar.specs.Readers.{◌>>=◌, many}
 use Rattle.acc_lex.specs.declared.words.Sign.{Sign}

@@ -1,4 +1,5 @@
 -- Reading what a step reads.
+-- Only the parser's code speaks of this; Spelling says what a text is.
 use Rattle.std.specs.Prelude.{Bool, ◌||◌, List, Ok, if◌then◌else◌}
 use Rattle.acc_grammar.specs.Readers.{◌>>=◌}
 use Rattle.acc_lex.specs.declared.words.Sign.{Sign}

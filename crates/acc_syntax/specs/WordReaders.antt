@@ -1,4 +1,5 @@
 -- Reading one word, and what the next word is.
+-- Only the parser's code speaks of this; Spelling says what a text is.
 use Rattle.std.specs.Prelude.{ℕ, Bool, true, false, List, [], ◌∷◌, Ok, Err, if◌then◌else◌}
 use Rattle.acc_grammar.specs.Readers.{OutcomeOf, ◌>>=◌}
 use Rattle.acc_grammar.specs.Runs.{next_is, absent_at}
