@@ -16,6 +16,11 @@ pub mod FormEquality
 pub mod Truth
 pub mod Assertions
 pub mod UnknownEquality
+pub mod ClauseEquality
+pub mod PointEquality
+pub mod RunEquality
+pub mod SequentEquality
 pub mod Bounded
 pub mod Sums
 pub mod Worths
+pub mod Room

@@ -1,6 +1,7 @@
 //! Designs, states and events of a stepped transaction engine, as plain values, and what they mean.
 #![tactic(auto)]
 
+pub mod buffers;
 pub mod designs;
 pub mod forms;
 pub mod laws;
