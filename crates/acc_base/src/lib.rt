@@ -1,12 +1,14 @@
 //! Designs, states and events of a stepped transaction engine, as plain values, and what they mean.
 #![tactic(auto)]
 
+pub mod bounds;
 pub mod buffers;
 pub mod designs;
 pub mod forms;
 pub mod laws;
 pub mod machines;
 pub mod numbers;
+pub mod rules;
 pub mod sequences;
 pub mod sequents;
 pub mod steps;

@@ -2,14 +2,13 @@
 ghost use Rattle.std.specs.Prelude.{◌+ℤ◌, ◌*ℤ◌, SomeIff};
 ghost use Rattle.acc_base.specs.Bounded.{IsBounded};
 
-/// The end of the range of the numbers that forms are computed with, on either side of 0.
-pub const LARGEST: i128 = 1 << 120;
+use crate::bounds::LARGEST_SUM;
 
 /// The number, and none exactly where it lies beyond 2^120 on either side of 0.
 pub fn bounded(n: i128) -> Option<i128>
     ensures { SomeIff result (IsBounded n) n }
 {
-    if n < -LARGEST || LARGEST < n {
+    if LARGEST_SUM < n.unsigned_abs() {
         return None;
     }
     Some(n)

@@ -1,10 +1,12 @@
 //! Sums of small forms, worked by hand: x, y and z are the variables 0, 1 and 2.
 use crate::forms::{Atom, Form, Lin, Unknown};
-use crate::numbers::LARGEST;
+use crate::bounds::LARGEST_SUM;
 use crate::sequences::Seq;
 use crate::sums::FormSum;
 use std::alloc::{AllocError, Global};
 use std::test::Fail;
+
+const LARGEST: i128 = LARGEST_SUM as i128;
 
 /// The form with these coefficients of variables, in this order, and a constant.
 fn form(alloc: Global, coefficients: &[(u32, i128)], constant: i128) -> Result<Form, AllocError> {
