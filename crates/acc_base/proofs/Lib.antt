@@ -8,7 +8,9 @@ pub mod ActionRuns
 pub mod ReadRuns
 pub mod EffectParts
 pub mod Runnables
+pub mod CollectedPlaces
 pub mod SumSteps
 pub mod SumLoops
 pub mod Products
+pub mod CollectedWorths
 pub mod SumLaws

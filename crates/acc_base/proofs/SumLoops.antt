@@ -20,6 +20,34 @@ module _ (terms : List Term) (i : ℕ) (d : Term) (within : i < length terms) (h
   one_more =
       drop-cons terms i d within ∙ (ap (λ (n : ℕ). get_or terms i d ∷ drop n terms) (sym (add-one i)) ∙ ap (λ (x : Term). x ∷ drop (i + 1) terms) (sym here))
 
+  -- a term
+  module _ (n : ℤ) (number : n ≡ d.1) (sums : List Term) where
+    abbrev rest : Bool
+    rest = list_any is_wide (all_grown (with_term d sums) (drop (i + 1) terms))
+
+    number_wide : is_wide (grown (d.0, n) sums) ≡ is_wide (grown d sums)
+    number_wide = ap (λ (z : ℤ). is_wide (grown (d.0, z) sums)) number
+
+    parted : list_any is_wide (all_grown sums (drop i terms)) ≡ (is_wide (grown d sums) || rest)
+    parted = ap (λ (ts : List Term). list_any is_wide (all_grown sums ts)) one_more
+
+    pub term_wide : is_wide (grown (d.0, n) sums) ≡ true → list_any is_wide (all_grown sums (drop i terms)) ≡ true
+    term_wide e = parted ∙ ap (λ x. x || rest) (sym number_wide ∙ e)
+
+    module _ (new : List Term) (added : new ≡ with_term (d.0, n) sums) where
+      with_it : new ≡ with_term d sums
+      with_it = added ∙ ap (λ (z : ℤ). with_term (d.0, z) sums) number
+
+      pub terms_step : with_terms new (drop (i + 1) terms) ≡ with_terms sums (drop i terms)
+      terms_step = ap (λ (ts : List Term). with_terms ts (drop (i + 1) terms)) with_it ∙ ap (with_terms sums) (sym one_more)
+
+      pub terms_wide_step : is_wide (grown (d.0, n) sums) ≡ false
+          → list_any is_wide (all_grown new (drop (i + 1) terms)) ≡ list_any is_wide (all_grown sums (drop i terms))
+      terms_wide_step e =
+          ap (λ (ts : List Term). list_any is_wide (all_grown ts (drop (i + 1) terms))) with_it
+          ∙ (ap (λ x. x || rest) (sym e ∙ number_wide) ∙ sym parted)
+
+  -- a multiple of a term
   module _ (by b n : ℤ) (same : b ≡ by) (number : n ≡ d.1) (sums : List Term) where
     product : b *ℤ n ≡ by *ℤ d.1
     product = ap (λ (z : ℤ). z *ℤ n) same ∙ ap (λ (z : ℤ). by *ℤ z) number
@@ -46,7 +74,15 @@ module _ (terms : List Term) (i : ℕ) (d : Term) (within : i < length terms) (h
       wide_step e =
           ap (λ (ts : List Term). multiples_wide by ts (drop (i + 1) terms)) is_added ∙ (ap (λ x. x || multiples_wide by (with_term (multiple by d) sums) (drop (i + 1) terms)) (sym e) ∙ sym split)
 
--- the loop's end
+-- the loops' ends
+module _ (terms : List Term) (i : ℕ) (past : length terms ≤ i) (first sums : List Term) where
+  pub added_all : with_terms sums (drop i terms) ≡ with_terms first terms → sums ≡ with_terms first terms
+  added_all e = ap (with_terms sums) (sym (drop_all i terms past)) ∙ e
+
+  pub none_wide : list_any is_wide (all_grown sums (drop i terms)) ≡ list_any is_wide (all_grown first terms)
+      → list_any is_wide (all_grown first terms) ≡ false
+  none_wide e = sym e ∙ ap (λ (ts : List Term). list_any is_wide (all_grown sums ts)) (drop_all i terms past)
+
 module _ (terms : List Term) (i : ℕ) (past : length terms ≤ i) (b by : ℤ) (same : b ≡ by) (first sums : List Term) where
   pub terms_end : with_terms sums (map (multiple b) (drop i terms)) ≡ with_terms first (map (multiple b) terms) → sums ≡ with_terms first (map (multiple by) terms)
   terms_end e =

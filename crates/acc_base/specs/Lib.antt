@@ -20,6 +20,7 @@ pub mod ClauseEquality
 pub mod PointEquality
 pub mod RunEquality
 pub mod SequentEquality
+pub mod Collecting
 pub mod Bounded
 pub mod Sums
 pub mod Worths

@@ -1,12 +1,12 @@
 -- The sum of a form and a multiple of another: one term an unknown, in the order in which the unknowns first appear.
-use Rattle.std.specs.Prelude.{Bool, ◌||◌, not, if◌then◌else◌, IsTrue, IsFalse, List, [], ◌∷◌, ◌++◌, map, filter, Result, Ok, Err, ℤ, pos, ◌+ℤ◌, ◌*ℤ◌}
+use Rattle.std.specs.Prelude.{Bool, ◌||◌, IsTrue, IsFalse, List, [], ◌∷◌, ◌++◌, map, filter, Result, Ok, Err, ℤ, ◌+ℤ◌, ◌*ℤ◌}
 use Rattle.std.specs.List.{list_any}
-use Rattle.std.specs.Ordering.{int_eq}
 use Rattle.acc_base.specs.declared.forms.Unknown.{Unknown}
 use Rattle.acc_base.specs.declared.forms.Form.{Form}
 use Rattle.acc_base.specs.declared.sums.FormSum.{FormSum}
 use Rattle.acc_base.specs.declared.sums.FormSum.TheVariants.{Wide, Memory}
 use Rattle.acc_base.specs.Bounded.{is_wide}
+use Rattle.acc_base.specs.Collecting as collecting
 use Rattle.acc_base.specs.UnknownEquality.{unknown_eq}
 
 -- a term: an unknown with its coefficient
@@ -17,36 +17,33 @@ Term = Unknown × ℤ
 
 -- one more term: its coefficient is added to that of its unknown, which comes last where it is new
 abbrev pub with_term : Term → List Term → List Term
-with_term t [] = t ∷ []
-with_term t (s ∷ rest) = if unknown_eq s.0 t.0 then ((s.0, s.1 +ℤ t.1) ∷ rest) else (s ∷ with_term t rest)
+with_term t sums = collecting.with_term unknown_eq t.0 t.1 sums
 
 -- the coefficient that its unknown has then
 abbrev pub grown : Term → List Term → ℤ
-grown t [] = t.1
-grown t (s ∷ rest) = if unknown_eq s.0 t.0 then s.1 +ℤ t.1 else grown t rest
+grown t sums = collecting.sum_of unknown_eq t.0 sums +ℤ t.1
 
 -- more terms, one after the other
 abbrev pub with_terms : List Term → List Term → List Term
-with_terms sums [] = sums
-with_terms sums (t ∷ ts) = with_terms (with_term t sums) ts
+with_terms sums terms = collecting.with_terms unknown_eq sums terms
 
 -- the coefficients that they give one after the other
 abbrev pub all_grown : List Term → List Term → List ℤ
 all_grown sums [] = []
 all_grown sums (t ∷ ts) = grown t sums ∷ all_grown (with_term t sums) ts
 
+-- a term that is not zero
+abbrev pub is_left : Term → Bool
+is_left t = collecting.is_left t
+
 -- ---- the sum
 
 abbrev pub multiple : ℤ → Term → Term
-multiple by t = (t.0, by *ℤ t.1)
+multiple by t = collecting.multiple by t
 
 -- the terms of f + by * g, before they are collected
 abbrev pub summands : Form → ℤ → Form → List Term
 summands f by g = f.terms ++ map (multiple by) g.terms
-
--- a term that is not zero
-abbrev pub is_left : Term → Bool
-is_left t = not (int_eq t.1 (pos 0))
 
 -- f + by * g: its terms collected, without those that are zero, and the sum of the constants
 abbrev pub form_sum : Form → ℤ → Form → Form

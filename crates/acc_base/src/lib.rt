@@ -3,6 +3,7 @@
 
 pub mod bounds;
 pub mod buffers;
+pub mod collecting;
 pub mod designs;
 pub mod forms;
 pub mod laws;

@@ -33,4 +33,3 @@ pub const STARTS: u32 = 14;
 pub const ENTRIES: u32 = 15;
 /// No undo step assigns a local that stands in a pair of an entry.
 pub const PAIRS: u32 = 16;
-

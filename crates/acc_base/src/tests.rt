@@ -1,6 +1,6 @@
 //! Sums of small forms, worked by hand: x, y and z are the variables 0, 1 and 2.
-use crate::forms::{Atom, Form, Lin, Unknown};
 use crate::bounds::LARGEST_SUM;
+use crate::forms::{Atom, Form, Lin, Unknown};
 use crate::sequences::Seq;
 use crate::sums::FormSum;
 use std::alloc::{AllocError, Global};

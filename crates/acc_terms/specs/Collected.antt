@@ -1,9 +1,9 @@
 -- Terms, collected: one an unknown, in the order in which the unknowns first appear. E tells whether two unknowns are the same.
-use Rattle.std.specs.Prelude.{Bool, not, List, [], ◌∷◌, map, filter, Option, ℤ, pos}
+use Rattle.std.specs.Prelude.{Bool, not, List, [], ◌∷◌, map, filter, Option, ℤ}
 use Rattle.std.specs.Prelude.{option_map}
 use Rattle.std.specs.List.{filter_map}
-use Rattle.std.specs.Ordering.{int_eq}
 use Rattle.acc_base.specs.Numbers.{total}
+pub use Rattle.acc_base.specs.Collecting.{is_left}
 use Rattle.acc_terms.specs.declared.parts.Part.{Part}
 
 -- a term of an unknown: the unknown and the number
@@ -22,10 +22,6 @@ coefficient E terms x = total (map (λ t. t.1) (filter (λ t. E t.0 x) terms))
 -- one term an unknown
 abbrev pub totals : {K : Type 0} → (K → K → Bool) → List (K × ℤ) → List (K × ℤ)
 totals E terms = map (λ x. (x, coefficient E terms x)) (firsts E (map (λ t. t.0) terms))
-
--- a term that is not zero
-abbrev pub is_left : {K : Type 0} → K × ℤ → Bool
-is_left t = not (int_eq t.1 (pos 0))
 
 -- one term an unknown, without those that are zero
 abbrev pub collected : {K : Type 0} → (K → K → Bool) → List (Part K) → List (K × ℤ)

@@ -1,10 +1,11 @@
 //! Terms, collected: one an unknown, in the order in which the unknowns first appear.
-ghost use Rattle.std.specs.Prelude.{◌≡◌, All, IfOk};
+ghost use Rattle.std.specs.Prelude.{◌≡◌, ◌<◌, ◌+◌, ◌^◌, All, IfOk, OnOk, unsigned_abs};
 ghost use Rattle.acc_terms.specs.Parts.{IsTermSized, constant_in, constant_of};
 ghost use Rattle.acc_terms.specs.Collected.{collected};
+ghost use Rattle.acc_terms.specs.Sums.{with_term, with_part};
 
 use crate::parts::Part;
-use crate::sums::Sums;
+use acc_base::collecting::Sums;
 use acc_base::sequences::{Exact, Seq};
 use std::alloc::{AllocError, Global};
 
@@ -37,6 +38,30 @@ fn constant<K>(parts: &[Part<K>]) -> i128
     sum
 }
 
+/// Adds a term to the sum of its unknown.
+fn add<'a, K: Exact + Ord>(
+    sums: &mut Sums<'a, K>,
+    unknown: &'a K,
+    number: i128,
+) -> Result<(), AllocError>
+    requires room { All (λ t. unsigned_abs t.1 + unsigned_abs number < 2 ^ 127) sums.old }
+    ensures { OnOk result (sums.new ≡ with_term K.eq unknown.now number sums.old) }
+{
+    let sum = sums.of(unknown) + number;
+    sums.put(unknown, sum)
+}
+
+/// Adds a term to the sum of its unknown, if it has one.
+fn add_part<'a, K: Exact + Ord>(sums: &mut Sums<'a, K>, part: &'a Part<K>) -> Result<(), AllocError>
+    requires room { All (λ t. unsigned_abs t.1 + unsigned_abs part.now.number < 2 ^ 127) sums.old }
+    ensures { OnOk result (sums.new ≡ with_part K.eq part.now sums.old) }
+{
+    match &part.of {
+        Some(unknown) => add(sums, unknown, part.number),
+        None => Ok(()),
+    }
+}
+
 /// One term an unknown, in the order in which the unknowns first appear, without those that are
 /// zero; and the sum of the constants. Each number is within 2^64 of 0. The cost is n log n comparisons.
 pub fn collected<K: Exact + Ord + Drop>(
@@ -49,7 +74,7 @@ pub fn collected<K: Exact + Ord + Drop>(
 {
     let mut sums = Sums::new(alloc);
     for part in parts {
-        sums.add_part(part)?;
+        add_part(&mut sums, part)?;
     }
     Ok(Terms {
         terms: sums.kept(alloc)?,

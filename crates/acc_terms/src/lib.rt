@@ -4,7 +4,6 @@
 mod collecting;
 pub mod laws;
 mod parts;
-mod sums;
 #[cfg(test)]
 mod tests;
 

@@ -1,5 +1,5 @@
-use Rattle.acc_base.proofs.SumLaws.{form_sum-value}
+use Rattle.acc_base.proofs.SumLaws.{form_sum-worth}
 use Rattle.acc_base.proofs.laws.sums_add_up.Goals as goal
 
 pub returns : goal.returns
-returns c = form_sum-value
+returns c = form_sum-worth

@@ -1,60 +1,17 @@
-use Rattle.std.proofs.Common.{◌≡◌, rules, arith, ap, sym, ◌∙◌, Some, None, ℤ}
-use Rattle.std.specs.Prelude.{FitsSigned, position}
+use Rattle.std.proofs.Common.{rules, ◌≡◌, ◌∙◌, ap, ◌+ℤ◌}
+use Rattle.std.specs.Prelude.{FitsSigned}
 use Rattle.std.specs.Int.{w128}
-use Rattle.std.proofs.lemmas.Int.{ints, to_z-of_z}
-use Rattle.acc_base.specs.Bounded.{is_wide}
-use Rattle.acc_base.proofs.SumSteps.{at, set_found, grown_found, push_new, grown_new, handed_on}
+use Rattle.std.proofs.lemmas.Int.{to_z-of_z}
+use Rattle.acc_base.specs.Collecting.{sum_of, with_sum}
+use Rattle.acc_base.specs.UnknownEquality.{unknown_eq}
+use Rattle.acc_base.proofs.CollectedPlaces.{sum_grown}
 use Rattle.acc_base.proofs.sums.add_term.Goals as goal
 
-pub returns-in_ok-term-in-Some-clause-value : goal.returns-in_ok-term-in-Some-clause-value
-returns-in_ok-term-in-Some-clause-value c =
-    let term = c.index_mut-term.result.now in
-    let items = c.args.sums.now.items in
-    let found : position (at c.args.unknown.now) items ≡ Some c.in-Some.i = ap (position (at c.args.unknown.now)) (sym c.as_slice.ensures.value) ∙ sym c.in-Some.ensures.value in
-    let fits : FitsSigned w128 term.1 = search rules in
-    let coefficient = to_z-of_z w128 term.1 fits in
-    let number = to_z-of_z w128 c.args.n c.ranges.n in
-    let sum_fits : FitsSigned w128 c.in_ok-term-in-Some.field-0 = search rules in
-    let sum = to_z-of_z w128 c.in_ok-term-in-Some.field-0 sum_fits in
-    set_found (c.args.unknown.now, c.args.n) term items c.in-Some.i _ found c.index_mut-term.ensures.value (omega (arith, ints, c.in_ok-term-in-Some.ensures.value))
-
-pub returns-in_ok-term-in-Some-clause-wide : goal.returns-in_ok-term-in-Some-clause-wide
-returns-in_ok-term-in-Some-clause-wide c =
-    let term = c.index_mut-term.result.now in
-    let items = c.args.sums.now.items in
-    let found : position (at c.args.unknown.now) items ≡ Some c.in-Some.i = ap (position (at c.args.unknown.now)) (sym c.as_slice.ensures.value) ∙ sym c.in-Some.ensures.value in
-    let fits : FitsSigned w128 term.1 = search rules in
-    let same = grown_found (c.args.unknown.now, c.args.n) term items c.in-Some.i _ _ found c.index_mut-term.ensures.value (to_z-of_z w128 term.1 fits) (to_z-of_z w128 c.args.n c.ranges.n) in
-    ap is_wide same ∙ c.in_ok-term-in-Some.ensures.wide
-
-pub returns-in_err-term-in-Some-clause-wide : goal.returns-in_err-term-in-Some-clause-wide
-returns-in_err-term-in-Some-clause-wide c =
-    let term = c.index_mut-term.result.now in
-    let items = c.args.sums.now.items in
-    let found : position (at c.args.unknown.now) items ≡ Some c.in-Some.i = ap (position (at c.args.unknown.now)) (sym c.as_slice.ensures.value) ∙ sym c.in-Some.ensures.value in
-    let fits : FitsSigned w128 term.1 = search rules in
-    let same = grown_found (c.args.unknown.now, c.args.n) term items c.in-Some.i _ _ found c.index_mut-term.ensures.value (to_z-of_z w128 term.1 fits) (to_z-of_z w128 c.args.n c.ranges.n) in
-    handed_on _ ℤ _ _ _ _ c.from_residual.ensures.1 (λ h. ap is_wide same ∙ h) c.in_err-term-in-Some.ensures.wide
-
-pub returns-in_ok-push-in-None-clause-value : goal.returns-in_ok-push-in-None-clause-value
-returns-in_ok-push-in-None-clause-value c =
-    let items = c.args.sums.now.items in
-    let new : position (at c.args.unknown.now) items ≡ None = ap (position (at c.args.unknown.now)) (sym c.as_slice.ensures.value) ∙ sym c.in-None.ensures.value in
-    let fits : FitsSigned w128 c.in_ok-coefficient-in-None.coefficient = search rules in
-    let coefficient = to_z-of_z w128 c.in_ok-coefficient-in-None.coefficient fits in
-    let number = to_z-of_z w128 c.args.n c.ranges.n in
-    push_new (c.args.unknown.now, c.args.n) c.push.new.self.items items _ _ c.in_ok-push-in-None.ensures.items new c.in_ok-copied-in-None.ensures (coefficient ∙ (c.in_ok-coefficient-in-None.ensures.value ∙ number))
-
-pub returns-in_ok-push-in-None-clause-wide : goal.returns-in_ok-push-in-None-clause-wide
-returns-in_ok-push-in-None-clause-wide c =
-    let items = c.args.sums.now.items in
-    let new : position (at c.args.unknown.now) items ≡ None = ap (position (at c.args.unknown.now)) (sym c.as_slice.ensures.value) ∙ sym c.in-None.ensures.value in
-    let number = to_z-of_z w128 c.args.n c.ranges.n in
-    ap is_wide (grown_new (c.args.unknown.now, c.args.n) items _ new number) ∙ c.in_ok-coefficient-in-None.ensures.wide
-
-pub returns-in_err-coefficient-in-None-clause-wide : goal.returns-in_err-coefficient-in-None-clause-wide
-returns-in_err-coefficient-in-None-clause-wide c =
-    let items = c.args.sums.now.items in
-    let new : position (at c.args.unknown.now) items ≡ None = ap (position (at c.args.unknown.now)) (sym c.as_slice.ensures.value) ∙ sym c.in-None.ensures.value in
-    let number = to_z-of_z w128 c.args.n c.ranges.n in
-    handed_on _ ℤ _ _ _ _ c.from_residual-in_err-coefficient-in-None.ensures.1 (λ h. ap is_wide (grown_new (c.args.unknown.now, c.args.n) items _ new number) ∙ h) c.in_err-coefficient-in-None.ensures.wide
+pub returns-clause-value : goal.returns-clause-value
+returns-clause-value c =
+    let unknown = c.args.unknown.now in
+    let sums = c.args.sums.now in
+    let sum : c.in_ok-sum.sum ≡ sum_of unknown_eq unknown sums +ℤ c.args.n = search rules in
+    let fits : FitsSigned w128 c.in_ok-sum.sum = search rules in
+    let same = to_z-of_z w128 c.in_ok-sum.sum fits in
+    c.in_ok-put.ensures ∙ (ap (λ z. with_sum unknown_eq unknown z sums) (same ∙ sum) ∙ sum_grown unknown_eq unknown c.args.n sums)

@@ -15,5 +15,5 @@ loop-part-preserved g c =
     let added = c.in_ok-add_part.ensures in
     record {
       so_far = added ∙ (ap (with_part E part) before.so_far ∙ totals_more E g.met.K.Exact.eq_is parts i part within c.part-item.is);
-      bound = bound_more E parts i part c.loop-part.sums c.add_part.new.self c.requires.small within c.part-item.is added before.bound;
+      bound = bound_more E parts i part c.loop-part.sums c.add_part.new.sums c.requires.small within c.part-item.is added before.bound;
     }
