@@ -1,5 +1,6 @@
 -- The places of unknowns among the sums, and what becomes of them with one more.
-use Rattle.std.proofs.Common.{◌≡◌, ℕ, zero, suc, ◌<◌, Bool, true, false, cond, List, [], ◌∷◌, ◌++◌, length, get_or, set, Option, Some, None, refl, sym, ap, ◌∙◌, inl, inr, arith, ℤ, ◌+ℤ◌, pos, Bor, if◌then◌else◌}
+use Rattle.std.proofs.Common.{◌≡◌, ℕ, zero, suc, ◌<◌, Bool, true, false, cond, List, [], ◌∷◌, ◌++◌, length, get_or, set, Option, Some}
+use Rattle.std.proofs.Common.{None, refl, sym, ap, ◌∙◌, inl, inr, arith, ℤ, ◌+ℤ◌, pos, Bor, if◌then◌else◌}
 use Rattle.std.specs.Prelude.{Decides, option_map, IfSome}
 use Rattle.std.specs.declared.cmp.Ordering.{Ordering}
 use Rattle.std.specs.Ordering.{is_eq}
@@ -59,7 +60,8 @@ module _ {K : Type 0} (E : K → K → Bool) where
       rw p.0 (sum_new x ts p.1)
 
   -- a sum that is written at an unknown's place
-  pub written_there : (x : K) (n : ℤ) (ss : List (Bor K × ℤ)) (i : ℕ) (d : Bor K × ℤ) (r : Bor K) (s : ℤ) → place_of E x (sums_in ss) ≡ Some i
+  pub written_there : (x : K) (n : ℤ) (ss : List (Bor K × ℤ)) (i : ℕ) (d : Bor K × ℤ) (r : Bor K) (s : ℤ)
+      → place_of E x (sums_in ss) ≡ Some i
       → r.now ≡ (get_or ss i d).0.now → s ≡ n → sums_in (set ss i (r, s)) ≡ with_sum E x n (sums_in ss)
   written_there x n [] i d r s e same sum = absurd (cc)
   written_there x n (t ∷ ss) zero d r s e same sum =
@@ -89,7 +91,8 @@ module _ {K : Type 0} (E : K → K → Bool) where
       let p = nowhere (E t.0 x) (place_of E x ts) e in
       rw p.0 (ap (λ us. t ∷ us) (written_last x n ts p.1))
 
-  pub pushed : (ss us : List (Bor K × ℤ)) (r : Bor K) (m n : ℤ) → us ≡ ss ++ (r, m) ∷ [] → m ≡ n → sums_in us ≡ sums_in ss ++ (r.now, n) ∷ []
+  pub pushed : (ss us : List (Bor K × ℤ)) (r : Bor K) (m n : ℤ) → us ≡ ss ++ (r, m) ∷ [] → m ≡ n
+      → sums_in us ≡ sums_in ss ++ (r.now, n) ∷ []
   pushed ss us r m n e same =
       ap sums_in e ∙ (map_push (λ t. (t.0.now, t.1)) ss (r, m) ∙ ap (λ z. sums_in ss ++ (r.now, z) ∷ []) same)
 
@@ -99,7 +102,8 @@ module _ {K : Type 0} (E : K → K → Bool) where
   sum_grown x n (t ∷ ts) = by (E t.0 x) (sum_grown x n ts)
     where
       by : (b : Bool) → with_sum E x (sum_of E x ts +ℤ n) ts ≡ with_term E x n ts
-          → (if b then ((t.0, (if b then t.1 else sum_of E x ts) +ℤ n) ∷ ts) else (t ∷ with_sum E x ((if b then t.1 else sum_of E x ts) +ℤ n) ts))
+          → (if b then ((t.0, (if b then t.1 else sum_of E x ts) +ℤ n) ∷ ts) else
+          (t ∷ with_sum E x ((if b then t.1 else sum_of E x ts) +ℤ n) ts))
           ≡ (if b then ((t.0, t.1 +ℤ n) ∷ ts) else (t ∷ with_term E x n ts))
       by true h = refl
       by false h = ap (λ us. t ∷ us) h
@@ -127,7 +131,8 @@ module _ {K : Type 0} (E : K → K → Bool) where
     -- the map that has a new unknown's place besides has the place of each
     pub tracked : (cmp : K → K → Ordering) → ((x y : K) → E x y ≡ is_eq (cmp x y)) → (before after : BTreeMap (Bor K) ℕ)
         (ss us : List (Bor K × ℤ)) (r : Bor K) (m : ℤ) (i : ℕ) → Tracks E cmp (sums_in ss) before → place_of E r.now (sums_in ss) ≡ None
-        → us ≡ ss ++ (r, m) ∷ [] → i ≡ length ss → Updates (λ x y. cmp x.now y.now) before after r (Some i) → Tracks E cmp (sums_in us) after
+        → us ≡ ss ++ (r, m) ∷ [] → i ≡ length ss → Updates (λ x y. cmp x.now y.now) before after r (Some i)
+        → Tracks E cmp (sums_in us) after
     tracked cmp ties before after ss us r m i has new last end updates x =
         let q : Bor K = record { ref_ptr = (0, 0); now = x } in
         let place : i ≡ length (sums_in ss) = end ∙ sym (length-map ss (λ t. (t.0.now, t.1))) in

@@ -1,5 +1,6 @@
 -- What collected terms are worth, where each unknown is worth what v gives.
-use Rattle.std.proofs.Common.{◌≡◌, Bool, true, false, List, [], ◌∷◌, map, refl, ap, sym, ◌∙◌, arith, ℤ, pos, ◌+ℤ◌, ◌*ℤ◌, if◌then◌else◌, not, cond}
+use Rattle.std.proofs.Common.{◌≡◌, Bool, true, false, List, [], ◌∷◌, map, refl, ap, sym, ◌∙◌, arith, ℤ, pos, ◌+ℤ◌, ◌*ℤ◌, if◌then◌else◌}
+use Rattle.std.proofs.Common.{not, cond}
 use Rattle.std.specs.Prelude.{Decides, filter}
 use Rattle.std.specs.Ordering.{int_eq}
 use Rattle.std.proofs.lemmas.Int.{ints}
@@ -29,7 +30,8 @@ module _ {K : Type 0} (v : K → ℤ) where
   worth-left (t ∷ ts) = left_step t ts (int_eq t.1 (pos 0)) refl (worth-left ts)
 
   module _ (E : K → K → Bool) (decides : (x y : K) → Decides (E x y) (x ≡ y)) where
-    term_step : (x : K) (n : ℤ) (t : K × ℤ) (ts : List (K × ℤ)) (b : Bool) → E t.0 x ≡ b → worth v (with_term E x n ts) ≡ worth v ts +ℤ n *ℤ v x
+    term_step : (x : K) (n : ℤ) (t : K × ℤ) (ts : List (K × ℤ)) (b : Bool) → E t.0 x ≡ b
+        → worth v (with_term E x n ts) ≡ worth v ts +ℤ n *ℤ v x
         → worth v (if b then ((t.0, t.1 +ℤ n) ∷ ts) else (t ∷ with_term E x n ts)) ≡ worth v (t ∷ ts) +ℤ n *ℤ v x
     term_step x n t ts true e h =
         let both = sum_times t.1 n (v t.0) in

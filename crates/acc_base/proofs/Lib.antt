@@ -9,7 +9,7 @@ pub mod ReadRuns
 pub mod EffectParts
 pub mod Runnables
 pub mod CollectedPlaces
-pub mod SumSteps
+pub mod HandedOn
 pub mod SumLoops
 pub mod Products
 pub mod CollectedWorths

@@ -18,7 +18,8 @@ ints_equal [] (y ∷ ys) h = cc
 ints_equal (x ∷ xs) [] h = cc
 ints_equal (x ∷ xs) (y ∷ ys) h = by (int_cmp x y) (int_ranks x y) h (ints_equal xs ys)
   where
-    by : (o : Ordering) → MatchOrdering o (x <ℤ y) (x ≡ y) (y <ℤ x) → ordering_then o (slice_cmp int_cmp xs ys) ≡ Equal → (slice_cmp int_cmp xs ys ≡ Equal → xs ≡ ys) → x ∷ xs ≡ y ∷ ys
+    by : (o : Ordering) → MatchOrdering o (x <ℤ y) (x ≡ y) (y <ℤ x) → ordering_then o (slice_cmp int_cmp xs ys) ≡ Equal
+        → (slice_cmp int_cmp xs ys ≡ Equal → xs ≡ ys) → x ∷ xs ≡ y ∷ ys
     by Less e g ih = cc
     by Equal e g ih = λ i. e i ∷ ih g i
     by Greater e g ih = cc

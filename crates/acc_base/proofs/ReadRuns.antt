@@ -37,14 +37,22 @@ module _ (db : List Row) (f : Frame) where
   one_leaves : (s next : Reading) (r : Read) → after_read db f s r ≡ Some next → ReadsLeave f s → ReadsLeave f next
   one_leaves s next r e h =
       let v = read_value db f.tape s.at (variables f.t s.locals) r in
-      let c = cond_some (list_all is_small (v ∷ lin_values (variables f.t s.locals) (read_key r))) (record { locals = set s.locals (assigned r) v; at = at_after (length f.tape) s.at r }) next e in
+      let c = cond_some (list_all is_small (v ∷ lin_values (variables f.t s.locals) (read_key r)))
+      (record { locals = set s.locals (assigned r) v; at = at_after (length f.tape) s.at r }) next e in
       let small = small_is v (first_so (is_small v) (list_all is_small (lin_values (variables f.t s.locals) (read_key r))) c.0) in
-      subst (ReadsLeave f) c.1 (record { kept = length-set s.locals (assigned r) v ∙ h.kept; small = All-set IsSmall s.locals (assigned r) v small h.small; at = λ q. at_within (length f.tape) s.at r (h.at q) })
+      subst (ReadsLeave f) c.1 (record {
+        kept = length-set s.locals (assigned r) v
+            ∙ h.kept;
+        small = All-set IsSmall s.locals (assigned r) v small h.small;
+        at = λ q. at_within (length f.tape) s.at r (h.at q);
+      })
 
   pub reads_leave : (rs : List Read) (s last : Reading) → after_reads db f rs s ≡ Some last → ReadsLeave f s → ReadsLeave f last
   reads_leave [] s last e h = subst (ReadsLeave f) (same_Some s last e) h
   reads_leave (r ∷ rs) s last e h = by (after_read db f s r) refl (λ x k g. reads_leave rs x last k g) e
     where
-      by : (o : Option Reading) → after_read db f s r ≡ o → ((x : Reading) → after_reads db f rs x ≡ Some last → ReadsLeave f x → ReadsLeave f last) → option_and_then (after_reads db f rs) o ≡ Some last → ReadsLeave f last
+      by : (o : Option Reading) → after_read db f s r ≡ o
+          → ((x : Reading) → after_reads db f rs x ≡ Some last → ReadsLeave f x → ReadsLeave f last)
+          → option_and_then (after_reads db f rs) o ≡ Some last → ReadsLeave f last
       by None k ih g = absurd (none-some last g)
       by (Some x) k ih g = ih x g (one_leaves s x r k h)

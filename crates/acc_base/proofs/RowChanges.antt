@@ -1,5 +1,6 @@
 -- What stays true of the rows when one is put, dropped or changed.
-use Rattle.std.proofs.Common.{◌≡◌, ℕ, suc, ◌+◌, ◌≤◌, List, [], ◌∷◌, length, Bool, true, false, cond, refl, ap, ◌∙◌, if◌then◌else◌, arith, Some, ℤ}
+use Rattle.std.proofs.Common.{◌≡◌, ℕ, suc, ◌+◌, ◌≤◌, List, [], ◌∷◌, length, Bool, true, false, cond, refl, ap, ◌∙◌, if◌then◌else◌, arith}
+use Rattle.std.proofs.Common.{Some, ℤ}
 use Rattle.std.specs.Prelude.{find}
 use Rattle.std.specs.List.{AllByRecursion}
 use Rattle.std.specs.declared.cmp.Ordering.{Ordering}
@@ -29,15 +30,18 @@ module _ (P : Row → Type 0) where
 
 module _ (P Q : Row → Type 0) (t : ℕ) (k : List ℤ) (change : Row → Row) (others : (r : Row) → P r → Q r) where
   -- a changed row is the one that a look-up finds
-  pub change_all : (db : List Row) → ((r : Row) → find (is_at t k) db ≡ Some r → is_at t k r ≡ true → P r → Q (change r)) → AllByRecursion P db → AllByRecursion Q (change_row t k change db)
+  pub change_all : (db : List Row) → ((r : Row) → find (is_at t k) db ≡ Some r → is_at t k r ≡ true → P r → Q (change r))
+      → AllByRecursion P db → AllByRecursion Q (change_row t k change db)
   change_all [] h a = tt
-  change_all (r ∷ db) h a = by (is_at t k r) refl (λ e. change_all db (λ x g. h x (ap (λ b. cond b (Some r) (find (is_at t k) db)) e ∙ g)) a.1)
+  change_all (r ∷ db) h a = by (is_at t k r) refl
+      (λ e. change_all db (λ x g. h x (ap (λ b. cond b (Some r) (find (is_at t k) db)) e ∙ g)) a.1)
     where
       weaker : (rows : List Row) → AllByRecursion P rows → AllByRecursion Q rows
       weaker [] x = tt
       weaker (y ∷ rows) x = (others y x.0, weaker rows x.1)
 
-      by : (b : Bool) → is_at t k r ≡ b → (is_at t k r ≡ false → AllByRecursion Q (change_row t k change db)) → AllByRecursion Q (if b then (change r ∷ db) else (r ∷ change_row t k change db))
+      by : (b : Bool) → is_at t k r ≡ b → (is_at t k r ≡ false → AllByRecursion Q (change_row t k change db))
+          → AllByRecursion Q (if b then (change r ∷ db) else (r ∷ change_row t k change db))
       by true e ih = (h r (ap (λ b. cond b (Some r) (find (is_at t k) db)) e) e a.0, weaker db a.1)
       by false e ih = (others r a.0, ih e)
 
@@ -64,6 +68,7 @@ pub length-change_row : (t : ℕ) (k : List ℤ) (change : Row → Row) (db : Li
 length-change_row t k change [] = refl
 length-change_row t k change (r ∷ db) = by (is_at t k r) (length-change_row t k change db)
   where
-    by : (b : Bool) → length (change_row t k change db) ≡ length db → length (if b then (change r ∷ db) else (r ∷ change_row t k change db)) ≡ suc (length db)
+    by : (b : Bool) → length (change_row t k change db) ≡ length db
+        → length (if b then (change r ∷ db) else (r ∷ change_row t k change db)) ≡ suc (length db)
     by true ih = refl
     by false ih = ap suc ih

@@ -53,8 +53,11 @@ put_ordered new (r ∷ db) h = by (compared new.table new.key.parts r) refl (put
     by : (o : Ordering) → compared new.table new.key.parts r ≡ o → InOrder (put new db) → InOrder (put_here o new r db (put new db))
     by Less e ih = ((e, past_both (place_of new) (place_of r) db e h.0), h)
     by Equal e ih = (past_same (place_of new) (place_of r) db e h.0, h.1)
-    by Greater e ih =
-        (put_all (λ x. place_cmp (place_of r) (place_of x) ≡ Less) new db (place_total.antisymm (place_of r) (place_of new) ∙ ap ordering_reverse e) h.0, ih)
+    by Greater e ih = (
+      put_all (λ x. place_cmp (place_of r) (place_of x) ≡ Less) new db (place_total.antisymm (place_of r) (place_of new)
+          ∙ ap ordering_reverse e) h.0,
+      ih,
+    )
 
 pub put_in_order : (new : Row) (db : List Row) → IsInOrder db → IsInOrder (put new db)
 put_in_order new db h = order_to (put new db) (put_ordered new db (order_from db h))
@@ -77,7 +80,8 @@ drop_in_order t k db h = order_to (drop_row t k db) (drop_ordered t k db (order_
 module _ (t : ℕ) (k : List ℤ) (change : Row → Row) (same : (r : Row) → place_of (change r) ≡ place_of r) where
   change_past : (p : Place) (db : List Row) → ArePast p db → ArePast p (change_row t k change db)
   change_past p db h =
-      change_all (λ r. place_cmp p (place_of r) ≡ Less) (λ r. place_cmp p (place_of r) ≡ Less) t k change (λ r x. x) db (λ r f a x. ap (place_cmp p) (same r) ∙ x) h
+      change_all (λ r. place_cmp p (place_of r) ≡ Less) (λ r. place_cmp p (place_of r) ≡ Less) t k change (λ r x. x) db
+      (λ r f a x. ap (place_cmp p) (same r) ∙ x) h
 
   change_ordered : (db : List Row) → InOrder db → InOrder (change_row t k change db)
   change_ordered [] h = tt

@@ -14,12 +14,14 @@ small_is x h = grind (arith, nat_tests)
 pub all_small : (xs : List ℤ) → list_all is_small xs ≡ true → All IsSmall xs
 all_small [] h = All-nil IsSmall
 all_small (x ∷ xs) h =
-    All-cons IsSmall x xs (small_is x (first_so (is_small x) (list_all is_small xs) h)) (all_small xs (second_so (is_small x) (list_all is_small xs) h))
+    All-cons IsSmall x xs (small_is x (first_so (is_small x) (list_all is_small xs) h))
+    (all_small xs (second_so (is_small x) (list_all is_small xs) h))
 
 pub small_front : (xs ys : List ℤ) → list_all is_small (xs ++ ys) ≡ true → list_all is_small xs ≡ true
 small_front [] ys h = refl
 small_front (x ∷ xs) ys h =
-    both_true (first_so (is_small x) (list_all is_small (xs ++ ys)) h) (small_front xs ys (second_so (is_small x) (list_all is_small (xs ++ ys)) h))
+    both_true (first_so (is_small x) (list_all is_small (xs ++ ys)) h)
+    (small_front xs ys (second_so (is_small x) (list_all is_small (xs ++ ys)) h))
 
 pub small_back : (xs ys : List ℤ) → list_all is_small (xs ++ ys) ≡ true → list_all is_small ys ≡ true
 small_back [] ys h = h

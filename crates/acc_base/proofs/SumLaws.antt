@@ -14,7 +14,8 @@ use Rattle.acc_base.proofs.CollectedWorths.{worth-multiples, worth-left, worth-w
 use Rattle.acc_base.proofs.SumLoops.{with_terms-append}
 
 -- the sum of a form and a multiple of another is worth what they are worth, whatever the unknowns are worth
-pub form_sum-worth : (v : Unknown → ℤ) (f : Form) (by : ℤ) (g : Form) → form_worth v (form_sum f by g) ≡ form_worth v f +ℤ by *ℤ form_worth v g
+pub form_sum-worth : (v : Unknown → ℤ) (f : Form) (by : ℤ) (g : Form)
+    → form_worth v (form_sum f by g) ≡ form_worth v f +ℤ by *ℤ form_worth v g
 form_sum-worth v f by g =
     let left = worth-left v (with_terms [] (summands f by g)) in
     let parts = ap (worth v) (with_terms-append [] f.terms (map (multiple by) g.terms)) in

@@ -40,4 +40,5 @@ stores_small Next env (Add t k c v) db =
 abbrev pub after_actions : Side → List ℤ → List Action → List Row → Option (List Row)
 after_actions side env [] db = Some db
 after_actions side env (a ∷ rest) db =
-    if list_all is_small (action_numbers env a) && stores_small side env a db then after_actions side env rest (after_action env a db) else None
+    if list_all is_small (action_numbers env a) && stores_small side env a db then after_actions side env rest
+    (after_action env a db) else None

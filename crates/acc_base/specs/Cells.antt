@@ -36,23 +36,76 @@ nothing = record { reads = []; paths = path [] [] target.Undone ∷ [] }
 
 abbrev pub make : TxType
 make =
-    record { name = codes "make"; params = 1; locals = codes "a" ∷ codes "p" ∷ []; points = record { name = codes "start"; clauses = []; next = record { reads = read.Has 1 0 (var_plus 0 (pos 0) ∷ []) ∷ []; paths = path (is_zero (var_plus 1 (pos 0)) ∷ []) (action.Put 0 (var_plus 0 (pos 0) ∷ []) (num (pos 0) ∷ []) ∷ []) target.Commit ∷ path [] [] (target.Refuse 1) ∷ [] }; undo = nothing; variant = num (pos 0) } ∷ []; posts = []; repairs = []; returns = []; limit = 1 }
+    record {
+      name = codes "make";
+      params = 1;
+      locals = codes "a" ∷ codes "p" ∷ [];
+      points = record {
+        name = codes "start";
+        clauses = [];
+        next = record {
+          reads = read.Has 1 0 (var_plus 0 (pos 0) ∷ []) ∷ [];
+          paths = path (is_zero (var_plus 1 (pos 0)) ∷ [])
+              (action.Put 0 (var_plus 0 (pos 0) ∷ []) (num (pos 0) ∷ []) ∷ []) target.Commit ∷ path [] [] (target.Refuse 1) ∷ [];
+        };
+        undo = nothing;
+        variant = num (pos 0);
+      } ∷ [];
+      posts = [];
+      repairs = [];
+      returns = [];
+      limit = 1;
+    }
 
 abbrev pub bump_start : Point
 bump_start =
-    record { name = codes "start"; clauses = []; next = record { reads = read.Has 1 0 (var_plus 0 (pos 0) ∷ []) ∷ read.Col 2 0 (var_plus 0 (pos 0) ∷ []) 0 ∷ []; paths = path (is_zero (var_plus 1 (negsuc 0)) ∷ []) [] (target.Point 1) ∷ path [] [] (target.Refuse 1) ∷ [] }; undo = nothing; variant = num (pos 0) }
+    record {
+      name = codes "start";
+      clauses = [];
+      next = record {
+        reads = read.Has 1 0 (var_plus 0 (pos 0) ∷ []) ∷ read.Col 2 0 (var_plus 0 (pos 0) ∷ []) 0 ∷ [];
+        paths = path (is_zero (var_plus 1 (negsuc 0)) ∷ []) [] (target.Point 1) ∷ path [] [] (target.Refuse 1) ∷ [];
+      };
+      undo = nothing;
+      variant = num (pos 0);
+    }
 
 abbrev pub bump_mid : Point
 bump_mid =
-    record { name = codes "mid"; clauses = []; next = record { reads = []; paths = path [] (action.Set 0 (var_plus 0 (pos 0) ∷ []) 0 (var_plus 2 (pos 1)) ∷ []) target.Commit ∷ [] }; undo = nothing; variant = num (pos 0) }
+    record {
+      name = codes "mid";
+      clauses = [];
+      next = record {
+        reads = [];
+        paths = path [] (action.Set 0 (var_plus 0 (pos 0) ∷ []) 0 (var_plus 2 (pos 1)) ∷ []) target.Commit
+            ∷ [];
+      };
+      undo = nothing;
+      variant = num (pos 0);
+    }
 
 abbrev pub bump : TxType
 bump =
-    record { name = codes "bump"; params = 1; locals = codes "a" ∷ codes "p" ∷ codes "v" ∷ []; points = bump_start ∷ bump_mid ∷ []; posts = []; repairs = []; returns = 2 ∷ []; limit = 2 }
+    record {
+      name = codes "bump";
+      params = 1;
+      locals = codes "a" ∷ codes "p" ∷ codes "v" ∷ [];
+      points = bump_start ∷ bump_mid ∷ [];
+      posts = [];
+      repairs = [];
+      returns = 2 ∷ [];
+      limit = 2;
+    }
 
 abbrev pub cells : Design
 cells =
-    record { tables = record { name = codes "CELL"; width = 1; cols = codes "n" ∷ []; own = false } ∷ []; always = []; types = make ∷ bump ∷ []; entries = []; hints = [] }
+    record {
+      tables = record { name = codes "CELL"; width = 1; cols = codes "n" ∷ []; own = false } ∷ [];
+      always = [];
+      types = make ∷ bump ∷ [];
+      entries = [];
+      hints = [];
+    }
 
 abbrev pub call_of : ℕ → ℤ → Call
 call_of ty a = record { ty = ty; params = a ∷ []; tape = []; ask = None }

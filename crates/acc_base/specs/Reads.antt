@@ -69,7 +69,8 @@ abbrev pub after_read : List Row → Frame → Reading → Read → Option Readi
 after_read db f s r =
     let env = variables f.t s.locals in
     let v = read_value db f.tape s.at env r in
-    if list_all is_small (v ∷ lin_values env (read_key r)) then Some (record { locals = slice_set s.locals (assigned r) v; at = at_after (length f.tape) s.at r }) else None
+    if list_all is_small (v ∷ lin_values env (read_key r)) then Some
+    (record { locals = slice_set s.locals (assigned r) v; at = at_after (length f.tape) s.at r }) else None
 
 -- the reads one after the other
 abbrev pub after_reads : List Row → Frame → List Read → Reading → Option Reading

@@ -45,4 +45,5 @@ rel_true db env r = meets r.equal (form_value db env r.form)
 -- a clause is true: for all whole numbers for its own variables, which come behind the others, the guards imply the relation
 abbrev pub ClauseTrue : List Row → List ℤ → Clause → Type 0
 ClauseTrue db env c =
-    (own : List ℤ) → length own ≡ length c.vars → IsTrue (list_all (rel_true db (env ++ own)) c.guards) → IsTrue (rel_true db (env ++ own) c.rel)
+    (own : List ℤ) → length own ≡ length c.vars → IsTrue (list_all (rel_true db (env ++ own)) c.guards)
+    → IsTrue (rel_true db (env ++ own) c.rel)

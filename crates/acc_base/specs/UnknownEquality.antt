@@ -14,7 +14,9 @@ unknown_eq x y = pointwise lin_eq x.under y.under && atom_eq x.atom y.atom
 
 pub unknown_decides : (x y : Unknown) → Decides (unknown_eq x y) (x ≡ y)
 unknown_decides x y =
-    Decides-like (unknown_eq x y) (λ h. λ i. record { under = h.0 i; atom = h.1 i }) (λ e. (ap (λ u. u.under) e, ap (λ u. u.atom) e)) (Decides-and (pointwise lin_eq x.under y.under) (atom_eq x.atom y.atom) (pointwise_decides lin_decides x.under y.under) (atom_decides x.atom y.atom))
+    Decides-like (unknown_eq x y) (λ h. λ i. record { under = h.0 i; atom = h.1 i }) (λ e. (ap (λ u. u.under) e, ap (λ u. u.atom) e))
+    (Decides-and (pointwise lin_eq x.under y.under) (atom_eq x.atom y.atom) (pointwise_decides lin_decides x.under y.under)
+    (atom_decides x.atom y.atom))
 
 abbrev pub product_eq : Unknown × ℤ → Unknown × ℤ → Bool
 product_eq x y = unknown_eq x.0 y.0 && int_eq x.1 y.1
@@ -24,4 +26,7 @@ form_eq x y = pointwise product_eq x.terms y.terms && int_eq x.constant y.consta
 
 pub form_decides : (x y : Form) → Decides (form_eq x y) (x ≡ y)
 form_decides x y =
-    Decides-like (form_eq x y) (λ h. λ i. record { terms = h.0 i; constant = h.1 i }) (λ e. (ap (λ f. f.terms) e, ap (λ f. f.constant) e)) (Decides-and (pointwise product_eq x.terms y.terms) (int_eq x.constant y.constant) (pointwise_decides (pair_decides unknown_eq int_eq unknown_decides Decides-int_eq) x.terms y.terms) (Decides-int_eq x.constant y.constant))
+    Decides-like (form_eq x y) (λ h. λ i. record { terms = h.0 i; constant = h.1 i }) (λ e. (ap (λ f. f.terms) e, ap (λ f. f.constant) e))
+    (Decides-and (pointwise product_eq x.terms y.terms) (int_eq x.constant y.constant)
+    (pointwise_decides (pair_decides unknown_eq int_eq unknown_decides Decides-int_eq) x.terms y.terms)
+    (Decides-int_eq x.constant y.constant))

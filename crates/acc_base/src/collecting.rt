@@ -1,11 +1,20 @@
 //! Terms, collected: a sum an unknown, which is found by the unknown.
-ghost use Rattle.std.specs.Prelude.{◌≡◌, ◌<◌, [], ◌∷◌, ◌++◌, length, filter, IfOk, IfSome, None, OnOk};
+ghost use Rattle.std.specs.Prelude.{◌≡◌, ◌<◌, [], ◌∷◌, ◌++◌, length, filter, not, pos, IfOk, IfSome, None, OnOk};
+ghost use Rattle.std.specs.Ordering.{int_eq};
+ghost use Rattle.std.specs.List.{list_any};
 ghost use Rattle.acc_base.specs.Collecting.{sum_of, place_of, with_sum, is_left};
 
 use crate::sequences::{Exact, Seq, copied};
 use std::alloc::{AllocError, Global};
 use std::collections::BTreeMap;
 use std::marker::Model;
+
+/// Whether a sum stays: it isn't 0.
+fn is_left(sum: i128) -> bool
+    ensures { result ≡ not (int_eq sum (pos 0)) }
+{
+    sum != 0
+}
 
 /// The sum of each unknown, in the order in which the unknowns first appear, and the place of each.
 #[derive(Drop)]
@@ -84,6 +93,18 @@ impl<'a, K: Exact + Ord> Sums<'a, K> {
         }
     }
 
+    /// Whether a sum is not zero.
+    pub fn any_left(&self) -> bool
+        ensures { result ≡ list_any is_left self.now }
+    {
+        for (_, sum) in &self.sums {
+            if is_left(*sum) {
+                return true;
+            }
+        }
+        false
+    }
+
     /// The sums that are not zero.
     pub fn kept(&self, alloc: Global) -> Result<Seq<(K, i128)>, AllocError>
     where
@@ -92,7 +113,7 @@ impl<'a, K: Exact + Ord> Sums<'a, K> {
     {
         let mut terms = Seq::new(alloc);
         for (unknown, sum) in &self.sums {
-            if *sum != 0 {
+            if is_left(*sum) {
                 terms.push((copied(*unknown)?, *sum))?;
             }
         }

@@ -6,17 +6,32 @@ ghost use Rattle.acc_base.specs.Worths.{trial, SumsAddUp};
 
 /// Two counters read a cell before either writes it: one of the two is lost.
 pub fn an_update_is_lost()
-    ensures { played_cells three_calls (1 ∷ 2 ∷ 3 ∷ 2 ∷ 3 ∷ []) ≡ Some (lines_of (codes "1 ended" ∷ codes "2 stepped bump.mid" ∷ codes "3 stepped bump.mid" ∷ codes "2 ended" ∷ codes "3 ended" ∷ codes "1 committed" ∷ codes "2 committed 0" ∷ codes "3 committed 0" ∷ codes "events 8" ∷ []), cell_row 1 1 ∷ []) }
+    ensures { played_cells three_calls (1 ∷ 2 ∷ 3 ∷ 2 ∷ 3 ∷ [])
+        ≡ Some (
+          lines_of (codes "1 ended" ∷ codes "2 stepped bump.mid" ∷ codes "3 stepped bump.mid" ∷ codes "2 ended" ∷ codes "3 ended"
+              ∷ codes "1 committed" ∷ codes "2 committed 0" ∷ codes "3 committed 0" ∷ codes "events 8" ∷ []),
+          cell_row 1 1 ∷ [],
+        ) }
 {}
 
 /// A counter of a cell that isn't there refuses, and the others don't begin.
 pub fn a_counter_refuses()
-    ensures { played_cells three_calls (2 ∷ []) ≡ Some (lines_of (codes "2 turned refused 1" ∷ codes "1 unbegun" ∷ codes "2 unfinished" ∷ codes "3 unbegun" ∷ codes "events 2" ∷ []), []) }
+    ensures { played_cells three_calls (2 ∷ [])
+        ≡ Some (
+          lines_of (codes "2 turned refused 1" ∷ codes "1 unbegun" ∷ codes "2 unfinished" ∷ codes "3 unbegun" ∷ codes "events 2"
+              ∷ []),
+          [],
+        ) }
 {}
 
 /// What refused is compensated at its next turn, and is over then.
 pub fn a_refusal_is_compensated()
-    ensures { played_cells three_calls (2 ∷ 2 ∷ 2 ∷ []) ≡ Some (lines_of (codes "2 turned refused 1" ∷ codes "2 ended" ∷ codes "2 over" ∷ codes "1 unbegun" ∷ codes "2 compensated refused 1" ∷ codes "3 unbegun" ∷ codes "events 3" ∷ []), []) }
+    ensures { played_cells three_calls (2 ∷ 2 ∷ 2 ∷ [])
+        ≡ Some (
+          lines_of (codes "2 turned refused 1" ∷ codes "2 ended" ∷ codes "2 over" ∷ codes "1 unbegun"
+              ∷ codes "2 compensated refused 1" ∷ codes "3 unbegun" ∷ codes "events 3" ∷ []),
+          [],
+        ) }
 {}
 
 /// With 7 in cell 1 the trial form is worth 2 + 3 - 7 + 1 at 1, and 1 at 2, where there is no cell.

@@ -74,8 +74,8 @@ pub fn add_terms<'a>(
     Ok(())
 }
 
-/// Adds a multiple of a term.
-fn add_multiple<'a>(
+/// Adds a multiple of a term. The cost is log n comparisons.
+pub fn add_multiple<'a>(
     sums: &mut Sums<'a, Unknown>,
     unknown: &'a Unknown,
     by: i128,

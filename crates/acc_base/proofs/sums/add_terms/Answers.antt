@@ -2,7 +2,7 @@ use Rattle.std.proofs.Common.{rules, arith, sym, ◌∙◌, ◌≤◌, length}
 use Rattle.std.specs.Prelude.{FitsSigned}
 use Rattle.std.specs.Int.{w128}
 use Rattle.std.proofs.lemmas.Int.{to_z-of_z}
-use Rattle.acc_base.proofs.SumSteps.{handed_on}
+use Rattle.acc_base.proofs.HandedOn.{handed_on}
 use Rattle.acc_base.proofs.SumLoops.{term_wide, terms_step, terms_wide_step, added_all, none_wide}
 use Rattle.acc_base.proofs.sums.add_terms.Goals as goal
 

@@ -8,7 +8,8 @@ use Rattle.acc_base.proofs.collecting.Sums.put.Goals as goal
 pub invariant_of-self : goal.invariant_of-self
 invariant_of-self g c =
     let here = c.index_mut.result.now in
-    λ x. c.self.invariant x ∙ kept_there g.K.PartialEq.eq x c.self.inside.sums.items c.in-Some.place here here.0 _ (ap (λ u. u.0.now) c.index_mut.ensures.value)
+    λ x. c.self.invariant x
+    ∙ kept_there g.K.PartialEq.eq x c.self.inside.sums.items c.in-Some.place here here.0 _ (ap (λ u. u.0.now) c.index_mut.ensures.value)
 
 pub returns-in-Some : goal.returns-in-Some
 returns-in-Some g c =
