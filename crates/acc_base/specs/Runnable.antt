@@ -1,7 +1,6 @@
--- What a design has to keep so that the machine can run it: the form rules and limits on which that rests.
+-- What a design has to keep so that the machine can run it: the form rules and limits on which that rests. Each well-formed design does.
 use Rattle.std.specs.Prelude.{◌≤◌, ◌<◌, ◌^◌, List, length, All, pos, ◌<ℤ◌, ⊤}
 use Rattle.acc_base.specs.declared.forms.Lin.{Lin}
-use Rattle.acc_base.specs.declared.forms.LinRel.{LinRel}
 use Rattle.acc_base.specs.declared.steps.Read.{Read}
 use Rattle.acc_base.specs.declared.steps.Read.TheVariants.{Let, Col, Has, Count, Sum, Least, Greatest, Take, Mul, Div}
 use Rattle.acc_base.specs.declared.steps.Action.{Action}
@@ -18,20 +17,12 @@ use Rattle.acc_base.specs.declared.designs.Design.{Design}
 use Rattle.acc_base.specs.declared.machines.Frame.{Frame}
 use Rattle.acc_base.specs.Numbers.{IsSmall}
 
--- few enough terms that no sum leaves 128 bits
-abbrev pub IsShort : Lin → Type 0
-IsShort l = length l.coeffs ≤ 2 ^ 16
-
-abbrev pub HasShort : LinRel → Type 0
-HasShort r = IsShort r.lin
-
 -- a key or a prefix of at most 6 parts
-pub record IsKey (k : List Lin) : Type 0 where
-  pub short : All IsShort k
-  pub width : length k ≤ 6
+abbrev pub IsKey : List Lin → Type 0
+IsKey k = length k ≤ 6
 
 abbrev pub CanRead : Read → Type 0
-CanRead (Let x l) = IsShort l
+CanRead (Let x l) = ⊤
 CanRead (Col x t k c) = IsKey k
 CanRead (Has x t k) = IsKey k
 CanRead (Count x t p) = IsKey p
@@ -44,10 +35,10 @@ CanRead (Div x y c) = pos 0 <ℤ c
 
 -- a row that is put has at most 12 columns
 abbrev pub CanAct : Action → Type 0
-CanAct (Put t k vs) = IsKey k × All IsShort vs × (length vs ≤ 12)
+CanAct (Put t k vs) = IsKey k × (length vs ≤ 12)
 CanAct (Del t k) = IsKey k
-CanAct (Set t k c v) = IsKey k × IsShort v
-CanAct (Add t k c v) = IsKey k × IsShort v
+CanAct (Set t k c v) = IsKey k
+CanAct (Add t k c v) = IsKey k
 
 -- a forward path doesn't end undone, and an undo path neither commits nor refuses
 abbrev pub CanEnd : Side → Target → Type 0
@@ -61,7 +52,6 @@ CanEnd Undo Undone = ⊤
 CanEnd Undo (Refuse n) = ⊥
 
 pub record CanGo (side : Side) (p : Path) : Type 0 where
-  pub guard : All HasShort p.guard
   pub actions : All CanAct p.actions
   pub few : length p.actions ≤ 16
   pub target : CanEnd side p.target

@@ -9,4 +9,3 @@ pub mod Statements
 pub mod Faults
 pub mod Walks
 pub mod WellFormed
-pub mod Shorts

@@ -10,3 +10,4 @@ pub mod ColumnChanges
 pub mod RowWalks
 pub mod NearColumns
 pub mod Leaves
+pub mod Alike

@@ -1,5 +1,5 @@
 pub mod InRange
-pub mod Guards
+pub mod WideSums
 pub mod ReadValues
 pub mod Overlay
 pub mod Changing

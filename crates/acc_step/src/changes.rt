@@ -2,7 +2,7 @@
 ghost use Rattle.std.specs.Prelude.{◌≡◌, ◌≤◌, ◌^◌, length, All, IfSome};
 ghost use Rattle.acc_base.specs.Numbers.{IsSmall};
 ghost use Rattle.acc_base.specs.Linear.{variables};
-ghost use Rattle.acc_base.specs.Runnable.{IsShort, IsKey, CanAct};
+ghost use Rattle.acc_base.specs.Runnable.{IsKey, CanAct};
 ghost use Rattle.acc_base.specs.declared.steps.Action.TheVariants.{Put as ToPut, Del as ToDrop, Set as ToSet, Add as ToAdd};
 ghost use Rattle.acc_step.specs.Changing.{change_if_small, IsFitChange};
 
@@ -32,7 +32,6 @@ fn to_put(table: u32, key: &[Lin], values: &[Lin], locals: &[i64], t: u64) -> Op
     requires small { All IsSmall locals.now }
     requires number { t ≤ 2 ^ 45 }
     requires key { IsKey key.now }
-    requires values { All IsShort values.now }
     requires few { length values.now ≤ 12 }
     ensures value { result ≡ change_if_small (variables t locals.now) (ToPut table key.now values.now) }
     ensures fit { IfSome result IsFitChange }
@@ -59,7 +58,6 @@ fn to_set(table: u32, key: &[Lin], col: u32, value: &Lin, locals: &[i64], t: u64
     requires small { All IsSmall locals.now }
     requires number { t ≤ 2 ^ 45 }
     requires key { IsKey key.now }
-    requires short { IsShort value.now }
     ensures value { result ≡ change_if_small (variables t locals.now) (ToSet table key.now col value.now) }
     ensures fit { IfSome result IsFitChange }
 {
@@ -73,7 +71,6 @@ fn to_add(table: u32, key: &[Lin], col: u32, value: &Lin, locals: &[i64], t: u64
     requires small { All IsSmall locals.now }
     requires number { t ≤ 2 ^ 45 }
     requires key { IsKey key.now }
-    requires short { IsShort value.now }
     ensures value { result ≡ change_if_small (variables t locals.now) (ToAdd table key.now col value.now) }
     ensures fit { IfSome result IsFitChange }
 {

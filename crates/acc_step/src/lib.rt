@@ -12,6 +12,7 @@ mod ranges;
 mod reads;
 mod values;
 mod walks;
+mod wide_sums;
 mod writers;
 
 pub use effects::{StepEffect, effect};

@@ -4,8 +4,6 @@ ghost use Rattle.std.specs.List.{list_all};
 ghost use Rattle.acc_base.specs.Numbers.{IsSmall};
 ghost use Rattle.acc_base.specs.Linear.{variables, lin_rel_true, meets};
 ghost use Rattle.acc_base.specs.Effects.{taken_path};
-ghost use Rattle.acc_base.specs.Runnable.{IsShort, HasShort};
-ghost use Rattle.acc_step.specs.Guards.{HasShortGuard};
 
 use crate::values::linear;
 use acc_base::forms::LinRel;
@@ -19,10 +17,10 @@ fn meets_zero(equal: bool, v: i128) -> bool
 }
 
 /// Whether a relation is true.
+#[tactic(auto, using(crate::proofs::Alike::alike_meets))]
 fn is_true(r: &LinRel, locals: &[i64], t: u64) -> bool
     requires small { All IsSmall locals.now }
     requires number { t ≤ 2 ^ 45 }
-    requires short { IsShort r.now.lin }
     ensures { result ≡ lin_rel_true (variables t locals.now) r.now }
 {
     meets_zero(r.equal, linear(&r.lin, locals, t))
@@ -32,7 +30,6 @@ fn is_true(r: &LinRel, locals: &[i64], t: u64) -> bool
 fn are_true(guard: &[LinRel], locals: &[i64], t: u64) -> bool
     requires small { All IsSmall locals.now }
     requires number { t ≤ 2 ^ 45 }
-    requires short { All HasShort guard.now }
     ensures { result ≡ list_all (lin_rel_true (variables t locals.now)) guard.now }
 {
     for r in guard {
@@ -47,7 +44,6 @@ fn are_true(guard: &[LinRel], locals: &[i64], t: u64) -> bool
 fn is_open(path: &Path, locals: &[i64], t: u64) -> bool
     requires small { All IsSmall locals.now }
     requires number { t ≤ 2 ^ 45 }
-    requires short { HasShortGuard path.now }
     ensures { result ≡ list_all (lin_rel_true (variables t locals.now)) path.now.guard }
 {
     are_true(path.guard.as_slice(), locals, t)
@@ -57,7 +53,6 @@ fn is_open(path: &Path, locals: &[i64], t: u64) -> bool
 pub fn path_taken(paths: &[Path], locals: &[i64], t: u64) -> Option<usize>
     requires small { All IsSmall locals.now }
     requires number { t ≤ 2 ^ 45 }
-    requires short { All HasShortGuard paths.now }
     ensures first { result ≡ taken_path (variables t locals.now) paths.now }
     ensures within { IfSome result (λ i. i < length paths.now) }
 {

@@ -5,7 +5,7 @@ ghost use Rattle.acc_base.specs.Numbers.{IsSmall};
 ghost use Rattle.acc_base.specs.Linear.{variables, var, lin_value, lin_values};
 ghost use Rattle.acc_base.specs.Reads.{assigned, at_after, unread, after_reads};
 ghost use Rattle.acc_base.specs.Tables.{column_of, has_row, count_of, sum_of, least_of, greatest_of};
-ghost use Rattle.acc_base.specs.Runnable.{IsShort, IsKey, CanRead, FrameFits};
+ghost use Rattle.acc_base.specs.Runnable.{IsKey, CanRead, FrameFits};
 ghost use Rattle.acc_step.specs.InRange.{value_read};
 ghost use Rattle.acc_step.specs.ReadValues.{read_of};
 
@@ -56,7 +56,6 @@ fn taken(tape: &[i64], at: u32) -> i64
 fn read_let(l: &Lin, locals: &[i64], t: u64) -> Option<i64>
     requires small { All IsSmall locals.now }
     requires number { t ≤ 2 ^ 45 }
-    requires short { IsShort l.now }
     ensures { result ≡ value_read [] (lin_value (variables t locals.now) l.now) }
 {
     linear_in_range(l, locals, t)

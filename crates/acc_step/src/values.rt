@@ -1,10 +1,12 @@
 //! Linear values of a transaction's variables, and values in range.
-ghost use Rattle.std.specs.Prelude.{◌≡◌, ◌≤◌, ◌^◌, ◌+◌, length, All, unsigned_abs, ◌+ℤ◌, ◌*ℤ◌};
-ghost use Rattle.acc_base.specs.Numbers.{IsSmall};
+ghost use Rattle.std.specs.Prelude.{◌≡◌, ◌≤◌, ◌^◌, ◌+◌, length, map, All, unsigned_abs, ◌+ℤ◌, ◌*ℤ◌};
+ghost use Rattle.acc_base.specs.Numbers.{IsSmall, total};
 ghost use Rattle.acc_base.specs.Linear.{variables, var, term_value, lin_value, lin_values};
-ghost use Rattle.acc_base.specs.Runnable.{IsShort, IsKey};
+ghost use Rattle.acc_base.specs.Runnable.{IsKey};
 ghost use Rattle.acc_step.specs.InRange.{if_small, if_all_small};
+ghost use Rattle.acc_step.specs.WideSums.{amount, AreAlike};
 
+use crate::wide_sums::{WideSum, shortened, with_more};
 use acc_base::forms::Lin;
 use acc_store::Inline;
 
@@ -43,39 +45,66 @@ pub fn times(a: i64, b: i64) -> i128
 }
 
 /// A sum and one more product.
-fn with_product(sum: i128, factor: i64, value: i64) -> i128
-    requires sum { unsigned_abs sum ≤ 2 ^ 126 }
+fn with_product(sum: WideSum, factor: i64, value: i64) -> WideSum
+    requires carries { unsigned_abs sum.carries ≤ 2 ^ 100 }
+    requires rest { unsigned_abs sum.rest ≤ 2 ^ 120 }
     requires value { IsSmall value }
-    ensures value { result ≡ sum +ℤ (factor *ℤ value) }
-    ensures bound { unsigned_abs result ≤ unsigned_abs sum + 2 ^ 108 }
+    ensures amount { amount result ≡ amount sum +ℤ (factor *ℤ value) }
+    ensures carries { unsigned_abs result.carries ≤ unsigned_abs sum.carries + 1 }
+    ensures rest { unsigned_abs result.rest ≤ 2 ^ 120 }
 {
-    let term = times(factor, value);
-    sum + term
+    with_more(sum, times(factor, value))
 }
 
 /// A sum and one more term.
-fn with_term(sum: i128, term: &(u32, i64), locals: &[i64], t: u64) -> i128
-    requires sum { unsigned_abs sum ≤ 2 ^ 126 }
+fn with_term(sum: WideSum, term: &(u32, i64), locals: &[i64], t: u64) -> WideSum
     requires small { All IsSmall locals.now }
     requires number { t ≤ 2 ^ 45 }
-    ensures value { result ≡ sum +ℤ term_value (variables t locals.now) term.now }
-    ensures bound { unsigned_abs result ≤ unsigned_abs sum + 2 ^ 108 }
+    requires carries { unsigned_abs sum.carries ≤ 2 ^ 100 }
+    requires rest { unsigned_abs sum.rest ≤ 2 ^ 120 }
+    ensures amount { amount result ≡ amount sum +ℤ term_value (variables t locals.now) term.now }
+    ensures carries { unsigned_abs result.carries ≤ unsigned_abs sum.carries + 1 }
+    ensures rest { unsigned_abs result.rest ≤ 2 ^ 120 }
 {
     with_product(sum, term.1, variable(term.0, locals, t))
 }
 
-/// A linear value.
+/// The sum of terms.
+fn terms_sum(terms: &[(u32, i64)], locals: &[i64], t: u64) -> WideSum
+    requires small { All IsSmall locals.now }
+    requires number { t ≤ 2 ^ 45 }
+    ensures amount { amount result ≡ total (map (term_value (variables t locals.now)) terms.now) }
+    ensures carries { unsigned_abs result.carries ≤ 2 ^ 100 }
+    ensures rest { unsigned_abs result.rest ≤ 2 ^ 120 }
+{
+    let mut sum = WideSum {
+        carries: 0,
+        rest: 0,
+    };
+    for term in terms {
+        sum = with_term(sum, term, locals, t);
+    }
+    sum
+}
+
+/// A linear value, exactly.
+fn linear_sum(l: &Lin, locals: &[i64], t: u64) -> WideSum
+    requires small { All IsSmall locals.now }
+    requires number { t ≤ 2 ^ 45 }
+    ensures amount { amount result ≡ lin_value (variables t locals.now) l.now }
+    ensures rest { unsigned_abs result.rest ≤ 2 ^ 120 }
+{
+    let terms = terms_sum(l.coeffs.as_slice(), locals, t);
+    with_more(terms, widened(l.constant))
+}
+
+/// A linear value. Where it is far from 0 the number is too, on the same side.
 pub fn linear(l: &Lin, locals: &[i64], t: u64) -> i128
     requires small { All IsSmall locals.now }
     requires number { t ≤ 2 ^ 45 }
-    requires short { IsShort l.now }
-    ensures { result ≡ lin_value (variables t locals.now) l.now }
+    ensures { AreAlike result (lin_value (variables t locals.now) l.now) }
 {
-    let mut sum: i128 = 0;
-    for term in l.coeffs.as_slice() {
-        sum = with_term(sum, term, locals, t);
-    }
-    sum + l.constant as i128
+    shortened(linear_sum(l, locals, t))
 }
 
 /// A number, if it is in range.
@@ -90,10 +119,10 @@ pub fn in_range(v: i128) -> Option<i64>
 }
 
 /// A linear value, if it is in range.
+#[tactic(auto, using(crate::proofs::Alike::alike_if_small))]
 pub fn linear_in_range(l: &Lin, locals: &[i64], t: u64) -> Option<i64>
     requires small { All IsSmall locals.now }
     requires number { t ≤ 2 ^ 45 }
-    requires short { IsShort l.now }
     ensures { result ≡ if_small (lin_value (variables t locals.now) l.now) }
 {
     in_range(linear(l, locals, t))
@@ -107,7 +136,6 @@ pub fn linears_in_range<const N: usize>(
 ) -> Option<Inline<i64, N>>
     requires small { All IsSmall locals.now }
     requires number { t ≤ 2 ^ 45 }
-    requires short { All IsShort ls.now }
     requires few { length ls.now ≤ N }
     ensures { result ≡ if_all_small (lin_values (variables t locals.now) ls.now) }
 {
