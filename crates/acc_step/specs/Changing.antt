@@ -9,7 +9,7 @@ use Rattle.acc_base.specs.Tables.{Place, column_of, is_at, put, drop_row, change
 use Rattle.acc_base.specs.Numbers.{is_small}
 use Rattle.acc_base.specs.Linear.{lin_value, lin_values}
 use Rattle.acc_base.specs.Actions.{action_numbers, stores_small}
-use Rattle.acc_store.specs.Rows.{row_of, IsFit}
+use Rattle.acc_store.specs.Rows.{row_of}
 use Rattle.acc_step.specs.declared.changes.RowKey.{RowKey}
 use Rattle.acc_step.specs.declared.changes.Change.{Change}
 use Rattle.acc_step.specs.declared.changes.Change.TheVariants.{Put as Puts, Drop as Drops, Set as Sets, Add as Adds}
@@ -46,10 +46,3 @@ may_change side (Puts k cols) db = true
 may_change side (Drops k) db = true
 may_change side (Sets k c v) db = true
 may_change side (Adds k c v) db = not (list_any (is_at k.table k.parts) db) || may_store side (column_of db k.table k.parts c +ℤ v)
-
--- a change of a row with a short key of small parts, and of at most 12 columns
-abbrev pub IsFitChange : Change → Type 0
-IsFitChange (Puts k cols) = IsFit (place_at k) × (length cols ≤ 12)
-IsFitChange (Drops k) = IsFit (place_at k)
-IsFitChange (Sets k c v) = IsFit (place_at k)
-IsFitChange (Adds k c v) = IsFit (place_at k)

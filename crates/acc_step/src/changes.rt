@@ -1,10 +1,10 @@
 //! Actions whose numbers are worked out.
-ghost use Rattle.std.specs.Prelude.{◌≡◌, ◌≤◌, ◌^◌, length, All, IfSome};
+ghost use Rattle.std.specs.Prelude.{◌≡◌, ◌≤◌, ◌^◌, length, All};
 ghost use Rattle.acc_base.specs.Numbers.{IsSmall};
 ghost use Rattle.acc_base.specs.Linear.{variables};
 ghost use Rattle.acc_base.specs.Runnable.{IsKey, CanAct};
 ghost use Rattle.acc_base.specs.declared.steps.Action.TheVariants.{Put as ToPut, Del as ToDrop, Set as ToSet, Add as ToAdd};
-ghost use Rattle.acc_step.specs.Changing.{change_if_small, IsFitChange};
+ghost use Rattle.acc_step.specs.Changing.{change_if_small};
 
 use crate::values::{key_in_range, linear_in_range, linears_in_range};
 use acc_base::forms::Lin;
@@ -33,8 +33,7 @@ fn to_put(table: u32, key: &[Lin], values: &[Lin], locals: &[i64], t: u64) -> Op
     requires number { t ≤ 2 ^ 45 }
     requires key { IsKey key.now }
     requires few { length values.now ≤ 12 }
-    ensures value { result ≡ change_if_small (variables t locals.now) (ToPut table key.now values.now) }
-    ensures fit { IfSome result IsFitChange }
+    ensures { result ≡ change_if_small (variables t locals.now) (ToPut table key.now values.now) }
 {
     let parts = key_in_range(key, locals, t)?;
     let columns = linears_in_range(values, locals, t)?;
@@ -46,8 +45,7 @@ fn to_drop(table: u32, key: &[Lin], locals: &[i64], t: u64) -> Option<Change>
     requires small { All IsSmall locals.now }
     requires number { t ≤ 2 ^ 45 }
     requires key { IsKey key.now }
-    ensures value { result ≡ change_if_small (variables t locals.now) (ToDrop table key.now) }
-    ensures fit { IfSome result IsFitChange }
+    ensures { result ≡ change_if_small (variables t locals.now) (ToDrop table key.now) }
 {
     let parts = key_in_range(key, locals, t)?;
     Some(Change::Drop(RowKey { table, parts }))
@@ -58,8 +56,7 @@ fn to_set(table: u32, key: &[Lin], col: u32, value: &Lin, locals: &[i64], t: u64
     requires small { All IsSmall locals.now }
     requires number { t ≤ 2 ^ 45 }
     requires key { IsKey key.now }
-    ensures value { result ≡ change_if_small (variables t locals.now) (ToSet table key.now col value.now) }
-    ensures fit { IfSome result IsFitChange }
+    ensures { result ≡ change_if_small (variables t locals.now) (ToSet table key.now col value.now) }
 {
     let parts = key_in_range(key, locals, t)?;
     let value = linear_in_range(value, locals, t)?;
@@ -71,8 +68,7 @@ fn to_add(table: u32, key: &[Lin], col: u32, value: &Lin, locals: &[i64], t: u64
     requires small { All IsSmall locals.now }
     requires number { t ≤ 2 ^ 45 }
     requires key { IsKey key.now }
-    ensures value { result ≡ change_if_small (variables t locals.now) (ToAdd table key.now col value.now) }
-    ensures fit { IfSome result IsFitChange }
+    ensures { result ≡ change_if_small (variables t locals.now) (ToAdd table key.now col value.now) }
 {
     let parts = key_in_range(key, locals, t)?;
     let value = linear_in_range(value, locals, t)?;
@@ -84,8 +80,7 @@ pub fn evaluated(action: &Action, locals: &[i64], t: u64) -> Option<Change>
     requires small { All IsSmall locals.now }
     requires number { t ≤ 2 ^ 45 }
     requires can { CanAct action.now }
-    ensures value { result ≡ change_if_small (variables t locals.now) action.now }
-    ensures fit { IfSome result IsFitChange }
+    ensures { result ≡ change_if_small (variables t locals.now) action.now }
 {
     match action {
         Action::Put(table, key, values) => {

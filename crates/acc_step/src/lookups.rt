@@ -1,5 +1,5 @@
 //! What stands at a key after writes that are not yet done.
-ghost use Rattle.std.specs.Prelude.{◌≡◌, ◌≤◌, length, All, option_copied};
+ghost use Rattle.std.specs.Prelude.{◌≡◌, All, option_copied};
 ghost use Rattle.std.specs.Ordering.{is_eq};
 ghost use Rattle.acc_base.specs.Tables.{place_cmp, IsInOrder};
 ghost use Rattle.acc_store.specs.Rows.{written, IsNarrow};
@@ -55,7 +55,6 @@ pub fn columns_now<'a, S: Store>(
     table: u32,
     key: &[i64],
 ) -> Option<&'a [i128]>
-    requires short { length key.now ≤ 6 }
     requires order { IsInOrder (S.rows s.now) }
     requires narrow { All IsNarrow writes.now }
     ensures value { option_copied result ≡ columns_at (table, key.now) (written writes.now (S.rows s.now)) }

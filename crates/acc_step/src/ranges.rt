@@ -7,9 +7,8 @@ ghost use Rattle.acc_base.specs.Tables.{IsInOrder};
 ghost use Rattle.acc_base.specs.Actions.{after_actions};
 ghost use Rattle.acc_base.specs.Runnable.{CanAct};
 ghost use Rattle.acc_store.specs.Bounds.{AreWithin};
-ghost use Rattle.acc_store.specs.Rows.{IsFit};
 ghost use Rattle.acc_step.specs.Overlay.{columns_at};
-ghost use Rattle.acc_step.specs.Changing.{place_at, change_if_small, IsFitChange};
+ghost use Rattle.acc_step.specs.Changing.{place_at, change_if_small};
 ghost use Rattle.acc_step.specs.RowColumns.{key_of, columns_through, may_add_to, may_make, may_follow};
 
 use crate::changes::{Change, RowKey, evaluated};
@@ -49,7 +48,6 @@ fn may_add_forward<S: Store>(
     requires number { t ≤ 2 ^ 45 }
     requires can { All CanAct before.now }
     requires few { length before.now ≤ 16 }
-    requires fit { IsFit (place_at key.now) }
     requires within { AreWithin (2 ^ 120) (S.rows s.now) }
     ensures { result ≡ may_add_to Forward col more (columns_through (variables t locals.now) (place_at key.now) before.now (columns_at (place_at key.now) (S.rows s.now))) }
 {
@@ -74,7 +72,6 @@ fn may_add<S: Store>(
     requires number { t ≤ 2 ^ 45 }
     requires can { All CanAct before.now }
     requires few { length before.now ≤ 16 }
-    requires fit { IsFit (place_at key.now) }
     requires within { AreWithin (2 ^ 120) (S.rows s.now) }
     ensures { result ≡ may_add_to side col more (columns_through (variables t locals.now) (place_at key.now) before.now (columns_at (place_at key.now) (S.rows s.now))) }
 {
@@ -97,7 +94,6 @@ fn may_change_row<S: Store>(
     requires number { t ≤ 2 ^ 45 }
     requires can { All CanAct before.now }
     requires few { length before.now ≤ 16 }
-    requires fit { IsFitChange change.now }
     requires within { AreWithin (2 ^ 120) (S.rows s.now) }
     ensures { result ≡ may_make side change.now (columns_through (variables t locals.now) (place_at (key_of change.now)) before.now (columns_at (place_at (key_of change.now)) (S.rows s.now))) }
 {

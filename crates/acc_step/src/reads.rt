@@ -83,7 +83,6 @@ fn read_column<S: Store>(
 
 /// Whether there is a row, as a number.
 fn row_there<S: Store>(s: &S, table: u32, key: &[i64]) -> i64
-    requires short { length key.now ≤ 6 }
     ensures { result ≡ has_row (S.rows s.now) table key.now }
 {
     if s.has(table, key) { 1 } else { 0 }
@@ -104,7 +103,6 @@ fn read_row<S: Store>(s: &S, table: u32, key: &[Lin], locals: &[i64], t: u64) ->
 
 /// A number of rows.
 fn counted<S: Store>(s: &S, table: u32, prefix: &[i64]) -> i128
-    requires short { length prefix.now ≤ 6 }
     ensures { result ≡ count_of (S.rows s.now) table prefix.now }
 {
     s.count(table, prefix) as i128

@@ -5,7 +5,7 @@ ghost use Rattle.acc_base.specs.Linear.{variables};
 ghost use Rattle.acc_base.specs.Runnable.{CanAct};
 ghost use Rattle.acc_store.specs.Bounds.{AreWithin};
 ghost use Rattle.acc_step.specs.Overlay.{columns_at, sum_in};
-ghost use Rattle.acc_step.specs.Changing.{change_if_small, IsFitChange};
+ghost use Rattle.acc_step.specs.Changing.{change_if_small};
 ghost use Rattle.acc_step.specs.RowColumns.{acted_table, key_of, columns_made, columns_moved, columns_acted, columns_through, AreNear};
 
 use crate::changes::{Change, RowKey, evaluated};
@@ -59,7 +59,6 @@ fn changed_key(change: &Change) -> &RowKey
 
 /// The columns of a row after a change of it.
 fn columns_after(cols: Option<Inline<i128, 12>>, change: &Change) -> Option<Inline<i128, 12>>
-    requires fit { IsFitChange change.now }
     requires near { AreNear (2 ^ 121) cols }
     ensures { result ≡ columns_made change.now cols }
 {
@@ -78,7 +77,6 @@ fn columns_with_change(
     table: u32,
     key: &[i64],
 ) -> Option<Inline<i128, 12>>
-    requires fit { IsFitChange change.now }
     requires near { AreNear (2 ^ 121) cols }
     ensures { result ≡ columns_moved (table, key.now) change.now cols }
 {
@@ -128,7 +126,6 @@ fn columns_with_action(
 
 /// The columns of the row at a key in a store, if there is one.
 fn columns_stored<S: Store>(s: &S, table: u32, key: &[i64]) -> Option<Inline<i128, 12>>
-    requires short { length key.now ≤ 6 }
     ensures { result ≡ columns_at (table, key.now) (S.rows s.now) }
 {
     match s.columns(table, key) {
@@ -150,7 +147,6 @@ pub fn columns_past<S: Store>(
     requires number { t ≤ 2 ^ 45 }
     requires can { All CanAct actions.now }
     requires few { length actions.now ≤ 16 }
-    requires short { length key.now ≤ 6 }
     requires within { AreWithin (2 ^ 120) (S.rows s.now) }
     ensures value { result ≡ columns_through (variables t locals.now) (table, key.now) actions.now (columns_at (table, key.now) (S.rows s.now)) }
     ensures near { AreNear (2 ^ 121) result }

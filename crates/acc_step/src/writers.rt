@@ -2,11 +2,11 @@
 ghost use Rattle.std.specs.Prelude.{◌≡◌, ◌≤◌, ◌^◌, length, All, Some, None, IfOk, IfSome, IsErrOf, OnOk, if◌then◌else◌, slice_set, slice_index_or, pos, ◌+ℤ◌, unsigned_abs, true, false};
 ghost use Rattle.acc_base.specs.Tables.{IsInOrder};
 ghost use Rattle.acc_store.specs.Bounds.{AreWithin};
-ghost use Rattle.acc_store.specs.Rows.{written, row_of, IsFit, IsNarrow};
+ghost use Rattle.acc_store.specs.Rows.{written, row_of, IsNarrow};
 ghost use Rattle.acc_store.specs.declared.writes.Write.TheVariants.{Row as Puts, Gone};
 ghost use Rattle.acc_step.specs.InRange.{if_small};
 ghost use Rattle.acc_step.specs.Overlay.{may_store, columns_at, put_with, set_of, add_of, with_write};
-ghost use Rattle.acc_step.specs.Changing.{place_at, changed, may_change, IsFitChange};
+ghost use Rattle.acc_step.specs.Changing.{place_at, changed, may_change};
 ghost use Rattle.acc_step.specs.declared.changes.Change.TheVariants.{Put as ToPut, Drop as ToDrop, Set as ToSet, Add as ToAdd};
 
 use crate::changes::{Change, RowKey};
@@ -45,7 +45,8 @@ fn push_if(writes: &mut Vec<Write>, write: Option<Write>) -> Result<(), AllocErr
 
 /// The key of a row, in memory of its own.
 fn owned_key(alloc: Global, key: &RowKey) -> Result<Key, AllocError>
-    ensures { IfOk result (λ k. k.parts ≡ key.now.parts) }
+    ensures parts { IfOk result (λ k. k.parts ≡ key.now.parts) }
+    ensures short { IfOk result (λ k. length k.parts ≤ 6) }
 {
     Ok(Key {
         parts: Seq::from_vec(Vec::from_slice(alloc, key.parts.as_slice())?),
@@ -54,7 +55,6 @@ fn owned_key(alloc: Global, key: &RowKey) -> Result<Key, AllocError>
 
 /// The write of a row.
 fn put_write(alloc: Global, key: &RowKey, cols: Vec<i128>) -> Result<Write, AllocError>
-    requires fit { IsFit (place_at key.now) }
     requires few { length cols.items ≤ 12 }
     ensures value { IfOk result (λ w. w ≡ Puts (row_of (place_at key.now) cols.items)) }
     ensures narrow { IfOk result IsNarrow }
@@ -84,7 +84,6 @@ fn put_row(
     columns: &[i64],
     writes: &mut Vec<Write>,
 ) -> Result<(), AllocError>
-    requires fit { IsFit (place_at key.now) }
     requires few { length columns.now ≤ 12 }
     requires narrow { All IsNarrow writes.old.items }
     ensures value { OnOk result (writes.new.items ≡ with_write writes.old.items (Some (Puts (row_of (place_at key.now) columns.now)))) }
@@ -97,7 +96,6 @@ fn put_row(
 
 /// Drops a row, if it is there.
 fn drop_row(alloc: Global, key: &RowKey, writes: &mut Vec<Write>) -> Result<(), AllocError>
-    requires fit { IsFit (place_at key.now) }
     requires narrow { All IsNarrow writes.old.items }
     ensures value { OnOk result (writes.new.items ≡ with_write writes.old.items (Some (Gone key.now.table (record { parts = key.now.parts })))) }
     ensures narrow { OnOk result (All IsNarrow writes.new.items) }
@@ -126,7 +124,6 @@ fn write_with(
     col: u32,
     value: i128,
 ) -> Result<Write, AllocError>
-    requires fit { IsFit (place_at key.now) }
     requires few { length cols.now ≤ 12 }
     ensures value { IfOk result (λ w. w ≡ put_with (place_at key.now) col value cols.now) }
     ensures narrow { IfOk result IsNarrow }
@@ -144,7 +141,6 @@ fn set_write<S: Store>(
     value: i64,
     writes: &[Write],
 ) -> Result<Option<Write>, AllocError>
-    requires fit { IsFit (place_at key.now) }
     requires order { IsInOrder (S.rows s.now) }
     requires narrow { All IsNarrow writes.now }
     ensures value { IfOk result (λ w. w ≡ set_of (place_at key.now) col value (columns_at (place_at key.now) (written writes.now (S.rows s.now)))) }
@@ -165,7 +161,6 @@ fn set_column<S: Store>(
     value: i64,
     writes: &mut Vec<Write>,
 ) -> Result<(), AllocError>
-    requires fit { IsFit (place_at key.now) }
     requires order { IsInOrder (S.rows s.now) }
     requires narrow { All IsNarrow writes.old.items }
     ensures rows { OnOk result (written writes.new.items (S.rows s.now) ≡ changed (ToSet key.now col value) (written writes.old.items (S.rows s.now))) }
@@ -224,7 +219,6 @@ fn add_write<S: Store>(
     more: i64,
     writes: &[Write],
 ) -> Result<Option<Write>, StepError>
-    requires fit { IsFit (place_at key.now) }
     requires order { IsInOrder (S.rows s.now) }
     requires narrow { All IsNarrow writes.now }
     requires within { AreWithin (2 ^ 121) (written writes.now (S.rows s.now)) }
@@ -251,7 +245,6 @@ fn add_to_column<S: Store>(
     more: i64,
     writes: &mut Vec<Write>,
 ) -> Result<(), StepError>
-    requires fit { IsFit (place_at key.now) }
     requires order { IsInOrder (S.rows s.now) }
     requires narrow { All IsNarrow writes.old.items }
     requires within { AreWithin (2 ^ 121) (written writes.old.items (S.rows s.now)) }
@@ -273,7 +266,6 @@ pub fn make_change<S: Store>(
     change: &Change,
     writes: &mut Vec<Write>,
 ) -> Result<(), StepError>
-    requires fit { IsFitChange change.now }
     requires order { IsInOrder (S.rows s.now) }
     requires narrow { All IsNarrow writes.old.items }
     requires within { AreWithin (2 ^ 121) (written writes.old.items (S.rows s.now)) }

@@ -1,14 +1,14 @@
 -- The entries of a map as rows. A blank entry is no row.
-use Rattle.std.specs.Prelude.{◌≡◌, ℕ, ◌≤◌, ◌^◌, Bool, true, false, ◌&&◌, ◌==◌, List, [], ◌∷◌, length, filter, Option, Some, None, is_some, is_none, nat_le, slice_get, slice_index_or, ℤ, pos, ⊤, unsigned_abs, All, ◌≤ℤ◌}
-use Rattle.std.specs.List.{starts_with, sum_by, AllByRecursion}
+use Rattle.std.specs.Prelude.{◌≡◌, ℕ, ◌≤◌, ◌^◌, Bool, true, false, not, ◌&&◌, ◌||◌, ◌==◌, List, [], ◌∷◌, length, filter, Option, Some, None, is_some, is_none, nat_le, slice_get, slice_index_or, ℤ, pos, ⊤, unsigned_abs, All, ◌≤ℤ◌}
+use Rattle.std.specs.List.{list_any, starts_with, sum_by, AllByRecursion}
 use Rattle.std.specs.Ordering.{int_eq}
 use Rattle.std.specs.List.Sorted.{IsStrictlySortedBy}
 use Rattle.std.specs.Map.{keys_of, lookup}
 use Rattle.std.specs.BTreeMap.{is_at as at}
 use Rattle.acc_base.specs.declared.tables.Row.{Row}
-use Rattle.acc_base.specs.Numbers.{IsSmall}
 use Rattle.acc_base.specs.Tables.{Place, place_of, place_cmp, put, drop_row, cell}
 use Rattle.acc_store.specs.Contents.{Content}
+use Rattle.acc_store.specs.Places.{top}
 use Rattle.acc_store.specs.declared.writes.Write.{Write}
 use Rattle.acc_store.specs.declared.writes.Write.TheVariants.{Row as Puts, Gone}
 
@@ -56,10 +56,10 @@ column_in c (Some cols) = slice_index_or cols c (pos 0)
 abbrev pub IsUp : List Entry → Type 0
 IsUp es = IsStrictlySortedBy place_cmp (keys_of es)
 
--- keys are short, and their parts are small
+-- a key is short, and its parts are of 64 bits
 pub record IsFit (p : Place) : Type 0 where
   pub short : length p.1 ≤ 6
-  pub small : All IsSmall p.1
+  pub parts : All (λ x. x ≤ℤ top) p.1
 
 abbrev pub AreFit : List Entry → Type 0
 AreFit es = AllByRecursion IsFit (keys_of es)
@@ -95,10 +95,10 @@ abbrev pub written : List Write → List Row → List Row
 written [] rows = rows
 written (w ∷ ws) rows = written ws (write w rows)
 
--- a write of a short key with small parts, and of at most 12 columns
+-- a row that is put has a key of at most 6 parts and at most 12 columns
 abbrev pub IsNarrow : Write → Type 0
-IsNarrow (Puts r) = IsFit (place_of r) × (length r.cols ≤ 12)
-IsNarrow (Gone t k) = length k.parts ≤ 6
+IsNarrow (Puts r) = (length r.key.parts ≤ 6) × (length r.cols ≤ 12)
+IsNarrow (Gone t k) = ⊤
 
 -- ---- room for writes
 
@@ -129,6 +129,48 @@ abbrev pub has_room : List Entry → Write → Bool
 has_room es (Puts r) = has_room_at es (place_of r) (length r.cols)
 has_room es (Gone t k) = true
 
--- the absolute values of each column add up to at most 2^120
+-- ---- sums
+
+-- the rows of a table
+abbrev pub in_table : ℕ → List Row → List Row
+in_table t rows = filter (λ r. r.table == t) rows
+
+-- the absolute values of each column of each table add up to at most 2^120
 abbrev pub SumsFit : List Row → Type 0
-SumsFit rows = (c : ℕ) → sum_by (λ r. unsigned_abs (cell c r)) rows ≤ 2 ^ 120
+SumsFit rows = (t c : ℕ) → sum_by (λ r. unsigned_abs (cell c r)) (in_table t rows) ≤ 2 ^ 120
+
+-- ---- blank entries
+
+-- whether a write puts a row at a place, and whether it drops the row there
+abbrev pub is_put : Place → Write → Bool
+is_put p (Puts r) = at (place_cmp (place_of r)) p
+is_put p (Gone t k) = false
+
+abbrev pub is_gone : Place → Write → Bool
+is_gone p (Puts r) = false
+is_gone p (Gone t k) = at (place_cmp (t, k.parts)) p
+
+-- whether a write can leave a blank at a place: by its room, or where rows were put by the row that it drops
+abbrev pub leaves_blank : Bool → Place → Write → Bool
+leaves_blank true p w = is_gone p w
+leaves_blank false p w = is_put p w
+
+-- no entry is blank
+abbrev pub HasNoBlank : List Entry → Type 0
+HasNoBlank es = (p : Place) → is_blank_at es p ≡ false
+
+-- blank entries stand where a write passes the test
+abbrev pub BlanksAre : (Place → Write → Bool) → List Write → List Entry → Type 0
+BlanksAre test ws es = (p : Place) → is_blank_at es p ≡ true → list_any (test p) ws ≡ true
+
+-- blank entries came at most where the test passes
+abbrev pub AddsBlanks : (Place → Bool) → List Entry → List Entry → Type 0
+AddsBlanks test es fs = (p : Place) → is_blank_at fs p ≡ true → (is_blank_at es p || test p) ≡ true
+
+-- none came, and none are where the test passes
+abbrev pub ClearsBlanks : (Place → Bool) → List Entry → List Entry → Type 0
+ClearsBlanks test es fs = (p : Place) → is_blank_at fs p ≡ true → (is_blank_at es p && not (test p)) ≡ true
+
+-- a blank entry is where a row was dropped, or was there and no row was put
+abbrev pub WritesBlanks : Write → List Entry → List Entry → Type 0
+WritesBlanks w es fs = (p : Place) → is_blank_at fs p ≡ true → (is_gone p w || (is_blank_at es p && not (is_put p w))) ≡ true

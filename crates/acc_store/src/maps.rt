@@ -4,11 +4,11 @@ ghost use Rattle.std.specs.Prelude.{◌+◌, ◌+ℤ◌, unsigned_abs};
 ghost use Rattle.std.specs.List.{list_any, list_all, sum_by};
 ghost use Rattle.std.specs.Int.{int_min, int_max};
 ghost use Rattle.acc_base.specs.Numbers.{total};
-ghost use Rattle.std.specs.BTreeMap.{keys, get};
+ghost use Rattle.std.specs.BTreeMap.{keys, is_at as at};
 ghost use Rattle.acc_base.specs.Tables.{is_at, is_under, column_of, count_of, sum_of, least_of, greatest_of, parts_at, place_cmp, place_of, cell, best, put, drop_row};
-ghost use Rattle.acc_store.specs.Rows.{live, cells_at as cells_there, column_in, columns_of, one_in, part_in, IsRising, SumsFit, IsUp, AreFit, IsFit, below, write as written_by, written, IsNarrow, has_entry, has_room, has_room_at, KeepsRoom, is_blank_at as is_blank_there, row_of as row_with, with_row};
+ghost use Rattle.acc_store.specs.Rows.{live, cells_at as cells_there, column_in, columns_of, one_in, part_in, IsRising, SumsFit, IsUp, AreFit, IsFit, below, write as written_by, written, IsNarrow, has_entry, has_room, has_room_at, KeepsRoom, HasNoBlank, BlanksAre, AddsBlanks, ClearsBlanks, WritesBlanks, is_put, is_gone, leaves_blank, is_blank_at as is_blank_there, row_of as row_with, with_row};
 
-use crate::places::Place;
+use crate::places::{MOST_PARTS, Place};
 use crate::slots::Slot;
 use crate::writes::Write;
 use acc_base::sequences::Seq;
@@ -20,15 +20,25 @@ use std::collections::btree_map::Range;
 /// Entries in the order of their places; a blank one is no row.
 pub type Entries = BTreeMap<Place, Slot>;
 
+/// The columns of the row at a place.
+fn cells_of<'a>(entries: &'a Entries, place: &Place) -> Option<&'a [i128]>
+    ensures value { option_copied result ≡ cells_there place.now entries.now.entries }
+    ensures few { IfSome (option_copied result) (λ cols. length cols ≤ 12) }
+{
+    match entries.get(place) {
+        Some(slot) => slot.cells(),
+        None => None,
+    }
+}
+
 /// The columns of the row at a key.
 fn cells_at<'a>(entries: &'a Entries, table: u32, key: &[i64]) -> Option<&'a [i128]>
-    requires short { length key.now ≤ 6 }
+    requires fit { AreFit entries.now.entries }
     ensures value { option_copied result ≡ cells_there (table, key.now) entries.now.entries }
     ensures few { IfSome (option_copied result) (λ cols. length cols ≤ 12) }
 {
-    let place = Place::new(table, key);
-    match entries.get(&place) {
-        Some(slot) => slot.cells(),
+    match Place::of(table, key) {
+        Some(place) => cells_of(entries, &place),
         None => None,
     }
 }
@@ -48,7 +58,7 @@ fn column(cells: Option<&[i128]>, col: u32) -> i128
 
 /// Whether there is a row at a key.
 pub fn has_row(entries: &Entries, table: u32, key: &[i64]) -> bool
-    requires short { length key.now ≤ 6 }
+    requires fit { AreFit entries.now.entries }
     requires up { IsUp entries.now.entries }
     ensures { result ≡ list_any (is_at table key.now) (live entries.now.entries) }
 {
@@ -57,7 +67,7 @@ pub fn has_row(entries: &Entries, table: u32, key: &[i64]) -> bool
 
 /// A column of the row at a key.
 pub fn column_at(entries: &Entries, table: u32, key: &[i64], col: u32) -> i128
-    requires short { length key.now ≤ 6 }
+    requires fit { AreFit entries.now.entries }
     requires up { IsUp entries.now.entries }
     ensures { result ≡ column_of (live entries.now.entries) table key.now col }
 {
@@ -66,7 +76,7 @@ pub fn column_at(entries: &Entries, table: u32, key: &[i64], col: u32) -> i128
 
 /// The columns of the row at a key.
 pub fn columns_at<'a>(entries: &'a Entries, table: u32, key: &[i64]) -> Option<&'a [i128]>
-    requires short { length key.now ≤ 6 }
+    requires fit { AreFit entries.now.entries }
     requires up { IsUp entries.now.entries }
     ensures value { option_copied result ≡ columns_of (find (is_at table key.now) (live entries.now.entries)) }
     ensures few { IfSome (option_copied result) (λ cols. length cols ≤ 12) }
@@ -75,7 +85,7 @@ pub fn columns_at<'a>(entries: &'a Entries, table: u32, key: &[i64]) -> Option<&
 }
 
 /// The entries whose keys begin with a prefix.
-pub fn entries_below<'a>(entries: &'a Entries, table: u32, prefix: &[i64]) -> Range<'a, Place, Slot>
+fn entries_below<'a>(entries: &'a Entries, table: u32, prefix: &[i64]) -> Range<'a, Place, Slot>
     requires short { length prefix.now ≤ 6 }
     requires fit { AreFit entries.now.entries }
     ensures below { result ≡ below table prefix.now entries.now.entries }
@@ -100,6 +110,7 @@ fn make_blank(
     ensures rows { live entries.new.entries ≡ live entries.old.entries }
     ensures room { OnOk result (has_room_at entries.new.entries place room ≡ true) }
     ensures kept { KeepsRoom entries.old.entries entries.new.entries }
+    ensures blanks { AddsBlanks (at (place_cmp place)) entries.old.entries entries.new.entries }
     ensures up { IsUp entries.new.entries }
     ensures fit { AreFit entries.new.entries }
 {
@@ -115,6 +126,7 @@ fn widen(entries: &mut Entries, place: &Place, room: usize) -> Result<(), AllocE
     ensures room { has_entry entries.old.entries place.now ≡ true → OnOk result (has_room_at entries.new.entries place.now room ≡ true) }
     ensures enough { has_room_at entries.old.entries place.now room ≡ true → IsOk result }
     ensures kept { KeepsRoom entries.old.entries entries.new.entries }
+    ensures blanks { AddsBlanks (at (place_cmp place.now)) entries.old.entries entries.new.entries }
     ensures up { IsUp entries.new.entries }
     ensures fit { AreFit entries.new.entries }
 {
@@ -138,6 +150,7 @@ fn make_room_at(
     ensures room { OnOk result (has_room_at entries.new.entries place room ≡ true) }
     ensures enough { has_room_at entries.old.entries place room ≡ true → IsOk result }
     ensures kept { KeepsRoom entries.old.entries entries.new.entries }
+    ensures blanks { AddsBlanks (at (place_cmp place)) entries.old.entries entries.new.entries }
     ensures up { IsUp entries.new.entries }
     ensures fit { AreFit entries.new.entries }
 {
@@ -157,6 +170,7 @@ fn make_room_for(entries: &mut Entries, alloc: Global, write: &Write) -> Result<
     ensures room { OnOk result (has_room entries.new.entries write.now ≡ true) }
     ensures enough { has_room entries.old.entries write.now ≡ true → IsOk result }
     ensures kept { KeepsRoom entries.old.entries entries.new.entries }
+    ensures blanks { AddsBlanks (λ p. is_put p write.now) entries.old.entries entries.new.entries }
     ensures up { IsUp entries.new.entries }
     ensures fit { AreFit entries.new.entries }
 {
@@ -258,13 +272,14 @@ fn greatest_live(entries: Range<'_, Place, Slot>, at: usize) -> i64
 
 /// Puts a row, for which there is room.
 fn put_row(entries: &mut Entries, row: &Row)
-    requires fit { IsFit (place_of row.now) }
+    requires short { length row.now.key.parts ≤ 6 }
     requires columns { length row.now.cols ≤ 12 }
     requires room { has_room_at entries.old.entries (place_of row.now) (length row.now.cols) ≡ true }
     requires up { IsUp entries.old.entries }
     ensures rows { live entries.new.entries ≡ put row.now (live entries.old.entries) }
     ensures keys { keys entries.new ≡ keys entries.old }
     ensures kept { KeepsRoom entries.old.entries entries.new.entries }
+    ensures blanks { ClearsBlanks (at (place_cmp (place_of row.now))) entries.old.entries entries.new.entries }
     ensures up { IsUp entries.new.entries }
 {
     let place = Place::new(row.table, row.key.parts.as_slice());
@@ -273,18 +288,32 @@ fn put_row(entries: &mut Entries, row: &Row)
     }
 }
 
+/// Drops the row at a place, if there is one, and leaves a blank.
+fn drop_at(entries: &mut Entries, place: &Place)
+    requires up { IsUp entries.old.entries }
+    ensures rows { live entries.new.entries ≡ drop_row place.now.0 place.now.1 (live entries.old.entries) }
+    ensures keys { keys entries.new ≡ keys entries.old }
+    ensures kept { KeepsRoom entries.old.entries entries.new.entries }
+    ensures blanks { AddsBlanks (at (place_cmp place.now)) entries.old.entries entries.new.entries }
+    ensures up { IsUp entries.new.entries }
+{
+    if let Some(slot) = entries.get_mut(place) {
+        slot.clear();
+    }
+}
+
 /// Drops a row, if there is one, and leaves a blank.
 fn drop_one(entries: &mut Entries, table: u32, key: &[i64])
-    requires short { length key.now ≤ 6 }
     requires up { IsUp entries.old.entries }
+    requires are_fit { AreFit entries.old.entries }
     ensures rows { live entries.new.entries ≡ drop_row table key.now (live entries.old.entries) }
     ensures keys { keys entries.new ≡ keys entries.old }
     ensures kept { KeepsRoom entries.old.entries entries.new.entries }
+    ensures blanks { AddsBlanks (at (place_cmp (table, key.now))) entries.old.entries entries.new.entries }
     ensures up { IsUp entries.new.entries }
 {
-    let place = Place::new(table, key);
-    if let Some(slot) = entries.get_mut(&place) {
-        slot.clear();
+    if let Some(place) = Place::of(table, key) {
+        drop_at(entries, &place);
     }
 }
 
@@ -293,9 +322,11 @@ fn write_one(entries: &mut Entries, write: &Write)
     requires narrow { IsNarrow write.now }
     requires room { has_room entries.old.entries write.now ≡ true }
     requires up { IsUp entries.old.entries }
+    requires are_fit { AreFit entries.old.entries }
     ensures rows { live entries.new.entries ≡ written_by write.now (live entries.old.entries) }
     ensures keys { keys entries.new ≡ keys entries.old }
     ensures kept { KeepsRoom entries.old.entries entries.new.entries }
+    ensures blanks { WritesBlanks write.now entries.old.entries entries.new.entries }
     ensures up { IsUp entries.new.entries }
 {
     match write {
@@ -314,37 +345,47 @@ fn is_blank_at(entries: &Entries, place: &Place) -> bool
     }
 }
 
-/// Forgets an entry that is blank.
-fn forget(entries: &mut Entries, table: u32, key: &[i64])
-    requires short { length key.now ≤ 6 }
+/// Forgets the entry at a place, if it is blank.
+fn forget_at(entries: &mut Entries, place: &Place)
     requires up { IsUp entries.old.entries }
     requires are_fit { AreFit entries.old.entries }
     ensures rows { live entries.new.entries ≡ live entries.old.entries }
+    ensures blanks { ClearsBlanks (at (place_cmp place.now)) entries.old.entries entries.new.entries }
     ensures up { IsUp entries.new.entries }
     ensures fit { AreFit entries.new.entries }
 {
-    let place = Place::new(table, key);
-    if is_blank_at(entries, &place) {
-        entries.remove(&place);
+    if is_blank_at(entries, place) {
+        entries.remove(place);
+    }
+}
+
+/// Forgets an entry that is blank.
+fn forget(entries: &mut Entries, table: u32, key: &[i64])
+    requires up { IsUp entries.old.entries }
+    requires are_fit { AreFit entries.old.entries }
+    ensures rows { live entries.new.entries ≡ live entries.old.entries }
+    ensures blanks { ClearsBlanks (at (place_cmp (table, key.now))) entries.old.entries entries.new.entries }
+    ensures up { IsUp entries.new.entries }
+    ensures fit { AreFit entries.new.entries }
+{
+    if let Some(place) = Place::of(table, key) {
+        forget_at(entries, &place);
     }
 }
 
 /// Forgets the entry of a write, if it is blank. One of a row that was put is not.
 fn forget_for(entries: &mut Entries, write: &Write, were_put: bool)
-    requires narrow { IsNarrow write.now }
     requires up { IsUp entries.old.entries }
     requires are_fit { AreFit entries.old.entries }
     ensures rows { live entries.new.entries ≡ live entries.old.entries }
+    ensures blanks { ClearsBlanks (λ p. leaves_blank were_put p write.now) entries.old.entries entries.new.entries }
     ensures up { IsUp entries.new.entries }
     ensures fit { AreFit entries.new.entries }
 {
-    match write {
-        Write::Row(row) => {
-            if !were_put {
-                forget(entries, row.table, row.key.parts.as_slice());
-            }
-        }
-        Write::Gone(table, key) => forget(entries, *table, key.parts.as_slice()),
+    match (write, were_put) {
+        (Write::Row(row), false) => forget(entries, row.table, row.key.parts.as_slice()),
+        (Write::Gone(table, key), true) => forget(entries, *table, key.parts.as_slice()),
+        _ => (),
     }
 }
 
@@ -353,9 +394,11 @@ fn make_room(entries: &mut Entries, alloc: Global, writes: &[Write]) -> Result<(
     requires narrow { All IsNarrow writes.now }
     requires up { IsUp entries.old.entries }
     requires are_fit { AreFit entries.old.entries }
+    requires blanks { HasNoBlank entries.old.entries }
     ensures rows { live entries.new.entries ≡ live entries.old.entries }
     ensures room { OnOk result (list_all (has_room entries.new.entries) writes.now ≡ true) }
     ensures enough { list_all (has_room entries.old.entries) writes.now ≡ true → IsOk result }
+    ensures blanks { BlanksAre is_put writes.now entries.new.entries }
     ensures up { IsUp entries.new.entries }
     ensures fit { AreFit entries.new.entries }
 {
@@ -371,7 +414,9 @@ fn write_all(entries: &mut Entries, writes: &[Write])
     requires room { list_all (has_room entries.old.entries) writes.now ≡ true }
     requires up { IsUp entries.old.entries }
     requires are_fit { AreFit entries.old.entries }
+    requires blanks { BlanksAre is_put writes.now entries.old.entries }
     ensures rows { live entries.new.entries ≡ written writes.now (live entries.old.entries) }
+    ensures blanks { BlanksAre is_gone writes.now entries.new.entries }
     ensures up { IsUp entries.new.entries }
     ensures fit { AreFit entries.new.entries }
 {
@@ -382,16 +427,33 @@ fn write_all(entries: &mut Entries, writes: &[Write])
 
 /// Forgets the entries of writes that are blank.
 fn forget_all(entries: &mut Entries, writes: &[Write], were_put: bool)
-    requires narrow { All IsNarrow writes.now }
     requires up { IsUp entries.old.entries }
     requires are_fit { AreFit entries.old.entries }
+    requires blanks { BlanksAre (leaves_blank were_put) writes.now entries.old.entries }
     ensures rows { live entries.new.entries ≡ live entries.old.entries }
+    ensures blanks { HasNoBlank entries.new.entries }
     ensures up { IsUp entries.new.entries }
     ensures fit { AreFit entries.new.entries }
 {
     for write in writes {
         forget_for(entries, write, were_put);
     }
+}
+
+/// Does writes for which there is room, and forgets the entries that they leave blank.
+fn do_all(entries: &mut Entries, writes: &[Write])
+    requires narrow { All IsNarrow writes.now }
+    requires room { list_all (has_room entries.old.entries) writes.now ≡ true }
+    requires up { IsUp entries.old.entries }
+    requires are_fit { AreFit entries.old.entries }
+    requires blanks { BlanksAre is_put writes.now entries.old.entries }
+    ensures rows { live entries.new.entries ≡ written writes.now (live entries.old.entries) }
+    ensures blanks { HasNoBlank entries.new.entries }
+    ensures up { IsUp entries.new.entries }
+    ensures fit { AreFit entries.new.entries }
+{
+    write_all(entries, writes);
+    forget_all(entries, writes, true);
 }
 
 /// Does all writes, or none. Where there is room for all it takes no memory.
@@ -403,23 +465,25 @@ pub fn apply_writes(
     requires narrow { All IsNarrow writes.now }
     requires up { IsUp entries.old.entries }
     requires are_fit { AreFit entries.old.entries }
+    requires blanks { HasNoBlank entries.old.entries }
     ensures ok { OnOk result (live entries.new.entries ≡ written writes.now (live entries.old.entries)) }
     ensures err { OnErr result (live entries.new.entries ≡ live entries.old.entries) }
     ensures enough { list_all (has_room entries.old.entries) writes.now ≡ true → IsOk result }
+    ensures blanks { HasNoBlank entries.new.entries }
     ensures up { IsUp entries.new.entries }
     ensures fit { AreFit entries.new.entries }
 {
     let room = make_room(entries, alloc, writes);
-    let is_room = room.is_ok();
-    if is_room {
-        write_all(entries, writes);
+    if room.is_ok() {
+        do_all(entries, writes);
+    } else {
+        forget_all(entries, writes, false);
     }
-    forget_all(entries, writes, is_room);
     room
 }
 
-/// How many rows have keys that begin with the prefix.
-pub fn count_below(entries: &Entries, table: u32, prefix: &[i64]) -> u64
+/// How many rows have keys that begin with a prefix of at most 6 parts.
+fn count_below(entries: &Entries, table: u32, prefix: &[i64]) -> u64
     requires short { length prefix.now ≤ 6 }
     requires fit { AreFit entries.now.entries }
     ensures { pos result ≡ count_of (live entries.now.entries) table prefix.now }
@@ -427,8 +491,20 @@ pub fn count_below(entries: &Entries, table: u32, prefix: &[i64]) -> u64
     count_live(entries_below(entries, table, prefix))
 }
 
-/// The sum of a column over these rows.
-pub fn sum_below(entries: &Entries, table: u32, prefix: &[i64], col: u32) -> i128
+/// How many rows have keys that begin with the prefix.
+pub fn count_under(entries: &Entries, table: u32, prefix: &[i64]) -> u64
+    requires fit { AreFit entries.now.entries }
+    ensures { pos result ≡ count_of (live entries.now.entries) table prefix.now }
+{
+    if prefix.len() <= MOST_PARTS {
+        count_below(entries, table, prefix)
+    } else {
+        0
+    }
+}
+
+/// The sum of a column over the rows whose keys begin with a prefix of at most 6 parts.
+fn sum_below(entries: &Entries, table: u32, prefix: &[i64], col: u32) -> i128
     requires short { length prefix.now ≤ 6 }
     requires fit { AreFit entries.now.entries }
     requires sums { SumsFit (live entries.now.entries) }
@@ -437,8 +513,21 @@ pub fn sum_below(entries: &Entries, table: u32, prefix: &[i64], col: u32) -> i12
     sum_live(entries_below(entries, table, prefix), col)
 }
 
-/// The least part after the prefix, and 0 where there is none.
-pub fn least_below(entries: &Entries, table: u32, prefix: &[i64]) -> i64
+/// The sum of a column over these rows.
+pub fn sum_under(entries: &Entries, table: u32, prefix: &[i64], col: u32) -> i128
+    requires fit { AreFit entries.now.entries }
+    requires sums { SumsFit (live entries.now.entries) }
+    ensures { result ≡ sum_of (live entries.now.entries) table prefix.now col }
+{
+    if prefix.len() <= MOST_PARTS {
+        sum_below(entries, table, prefix, col)
+    } else {
+        0
+    }
+}
+
+/// The least part after a prefix of at most 6 parts, and 0 where there is none.
+fn least_below(entries: &Entries, table: u32, prefix: &[i64]) -> i64
     requires short { length prefix.now ≤ 6 }
     requires fit { AreFit entries.now.entries }
     requires up { IsUp entries.now.entries }
@@ -447,14 +536,40 @@ pub fn least_below(entries: &Entries, table: u32, prefix: &[i64]) -> i64
     least_live(entries_below(entries, table, prefix), prefix.len())
 }
 
-/// The greatest part after the prefix, and 0 where there is none.
-pub fn greatest_below(entries: &Entries, table: u32, prefix: &[i64]) -> i64
+/// The least part after the prefix, and 0 where there is none.
+pub fn least_under(entries: &Entries, table: u32, prefix: &[i64]) -> i64
+    requires fit { AreFit entries.now.entries }
+    requires up { IsUp entries.now.entries }
+    ensures { result ≡ least_of (live entries.now.entries) table prefix.now }
+{
+    if prefix.len() <= MOST_PARTS {
+        least_below(entries, table, prefix)
+    } else {
+        0
+    }
+}
+
+/// The greatest part after a prefix of at most 6 parts, and 0 where there is none.
+fn greatest_below(entries: &Entries, table: u32, prefix: &[i64]) -> i64
     requires short { length prefix.now ≤ 6 }
     requires fit { AreFit entries.now.entries }
     requires up { IsUp entries.now.entries }
     ensures { result ≡ greatest_of (live entries.now.entries) table prefix.now }
 {
     greatest_live(entries_below(entries, table, prefix), prefix.len())
+}
+
+/// The greatest part after the prefix, and 0 where there is none.
+pub fn greatest_under(entries: &Entries, table: u32, prefix: &[i64]) -> i64
+    requires fit { AreFit entries.now.entries }
+    requires up { IsUp entries.now.entries }
+    ensures { result ≡ greatest_of (live entries.now.entries) table prefix.now }
+{
+    if prefix.len() <= MOST_PARTS {
+        greatest_below(entries, table, prefix)
+    } else {
+        0
+    }
 }
 
 /// The row of these cells at a place.

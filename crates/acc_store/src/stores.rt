@@ -5,8 +5,8 @@ ghost use Rattle.acc_base.specs.Tables.{is_at, is_under, column_of, count_of, su
 ghost use Rattle.acc_store.specs.Rows.{columns_of, written, IsNarrow, SumsFit};
 
 use crate::maps::{
-    Entries, apply_writes, column_at, columns_at, count_below, greatest_below, has_row,
-    least_below, rows_of, sum_below,
+    Entries, apply_writes, column_at, columns_at, count_under, greatest_under, has_row,
+    least_under, rows_of, sum_under,
 };
 use crate::writes::Write;
 use acc_base::sequences::Seq;
@@ -30,7 +30,7 @@ impl From<AllocError> for StoreError {
 
 /// Rows, however they are kept. Contracts see them as a list, in the order of tables and keys.
 ///
-/// A key or prefix has at most 6 parts, a row at most 12 columns. Look-ups take no memory.
+/// A row has at most 6 key parts and 12 columns. Look-ups take a key or prefix of any length, and no memory.
 pub trait Store {
     ghost use Rattle.std.specs.Prelude.{List};
     ghost use Rattle.acc_base.specs.declared.tables.Row.{Row};
@@ -40,44 +40,37 @@ pub trait Store {
 
     /// Whether there is a row of the table with this key.
     fn has(&self, table: u32, key: &[i64]) -> bool
-        requires short { length key.now ≤ 6 }
         ensures { result ≡ list_any (is_at table key.now) (rows self.now) };
 
     /// A column of the row with this key, counted from 0. It is 0 where the row or the column is absent.
     fn get(&self, table: u32, key: &[i64], col: u32) -> i128
-        requires short { length key.now ≤ 6 }
         ensures { result ≡ column_of (rows self.now) table key.now col };
 
     /// The columns of the row with this key, if there is one.
     fn columns<'a>(&'a self, table: u32, key: &[i64]) -> Option<&'a [i128]>
-        requires short { length key.now ≤ 6 }
         ensures value { option_copied result ≡ columns_of (find (is_at table key.now) (rows self.now)) }
         ensures few { IfSome (option_copied result) (λ cols. length cols ≤ 12) };
 
     /// How many rows of the table have keys that begin with the prefix.
     fn count(&self, table: u32, prefix: &[i64]) -> u64
-        requires short { length prefix.now ≤ 6 }
         ensures { pos result ≡ count_of (rows self.now) table prefix.now };
 
     /// The sum of a column over these rows.
     fn sum(&self, table: u32, prefix: &[i64], col: u32) -> i128
-        requires short { length prefix.now ≤ 6 }
         ensures { result ≡ sum_of (rows self.now) table prefix.now col };
 
     /// The least part that follows the prefix in their keys. It is 0 where there is none.
     fn least(&self, table: u32, prefix: &[i64]) -> i64
-        requires short { length prefix.now ≤ 6 }
         ensures { result ≡ least_of (rows self.now) table prefix.now };
 
     /// The greatest part that follows the prefix in their keys. It is 0 where there is none.
     fn greatest(&self, table: u32, prefix: &[i64]) -> i64
-        requires short { length prefix.now ≤ 6 }
         ensures { result ≡ greatest_of (rows self.now) table prefix.now };
 
-    /// Does all writes, one after the other, or none where memory runs out. The parts of a key that is put lie within
-    /// 2^45 of 0.
+    /// Does all writes, one after the other, or none where memory runs out.
     ///
-    /// Afterwards the absolute values of each column have to add up to at most 2^120.
+    /// Afterwards the absolute values of each column of each table have to add up to at most 2^120. A row that is put has at most
+    /// 6 key parts and 12 columns.
     fn apply(&mut self, writes: &[Write]) -> Result<(), StoreError>
         requires narrow { All IsNarrow writes.now }
         requires sums { SumsFit (written writes.now (rows self.old)) }
@@ -99,13 +92,13 @@ pub struct MapStore {
 impl Model for MapStore {
     ghost use Rattle.std.specs.Prelude.{List};
     ghost use Rattle.acc_base.specs.declared.tables.Row.{Row};
-    ghost use Rattle.acc_store.specs.Rows.{live, IsUp, AreFit, SumsFit};
+    ghost use Rattle.acc_store.specs.Rows.{live, IsUp, AreFit, HasNoBlank, SumsFit};
 
     ghost Value = { List Row };
 
     ghost view = { λ s. live s.entries.entries };
 
-    ghost invariant = { λ s. IsUp s.entries.entries × AreFit s.entries.entries × SumsFit (live s.entries.entries) };
+    ghost invariant = { λ s. let es = s.entries.entries in IsUp es × AreFit es × HasNoBlank es × SumsFit (live es) };
 }
 
 impl MapStore {
@@ -136,19 +129,19 @@ impl Store for MapStore {
     }
 
     fn count(&self, table: u32, prefix: &[i64]) -> u64 {
-        count_below(&self.entries, table, prefix)
+        count_under(&self.entries, table, prefix)
     }
 
     fn sum(&self, table: u32, prefix: &[i64], col: u32) -> i128 {
-        sum_below(&self.entries, table, prefix, col)
+        sum_under(&self.entries, table, prefix, col)
     }
 
     fn least(&self, table: u32, prefix: &[i64]) -> i64 {
-        least_below(&self.entries, table, prefix)
+        least_under(&self.entries, table, prefix)
     }
 
     fn greatest(&self, table: u32, prefix: &[i64]) -> i64 {
-        greatest_below(&self.entries, table, prefix)
+        greatest_under(&self.entries, table, prefix)
     }
 
     fn apply(&mut self, writes: &[Write]) -> Result<(), StoreError> {

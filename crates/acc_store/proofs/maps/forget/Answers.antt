@@ -1,15 +1,9 @@
-use Rattle.std.proofs.Common.{◌∙◌, sym, ap, subst}
-use Rattle.acc_store.proofs.Live.{live_forget}
-use Rattle.acc_store.proofs.Room.{fit_remove}
-use Rattle.std.specs.BTreeMap.{is_at as at}
-use Rattle.acc_base.specs.Tables.{place_cmp}
-use Rattle.acc_store.specs.Rows.{live, AreFit}
+use Rattle.acc_store.proofs.Spans.{entry_long}
+use Rattle.acc_store.proofs.Blanks.{absent_clears}
 use Rattle.acc_store.proofs.maps.forget.Goals as goal
 
-pub returns-then-is_blank_at-clause-rows : goal.returns-then-is_blank_at-clause-rows
-returns-then-is_blank_at-clause-rows c =
-    ap live c.remove.ensures.entries ∙ live_forget c.new-place.result c.args.entries.now.entries (sym c.is_blank_at.ensures ∙ c.if-is_blank_at.true)
-
-pub returns-then-is_blank_at-clause-fit : goal.returns-then-is_blank_at-clause-fit
-returns-then-is_blank_at-clause-fit c =
-    subst AreFit (sym c.remove.ensures.entries) (fit_remove (at (place_cmp c.new-place.result)) c.args.entries.now.entries c.requires.are_fit)
+-- there is no entry at so long a key
+pub returns-in_default-clause-blanks : goal.returns-in_default-clause-blanks
+returns-in_default-clause-blanks c =
+    let es = c.args.entries.now.entries in
+    absent_clears es (c.args.table, c.args.key.now) (entry_long c.args.table c.args.key.now es c.in_default.ensures.none c.requires.are_fit)

@@ -3,6 +3,7 @@ use Rattle.std.specs.Prelude.{is_some}
 use Rattle.std.specs.Option.{option_copied_mut}
 use Rattle.acc_store.specs.Rows.{live, entry_at}
 use Rattle.acc_store.proofs.Live.{same_there}
+use Rattle.acc_store.proofs.Blanks.{change_adds}
 use Rattle.acc_store.proofs.Room.{kept_by, room_there, wide_there}
 use Rattle.acc_store.proofs.maps.widen.Goals as goal
 
@@ -27,3 +28,11 @@ returns-in-Some-clause-enough c = λ room.
     let place = c.args.place.now in
     let there : entry_at place old ≡ Some c.in-Some.slot.now = sym c.get_mut.ensures.value ∙ ap option_copied_mut c.in-Some.is in
     c.make_room.ensures.enough (room_there old place c.in-Some.slot.now c.args.room there room)
+
+pub returns-in-Some-clause-blanks : goal.returns-in-Some-clause-blanks
+returns-in-Some-clause-blanks c =
+    let old = c.args.entries.now.entries in
+    let new = c.make_room.new.self in
+    let place = c.args.place.now in
+    let there : entry_at place old ≡ Some c.in-Some.slot.now = sym c.get_mut.ensures.value ∙ ap option_copied_mut c.in-Some.is in
+    change_adds old (c.get_mut.follows.lender new).entries place (Some new) ((c.get_mut.follows.holds new).3 (ap is_some there)).0
