@@ -14,3 +14,4 @@ pub mod SumLoops
 pub mod Products
 pub mod CollectedWorths
 pub mod SumLaws
+pub mod PlainPlays

@@ -1,5 +1,5 @@
 -- A small design by which the definitions are tried: cells are made, and a counter reads a cell in one step and writes it in the next.
-use Rattle.std.specs.Prelude.{ℕ, true, false, List, [], ◌∷◌, codes, ℤ, pos, negsuc, Option, None, option_map}
+use Rattle.std.specs.Prelude.{◌≡◌, ℕ, true, false, List, [], ◌∷◌, codes, ℤ, pos, negsuc, None}
 use Rattle.std.specs.List.{flat_map}
 use Rattle.acc_base.specs.declared.forms.Lin.{Lin}
 use Rattle.acc_base.specs.declared.forms.LinRel.{LinRel}
@@ -15,7 +15,7 @@ use Rattle.acc_base.specs.declared.designs.TxType.{TxType}
 use Rattle.acc_base.specs.declared.designs.Design.{Design}
 use Rattle.acc_base.specs.declared.machines.Call.{Call}
 use Rattle.acc_base.specs.declared.tables.Row.{Row}
-use Rattle.acc_base.specs.Plays.{Play, Told, played}
+use Rattle.acc_base.specs.Plays.{Play, Told, plain, opening, Plays, play_after}
 use Rattle.acc_base.specs.Lines.{line, play_text}
 
 -- a number, and a variable plus a number
@@ -110,12 +110,12 @@ cells =
 abbrev pub call_of : ℕ → ℤ → Call
 call_of ty a = record { ty = ty; params = a ∷ []; tape = []; ask = None }
 
--- what is printed of calls in an order, and the rows that are left
-abbrev pub shown : List Call → Option (List Told × Play) → Option (List ℕ × List Row)
-shown calls x = option_map (λ p. (play_text cells calls p.0 p.1, p.1.world.rows)) x
-
-abbrev pub played_cells : List Call → List ℕ → Option (List ℕ × List Row)
-played_cells calls order = shown calls (played cells calls order)
+-- on the plain machine the calls are played in this order, this is printed of the play, and these rows are left
+pub record PlaysCells (calls : List Call) (order : List ℕ) (text : List ℕ) (rows : List Row) : Type 0 where
+  pub mentions : List (Told × Play)
+  pub is_played : Plays (plain cells) calls order mentions
+  pub text_is : play_text cells calls mentions ≡ text
+  pub rows_are : (play_after (opening calls) mentions).world.rows ≡ rows
 
 -- the texts, each ended by a line feed
 abbrev pub lines_of : List (List ℕ) → List ℕ

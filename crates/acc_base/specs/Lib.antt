@@ -1,4 +1,5 @@
 pub mod Numbers
+pub mod Items
 pub mod Tables
 pub mod Linear
 pub mod Reads

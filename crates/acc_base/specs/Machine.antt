@@ -19,6 +19,7 @@ use Rattle.acc_base.specs.declared.machines.Reply.{Reply}
 use Rattle.acc_base.specs.declared.machines.Transaction.{Transaction}
 use Rattle.acc_base.specs.declared.machines.Transaction.TheVariants.{Forward, Undoing, Ended}
 use Rattle.acc_base.specs.Numbers.{is_small}
+use Rattle.acc_base.specs.Items.{item_at}
 use Rattle.acc_base.specs.Linear.{var}
 use Rattle.acc_base.specs.Reads.{Reading}
 use Rattle.acc_base.specs.Effects.{Effect, Goes, Refuses, OutOfRange, effect_of}
@@ -37,7 +38,7 @@ start = record { rows = []; transactions = []; events = [] }
 
 -- transaction number t; numbers begin with 1
 abbrev pub transaction_at : ℕ → List Transaction → Option Transaction
-transaction_at t transactions = if t == 0 then None else slice_get transactions (t - 1)
+transaction_at t transactions = item_at t transactions
 
 -- the frame of an unfinished transaction
 abbrev pub frame_in : Transaction → Option Frame
@@ -49,6 +50,10 @@ abbrev pub reply_in : Transaction → Option Reply
 reply_in (Forward f) = None
 reply_in (Undoing f c) = None
 reply_in (Ended reply) = Some reply
+
+-- the reply of transaction t, if it has ended
+abbrev pub reply_at : ℕ → World → Option Reply
+reply_at t w = option_and_then reply_in (transaction_at t w.transactions)
 
 -- the unfinished transactions, in order of number
 abbrev pub unfinished : World → List Frame

@@ -1,37 +1,34 @@
 //! What the definitions say of small runs and forms, worked by hand, and of sums of forms.
-ghost use Rattle.std.specs.Prelude.{◌≡◌, Some, [], ◌∷◌, codes, pos, negsuc};
-ghost use Rattle.acc_base.specs.Cells.{played_cells, three_calls, lines_of, cell_row};
+ghost use Rattle.std.specs.Prelude.{◌≡◌, [], ◌∷◌, codes, pos, negsuc};
+ghost use Rattle.acc_base.specs.Cells.{PlaysCells, three_calls, lines_of, cell_row};
+ghost use Rattle.acc_base.specs.Plays.{PlaysOnce};
 ghost use Rattle.acc_base.specs.Truth.{form_value};
 ghost use Rattle.acc_base.specs.Worths.{trial, SumsAddUp};
 
 /// Two counters read a cell before either writes it: one of the two is lost.
 pub fn an_update_is_lost()
-    ensures { played_cells three_calls (1 ∷ 2 ∷ 3 ∷ 2 ∷ 3 ∷ [])
-        ≡ Some (
-          lines_of (codes "1 ended" ∷ codes "2 stepped bump.mid" ∷ codes "3 stepped bump.mid" ∷ codes "2 ended" ∷ codes "3 ended"
-              ∷ codes "1 committed" ∷ codes "2 committed 0" ∷ codes "3 committed 0" ∷ codes "events 8" ∷ []),
-          cell_row 1 1 ∷ [],
-        ) }
+    ensures { PlaysCells three_calls (1 ∷ 2 ∷ 3 ∷ 2 ∷ 3 ∷ [])
+        (lines_of (codes "1 ended" ∷ codes "2 stepped bump.mid" ∷ codes "3 stepped bump.mid" ∷ codes "2 ended" ∷
+        codes "3 ended" ∷ codes "1 committed" ∷ codes "2 committed 0" ∷ codes "3 committed 0" ∷ codes "events 8" ∷ [])) (cell_row 1 1 ∷ []) }
 {}
 
 /// A counter of a cell that isn't there refuses, and the others don't begin.
 pub fn a_counter_refuses()
-    ensures { played_cells three_calls (2 ∷ [])
-        ≡ Some (
-          lines_of (codes "2 turned refused 1" ∷ codes "1 unbegun" ∷ codes "2 unfinished" ∷ codes "3 unbegun" ∷ codes "events 2"
-              ∷ []),
-          [],
-        ) }
+    ensures { PlaysCells three_calls (2 ∷ [])
+        (lines_of (codes "2 turned refused 1" ∷ codes "1 unbegun" ∷ codes "2 unfinished" ∷ codes "3 unbegun" ∷
+        codes "events 2" ∷ [])) [] }
 {}
 
 /// What refused is compensated at its next turn, and is over then.
 pub fn a_refusal_is_compensated()
-    ensures { played_cells three_calls (2 ∷ 2 ∷ 2 ∷ [])
-        ≡ Some (
-          lines_of (codes "2 turned refused 1" ∷ codes "2 ended" ∷ codes "2 over" ∷ codes "1 unbegun"
-              ∷ codes "2 compensated refused 1" ∷ codes "3 unbegun" ∷ codes "events 3" ∷ []),
-          [],
-        ) }
+    ensures { PlaysCells three_calls (2 ∷ 2 ∷ 2 ∷ [])
+        (lines_of (codes "2 turned refused 1" ∷ codes "2 ended" ∷ codes "2 over" ∷ codes "1 unbegun" ∷
+        codes "2 compensated refused 1" ∷ codes "3 unbegun" ∷ codes "events 3" ∷ [])) [] }
+{}
+
+/// On the plain machine calls in an order have one play.
+pub fn plain_plays_are_one()
+    ensures { PlaysOnce }
 {}
 
 /// With 7 in cell 1 the trial form is worth 2 + 3 - 7 + 1 at 1, and 1 at 2, where there is no cell.

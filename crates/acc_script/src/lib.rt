@@ -11,7 +11,8 @@ mod tapes;
 
 pub use errors::ScriptError;
 pub use lines::{
-    push_events, push_over, push_reply, push_stuck, push_turn, push_unbegun, push_unfinished,
+    push_events, push_full, push_over, push_reply, push_stuck, push_turn, push_unbegun,
+    push_unfinished, push_unsettled,
 };
 pub use orders::order;
 pub use scripts::calls;

@@ -1,10 +1,11 @@
-//! The lines that are printed of a play. Each call appends to `out`; after `AllocError` a part of the line may stand there.
-ghost use Rattle.std.specs.Prelude.{◌≡◌, ℕ, [], ◌∷◌, ◌++◌, codes, Some, OnOk, slice_get};
+//! The lines that are printed of a play. Each public call appends a line to `out`, or, where memory is wanting, nothing.
+ghost use Rattle.std.specs.Prelude.{◌≡◌, ◌++◌, codes, OnOk, OnErr, slice_get};
 ghost use Rattle.std.specs.List.{flat_map};
 ghost use Rattle.std.specs.Fmt.{decimal};
 ghost use Rattle.acc_base.specs.Effects.{point_of};
+ghost use Rattle.acc_base.specs.Items.{item_at};
 ghost use Rattle.acc_base.specs.Plays.{Turns};
-ghost use Rattle.acc_base.specs.Lines.{line, told_line, at_text, cause_text, turn_text, spaced, outcome_text, type_name, point_name};
+ghost use Rattle.acc_base.specs.Lines.{line, told_line, at_text, cause_text, holder_text, turn_text, spaced, outcome_text, type_name, point_name};
 
 use acc_base::designs::{At, Design};
 use acc_base::machines::{Cause, Outcome, Reply, Turn};
@@ -25,13 +26,24 @@ fn push_labelled(out: &mut Vec<u8>, label: &[u8], number: u64) -> Result<(), All
     push_number(out, number)
 }
 
-/// A place's number, and then what is said of it.
-fn push_place(out: &mut Vec<u8>, place: u64, said: &[u8]) -> Result<(), AllocError>
-    ensures { OnOk result (out.new.items ≡ out.old.items ++ line (decimal place ++ said.now)) }
+/// A text as a line, whole or not at all.
+fn push_line(out: &mut Vec<u8>, mut text: Vec<u8>) -> Result<(), AllocError>
+    ensures ok { OnOk result (out.new.items ≡ out.old.items ++ line text.items) }
+    ensures err { OnErr result (out.new.items ≡ out.old.items) }
 {
-    push_number(out, place)?;
-    out.extend_from_slice(said)?;
-    out.extend_from_slice(b"\n")
+    text.push(b'\n')?;
+    out.extend_from_slice(&text)
+}
+
+/// The line of a place: its number, and then what is said of it.
+fn push_place(out: &mut Vec<u8>, place: u64, said: &[u8]) -> Result<(), AllocError>
+    ensures ok { OnOk result (out.new.items ≡ out.old.items ++ line (decimal place ++ said.now)) }
+    ensures err { OnErr result (out.new.items ≡ out.old.items) }
+{
+    let mut text = Vec::new(*out.allocator());
+    push_number(&mut text, place)?;
+    text.extend_from_slice(said)?;
+    push_line(out, text)
 }
 
 /// The name of a type, and none where it isn't in the design.
@@ -78,22 +90,44 @@ fn push_cause(out: &mut Vec<u8>, cause: Cause) -> Result<(), AllocError>
     }
 }
 
-fn push_blocked(out: &mut Vec<u8>, holder: u64, entry: u32) -> Result<(), AllocError>
-    ensures { OnOk result (out.new.items ≡ out.old.items ++ (codes " blocked by " ++ (decimal holder ++ (codes " entry " ++ decimal entry)))) }
+/// The place of the transaction with this number, if there is one.
+fn place_of(places: &[u64], t: u64) -> Option<u64>
+    ensures { result ≡ item_at t places.now }
 {
-    push_labelled(out, b" blocked by ", holder)?;
+    let at = t.checked_sub(1)?;
+    places.get(at as usize).copied()
+}
+
+fn push_holder(out: &mut Vec<u8>, holder: Option<u64>) -> Result<(), AllocError>
+    ensures { OnOk result (out.new.items ≡ out.old.items ++ (codes " blocked by " ++ holder_text holder)) }
+{
+    match holder {
+        Some(place) => push_labelled(out, b" blocked by ", place),
+        None => out.extend_from_slice(b" blocked by "),
+    }
+}
+
+fn push_blocked(out: &mut Vec<u8>, holder: Option<u64>, entry: u32) -> Result<(), AllocError>
+    ensures { OnOk result (out.new.items ≡ out.old.items ++ (codes " blocked by " ++ (holder_text holder ++ (codes " entry " ++ decimal entry)))) }
+{
+    push_holder(out, holder)?;
     push_labelled(out, b" entry ", u64::from(entry))
 }
 
-fn push_turn_text(out: &mut Vec<u8>, d: &Design, turn: Turn) -> Result<(), AllocError>
-    ensures { OnOk result (out.new.items ≡ out.old.items ++ turn_text d.now turn) }
+fn push_turn_text(
+    out: &mut Vec<u8>,
+    d: &Design,
+    places: &[u64],
+    turn: Turn,
+) -> Result<(), AllocError>
+    ensures { OnOk result (out.new.items ≡ out.old.items ++ turn_text d.now places.now turn) }
 {
     match turn {
         Turn::Stepped(at) => {
             out.extend_from_slice(b" stepped ")?;
             push_at(out, d, at)
         }
-        Turn::Blocked(holder, entry) => push_blocked(out, holder, entry),
+        Turn::Blocked(holder, entry) => push_blocked(out, place_of(places, holder), entry),
         Turn::Turned(cause) => {
             out.extend_from_slice(b" turned ")?;
             push_cause(out, cause)
@@ -106,41 +140,69 @@ fn push_turn_text(out: &mut Vec<u8>, d: &Design, turn: Turn) -> Result<(), Alloc
     }
 }
 
-/// Writes what a turn of a place did.
-pub fn push_turn(out: &mut Vec<u8>, d: &Design, place: u64, turn: Turn) -> Result<(), AllocError>
-    ensures { OnOk result (out.new.items ≡ out.old.items ++ told_line d.now (Turns place turn)) }
+/// Writes what a turn of a place did. The places are those of the transactions, by number from 1.
+pub fn push_turn(
+    out: &mut Vec<u8>,
+    d: &Design,
+    places: &[u64],
+    place: u64,
+    turn: Turn,
+) -> Result<(), AllocError>
+    ensures ok { OnOk result (out.new.items ≡ out.old.items ++ told_line d.now places.now (Turns place turn)) }
+    ensures err { OnErr result (out.new.items ≡ out.old.items) }
 {
-    push_number(out, place)?;
-    push_turn_text(out, d, turn)?;
-    out.extend_from_slice(b"\n")
+    let mut text = Vec::new(*out.allocator());
+    push_number(&mut text, place)?;
+    push_turn_text(&mut text, d, places, turn)?;
+    push_line(out, text)
 }
 
 /// Writes that a number of a place's undo step is out of range.
 pub fn push_stuck(out: &mut Vec<u8>, place: u64) -> Result<(), AllocError>
-    ensures { OnOk result (out.new.items ≡ out.old.items ++ line (decimal place ++ codes " stuck")) }
+    ensures ok { OnOk result (out.new.items ≡ out.old.items ++ line (decimal place ++ codes " stuck")) }
+    ensures err { OnErr result (out.new.items ≡ out.old.items) }
 {
     push_place(out, place, b" stuck")
 }
 
 /// Writes that a place had ended before.
 pub fn push_over(out: &mut Vec<u8>, place: u64) -> Result<(), AllocError>
-    ensures { OnOk result (out.new.items ≡ out.old.items ++ line (decimal place ++ codes " over")) }
+    ensures ok { OnOk result (out.new.items ≡ out.old.items ++ line (decimal place ++ codes " over")) }
+    ensures err { OnErr result (out.new.items ≡ out.old.items) }
 {
     push_place(out, place, b" over")
 }
 
 /// Writes that a place never began.
 pub fn push_unbegun(out: &mut Vec<u8>, place: u64) -> Result<(), AllocError>
-    ensures { OnOk result (out.new.items ≡ out.old.items ++ line (decimal place ++ codes " unbegun")) }
+    ensures ok { OnOk result (out.new.items ≡ out.old.items ++ line (decimal place ++ codes " unbegun")) }
+    ensures err { OnErr result (out.new.items ≡ out.old.items) }
 {
     push_place(out, place, b" unbegun")
 }
 
 /// Writes that the transaction of a place hasn't ended.
 pub fn push_unfinished(out: &mut Vec<u8>, place: u64) -> Result<(), AllocError>
-    ensures { OnOk result (out.new.items ≡ out.old.items ++ line (decimal place ++ codes " unfinished")) }
+    ensures ok { OnOk result (out.new.items ≡ out.old.items ++ line (decimal place ++ codes " unfinished")) }
+    ensures err { OnErr result (out.new.items ≡ out.old.items) }
 {
     push_place(out, place, b" unfinished")
+}
+
+/// Writes that a place can't begin, since the machine is full.
+pub fn push_full(out: &mut Vec<u8>, place: u64) -> Result<(), AllocError>
+    ensures ok { OnOk result (out.new.items ≡ out.old.items ++ line (decimal place ++ codes " full")) }
+    ensures err { OnErr result (out.new.items ≡ out.old.items) }
+{
+    push_place(out, place, b" full")
+}
+
+/// Writes that a place has no reply on a disk that failed.
+pub fn push_unsettled(out: &mut Vec<u8>, place: u64) -> Result<(), AllocError>
+    ensures ok { OnOk result (out.new.items ≡ out.old.items ++ line (decimal place ++ codes " unsettled")) }
+    ensures err { OnErr result (out.new.items ≡ out.old.items) }
+{
+    push_place(out, place, b" unsettled")
 }
 
 /// Numbers, each behind a space.
@@ -171,17 +233,21 @@ fn push_outcome(out: &mut Vec<u8>, outcome: &Outcome) -> Result<(), AllocError>
 
 /// Writes the reply to the call at a place.
 pub fn push_reply(out: &mut Vec<u8>, place: u64, reply: &Reply) -> Result<(), AllocError>
-    ensures { OnOk result (out.new.items ≡ out.old.items ++ line (decimal place ++ outcome_text reply.now.outcome)) }
+    ensures ok { OnOk result (out.new.items ≡ out.old.items ++ line (decimal place ++ outcome_text reply.now.outcome)) }
+    ensures err { OnErr result (out.new.items ≡ out.old.items) }
 {
-    push_number(out, place)?;
-    push_outcome(out, &reply.outcome)?;
-    out.extend_from_slice(b"\n")
+    let mut text = Vec::new(*out.allocator());
+    push_number(&mut text, place)?;
+    push_outcome(&mut text, &reply.outcome)?;
+    push_line(out, text)
 }
 
 /// Writes how many events there were.
 pub fn push_events(out: &mut Vec<u8>, events: u64) -> Result<(), AllocError>
-    ensures { OnOk result (out.new.items ≡ out.old.items ++ line (codes "events " ++ decimal events)) }
+    ensures ok { OnOk result (out.new.items ≡ out.old.items ++ line (codes "events " ++ decimal events)) }
+    ensures err { OnErr result (out.new.items ≡ out.old.items) }
 {
-    push_labelled(out, b"events ", events)?;
-    out.extend_from_slice(b"\n")
+    let mut text = Vec::new(*out.allocator());
+    push_labelled(&mut text, b"events ", events)?;
+    push_line(out, text)
 }
