@@ -17,7 +17,11 @@ use Rattle.acc_store.specs.Rows.{written}
 use Rattle.acc_plain.specs.declared.changes.Change.{Change}
 use Rattle.acc_plain.specs.Change.{left_by, IsNextChange}
 use Rattle.acc_plain.specs.Kept.{IsNumbered}
-use Rattle.acc_plain.specs.Turned.{IsUnfinished}
+use Rattle.acc_base.specs.declared.steps.Target.TheVariants.{Refuse}
+use Rattle.acc_base.specs.declared.tables.Row.{Row}
+use Rattle.acc_base.specs.Runnable.{IsRunnable}
+use Rattle.acc_plain.proofs.AheadLemmas.{can_end}
+use Rattle.acc_plain.specs.Turned.{IsUnfinished, UndoesOutOfRange, IsOutOfRange}
 
 -- an unfinished transaction stands at its place
 pub record IsFound (t : ℕ) (w : World) : Type 0 where
@@ -98,3 +102,31 @@ pub no_turn : (d : Design) (w : World) (t : ℕ) (x : Transaction) → transacti
 no_turn d w t x at none =
     ap (λ (o : Option Transaction). option_and_then (λ e. said_of w e t (changed d w.rows e (transaction_at t w.transactions))) (next_event d w.rows o)) at
     ∙ ap (option_and_then (λ e. said_of w e t (changed d w.rows e (transaction_at t w.transactions)))) none
+
+-- ---- a transaction without a next event is being undone, and a number of its undo step is out of range
+
+undo_stops : (d : Design) (db : List Row) (f : Frame) (effect : Effect) → IsRunnable d → effect_of d db f UndoSide ≡ effect → undo_event f.t effect ≡ None → effect_of d db f UndoSide ≡ OutOfRange
+undo_stops d db f (Goes left s i to) can is none = absurd cc
+undo_stops d db f (Refuses s n) can is none = absurd (can_end d db f UndoSide (Refuse n) db s 0 can is)
+undo_stops d db f OutOfRange can is none = is
+
+stops_so : (d : Design) (db : List Row) (x : Transaction) → IsRunnable d → IsSome (frame_in x) → next_event d db (Some x) ≡ None → UndoesOutOfRange d db x
+stops_so d db (Forward f) can unended none = absurd cc
+stops_so d db (Undoing f c) can unended none = undo_stops d db f (effect_of d db f UndoSide) can refl none
+stops_so d db (Ended reply) can unended none = absurd cc
+
+-- no next event: the undo step is out of range
+pub stops : (d : Design) (w : World) (t : ℕ) (x : Transaction) → IsRunnable d → IsUnfinished t w → transaction_at t w.transactions ≡ Some x → next_event d w.rows (Some x) ≡ None → IsOutOfRange d w t
+stops d w t x can unended at none =
+    let frame : IsSome (frame_in x) = subst (λ (o : Option Transaction). IsSomeAnd o (λ y. IsSome (frame_in y))) at unended in
+    subst (λ (o : Option Transaction). IsSomeAnd o (UndoesOutOfRange d w.rows)) (sym at) (stops_so d w.rows x can frame none)
+
+goes_by : (d : Design) (db : List Row) (x : Transaction) (e : Event) → next_event d db (Some x) ≡ Some e → UndoesOutOfRange d db x → ⊥
+goes_by d db (Forward f) e has out = absurd out
+goes_by d db (Undoing f c) e has out = let none : undo_event f.t OutOfRange ≡ Some e = ap (undo_event f.t) (sym out) ∙ has in absurd cc
+goes_by d db (Ended reply) e has out = absurd out
+
+-- with a next event the undo step is in range
+pub goes : (d : Design) (w : World) (t : ℕ) (x : Transaction) (e : Event) → transaction_at t w.transactions ≡ Some x → next_event d w.rows (Some x) ≡ Some e → IsOutOfRange d w t → ⊥
+goes d w t x e at has out =
+    goes_by d w.rows x e has (subst (λ (o : Option Transaction). IsSomeAnd o (UndoesOutOfRange d w.rows)) at out)

@@ -1,5 +1,5 @@
 //! The machine: transactions that take their turns over a store.
-ghost use Rattle.std.specs.Prelude.{◌≡◌, ◌≤◌, ◌<◌, ◌^◌, ◌+◌, ◌-◌, [], ◌∷◌, ◌++◌, length, true, slice_get, slice_set, vec_len, All, Some, None, IfOk, IfSome, OnErr, OnOk, option_copied, option_and_then, option_map, IsTrue, ◌↔◌, MatchOption, replicate, pos};
+ghost use Rattle.std.specs.Prelude.{◌≡◌, ◌≤◌, ◌<◌, ◌^◌, ◌+◌, ◌-◌, [], ◌∷◌, ◌++◌, length, true, slice_get, slice_set, vec_len, All, Some, None, IfOk, IfSome, OnErr, OnOk, option_copied, option_and_then, option_map, IsNone, IsTrue, ◌↔◌, MatchOption, replicate, pos};
 ghost use Rattle.acc_base.specs.Tables.{IsInOrder};
 ghost use Rattle.acc_base.specs.Machine.{start, next_number, call_fits, locals_in, begun, transaction_at, frame_in, reply_in, unfinished, after_event};
 ghost use Rattle.acc_base.specs.Turns.{next_event, said};
@@ -13,7 +13,7 @@ ghost use Rattle.acc_plain.specs.Change.{IsNextChange};
 ghost use Rattle.acc_plain.specs.Kept.{transaction_of};
 ghost use Rattle.acc_plain.specs.Reached.{IsReached};
 ghost use Rattle.acc_plain.specs.Taken.{number_in, IsTaken};
-ghost use Rattle.acc_plain.specs.Turned.{cause_in, IsUnfinished, IsTurned};
+ghost use Rattle.acc_plain.specs.Turned.{cause_in, IsUnfinished, IsTurned, IsOutOfRange};
 
 use crate::changes::{Change, PlainError, forward_change, undo_change};
 use crate::fittings::call_fits;
@@ -36,7 +36,7 @@ pub struct Machine<'a, S: Store> {
     design: &'a Design,
     store: S,
     transactions: Transactions,
-    events: Vec<Event>,
+    events: Seq<Event>,
 }
 
 impl<'a, S: Store> Model for Machine<'a, S> {
@@ -45,21 +45,9 @@ impl<'a, S: Store> Model for Machine<'a, S> {
 
     ghost Value = { Running };
 
-    ghost view = { λ m. record { design = m.design.now; world = record { rows = S.rows m.store; transactions = m.transactions; events = m.events.items } } };
+    ghost view = { λ m. record { design = m.design.now; world = record { rows = S.rows m.store; transactions = m.transactions; events = m.events } } };
 
-    ghost invariant = { λ m. IsReached m.design.now (record { rows = S.rows m.store; transactions = m.transactions; events = m.events.items }) };
-}
-
-/// A call again.
-fn call_again(call: &Call) -> Result<Call, AllocError>
-    ensures { IfOk result (λ again. again ≡ call.now) }
-{
-    Ok(Call {
-        ty: call.ty,
-        params: copied(&call.params)?,
-        tape: copied(&call.tape)?,
-        ask: call.ask,
-    })
+    ghost invariant = { λ m. IsReached m.design.now (record { rows = S.rows m.store; transactions = m.transactions; events = m.events }) };
 }
 
 /// How many locals a type has.
@@ -156,16 +144,16 @@ fn next_change<S: Store>(
 
 /// Adds an event and does its writes, or neither.
 fn log_writes<S: Store>(
-    events: &mut Vec<Event>,
+    events: &mut Seq<Event>,
     store: &mut S,
     event: Event,
     writes: &[Write],
 ) -> Result<(), PlainError>
     requires narrow { All IsNarrow writes.now }
     requires sums { SumsFit (written writes.now (S.rows store.old)) }
-    ensures events { OnOk result (events.new.items ≡ events.old.items ++ event ∷ []) }
+    ensures events { OnOk result (events.new ≡ events.old ++ event ∷ []) }
     ensures rows { OnOk result (S.rows store.new ≡ written writes.now (S.rows store.old)) }
-    ensures events_stay { OnErr result (events.new.items ≡ events.old.items) }
+    ensures events_stay { OnErr result (events.new ≡ events.old) }
     ensures rows_stay { OnErr result (S.rows store.new ≡ S.rows store.old) }
 {
     events.push(event)?;
@@ -180,15 +168,15 @@ fn log_writes<S: Store>(
 
 /// Adds an event and the transaction that begins by it, or neither.
 fn log_begin(
-    events: &mut Vec<Event>,
+    events: &mut Seq<Event>,
     transactions: &mut Transactions,
     event: Event,
     frame: Frame,
 ) -> Result<(), PlainError>
     requires number { frame.t ≡ length transactions.old + 1 }
-    ensures events { OnOk result (events.new.items ≡ events.old.items ++ event ∷ []) }
+    ensures events { OnOk result (events.new ≡ events.old ++ event ∷ []) }
     ensures transactions { OnOk result (transactions.new ≡ transactions.old ++ Forward frame ∷ []) }
-    ensures events_stay { OnErr result (events.new.items ≡ events.old.items) }
+    ensures events_stay { OnErr result (events.new ≡ events.old) }
     ensures transactions_stay { OnErr result (transactions.new ≡ transactions.old) }
 {
     events.push(event)?;
@@ -214,7 +202,7 @@ impl<'a, S: Store> Machine<'a, S> {
             design,
             store,
             transactions: Transactions::new(alloc),
-            events: Vec::new(alloc),
+            events: Seq::new(alloc),
         }
     }
 
@@ -226,17 +214,18 @@ impl<'a, S: Store> Machine<'a, S> {
     }
 
     /// The events so far, oldest first. They are a run of the plain machine, and the machine's state is the one after it.
-    pub fn events(&self) -> &[Event]
+    pub fn events(&self) -> &Seq<Event>
         ensures events { result.now ≡ self.now.world.events }
         ensures run { IsReached self.now.design self.now.world }
     {
-        self.events.as_slice()
+        &self.events
     }
 
-    /// The rows, kept in the store, and the events, oldest first.
+    /// The rows, kept in the store, and the events, oldest first. They are a run of the plain machine, and the rows are those after it.
     pub fn into_parts(self) -> (S, Seq<Event>)
         ensures store { S.rows result.0 ≡ self.entry.world.rows }
         ensures events { result.1 ≡ self.entry.world.events }
+        ensures run { IsReached self.entry.design self.entry.world }
     {
         let Machine {
             alloc: _,
@@ -245,7 +234,7 @@ impl<'a, S: Store> Machine<'a, S> {
             transactions: _,
             events,
         } = self;
-        (store, Seq::from_vec(events))
+        (store, events)
     }
 
     /// Begins a call, where there are fewer than 2^30 events. It answers the new transaction's number, which is one above
@@ -261,7 +250,7 @@ impl<'a, S: Store> Machine<'a, S> {
     {
         let t = self.transactions.next_number();
         let frame = first_frame(self.alloc, self.design, t, call)?;
-        let again = call_again(call)?;
+        let again = copied(call)?;
         log_begin(
             &mut self.events,
             &mut self.transactions,
@@ -280,6 +269,7 @@ impl<'a, S: Store> Machine<'a, S> {
         requires unfinished { IsUnfinished t self.old.world }
         requires room { length self.old.world.events < 2 ^ 30 }
         ensures turn { IfOk result (IsTurned self.old.design self.old.world self.new.world t) }
+        ensures none { IfOk result (λ turn. IsNone turn ↔ IsOutOfRange self.old.design self.old.world t) }
         ensures err { OnErr result (self.new.world ≡ self.old.world) }
         ensures design { self.new.design ≡ self.old.design }
         ensures count { length self.new.world.events ≤ length self.old.world.events + 1 }
