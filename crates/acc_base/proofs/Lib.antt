@@ -15,3 +15,4 @@ pub mod Products
 pub mod CollectedWorths
 pub mod SumLaws
 pub mod PlainPlays
+pub mod LawfulRuns

@@ -26,3 +26,16 @@ pub mod Bounded
 pub mod Sums
 pub mod Worths
 pub mod Room
+pub mod Shapes
+pub mod RowsAfter
+pub mod Fits
+pub mod PrivateRows
+pub mod Entries
+pub mod Soundness
+pub mod TrueSequents
+pub mod Locks
+pub mod Lawful
+pub mod Annotated
+pub mod Invariant
+pub mod Compensation
+pub mod Guarded

@@ -1,6 +1,8 @@
 //! What the definitions say of small runs and forms, worked by hand, and of sums of forms.
 ghost use Rattle.std.specs.Prelude.{◌≡◌, [], ◌∷◌, codes, pos, negsuc};
-ghost use Rattle.acc_base.specs.Cells.{PlaysCells, three_calls, lines_of, cell_row};
+ghost use Rattle.acc_base.specs.Cells.{cells, PlaysCells, three_calls, lines_of, cell_row};
+ghost use Rattle.acc_base.specs.Guarded.{guarded, both_read, in_turn};
+ghost use Rattle.acc_base.specs.Lawful.{AreLawful};
 ghost use Rattle.acc_base.specs.Plays.{PlaysOnce};
 ghost use Rattle.acc_base.specs.Truth.{form_value};
 ghost use Rattle.acc_base.specs.Worths.{trial, SumsAddUp};
@@ -29,6 +31,17 @@ pub fn a_refusal_is_compensated()
 /// On the plain machine calls in an order have one play.
 pub fn plain_plays_are_one()
     ensures { PlaysOnce }
+{}
+
+/// Two counters may read a cell before either writes it where no entry forbids it.
+pub fn a_lost_update_is_lawful()
+    ensures { AreLawful cells both_read }
+{}
+
+/// An entry that forbids it bars the lost update, and no more: one after the other both may count.
+pub fn an_entry_bars_a_lost_update()
+    ensures barred { ¬ AreLawful guarded both_read }
+    ensures others { AreLawful guarded in_turn }
 {}
 
 /// With 7 in cell 1 the trial form is worth 2 + 3 - 7 + 1 at 1, and 1 at 2, where there is no cell.

@@ -18,7 +18,7 @@ use Rattle.acc_wp.specs.Unders.{differences, is_false, lengthened}
 use Rattle.acc_wp.specs.Changes.{Part, table_of, key_of, place_of, variable_parts, lin_parts, value_parts, minus, presence_change, column_change, presence_of, column_of, change}
 use Rattle.acc_wp.specs.Gains.{part_summand, changed_summands, term_summands, summands, is_number, with_summand, with_summands, gained}
 use Rattle.acc_wp.specs.Preconditions.{before_action}
-use Rattle.acc_wp.specs.Shapes.{IsKey, IsPrefix, IsColumn, AtomFits, ActionFits}
+use Rattle.acc_base.specs.Shapes.{IsFullKey, IsPrefix, IsColumn, AtomFits, ActionFits}
 use Rattle.acc_wp.proofs.AtomTurns.{IsLong}
 use Rattle.acc_wp.proofs.Alls.{all-append, all-filter}
 
@@ -31,22 +31,22 @@ module _ (tables : List Table) where
 
   -- ---- keys and prefixes
 
-  pub action_key : (a : Action) → ActionFits tables a → IsKey (slice_get tables (table_of a)) (length (key_of a))
+  pub action_key : (a : Action) → ActionFits tables a → IsFullKey (slice_get tables (table_of a)) (length (key_of a))
   action_key (action.Put t k vs) h = h.0
   action_key (action.Del t k) h = h
   action_key (action.Set t k c v) h = h.0
   action_key (action.Add t k c v) h = h.0
 
-  same_width : (o : Option Table) (n m : ℕ) → IsKey o n → IsKey o m → m ≡ n
+  same_width : (o : Option Table) (n m : ℕ) → IsFullKey o n → IsFullKey o m → m ≡ n
   same_width None n m h g = absurd h
   same_width (Some t) n m h g = g ∙ sym h
 
-  in_width : (o : Option Table) (n m : ℕ) → IsKey o n → IsPrefix o m → m ≤ n
+  in_width : (o : Option Table) (n m : ℕ) → IsFullKey o n → IsPrefix o m → m ≤ n
   in_width None n m h g = absurd h
   in_width (Some t) n m h g = let w = g.1 in omega (arith, h, w)
 
-  key_at : (t u n : ℕ) → t ≡ u → IsKey (slice_get tables t) n → IsKey (slice_get tables u) n
-  key_at t u n e h = subst (λ (z : ℕ). IsKey (slice_get tables z) n) e h
+  key_at : (t u n : ℕ) → t ≡ u → IsFullKey (slice_get tables t) n → IsFullKey (slice_get tables u) n
+  key_at t u n e h = subst (λ (z : ℕ). IsFullKey (slice_get tables z) n) e h
 
   module _ (env : List ℤ) (a : Action) (db : List Row) (order : IsInOrder db) (fits : ActionFits tables a) where
     pub long_enough : (A : Atom) → AtomFits tables A → IsLong env a db order A
@@ -94,14 +94,14 @@ module _ (tables : List Table) where
       by true = lin_fits v
       by false = tt
 
-  presence_of_fits : (a : Action) (u : ℕ) (q : List Lin) → (table_of a ≡ u → IsKey (slice_get tables u) (length q)) → AllByRecursion PartFits (presence_of a u q)
+  presence_of_fits : (a : Action) (u : ℕ) (q : List Lin) → (table_of a ≡ u → IsFullKey (slice_get tables u) (length q)) → AllByRecursion PartFits (presence_of a u q)
   presence_of_fits a u q h = by (table_of a == u) refl
     where
       by : (b : Bool) → (table_of a == u) ≡ b → AllByRecursion PartFits (if b then presence_change a (Has u q) else [])
       by true e = presence_fits a (Has u q) (h ((Decides-eqb (table_of a) u).0 e))
       by false e = tt
 
-  column_of_fits : (a : Action) (u : ℕ) (q : List Lin) (c : ℕ) → (table_of a ≡ u → IsKey (slice_get tables u) (length q)) → IsColumn (slice_get tables u) c → AllByRecursion PartFits (column_of a u q c)
+  column_of_fits : (a : Action) (u : ℕ) (q : List Lin) (c : ℕ) → (table_of a ≡ u → IsFullKey (slice_get tables u) (length q)) → IsColumn (slice_get tables u) c → AllByRecursion PartFits (column_of a u q c)
   column_of_fits a u q c h g = by (table_of a == u) refl
     where
       by : (b : Bool) → (table_of a == u) ≡ b → AllByRecursion PartFits (if b then column_change a c (Col u q c) else [])
@@ -109,7 +109,7 @@ module _ (tables : List Table) where
       by false e = tt
 
   module _ (a : Action) (fits : ActionFits tables a) where
-    own_key : (u : ℕ) → table_of a ≡ u → IsKey (slice_get tables u) (length (key_of a))
+    own_key : (u : ℕ) → table_of a ≡ u → IsFullKey (slice_get tables u) (length (key_of a))
     own_key u e = key_at (table_of a) u (length (key_of a)) e (action_key a fits)
 
     change_fits : (A : Atom) → AtomFits tables A → AllByRecursion PartFits (change a A)

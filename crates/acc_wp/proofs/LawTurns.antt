@@ -12,8 +12,9 @@ use Rattle.acc_base.specs.Linear.{meets}
 use Rattle.acc_base.specs.Actions.{after_action}
 use Rattle.acc_base.specs.Truth.{form_value}
 use Rattle.acc_wp.specs.Preconditions.{before_actions, wp_of}
-use Rattle.acc_wp.specs.Shapes.{ActionFits, RowFits}
-use Rattle.acc_wp.specs.Laws.{rows_after, AreThere, IsWeakest}
+use Rattle.acc_base.specs.Shapes.{ActionFits, RowFits}
+use Rattle.acc_base.specs.RowsAfter.{rows_after, AreThere}
+use Rattle.acc_wp.specs.Laws.{IsWeakest}
 use Rattle.acc_wp.proofs.FormTurns.{form_turn}
 use Rattle.acc_wp.proofs.FormShapes.{TermFits, all_long, form_fits}
 use Rattle.acc_wp.proofs.RowShapes.{rows_fit, stays_in_order, is_ready}

@@ -17,3 +17,4 @@ pub mod Alls
 pub mod FormShapes
 pub mod RowShapes
 pub mod LawTurns
+pub mod PathRows

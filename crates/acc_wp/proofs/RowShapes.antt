@@ -13,8 +13,8 @@ use Rattle.acc_base.specs.Actions.{after_action}
 use Rattle.acc_base.proofs.RowChanges.{put_all, drop_all, change_all}
 use Rattle.acc_base.proofs.RowOrder.{put_in_order, drop_in_order, change_in_order}
 use Rattle.acc_base.proofs.Lookups.{found_at, any_none}
-use Rattle.acc_wp.specs.Shapes.{IsKey, IsColumn, AreColumns, ActionFits, RowFits}
-use Rattle.acc_wp.specs.Laws.{IsThere}
+use Rattle.acc_base.specs.Shapes.{IsFullKey, IsColumn, AreColumns, ActionFits, RowFits}
+use Rattle.acc_base.specs.RowsAfter.{IsThere}
 use Rattle.acc_wp.proofs.RowTurns.{put_row, with_set, with_added}
 use Rattle.acc_wp.proofs.Growths.{IsReady, HasColumn}
 use Rattle.acc_wp.proofs.Alls.{found_holds}
@@ -26,7 +26,7 @@ module _ (tables : List Table) (env : List ℤ) where
 
   pub rows_fit : (a : Action) (db : List Row) → ActionFits tables a → AllByRecursion (RowFits tables) db → AllByRecursion (RowFits tables) (after_action env a db)
   rows_fit (action.Put t k vs) db fits h =
-      put_all (RowFits tables) (put_row env t k vs) db (subst (λ (n : ℕ). IsKey (slice_get tables t) n) (sym (length-map k (lin_value env))) fits.0, subst (λ (n : ℕ). AreColumns (slice_get tables t) n) (sym (length-map vs (lin_value env))) fits.1) h
+      put_all (RowFits tables) (put_row env t k vs) db (subst (λ (n : ℕ). IsFullKey (slice_get tables t) n) (sym (length-map k (lin_value env))) fits.0, subst (λ (n : ℕ). AreColumns (slice_get tables t) n) (sym (length-map vs (lin_value env))) fits.1) h
   rows_fit (action.Del t k) db fits h = drop_all (RowFits tables) t (lin_values env k) db h
   rows_fit (action.Set t k c v) db fits h =
       change_all (RowFits tables) (RowFits tables) t (lin_values env k) (with_set env c v) (λ r x. x) db (λ r e g x. set_fits c (λ y. lin_value env v) r x) h

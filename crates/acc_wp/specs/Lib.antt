@@ -4,5 +4,4 @@ pub mod Changes
 pub mod Gains
 pub mod Preconditions
 pub mod Causes
-pub mod Shapes
 pub mod Laws

@@ -1,4 +1,5 @@
 -- Rows, keys and columns that keep the shapes of tables.
+-- The law of weakest preconditions asks for them, and rows that fit have them.
 use Rattle.std.specs.Prelude.{ℕ, ◌<◌, ◌≤◌, ◌≡◌, ⊤, List, length, All, Option, Some, None, slice_get}
 use Rattle.acc_base.specs.declared.tables.Table.{Table}
 use Rattle.acc_base.specs.declared.tables.Row.{Row}
@@ -9,9 +10,9 @@ use Rattle.acc_base.specs.declared.steps.Action.{Action}
 use Rattle.acc_base.specs.declared.steps.Action.TheVariants as action
 
 -- a key has as many parts as its table says, which there is
-abbrev pub IsKey : Option Table → ℕ → Type 0
-IsKey None n = ⊥
-IsKey (Some t) n = n ≡ t.width
+abbrev pub IsFullKey : Option Table → ℕ → Type 0
+IsFullKey None n = ⊥
+IsFullKey (Some t) n = n ≡ t.width
 
 -- a prefix has at least one part, and at most as many as a key
 abbrev pub IsPrefix : Option Table → ℕ → Type 0
@@ -30,8 +31,8 @@ AreColumns (Some t) n = n ≡ length t.cols
 abbrev pub AtomFits : List Table → Atom → Type 0
 AtomFits tables One = ⊤
 AtomFits tables (Var x) = ⊤
-AtomFits tables (Has t k) = IsKey (slice_get tables t) (length k)
-AtomFits tables (Col t k c) = IsKey (slice_get tables t) (length k) × IsColumn (slice_get tables t) c
+AtomFits tables (Has t k) = IsFullKey (slice_get tables t) (length k)
+AtomFits tables (Col t k c) = IsFullKey (slice_get tables t) (length k) × IsColumn (slice_get tables t) c
 AtomFits tables (Count t p) = IsPrefix (slice_get tables t) (length p)
 AtomFits tables (Sum t p c) = IsPrefix (slice_get tables t) (length p) × IsColumn (slice_get tables t) c
 
@@ -40,10 +41,10 @@ FormFits tables f = All (λ t. AtomFits tables t.0.atom) f.terms
 
 -- a `put` has one value a column
 abbrev pub ActionFits : List Table → Action → Type 0
-ActionFits tables (action.Put t k vs) = IsKey (slice_get tables t) (length k) × AreColumns (slice_get tables t) (length vs)
-ActionFits tables (action.Del t k) = IsKey (slice_get tables t) (length k)
-ActionFits tables (action.Set t k c v) = IsKey (slice_get tables t) (length k) × IsColumn (slice_get tables t) c
-ActionFits tables (action.Add t k c v) = IsKey (slice_get tables t) (length k) × IsColumn (slice_get tables t) c
+ActionFits tables (action.Put t k vs) = IsFullKey (slice_get tables t) (length k) × AreColumns (slice_get tables t) (length vs)
+ActionFits tables (action.Del t k) = IsFullKey (slice_get tables t) (length k)
+ActionFits tables (action.Set t k c v) = IsFullKey (slice_get tables t) (length k) × IsColumn (slice_get tables t) c
+ActionFits tables (action.Add t k c v) = IsFullKey (slice_get tables t) (length k) × IsColumn (slice_get tables t) c
 
 abbrev pub RowFits : List Table → Row → Type 0
-RowFits tables r = IsKey (slice_get tables r.table) (length r.key.parts) × AreColumns (slice_get tables r.table) (length r.cols)
+RowFits tables r = IsFullKey (slice_get tables r.table) (length r.key.parts) × AreColumns (slice_get tables r.table) (length r.cols)
