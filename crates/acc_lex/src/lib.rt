@@ -6,8 +6,6 @@ pub mod lexers;
 mod parts;
 mod scans;
 pub mod signs;
-#[cfg(test)]
-mod tests;
 pub mod texts;
 pub mod tokens;
 pub mod words;

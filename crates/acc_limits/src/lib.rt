@@ -12,6 +12,3 @@ mod walks;
 pub use designs::{first_fault, lowest_on};
 pub use limits::Limit;
 pub use walks::Walk;
-
-#[cfg(test)]
-mod tests;

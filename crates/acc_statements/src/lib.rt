@@ -5,8 +5,7 @@ mod counts;
 mod laws;
 pub mod lines;
 mod statements;
-#[cfg(test)]
-mod tests;
 
+pub use counts::ends;
 pub use laws::{each_statement_ends, one_line_each};
 pub use statements::{Line, line_of};

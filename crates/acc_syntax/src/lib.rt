@@ -10,7 +10,5 @@ mod own_words;
 mod parsers;
 mod reads;
 mod statements;
-#[cfg(test)]
-mod tests;
 pub mod trees;
 mod values;
