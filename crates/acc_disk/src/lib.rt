@@ -14,6 +14,3 @@ pub use mem_disk::MemDisk;
 
 /// Want of memory.
 pub type DiskMemory = acc_io::IoMemory;
-
-#[cfg(test)]
-mod tests;

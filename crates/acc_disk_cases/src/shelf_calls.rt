@@ -1,0 +1,61 @@
+//! The calls of a shelf by name, and the counting of reads.
+use crate::words::{ended, numbers, said};
+use acc_io::{Counts, MemShelf, Shelf, ShelfError};
+use std::alloc::{AllocError, Global};
+
+/// A shelf without a file; the reads of the list fail.
+pub fn fresh(alloc: Global, fails: &str) -> Result<MemShelf, AllocError> {
+    let fails = numbers(alloc, fails)?;
+    MemShelf::new(alloc, fails.as_slice()).map_err(|_| AllocError)
+}
+
+fn read(alloc: Global, shelf: &mut MemShelf, name: &str) -> Result<String, AllocError> {
+    match shelf.read(alloc, name) {
+        Ok(bytes) => format!(in alloc; "{:?}", bytes.as_slice()),
+        Err(ShelfError::Absent) => said(alloc, "absent"),
+        Err(ShelfError::Long(length)) => format!(in alloc; "long {length}"),
+        Err(ShelfError::Memory) => said(alloc, "memory"),
+        Err(ShelfError::Failed) => ended(alloc, false),
+    }
+}
+
+/// The answer of a read that a word names.
+fn answer_of(alloc: Global, word: &str) -> Result<Vec<u8>, ShelfError> {
+    match word {
+        "failed" => Err(ShelfError::Failed),
+        "absent" => Err(ShelfError::Absent),
+        "long" => Err(ShelfError::Long(67_108_865)),
+        "memory" => Err(ShelfError::Memory),
+        _ => Ok(Vec::new(alloc)),
+    }
+}
+
+/// The counts of reads with those answers.
+fn counted(alloc: Global, answers: &[&str]) -> Counts {
+    let mut counts = Counts::none();
+    for word in answers {
+        counts.add(&answer_of(alloc, word));
+    }
+    counts
+}
+
+fn counts(alloc: Global, counts: Counts) -> Result<String, AllocError> {
+    format!(in alloc;
+        "{} reads, {} faults, {} absences, last fault {}, last absence {}",
+        counts.reads, counts.faults, counts.absences, counts.last_fault, counts.last_absence
+    )
+}
+
+/// What the call of those words answers.
+pub fn answer(alloc: Global, shelf: &mut MemShelf, words: &[&str]) -> Result<String, AllocError> {
+    match words {
+        ["new", fails] => {
+            *shelf = fresh(alloc, fails)?;
+            said(alloc, "fresh")
+        }
+        ["hold", name, bytes] => ended(alloc, shelf.hold(name, bytes.as_bytes()).is_ok()),
+        ["read", name] => read(alloc, shelf, name),
+        ["count", answers @ ..] => counts(alloc, counted(alloc, answers)),
+        _ => said(alloc, "no call"),
+    }
+}
