@@ -15,5 +15,3 @@ pub mod sequents;
 pub mod steps;
 pub mod sums;
 pub mod tables;
-#[cfg(test)]
-mod tests;

@@ -4,8 +4,6 @@
 mod collecting;
 pub mod laws;
 mod parts;
-#[cfg(test)]
-mod tests;
 
 pub use collecting::{Terms, collected};
 pub use parts::{Part, difference};

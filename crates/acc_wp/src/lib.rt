@@ -11,6 +11,3 @@ mod unders;
 
 pub use errors::WpError;
 pub use preconditions::wp;
-
-#[cfg(test)]
-mod tests;
