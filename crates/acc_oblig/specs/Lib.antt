@@ -1,0 +1,9 @@
+pub mod Naming
+pub mod Relations
+pub mod Settings
+pub mod Sequents
+pub mod Spares
+pub mod PointRules
+pub mod Ranges
+pub mod Laws
+pub mod Trials
