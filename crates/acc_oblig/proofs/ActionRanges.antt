@@ -24,7 +24,7 @@ use Rattle.acc_base.specs.Soundness.{adds_to, IsShared}
 use Rattle.acc_oblig.specs.Naming.{named_lin}
 use Rattle.acc_oblig.specs.Relations.{lin_form, negated, plus_number}
 use Rattle.acc_oblig.specs.Settings.{Setting, after_naming, step_vars, step_hyps}
-use Rattle.acc_oblig.specs.Sequents.{Place, path_origin, path_rels}
+use Rattle.acc_oblig.specs.Drafts.{Place, path_origin, path_rels}
 use Rattle.acc_oblig.specs.Ranges.{within, ActionNumber, in_range, one_action_numbers, numbers_of, action_range_in}
 use Rattle.acc_oblig.proofs.Names.{lin_named}
 use Rattle.acc_oblig.proofs.FormValues.{int_le_holds, lin_form_value, negated_value, plus_value}

@@ -21,7 +21,8 @@ use Rattle.acc_base.specs.Fits.{RowsFit}
 use Rattle.acc_base.specs.PrivateRows.{HasNoPrivate}
 use Rattle.acc_oblig.specs.Settings.{Setting, first_now, step_vars, step_bounds, step_hyps}
 use Rattle.acc_oblig.specs.Naming.{counted}
-use Rattle.acc_oblig.specs.Sequents.{point_clauses, clause_drafts, each}
+use Rattle.acc_oblig.specs.Drafts.{clause_drafts, each}
+use Rattle.acc_oblig.specs.PathPromises.{point_clauses}
 use Rattle.acc_base.specs.Machine.{locals_in as locals_of}
 use Rattle.acc_base.specs.TrueSequents.{NoneOwned}
 use Rattle.acc_oblig.specs.PointRules.{zeros, begin_at, begin_drafts}

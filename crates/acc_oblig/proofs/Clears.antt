@@ -37,7 +37,7 @@ use Rattle.acc_base.specs.Soundness.{ClearsAt}
 use Rattle.acc_oblig.specs.Relations.{alone}
 use Rattle.acc_oblig.specs.Settings.{Setting, last_now}
 use Rattle.acc_oblig.specs.Naming.{counted}
-use Rattle.acc_oblig.specs.Sequents.{Place, path_drafts, each_path}
+use Rattle.acc_oblig.specs.Drafts.{Place, path_drafts, each_path}
 use Rattle.acc_oblig.specs.PointRules.{is_end, none_of, clear_at, clear_drafts}
 use Rattle.acc_oblig.proofs.FormValues.{meets_zero}
 use Rattle.acc_oblig.proofs.Judged.{DraftTrue}

@@ -17,7 +17,8 @@ use Rattle.acc_base.specs.Shapes.{RowFits}
 use Rattle.acc_form.specs.WellFormed.{IsWellFormed}
 use Rattle.acc_form.proofs.InRange.{design_range}
 use Rattle.acc_base.specs.Fits.{RowsFit}
-use Rattle.acc_oblig.specs.Sequents.{clause_drafts, empty_drafts}
+use Rattle.acc_oblig.specs.Drafts.{clause_drafts}
+use Rattle.acc_oblig.specs.PathPromises.{empty_drafts}
 use Rattle.acc_oblig.proofs.Names.{agrees_by}
 use Rattle.acc_oblig.proofs.Judged.{DraftTrue, clause_after}
 use Rattle.acc_oblig.proofs.Listed.{each_at}

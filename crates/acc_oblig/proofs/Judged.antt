@@ -25,7 +25,7 @@ use Rattle.acc_wp.proofs.LawTurns.{wp_is_weakest}
 use Rattle.acc_base.specs.Fits.{RowsFit}
 use Rattle.acc_oblig.specs.declared.naming.Naming.{Naming}
 use Rattle.acc_oblig.specs.Naming.{own_naming, named_rel}
-use Rattle.acc_oblig.specs.Sequents.{turned, is_clause_wide, Draft, goals_of, goal_drafts, clause_drafts}
+use Rattle.acc_oblig.specs.Drafts.{turned, is_clause_wide, Draft, goals_of, goal_drafts, clause_drafts}
 use Rattle.acc_base.specs.TrueSequents.{NoneOwned, SequentTrue}
 use Rattle.acc_oblig.proofs.Names.{Agrees, rel_named}
 use Rattle.acc_oblig.proofs.FormValues.{zero_meets, int_le_holds}

@@ -11,7 +11,7 @@ use Rattle.acc_base.specs.declared.designs.Point.{Point}
 use Rattle.acc_base.specs.declared.designs.TxType.{TxType}
 use Rattle.acc_base.specs.declared.designs.Design.{Design}
 use Rattle.acc_base.specs.Effects.{step_at}
-use Rattle.acc_oblig.specs.Sequents.{each_from, each, each_number, each_path, step_paths, point_paths, of_some, Place}
+use Rattle.acc_oblig.specs.Drafts.{each_from, each, each_number, each_path, step_paths, point_paths, of_some, Place}
 
 module _ {U : Type 0} (P : U → Type 0) where
   pub all_front : (xs ys : List U) → AllByRecursion P (xs ++ ys) → AllByRecursion P xs

@@ -26,7 +26,7 @@ use Rattle.acc_wp.proofs.PartValues.{parts_value}
 use Rattle.acc_wp.proofs.Growths.{IsReady}
 use Rattle.acc_wp.proofs.AtomTurns.{gain, meets as place_meets, atom_turn}
 use Rattle.acc_wp.proofs.RowShapes.{rows_fit, stays_in_order, is_ready}
-use Rattle.acc_oblig.specs.Sequents.{atom_names, rel_names, clause_names}
+use Rattle.acc_oblig.specs.PathPromises.{atom_names, rel_names, clause_names}
 
 -- a number as a linear value
 abbrev constant : ℤ → Lin

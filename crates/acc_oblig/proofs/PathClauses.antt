@@ -17,7 +17,7 @@ use Rattle.acc_base.specs.Shapes.{ActionFits}
 use Rattle.acc_base.specs.RowsAfter.{rows_after, AreThere}
 use Rattle.acc_base.specs.Fits.{RowsFit}
 use Rattle.acc_oblig.specs.Settings.{Setting, step_vars, after_naming, step_hyps, path_actions}
-use Rattle.acc_oblig.specs.Sequents.{Place, path_origin, path_rels, path_drafts}
+use Rattle.acc_oblig.specs.Drafts.{Place, path_origin, path_rels, path_drafts}
 use Rattle.acc_oblig.proofs.Names.{agrees_by, actions_named}
 use Rattle.acc_oblig.proofs.Carries.{carried, carried_long, carried_more}
 use Rattle.acc_oblig.proofs.Walks.{values_long}

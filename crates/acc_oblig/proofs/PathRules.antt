@@ -33,7 +33,8 @@ use Rattle.acc_form.proofs.InRange.{design_range}
 use Rattle.acc_base.specs.Fits.{IsReady}
 use Rattle.acc_base.specs.Soundness.{MeetsAt, posts_of, repairs_of}
 use Rattle.acc_oblig.specs.Settings.{last_now}
-use Rattle.acc_oblig.specs.Sequents.{Place, setting_of, promised, point_clauses, promise_at, promise_drafts, clause_names, always_at, always_drafts, changed_row, row_there, there_at, there_drafts, path_drafts, of_some, each_path}
+use Rattle.acc_oblig.specs.Drafts.{Place, setting_of, path_drafts, of_some, each_path}
+use Rattle.acc_oblig.specs.PathPromises.{promised, point_clauses, promise_at, promise_drafts, clause_names, always_at, always_drafts, changed_row, row_there, there_at, there_drafts}
 use Rattle.acc_wp.proofs.PathRows.{leaves_rows_after}
 use Rattle.acc_oblig.proofs.Taken.{names_worth}
 use Rattle.acc_oblig.proofs.Judged.{DraftTrue, ClauseFits}

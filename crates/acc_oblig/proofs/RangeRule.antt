@@ -28,7 +28,7 @@ use Rattle.acc_base.specs.Fits.{IsReady}
 use Rattle.acc_base.specs.Soundness.{IsShared, AreShared, actions_of, actions_of_path}
 use Rattle.acc_oblig.specs.Settings.{Setting, step_vars}
 use Rattle.acc_oblig.specs.Naming.{counted}
-use Rattle.acc_oblig.specs.Sequents.{Place, each, of_some, setting_of}
+use Rattle.acc_oblig.specs.Drafts.{Place, each, of_some, setting_of}
 use Rattle.acc_oblig.specs.PointRules.{each_point}
 use Rattle.acc_oblig.specs.Ranges.{ReadNumber, ActionNumber, one_action_numbers, numbers_of, setting_numbers, read_range_in, action_range_in, action_range_at, range_at, range_drafts}
 use Rattle.acc_base.proofs.EffectParts.{parts}

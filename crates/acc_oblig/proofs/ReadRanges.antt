@@ -23,7 +23,7 @@ use Rattle.acc_oblig.specs.declared.naming.Naming.{Naming}
 use Rattle.acc_oblig.specs.Naming.{counted, named_lin}
 use Rattle.acc_oblig.specs.Relations.{negated, plus_number}
 use Rattle.acc_oblig.specs.Settings.{Setting, with_self, first_now, step_vars, step_bounds, step_rels, step_hyps, all_read_rels}
-use Rattle.acc_oblig.specs.Sequents.{goal_drafts}
+use Rattle.acc_oblig.specs.Drafts.{goal_drafts}
 use Rattle.acc_oblig.specs.Ranges.{within, ReadNumber, value_asked, key_number, value_number, read_numbers, read_origin, read_range_in, setting_numbers}
 use Rattle.acc_oblig.proofs.Names.{Agrees, AgreesBehind, lin_named}
 use Rattle.acc_oblig.proofs.FormValues.{int_le_holds, lin_form_value, negated_value, plus_value, at_most_true, is_number_true}

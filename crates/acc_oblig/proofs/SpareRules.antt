@@ -39,7 +39,8 @@ use Rattle.acc_base.specs.Entries.{at_of, judged, IsFree}
 use Rattle.acc_oblig.specs.Naming.{own_naming, own_clauses, counted, named_rel}
 use Rattle.acc_oblig.specs.Relations.{below}
 use Rattle.acc_oblig.specs.Settings.{Setting, step_vars, after_naming, frame_bounds, step_bounds, step_rels, step_hyps, path_actions}
-use Rattle.acc_oblig.specs.Sequents.{is_clause_wide, Place, goals_of, path_origin, setting_of, clause_names, each, each_path}
+use Rattle.acc_oblig.specs.Drafts.{is_clause_wide, Place, goals_of, path_origin, setting_of, each, each_path}
+use Rattle.acc_oblig.specs.PathPromises.{clause_names}
 use Rattle.acc_oblig.specs.Spares.{held_names, ordered_drafts, spare_in, spare_drafts, entry_for, pairs_differ, by_entry, spare_at, all_spare_drafts}
 use Rattle.acc_oblig.proofs.Names.{Agrees, AgreesBehind, agrees_by, actions_named}
 use Rattle.acc_oblig.proofs.FormValues.{at_most_true, is_number_true}

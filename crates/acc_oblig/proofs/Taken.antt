@@ -25,7 +25,7 @@ use Rattle.acc_oblig.specs.declared.naming.Naming.{Naming}
 use Rattle.acc_oblig.specs.Naming.{own_naming, own_clauses, counted, named_action}
 use Rattle.acc_oblig.specs.Relations.{guard_rel}
 use Rattle.acc_oblig.specs.Settings.{Setting, first_now, last_now, after_naming, all_read_rels, step_bounds, step_rels, step_hyps}
-use Rattle.acc_oblig.specs.Sequents.{path_rels}
+use Rattle.acc_oblig.specs.Drafts.{path_rels}
 use Rattle.acc_oblig.proofs.Names.{Agrees, AgreesNear, AgreesBehind, agrees_by, clause_named, lins_named, action_named}
 use Rattle.acc_oblig.proofs.Reading.{read_values, now_worth}
 use Rattle.acc_oblig.proofs.ReadRels.{HasDivisor}

@@ -16,7 +16,7 @@ use Rattle.acc_base.specs.RowsAfter.{AreThere}
 use Rattle.acc_form.specs.WellFormed.{IsWellFormed}
 use Rattle.acc_base.specs.Fits.{IsReady}
 use Rattle.acc_base.specs.Soundness.{IsSound, WhereGoes, actions_of, actions_of_path}
-use Rattle.acc_oblig.specs.Sequents.{promise_drafts, always_drafts, there_drafts, empty_drafts}
+use Rattle.acc_oblig.specs.PathPromises.{promise_drafts, always_drafts, there_drafts, empty_drafts}
 use Rattle.acc_oblig.specs.Spares.{all_spare_drafts}
 use Rattle.acc_oblig.specs.PointRules.{begin_drafts, variant_drafts, clear_drafts}
 use Rattle.acc_oblig.specs.Ranges.{range_drafts}

@@ -32,7 +32,7 @@ use Rattle.acc_base.specs.Soundness.{variant_of, variant_at, FallsAt}
 use Rattle.acc_oblig.specs.Naming.{named_lin}
 use Rattle.acc_oblig.specs.Relations.{negated, plus_number}
 use Rattle.acc_oblig.specs.Settings.{Setting, first_now, last_now, step_naming, after_naming, step_vars, step_hyps}
-use Rattle.acc_oblig.specs.Sequents.{Place, path_origin, path_rels, setting_of, each}
+use Rattle.acc_oblig.specs.Drafts.{Place, path_origin, path_rels, setting_of, each}
 use Rattle.acc_oblig.specs.PointRules.{rest_in, rest_drafts, each_point, variant_form, rest_origin, fall_in, fall_drafts, fall_at, point_at, variant_drafts}
 use Rattle.acc_oblig.proofs.Names.{Agrees, lin_named}
 use Rattle.acc_oblig.proofs.FormValues.{int_le_holds, lin_form_value, negated_value, plus_value}

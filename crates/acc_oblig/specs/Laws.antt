@@ -5,7 +5,8 @@ use Rattle.acc_base.specs.declared.designs.Design.{Design}
 use Rattle.acc_base.specs.declared.sequents.Sequent.{Sequent}
 use Rattle.acc_form.specs.WellFormed.{IsWellFormed}
 use Rattle.acc_base.specs.Soundness.{IsSound}
-use Rattle.acc_oblig.specs.Sequents.{Draft, promise_drafts, always_drafts, there_drafts, empty_drafts}
+use Rattle.acc_oblig.specs.Drafts.{Draft}
+use Rattle.acc_oblig.specs.PathPromises.{promise_drafts, always_drafts, there_drafts, empty_drafts}
 use Rattle.acc_oblig.specs.Spares.{all_spare_drafts}
 use Rattle.acc_oblig.specs.PointRules.{begin_drafts, variant_drafts, clear_drafts}
 use Rattle.acc_oblig.specs.Ranges.{range_drafts}

@@ -1,7 +1,8 @@
 pub mod Naming
 pub mod Relations
 pub mod Settings
-pub mod Sequents
+pub mod Drafts
+pub mod PathPromises
 pub mod Spares
 pub mod PointRules
 pub mod Ranges

@@ -21,7 +21,8 @@ use Rattle.acc_base.specs.PrivateRows.{type_puts}
 use Rattle.acc_oblig.specs.Naming.{counted, named_lin}
 use Rattle.acc_oblig.specs.Relations.{lin_form, negated, plus_number, is_nothing, is_none, form, times, alone}
 use Rattle.acc_oblig.specs.Settings.{Setting, first_now, last_now, step_naming, step_vars, step_bounds, step_hyps}
-use Rattle.acc_oblig.specs.Sequents.{Draft, Place, each, each_number, each_path, of_some, goal_drafts, clause_drafts, path_origin, path_drafts, path_rels, point_clauses, setting_of}
+use Rattle.acc_oblig.specs.Drafts.{Draft, Place, each, each_number, each_path, of_some, goal_drafts, clause_drafts, path_origin, path_drafts, path_rels, setting_of}
+use Rattle.acc_oblig.specs.PathPromises.{point_clauses}
 
 -- ---- a transaction that rests at a point
 

@@ -19,7 +19,7 @@ use Rattle.acc_oblig.specs.declared.naming.Naming.{Naming}
 use Rattle.acc_oblig.specs.Naming.{named_lin}
 use Rattle.acc_oblig.specs.Relations.{form, variable, lin_form, negated, plus_number}
 use Rattle.acc_oblig.specs.Settings.{Setting, with_self, first_now, after_naming, step_vars, step_bounds, step_rels, step_hyps}
-use Rattle.acc_oblig.specs.Sequents.{Draft, Place, each, each_number, of_some, goal_drafts, path_origin, path_rels, setting_of}
+use Rattle.acc_oblig.specs.Drafts.{Draft, Place, each, each_number, of_some, goal_drafts, path_origin, path_rels, setting_of}
 use Rattle.acc_oblig.specs.PointRules.{each_point}
 
 -- a value is at most so much, and at least minus that

@@ -20,7 +20,8 @@ use Rattle.acc_form.specs.Entries.{same_point, same_side}
 use Rattle.acc_oblig.specs.Naming.{own_naming, own_clauses, counted, named_rel}
 use Rattle.acc_oblig.specs.Relations.{below, not_all_none}
 use Rattle.acc_oblig.specs.Settings.{Setting, last_now, step_vars, frame_bounds, step_bounds, step_rels, step_hyps, path_actions}
-use Rattle.acc_oblig.specs.Sequents.{is_clause_wide, Draft, Place, each, goals_of, each_path, path_origin, setting_of, clause_names}
+use Rattle.acc_oblig.specs.Drafts.{is_clause_wide, Draft, Place, each, goals_of, each_path, path_origin, setting_of}
+use Rattle.acc_oblig.specs.PathPromises.{clause_names}
 
 -- ---- entries
 

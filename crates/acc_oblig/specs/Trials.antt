@@ -10,7 +10,7 @@ use Rattle.acc_base.specs.declared.designs.Design.{Design}
 use Rattle.acc_base.specs.declared.sequents.Origin.{Origin}
 use Rattle.acc_base.specs.Cells.{var_plus, make, bump_start, bump_mid, bump, cells}
 use Rattle.acc_oblig.specs.Relations.{form, times, variable, plain, is_none, never}
-use Rattle.acc_oblig.specs.Sequents.{Draft}
+use Rattle.acc_oblig.specs.Drafts.{Draft}
 
 abbrev pub origins_of : List Draft → List Origin
 origins_of xs = map (λ (x : Draft). x.sequent.origin) xs
