@@ -1,8 +1,9 @@
 -- Mentions of places, one after the other.
-use Rattle.std.proofs.Common.{◌≡◌, ℕ, ◌+◌, List, [], ◌∷◌, ◌++◌, length, Option, Some, None, Result, Ok, Err, refl, sym, ap, ◌∙◌, append_assoc, zero, suc, add-one, arith}
+use Rattle.std.proofs.Common.{◌≡◌, ℕ, ◌+◌, ◌-◌, ◌<◌, Bool, false, List, [], ◌∷◌, ◌++◌, length, Option, Some, None, Result, Ok, Err, refl, sym, ap, subst, ◌∙◌, append_assoc, zero, suc, add-one, arith}
 use Rattle.std.specs.Fmt.{decimal}
 use Rattle.std.specs.List.{flat_map, range_with_len}
-use Rattle.std.specs.Prelude.{codes, OnOk, IsSome, IsSomeAnd, option_and_then, option_map}
+use Rattle.std.specs.Prelude.{codes, OnOk, IsSome, IsSomeAnd, option_and_then, ◌==◌, if◌then◌else◌, slice_get, slice_set}
+use Rattle.std.proofs.lemmas.Bool.Decides.{nat_tests}
 use Rattle.std.proofs.lemmas.Grind.{flat_map-append}
 use Rattle.std.proofs.lemmas.List.{append-nil}
 use Rattle.acc_base.specs.declared.designs.Design.{Design}
@@ -11,78 +12,120 @@ use Rattle.acc_base.specs.declared.machines.Reply.{Reply}
 use Rattle.acc_base.specs.declared.machines.Transaction.{Transaction}
 use Rattle.acc_base.specs.declared.machines.Transaction.TheVariants.{Forward, Undoing, Ended}
 use Rattle.acc_base.specs.declared.machines.Turn.{Turn}
-use Rattle.acc_base.specs.Machine.{World, transaction_at, frame_in, reply_in}
-use Rattle.acc_base.specs.Turns.{turn_of}
-use Rattle.acc_base.specs.Plays.{Play, Told, Turns, IsStuck, IsOver, number_of, has_begun, told_turn, told_of, turned_place, mention, told_more, mentions, played}
-use Rattle.acc_base.specs.Lines.{told_line, reply_line, line}
+use Rattle.acc_base.specs.declared.machines.Event.TheVariants.{Begin}
+use Rattle.acc_base.specs.Items.{item_at, with_item}
+use Rattle.acc_base.specs.Machine.{World, world, after_event, next_number, transaction_at, frame_in, reply_in, reply_at, changed}
+use Rattle.acc_base.specs.Turns.{next_event, said_of, turn_of}
+use Rattle.acc_base.specs.Plays.{Play, Told, IsStuck, IsOver, plain, opening, number_of, with_place, told_turn, Goes, Mentions, PlaysOn, Plays, play_after}
+use Rattle.acc_base.specs.Lines.{mention_line, reply_line, ending_text, line}
 use Rattle.acc_plain.specs.Turned.{IsUnfinished}
 use Rattle.acc_base.specs.declared.machines.Event.{Event}
 use Rattle.acc_play.specs.declared.plays.Stage.{Stage}
 use Rattle.acc_play.specs.Tells.{Tells}
-use Rattle.acc_play.specs.Stages.{play_of, Mentions}
+use Rattle.acc_play.specs.Stages.{play_of, HasBegun, IsMentioned}
 
 pub on_ok : {T E P Q : Type 0} (r : Result T E) → (P → Q) → OnOk r P → OnOk r Q
 on_ok (Ok x) f h = f h
 on_ok (Err e) f h = h
 
--- an unfinished transaction has its turn told
-pub told_open : (d : Design) (place : ℕ) (p : Play) (t : ℕ) → IsUnfinished t p.world → told_of d place p t (transaction_at t p.world.transactions) ≡ told_turn place p (turn_of d p.world t)
-told_open d place p t h = by (transaction_at t p.world.transactions) h
+-- what an unfinished transaction's turn is, is what is told
+pub open_goes : (d : Design) (place : ℕ) (p : Play) (t : ℕ) (turn : Option (Turn × World)) → IsUnfinished t p.world → turn_of d p.world t ≡ turn → Goes (plain d) place t p (reply_at t p.world) (told_turn place p turn)
+open_goes d place p t turn h e = by (transaction_at t p.world.transactions) h
   where
-    by : (o : Option Transaction) → IsSomeAnd o (λ x. IsSome (frame_in x)) → told_of d place p t o ≡ told_turn place p (turn_of d p.world t)
+    by : (o : Option Transaction) → IsSomeAnd o (λ x. IsSome (frame_in x)) → Goes (plain d) place t p (option_and_then reply_in o) (told_turn place p turn)
     by None k = absurd k
-    by (Some (Forward f)) k = refl
-    by (Some (Undoing f c)) k = refl
+    by (Some (Forward f)) k = record { turn = turn; allowed = e; told = refl }
+    by (Some (Undoing f c)) k = record { turn = turn; allowed = e; told = refl }
     by (Some (Ended r)) k = absurd cc
 
-pub turn_told : (d : Design) (place : ℕ) (p : Play) (t : ℕ) (turn : Turn) (w : World) → IsUnfinished t p.world → turn_of d p.world t ≡ Some (turn, w) → told_of d place p t (transaction_at t p.world.transactions) ≡ (Turns place turn, record { world = w; numbers = p.numbers })
-turn_told d place p t turn w h e = told_open d place p t h ∙ ap (told_turn place p) e
-
-pub stuck_told : (d : Design) (place : ℕ) (p : Play) (t : ℕ) (w : World) → IsUnfinished t p.world → turn_of d p.world t ≡ None → w ≡ p.world → told_of d place p t (transaction_at t p.world.transactions) ≡ (IsStuck place, record { world = w; numbers = p.numbers })
-stuck_told d place p t w h e same =
-    told_open d place p t h ∙ ap (told_turn place p) e ∙ ap (λ (z : World). (IsStuck place, record { world = z; numbers = p.numbers })) (sym same)
+pub stuck_goes : (d : Design) (place : ℕ) (p : Play) (t : ℕ) (w : World) → IsUnfinished t p.world → turn_of d p.world t ≡ None → w ≡ p.world → Goes (plain d) place t p (reply_at t p.world) (IsStuck place, record { world = w; numbers = p.numbers; places = p.places })
+stuck_goes d place p t w h e same =
+    subst (λ (z : World). Goes (plain d) place t p (reply_at t p.world) (IsStuck place, record { world = z; numbers = p.numbers; places = p.places })) (sym same) (open_goes d place p t None h e)
 
 -- a transaction that has ended is told to be over
-pub has_ended : (d : Design) (place : ℕ) (p : Play) (t : ℕ) (reply : Reply) → option_and_then reply_in (transaction_at t p.world.transactions) ≡ Some reply → told_of d place p t (transaction_at t p.world.transactions) ≡ (IsOver place, p)
-has_ended d place p t reply h = by (transaction_at t p.world.transactions) h
-  where
-    by : (o : Option Transaction) → option_and_then reply_in o ≡ Some reply → told_of d place p t o ≡ (IsOver place, p)
-    by None k = absurd cc
-    by (Some (Forward f)) k = absurd cc
-    by (Some (Undoing f c)) k = absurd cc
-    by (Some (Ended r)) k = refl
+pub over_goes : (d : Design) (place : ℕ) (p : Play) (t : ℕ) (reply : Reply) → reply_at t p.world ≡ Some reply → Goes (plain d) place t p (reply_at t p.world) (IsOver place, p)
+over_goes d place p t reply h = subst (λ (o : Option Reply). Goes (plain d) place t p o (IsOver place, p)) (sym h) refl
 
 -- one that hasn't begun is told to be stuck
-pub not_begun : (d : Design) (place : ℕ) (p : Play) (t : ℕ) → (IsUnfinished t p.world → ⊥) → option_and_then reply_in (transaction_at t p.world.transactions) ≡ None → told_of d place p t (transaction_at t p.world.transactions) ≡ (IsStuck place, p)
-not_begun d place p t closed h = by (transaction_at t p.world.transactions) closed h
+pub absent_goes : (d : Design) (place : ℕ) (p : Play) (t : ℕ) → (IsUnfinished t p.world → ⊥) → reply_at t p.world ≡ None → Goes (plain d) place t p (reply_at t p.world) (IsStuck place, p)
+absent_goes d place p t closed h = by (transaction_at t p.world.transactions) refl closed h
   where
-    by : (o : Option Transaction) → (IsSomeAnd o (λ x. IsSome (frame_in x)) → ⊥) → option_and_then reply_in o ≡ None → told_of d place p t o ≡ (IsStuck place, p)
-    by None u k = refl
-    by (Some (Forward f)) u k = absurd (u refl)
-    by (Some (Undoing f c)) u k = absurd (u refl)
-    by (Some (Ended r)) u k = absurd cc
+    by : (o : Option Transaction) → transaction_at t p.world.transactions ≡ o → (IsSomeAnd o (λ x. IsSome (frame_in x)) → ⊥) → option_and_then reply_in o ≡ None → Goes (plain d) place t p (reply_at t p.world) (IsStuck place, p)
+    by None at u k =
+        let no_turn : turn_of d p.world t ≡ None =
+        ap (λ (o : Option Transaction). option_and_then (λ e. said_of p.world e t (changed d p.world.rows e (transaction_at t p.world.transactions))) (next_event d p.world.rows o)) at in
+        subst (λ (o : Option Reply). Goes (plain d) place t p o (IsStuck place, p)) (sym (ap (option_and_then reply_in) at)) (record { turn = None; allowed = no_turn; told = refl })
+    by (Some (Forward f)) at u k = absurd (u refl)
+    by (Some (Undoing f c)) at u k = absurd (u refl)
+    by (Some (Ended r)) at u k = absurd cc
+
+-- ---- a place begins
+
+from_one : (k : ℕ) → 0 < k → (k == 0) ≡ false
+from_one k h = grind (arith, nat_tests)
+
+item_is : {T : Type 0} (k : ℕ) (items : List T) (x : T) → 0 < k → slice_get items (k - 1) ≡ Some x → item_at k items ≡ Some x
+item_is {T} k items x h e = ap (λ (b : Bool). if b then None else slice_get items (k - 1)) (from_one k h) ∙ e
+
+set_is : {T : Type 0} (k : ℕ) (x : T) (items : List T) → 0 < k → with_item k x items ≡ slice_set items (k - 1) x
+set_is {T} k x items h = ap (λ (b : Bool). if b then items else slice_set items (k - 1) x) (from_one k h)
+
+-- a place that has begun has its number
+pub has_begun : (d : Design) (calls : List Call) (place : ℕ) (p : Play) (t : ℕ) → 0 < place → slice_get p.numbers (place - 1) ≡ Some (Some t) → HasBegun d calls place p (number_of p place) t p
+has_begun d calls place p t h at =
+    subst (λ (o : Option ℕ). HasBegun d calls place p o t p) (sym (ap (option_and_then (λ n. n)) (item_is place p.numbers (Some t) h at))) (refl, refl)
+
+-- one that hasn't begins with the next number
+pub begins_here : (d : Design) (calls : List Call) (place : ℕ) (p q : Play) (call : Call) (t : ℕ) → 0 < place → slice_get p.numbers (place - 1) ≡ Some None → slice_get calls (place - 1) ≡ Some call → after_event d p.world (Begin call) ≡ Some q.world → t ≡ next_number p.world → q.numbers ≡ slice_set p.numbers (place - 1) (Some t) → q.places ≡ p.places ++ place ∷ [] → HasBegun d calls place p (number_of p place) t q
+begins_here d calls place p q call t h at call_at begins number numbers places =
+    let set_so : q.numbers ≡ with_item place (Some (next_number p.world)) p.numbers = numbers ∙ ap (λ (n : ℕ). slice_set p.numbers (place - 1) (Some n)) number ∙ sym (set_is place (Some (next_number p.world)) p.numbers h) in
+    subst (λ (o : Option ℕ). HasBegun d calls place p o t q) (sym (ap (option_and_then (λ n. n)) (item_is place p.numbers None h at)))
+    (record { call = call; is_call = item_is place calls call h call_at; world = q.world; begins = begins; number = number; play = λ i. record { world = q.world; numbers = set_so i; places = places i } })
 
 -- a place that has begun takes its turn
-pub mention_is : (d : Design) (calls : List Call) (p q : Play) (place t : ℕ) (told : Told × Play) → has_begun d calls p place (number_of p place) ≡ Some q → number_of q place ≡ Some t → told_of d place q t (transaction_at t q.world.transactions) ≡ told → mention d calls p place ≡ Some told
-mention_is d calls p q place t told begun number turn =
-    ap (option_and_then (λ x. turned_place d x place)) begun
-    ∙ ap (option_map (λ n. told_of d place q n (transaction_at n q.world.transactions))) number
-    ∙ ap (λ (z : Told × Play). Some z) turn
+pub mention_is : (d : Design) (calls : List Call) (p q : Play) (place t : ℕ) (x : Told × Play) → HasBegun d calls place p (number_of p place) t q → Goes (plain d) place t q (reply_at t q.world) x → Mentions (plain d) calls place p (number_of p place) x
+mention_is d calls p q place t x begun goes = by (number_of p place) begun
+  where
+    moved : (n : ℕ) (r : Play) → t ≡ n → q ≡ r → Goes (plain d) place n r (reply_at n r.world) x
+    moved n r number play =
+        subst (λ (k : ℕ). Goes (plain d) place k r (reply_at k r.world) x) number (subst (λ (z : Play). Goes (plain d) place t z (reply_at t z.world) x) play goes)
+
+    by : (o : Option ℕ) → HasBegun d calls place p o t q → Mentions (plain d) calls place p o x
+    by (Some n) h = moved n p h.0 h.1
+    by None h =
+        record { call = h.call; is_call = h.is_call; world = Some h.world; allowed = (h.begins, refl); opens = moved (next_number p.world) (with_place p place h.world) h.number h.play }
 
 -- ---- the order, place by place
 
--- what is done so far, and then the places that are left, is the whole
+-- what is done so far, and then a play of the places that are left, is a play of the whole
 pub record IsPlayedSoFar (d : Design) (calls : List Call) (order left : List ℕ) (s : Stage) : Type 0 where
-  pub told : List Told
-  pub text : s.text.items ≡ flat_map (told_line d) told
-  pub whole : mentions d calls left (told, play_of s) ≡ played d calls order
+  pub mentions : List (Told × Play)
+  pub text : s.text.items ≡ flat_map (mention_line d) mentions
+  pub now : play_after (opening calls) mentions ≡ play_of s
+  pub whole : (later : List (Told × Play)) → PlaysOn (plain d) calls (play_of s) left later → Plays (plain d) calls order (mentions ++ later)
 
-pub played_more : (d : Design) (calls : List Call) (order left : List ℕ) (place : ℕ) (old new : Stage) → IsPlayedSoFar d calls order (place ∷ left) old → Mentions d calls place old new → IsPlayedSoFar d calls order left new
-played_more d calls order left place old new so_far m = record {
-  told = so_far.told ++ m.told ∷ [];
-  text = m.text ∙ ap (λ (z : List ℕ). z ++ told_line d m.told) so_far.text ∙ sym (flat_map-append (told_line d) so_far.told (m.told ∷ []) ∙ ap (λ (z : List ℕ). flat_map (told_line d) so_far.told ++ z) (append-nil (told_line d m.told)));
-  whole = sym (ap (λ (o : Option (Told × Play)). option_and_then (mentions d calls left) (told_more so_far.told o)) m.is_mention) ∙ so_far.whole;
+-- nothing is done, on a stage that opens
+pub opens_play : (d : Design) (calls : List Call) (order : List ℕ) (s : Stage) → s.text.items ≡ [] → play_of s ≡ opening calls → IsPlayedSoFar d calls order order s
+opens_play d calls order s text opens = record {
+  mentions = [];
+  text = text;
+  now = sym opens;
+  whole = λ later h. subst (λ (p : Play). PlaysOn (plain d) calls p order later) opens h;
 }
+
+after_last : (p : Play) (xs : List (Told × Play)) (x : Told × Play) → play_after p (xs ++ x ∷ []) ≡ x.1
+after_last p [] x = refl
+after_last p (y ∷ ys) x = after_last y.1 ys x
+
+pub played_more : (d : Design) (calls : List Call) (order left : List ℕ) (place : ℕ) (old new : Stage) → IsPlayedSoFar d calls order (place ∷ left) old → IsMentioned d calls place old new → IsPlayedSoFar d calls order left new
+played_more d calls order left place old new so_far m =
+    let x : Told × Play = (m.told, play_of new) in
+    record {
+      mentions = so_far.mentions ++ x ∷ [];
+      text = m.text ∙ ap (λ (z : List ℕ). z ++ mention_line d x) so_far.text ∙ sym (flat_map-append (mention_line d) so_far.mentions (x ∷ []) ∙ ap (λ (z : List ℕ). flat_map (mention_line d) so_far.mentions ++ z) (append-nil (mention_line d x)));
+      now = after_last (opening calls) so_far.mentions x;
+      whole = λ later h. subst (Plays (plain d) calls order) (sym (append_assoc so_far.mentions (x ∷ []) later)) (so_far.whole (x ∷ later) (m.is_mention, h));
+    }
 
 -- ---- the replies, place by place
 
@@ -102,15 +145,19 @@ replies_more p q first text new n so_far same more =
 
 -- ---- the whole
 
-pub tells_play : (d : Design) (calls : List Call) (order : List ℕ) (s after : Stage) (text : List ℕ) (history : List Event) → IsPlayedSoFar d calls order [] s → length s.numbers.items ≡ length calls → after.text.items ≡ s.text.items ++ flat_map (reply_line (play_of s)) (range_with_len 1 (length s.numbers.items)) → play_of after ≡ play_of s → history ≡ after.machine.world.events → text ≡ after.text.items ++ line (codes "events " ++ decimal (length history)) → Tells d calls order text history
-tells_play d calls order s after text history so_far count replies same events more =
+pub tells_play : (d : Design) (calls : List Call) (order : List ℕ) (s after : Stage) (text : List ℕ) (history : List Event) → IsPlayedSoFar d calls order [] s → length s.numbers.items ≡ length calls → after.text.items ≡ s.text.items ++ flat_map (reply_line (play_of s)) (range_with_len 1 (length s.numbers.items)) → play_of after ≡ play_of s → world d after.machine.world.events ≡ Some after.machine.world → history ≡ after.machine.world.events → text ≡ after.text.items ++ line (codes "events " ++ decimal (length history)) → Tells d calls order text history
+tells_play d calls order s after text history so_far count replies same run events more =
     let logged : history ≡ s.machine.world.events = events ∙ ap (λ (p : Play). p.world.events) same in
-    let told = flat_map (told_line d) so_far.told in
+    let told = flat_map (mention_line d) so_far.mentions in
     let replied = flat_map (reply_line (play_of s)) (range_with_len 1 (length calls)) in
+    let ended : play_of after ≡ play_after (opening calls) so_far.mentions = same ∙ sym so_far.now in
+    let text_so : text ≡ told ++ ending_text calls (play_of s) =
+    more ∙ (λ i. (replies ∙ (λ j. so_far.text j ++ flat_map (reply_line (play_of s)) (range_with_len 1 (count j)))) i ++ line (codes "events " ++ decimal (length (logged i)))) ∙ append_assoc told replied (line (codes "events " ++ decimal (length s.machine.world.events))) in
+    let state : after.machine.world ≡ (play_after (opening calls) so_far.mentions).world = ap (λ (p : Play). p.world) ended in
     record {
-      told = so_far.told;
-      play = play_of s;
-      is_played = sym so_far.whole;
-      text_is = more ∙ (λ i. (replies ∙ (λ j. so_far.text j ++ flat_map (reply_line (play_of s)) (range_with_len 1 (count j)))) i ++ line (codes "events " ++ decimal (length (logged i)))) ∙ append_assoc told replied (line (codes "events " ++ decimal (length s.machine.world.events)));
-      history_is = logged;
+      mentions = so_far.mentions;
+      is_played = subst (Plays (plain d) calls order) (append-nil so_far.mentions) (so_far.whole [] tt);
+      text_is = subst (λ (p : Play). text ≡ told ++ ending_text calls p) (sym so_far.now) text_so;
+      history_is = events ∙ ap (λ (w : World). w.events) state;
+      run = ap (world d) events ∙ run ∙ ap (λ (w : World). Some w) state;
     }

@@ -2,12 +2,12 @@
 ghost use Rattle.std.specs.Prelude.{◌≡◌, ◌≤◌, ◌+◌, ◌*◌, ◌<◌, ◌^◌, ◌++◌, length, vec_len, All, Some, IfOk, OnOk, codes};
 ghost use Rattle.std.specs.List.{flat_map, range_with_len};
 ghost use Rattle.std.specs.Fmt.{decimal};
-ghost use Rattle.acc_base.specs.Plays.{number_of, has_begun, Turns, IsStuck, IsOver};
+ghost use Rattle.acc_base.specs.Plays.{number_of};
 ghost use Rattle.acc_base.specs.Lines.{reply_line, line};
 ghost use Rattle.acc_base.specs.Runnable.{IsRunnable};
 ghost use Rattle.acc_plain.specs.Turned.{IsUnfinished};
 ghost use Rattle.acc_script.specs.OrderLines.{IsPlace};
-ghost use Rattle.acc_play.specs.Stages.{play_of, AllFit, IsStage, TakesTurn, Mentions};
+ghost use Rattle.acc_play.specs.Stages.{play_of, AllFit, IsStage, HasBegun, GoesOn, IsMentioned};
 ghost use Rattle.acc_play.specs.Tells.{Tells};
 
 use acc_base::designs::Design;
@@ -27,11 +27,12 @@ pub struct Transcript {
     pub history: Seq<Event>,
 }
 
-/// The machine, the number of each place's transaction, and the lines so far.
+/// The machine, the number of each place's transaction, the place of each number, and the lines so far.
 #[derive(Drop)]
 pub struct Stage<'a> {
     pub machine: Machine<'a, MapStore>,
     pub numbers: Vec<Option<u64>>,
+    pub places: Vec<u64>,
     pub text: Vec<u8>,
 }
 
@@ -41,8 +42,7 @@ fn number(stage: &mut Stage, d: &Design, calls: &[Call], place: u64) -> Result<u
     requires fit { AllFit d.now calls.now }
     requires place { IsPlace (length calls.now) place }
     requires room { length stage.old.machine.world.events < 2 ^ 30 }
-    ensures begun { OnOk result (has_begun d.now calls.now (play_of stage.old) place (number_of (play_of stage.old) place) ≡ Some (play_of stage.new)) }
-    ensures number { IfOk result (λ t. number_of (play_of stage.new) place ≡ Some t) }
+    ensures begun { IfOk result (λ t. HasBegun d.now calls.now place (play_of stage.old) (number_of (play_of stage.old) place) t (play_of stage.new)) }
     ensures stage { IsStage d.now calls.now stage.new }
     ensures text { stage.new.text.items ≡ stage.old.text.items }
     ensures count { length stage.new.machine.world.events ≤ length stage.old.machine.world.events + 1 }
@@ -53,6 +53,7 @@ fn number(stage: &mut Stage, d: &Design, calls: &[Call], place: u64) -> Result<u
     }
     let t = stage.machine.begin(&calls[at])?;
     stage.numbers[at] = Some(t);
+    stage.places.push(place)?;
     Ok(t)
 }
 
@@ -61,13 +62,13 @@ fn take_open_turn(stage: &mut Stage, d: &Design, place: u64, t: u64) -> Result<(
     requires design { stage.old.machine.design ≡ d.now }
     requires unfinished { IsUnfinished t stage.old.machine.world }
     requires room { length stage.old.machine.world.events < 2 ^ 30 }
-    ensures turn { OnOk result (TakesTurn d.now place t stage.old stage.new) }
+    ensures turn { OnOk result (GoesOn d.now place t stage.old stage.new) }
     ensures design { stage.new.machine.design ≡ d.now }
     ensures numbers { stage.new.numbers.items ≡ stage.old.numbers.items }
     ensures count { length stage.new.machine.world.events ≤ length stage.old.machine.world.events + 1 }
 {
     match stage.machine.turn(t) {
-        Ok(Some(turn)) => push_turn(&mut stage.text, d, place, turn),
+        Ok(Some(turn)) => push_turn(&mut stage.text, d, stage.places.as_slice(), place, turn),
         Ok(None) => push_stuck(&mut stage.text, place),
         Err(PlainError::Memory) => Err(AllocError),
     }
@@ -77,7 +78,7 @@ fn take_open_turn(stage: &mut Stage, d: &Design, place: u64, t: u64) -> Result<(
 fn take_turn(stage: &mut Stage, d: &Design, place: u64, t: u64) -> Result<(), AllocError>
     requires design { stage.old.machine.design ≡ d.now }
     requires room { length stage.old.machine.world.events < 2 ^ 30 }
-    ensures turn { OnOk result (TakesTurn d.now place t stage.old stage.new) }
+    ensures turn { OnOk result (GoesOn d.now place t stage.old stage.new) }
     ensures design { stage.new.machine.design ≡ d.now }
     ensures numbers { stage.new.numbers.items ≡ stage.old.numbers.items }
     ensures count { length stage.new.machine.world.events ≤ length stage.old.machine.world.events + 1 }
@@ -97,7 +98,7 @@ fn mention(stage: &mut Stage, d: &Design, calls: &[Call], place: u64) -> Result<
     requires fit { AllFit d.now calls.now }
     requires place { IsPlace (length calls.now) place }
     requires room { length stage.old.machine.world.events + 1 < 2 ^ 30 }
-    ensures mention { OnOk result (Mentions d.now calls.now place stage.old stage.new) }
+    ensures mention { OnOk result (IsMentioned d.now calls.now place stage.old stage.new) }
     ensures stage { IsStage d.now calls.now stage.new }
     ensures count { length stage.new.machine.world.events ≤ length stage.old.machine.world.events + 2 }
 {
@@ -111,6 +112,7 @@ fn mention(stage: &mut Stage, d: &Design, calls: &[Call], place: u64) -> Result<
 fn push_replies(stage: &mut Stage) -> Result<(), AllocError>
     ensures text { OnOk result (stage.new.text.items ≡ stage.old.text.items ++ flat_map (reply_line (play_of stage.old)) (range_with_len 1 (length stage.old.numbers.items))) }
     ensures play { play_of stage.new ≡ play_of stage.old }
+    ensures design { stage.new.machine.design ≡ stage.old.machine.design }
 {
     for at in 0..stage.numbers.len() {
         push_reply_line(stage, at as u64 + 1)?;
@@ -123,6 +125,7 @@ fn push_reply_line(stage: &mut Stage, place: u64) -> Result<(), AllocError>
     requires place { IsPlace (length stage.old.numbers.items) place }
     ensures text { OnOk result (stage.new.text.items ≡ stage.old.text.items ++ reply_line (play_of stage.old) place) }
     ensures play { play_of stage.new ≡ play_of stage.old }
+    ensures design { stage.new.machine.design ≡ stage.old.machine.design }
 {
     match stage.numbers[(place - 1) as usize] {
         None => push_unbegun(&mut stage.text, place),
@@ -151,6 +154,7 @@ pub fn play(
     let mut stage = Stage {
         machine: Machine::new(alloc, d, MapStore::new(alloc)),
         numbers: vec![in alloc; None; calls.len()]?,
+        places: Vec::new(alloc),
         text: Vec::new(alloc),
     };
     for place in order {
@@ -160,6 +164,7 @@ pub fn play(
     let Stage {
         machine,
         numbers: _,
+        places: _,
         mut text,
     } = stage;
     let (_, history) = machine.into_parts();

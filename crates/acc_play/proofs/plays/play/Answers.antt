@@ -26,4 +26,4 @@ returns c =
     let s = c.loop-place.stage in
     let past : length order ≤ c.loop-place.place-index = omega arith in
     let over : drop c.loop-place.place-index order ≡ [] = drop_all c.loop-place.place-index order past in
-    tells_play d calls order s c.push_replies.new.stage c.push_events.new.out.items c.into_parts-history.result.1 (subst (λ (zs : List ℕ). IsPlayedSoFar d calls order zs s) over c.loop-place.invariant.played) c.loop-place.invariant.stage.numbers c.in_ok-push_replies.ensures.text c.push_replies.ensures.play c.into_parts-history.ensures.events (rw c.len.ensures at c.in_ok-push_events.ensures)
+    tells_play d calls order s c.push_replies.new.stage c.push_events.new.out.items c.into_parts-history.result.1 (subst (λ (zs : List ℕ). IsPlayedSoFar d calls order zs s) over c.loop-place.invariant.played) c.loop-place.invariant.stage.numbers c.in_ok-push_replies.ensures.text c.push_replies.ensures.play (rw (c.push_replies.ensures.design, c.loop-place.invariant.stage.design) at c.into_parts-history.ensures.run.run) c.into_parts-history.ensures.events (rw c.len.ensures at c.in_ok-push_events.ensures.ok)

@@ -8,4 +8,5 @@ abbrev pub invariant-loop-at : goal.invariant-loop-at
 invariant-loop-at l = record {
   text : l.stage.text.items ≡ l.fn.stage.text.items ++ flat_map (reply_line (play_of l.fn.stage)) (range_with_len 1 l.at);
   play : play_of l.stage ≡ play_of l.fn.stage;
+  design : l.stage.machine.design ≡ l.fn.stage.machine.design;
 }
