@@ -13,6 +13,3 @@ pub use commands::Outcome;
 pub use status::{Ending, Status};
 pub use top::{Played, acc};
 pub use words::Command;
-
-#[cfg(test)]
-mod tests;

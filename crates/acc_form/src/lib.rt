@@ -16,6 +16,3 @@ mod widths;
 
 pub use designs::well_formed;
 pub use rules::FormError;
-
-#[cfg(test)]
-mod tests;

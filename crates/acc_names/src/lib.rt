@@ -9,10 +9,7 @@ pub mod names;
 mod rows;
 mod scopes;
 mod steps;
-mod tables;
-#[cfg(test)]
-mod tests;
-mod types;
+mod tables;mod types;
 mod values;
 
 pub use designs::{DesignNames, names_of};

@@ -8,6 +8,3 @@ mod parsers;
 
 pub use errors::ParseError;
 pub use parsers::parse;
-
-#[cfg(test)]
-mod tests;

@@ -10,6 +10,3 @@ mod types;
 mod values;
 
 pub use designs::{PrintError, print};
-
-#[cfg(test)]
-mod tests;

@@ -4,6 +4,3 @@
 mod texts;
 
 pub use texts::print;
-
-#[cfg(test)]
-mod tests;

@@ -1,0 +1,203 @@
+//! The cases by their verbs.
+use crate::texts::{Change, first_word};
+use crate::{designs, memory, texts};
+use acc_cli::acc;
+use acc_io::{FolderShelf, MemShelf, MemSink, StdSink};
+use std::alloc::{AllocError, Global};
+use std::rt::Files;
+use std::{fs, io};
+
+/// `run WORDS`: a command line over the files of the folder, printed at once.
+fn run<R: Files + Print + AllocGlobal>(rt: &R, line: &str) -> io::Result<()> {
+    let words = memory::words(rt.alloc(), line)?;
+    let mut shelf = FolderShelf::new(rt);
+    let mut out = StdSink::new(rt);
+    let played = acc(rt.alloc(), &words, &mut shelf, &mut out);
+    println!(rt; "status {}", played.status)
+}
+
+/// Answers a command line over a shelf in memory, printed at once, and tells the status and how many events there were.
+fn answer_at_once<R: Print + AllocGlobal>(
+    rt: &R,
+    line: &str,
+    shelf: &mut MemShelf,
+) -> io::Result<()> {
+    let mut out = StdSink::new(rt);
+    let (status, events) = memory::answer(rt.alloc(), line, shelf, &mut out)?;
+    println!(rt; "status {status}, {events} events")
+}
+
+/// Plays a design, a script and an order.
+fn play_texts<R: Print + AllocGlobal>(
+    rt: &R,
+    design: &str,
+    script: &str,
+    order: &str,
+) -> io::Result<()> {
+    let mut shelf = memory::shelf(rt.alloc(), design)?;
+    memory::hold(&mut shelf, "script", script.as_bytes())?;
+    memory::hold(&mut shelf, "order", order.as_bytes())?;
+    answer_at_once(rt, "play design script order", &mut shelf)
+}
+
+/// `play DESIGN SCRIPT -> ORDER`: a play of a design of the folder, with the script and the order that stand there.
+fn play<R: Files + Print + AllocGlobal>(rt: &R, name: &str, rest: &str) -> io::Result<()> {
+    let design = fs::read_to_string(rt, name)?;
+    let (script, order) = rest.split_once(" -> ").unwrap_or((rest, ""));
+    play_texts(rt, design.as_str(), script, order)
+}
+
+/// `print TEXT`: what the command `print` answers to a text.
+fn print<R: Print + AllocGlobal>(rt: &R, text: &str) -> io::Result<()> {
+    let mut shelf = memory::shelf(rt.alloc(), text)?;
+    answer_at_once(rt, "print design", &mut shelf)
+}
+
+/// The numbers with commas between them; a `-` is none.
+fn numbers(alloc: Global, text: &str) -> Result<Vec<u64>, AllocError> {
+    let mut numbers = Vec::new(alloc);
+    for word in text.split(',') {
+        if let Ok(number) = word.parse() {
+            numbers.push(number)?;
+        }
+    }
+    Ok(numbers)
+}
+
+/// A shelf some of whose reads fail.
+fn shelf(alloc: Global, reads: &str) -> Result<MemShelf, AllocError> {
+    let reads = numbers(alloc, reads)?;
+    memory::empty_shelf(alloc, &reads)
+}
+
+/// A sink; the writes of the first list fail, and the others take no more than the second says.
+fn sink(alloc: Global, writes: &str, takes: &str) -> Result<MemSink, AllocError> {
+    let writes = numbers(alloc, writes)?;
+    let takes = numbers(alloc, takes)?;
+    memory::sink(alloc, &writes, &takes)
+}
+
+/// Puts a file of the folder on the shelf, if there is one.
+fn hold_file<R: Files + AllocGlobal>(
+    rt: &R,
+    shelf: &mut MemShelf,
+    name: &str,
+) -> Result<(), AllocError> {
+    match fs::read(rt, name) {
+        Ok(bytes) => memory::hold(shelf, name, &bytes),
+        Err(_) => Ok(()),
+    }
+}
+
+/// Puts the folder's files that the words name on the shelf, but for one.
+fn hold_files<R: Files + AllocGlobal>(
+    rt: &R,
+    shelf: &mut MemShelf,
+    words: &str,
+    absent: &str,
+) -> Result<(), AllocError> {
+    for name in words.split_whitespace() {
+        if name != absent {
+            hold_file(rt, shelf, name)?;
+        }
+    }
+    Ok(())
+}
+
+/// Answers a command line over a shelf in memory, and tells what was written, as a text with quotes, the status and how
+/// many events there were.
+fn answer_into<R: Print + AllocGlobal>(
+    rt: &R,
+    line: &str,
+    shelf: &mut MemShelf,
+    out: &mut MemSink,
+) -> io::Result<()> {
+    let (status, events) = memory::answer(rt.alloc(), line, shelf, out)?;
+    let text = String::from_utf8_lossy(rt.alloc(), out.bytes())?;
+    println!(rt; "{:?}\nstatus {status}, {events} events", text.as_str())
+}
+
+/// `fails ABSENT READS WRITES TAKES WORDS`: a command line over a shelf in memory that lacks a file and some of whose reads
+/// fail, and over a sink in memory some of whose writes fail or take less.
+fn fails<R: Files + Print + AllocGlobal>(rt: &R, text: &str) -> io::Result<()> {
+    let (absent, rest) = first_word(text);
+    let (reads, rest) = first_word(rest);
+    let (writes, rest) = first_word(rest);
+    let (takes, words) = first_word(rest);
+    let mut shelf = shelf(rt.alloc(), reads)?;
+    hold_files(rt, &mut shelf, words, absent)?;
+    let mut out = sink(rt.alloc(), writes, takes)?;
+    answer_into(rt, words, &mut shelf, &mut out)
+}
+
+/// Prints what is shown of a changed design: a refusal, or the lines that aren't shown of the unchanged one; then the status.
+fn tell_lines<R: Print>(rt: &R, shown: &str, before: &str) -> io::Result<()> {
+    for line in shown.lines() {
+        let always = line.starts_with("refused") || line.starts_with("status");
+        if always || !texts::has_line(before, line) {
+            println!(rt; "{line}")?;
+        }
+    }
+    Ok(())
+}
+
+/// Shows a design.
+fn show_whole<R: Print + AllocGlobal>(rt: &R, verb: &str, design: &str) -> io::Result<()> {
+    let shown = designs::shown(rt.alloc(), verb, design)?;
+    tell_lines(rt, shown.as_str(), "")
+}
+
+/// Shows a changed design beside what is shown of the unchanged one.
+fn show_beside<R: Print + AllocGlobal>(
+    rt: &R,
+    verb: &str,
+    design: &str,
+    changed: &str,
+) -> io::Result<()> {
+    let before = designs::shown(rt.alloc(), verb, design)?;
+    let shown = designs::shown(rt.alloc(), verb, changed)?;
+    tell_lines(rt, shown.as_str(), before.as_str())
+}
+
+/// Shows a changed design.
+fn show_changed<R: Print + AllocGlobal>(
+    rt: &R,
+    verb: &str,
+    design: &str,
+    change: Change<'_>,
+) -> io::Result<()> {
+    match texts::changed(rt.alloc(), design, change)? {
+        Some(changed) => show_beside(rt, verb, design, changed.as_str()),
+        None => println!(rt; "not in the design"),
+    }
+}
+
+/// `change`, `spell` or `judge`, with `DESIGN` or `DESIGN CHANGE`: what is shown of a design of the folder, or of the changed one.
+fn show<R: Files + Print + AllocGlobal>(rt: &R, verb: &str, rest: &str) -> io::Result<()> {
+    let (name, change) = first_word(rest);
+    let design = fs::read_to_string(rt, name)?;
+    match texts::change_of(change) {
+        Some(change) => show_changed(rt, verb, design.as_str(), change),
+        None => show_whole(rt, verb, design.as_str()),
+    }
+}
+
+/// Answers a case without escapes.
+fn answer_plain<R: Files + Print + AllocGlobal>(rt: &R, line: &str) -> io::Result<()> {
+    let (verb, rest) = first_word(line);
+    let (name, behind) = first_word(rest);
+    match verb {
+        "" | "#" => Ok(()),
+        "run" => run(rt, rest),
+        "play" => play(rt, name, behind),
+        "print" => print(rt, rest),
+        "fails" => fails(rt, rest),
+        _ => show(rt, verb, rest),
+    }
+}
+
+/// Answers a case.
+pub fn answer<R: Files + Print + AllocGlobal>(rt: &R, line: &str) -> io::Result<()> {
+    let line = texts::with_feeds(rt.alloc(), line)?;
+    answer_plain(rt, line.as_str())
+}

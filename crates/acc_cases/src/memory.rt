@@ -1,0 +1,47 @@
+//! Command lines over a shelf in memory.
+use acc_cli::acc;
+use acc_io::{MemShelf, MemSink, Sink};
+use std::alloc::{AllocError, Global};
+
+/// The words of a text.
+pub fn words(alloc: Global, text: &str) -> Result<Vec<String>, AllocError> {
+    let mut words = Vec::new(alloc);
+    for word in text.split_whitespace() {
+        words.push(String::from_str(alloc, word)?)?;
+    }
+    Ok(words)
+}
+
+/// A shelf without a file; the reads of the list fail.
+pub fn empty_shelf(alloc: Global, fails: &[u64]) -> Result<MemShelf, AllocError> {
+    MemShelf::new(alloc, fails).map_err(|_| AllocError)
+}
+
+/// Puts a file there.
+pub fn hold(shelf: &mut MemShelf, name: &str, bytes: &[u8]) -> Result<(), AllocError> {
+    shelf.hold(name, bytes).map_err(|_| AllocError)
+}
+
+/// A shelf with a design.
+pub fn shelf(alloc: Global, design: &str) -> Result<MemShelf, AllocError> {
+    let mut shelf = empty_shelf(alloc, &[])?;
+    hold(&mut shelf, "design", design.as_bytes())?;
+    Ok(shelf)
+}
+
+/// Answers a command line, and tells the status and how many events there were.
+pub fn answer<K: Sink>(
+    alloc: Global,
+    line: &str,
+    shelf: &mut MemShelf,
+    out: &mut K,
+) -> Result<(u8, usize), AllocError> {
+    let words = words(alloc, line)?;
+    let played = acc(alloc, &words, shelf, out);
+    Ok((played.status, played.history.len()))
+}
+
+/// A sink; the writes of the first list fail, and the others take no more than the second says.
+pub fn sink(alloc: Global, fails: &[u64], takes: &[u64]) -> Result<MemSink, AllocError> {
+    MemSink::new(alloc, fails, takes).map_err(|_| AllocError)
+}
