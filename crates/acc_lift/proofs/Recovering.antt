@@ -24,7 +24,7 @@ use Rattle.acc_lift.proofs.Transactions.{at_place, at_number, set_new, sum_set, 
 use Rattle.acc_lift.proofs.Stepping.{ready}
 use Rattle.acc_lift.proofs.Falls.{turn_falls, undo_falls}
 use Rattle.acc_lift.proofs.Theorem.{steady_after}
-use Rattle.acc_lift.proofs.Undoing.{undo_goes}
+use Rattle.acc_lift.proofs.UndoTurns.{undo_goes}
 
 -- ---- the lowest of some transactions
 

@@ -36,7 +36,8 @@ use Rattle.acc_oblig.proofs.Listed.{each_at, number_at, some_at}
 use Rattle.acc_oblig.proofs.OnPath.{formed_point, clauses_fit, FormedPoint}
 use Rattle.acc_oblig.proofs.PathClauses.{own_behind}
 use Rattle.acc_oblig.proofs.PathRules.{within}
-use Rattle.acc_oblig.proofs.SpareRules.{by_places, both_pass}
+use Rattle.acc_oblig.proofs.StepPlaces.{by_places}
+use Rattle.acc_oblig.proofs.SpareGoals.{both_pass}
 use Rattle.acc_oblig.proofs.Variants.{Rests, rest_on, rest_step, rest_path}
 
 -- a point without clauses

@@ -25,7 +25,7 @@ use Rattle.acc_base.specs.PrivateRows.{HasNoPrivate}
 use Rattle.acc_oblig.specs.PointRules.{begin_drafts}
 use Rattle.acc_oblig.proofs.Judged.{DraftTrue}
 use Rattle.acc_oblig.proofs.OnPath.{all_at}
-use Rattle.acc_oblig.proofs.SpareRules.{some_point}
+use Rattle.acc_oblig.proofs.StepPlaces.{some_point}
 use Rattle.acc_oblig.proofs.Variants.{Rests}
 use Rattle.acc_oblig.proofs.Begins.{bare, ZerosBehind, begins_at}
 

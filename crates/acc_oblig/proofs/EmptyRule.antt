@@ -23,7 +23,7 @@ use Rattle.acc_oblig.proofs.Names.{agrees_by}
 use Rattle.acc_oblig.proofs.Judged.{DraftTrue, clause_after}
 use Rattle.acc_oblig.proofs.Listed.{each_at}
 use Rattle.acc_oblig.proofs.OnPath.{clauses_fit}
-use Rattle.acc_oblig.proofs.SpareRules.{by_places}
+use Rattle.acc_oblig.proofs.StepPlaces.{by_places}
 
 module _ (d : Design) (wf : IsWellFormed d) (h : AllByRecursion (DraftTrue d) (empty_drafts d)) where
   in_order : IsInOrder []

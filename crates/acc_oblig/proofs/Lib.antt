@@ -21,6 +21,7 @@ pub mod OnPath
 pub mod PathRules
 pub mod Helds
 pub mod Entries
+pub mod SpareGoals
 pub mod SpareRules
 pub mod EmptyRule
 pub mod Variants

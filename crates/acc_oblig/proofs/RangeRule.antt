@@ -38,7 +38,7 @@ use Rattle.acc_oblig.proofs.Taken.{IsOn}
 use Rattle.acc_oblig.proofs.Listed.{all_front, all_back, each_at, number_at, some_at}
 use Rattle.acc_oblig.proofs.OnPath.{all_at, OnPath, FormedPoint, formed_point, FormedStep, formed_step, divisors, looks_below}
 use Rattle.acc_oblig.proofs.PathRules.{within}
-use Rattle.acc_oblig.proofs.SpareRules.{HeldAt, held_at, by_places}
+use Rattle.acc_oblig.proofs.StepPlaces.{HeldAt, held_at, by_places}
 use Rattle.acc_oblig.proofs.ReadRanges.{CanRest, NumberTrue, number_true, all_stay, vars_are}
 use Rattle.acc_oblig.proofs.ActionRanges.{Stays, actions_stay, actions_shared, number_stays}
 use Rattle.acc_oblig.proofs.Counts.{small_tables, few_parts, FewParts, few_of_action, few_numbers, few_action_numbers}

@@ -43,7 +43,7 @@ use Rattle.acc_oblig.proofs.Judged.{DraftTrue, GoalTrue, goals_true}
 use Rattle.acc_oblig.proofs.Taken.{IsOn, E, vs, setting, here, after_agrees, hyps_true, rels_true}
 use Rattle.acc_oblig.proofs.Listed.{all_front, all_back, each_at, some_at, path_at}
 use Rattle.acc_oblig.proofs.OnPath.{OnPath}
-use Rattle.acc_oblig.proofs.SpareRules.{HeldAt, held_at, some_point}
+use Rattle.acc_oblig.proofs.StepPlaces.{HeldAt, held_at, some_point}
 use Rattle.acc_form.specs.Ranges.{target_in}
 
 -- ---- a transaction that rests
