@@ -1,5 +1,6 @@
 -- What is answered to a command line, where memory lasts and each byte can be written.
-use Rattle.std.specs.Prelude.{◌≡◌, ℕ, List, [], ◌∷◌, ◌⊎◌, Option, Some, None, codes}
+use Rattle.std.specs.Prelude.{◌≡◌, ℕ, List, [], ◌∷◌, length, ◌⊎◌, Option, Some, None, codes}
+use Rattle.acc_io.specs.Counted.{after_files}
 use Rattle.acc_io.specs.Shelves.{Told}
 use Rattle.acc_io.specs.declared.counts.Counts.{Counts}
 use Rattle.acc_io.specs.declared.shelf.ShelfError.{ShelfError}
@@ -29,15 +30,21 @@ abbrev pub RefusesFile : (List ℕ → Told) → Counts → Counts → List (Lis
 RefusesFile held counts counts' names reply = (reply.status ≡ File) × (reply.history ≡ []) ×
     ((name : List ℕ) × (error : ShelfError) × IsFirstRefused held counts counts' names name error × SaysRefused name error reply.text)
 
--- all files are given
-abbrev pub Runs : (List ℕ → Told) → Command → List (List ℕ) → Reply → Type 0
-Runs held command names reply = (files : List (List ℕ)) × (ending : Ending) × AreFiles held names files × (reply.status ≡ Ran ending) × Means command files (record { ending = ending; text = reply.text; history = reply.history })
+-- all files are given, each by one read
+abbrev pub Runs : (List ℕ → Told) → Counts → Counts → Command → List (List ℕ) → Reply → Type 0
+Runs held counts counts' command names reply =
+    (files : List (List ℕ)) × (ending : Ending) × AreFiles held names files × (counts' ≡ after_files (length names) counts) ×
+    (reply.status ≡ Ran ending) × Means command files (record { ending = ending; text = reply.text; history = reply.history })
+
+-- the words are no form, and nothing is read
+abbrev pub SaysUsage : Counts → Counts → Reply → Type 0
+SaysUsage counts counts' reply = (reply.status ≡ Usage) × (counts' ≡ counts) × (reply.text ≡ line (codes "usage")) × (reply.history ≡ [])
 
 -- The order of the refusals: the words, the files in the order of the words, and then the command's own.
 abbrev pub MeansForm : (List ℕ → Told) → Counts → Counts → List (List ℕ) → Option Command → Reply → Type 0
-MeansForm held counts counts' words None reply = (reply.status ≡ Usage) × (reply.text ≡ line (codes "usage")) × (reply.history ≡ [])
+MeansForm held counts counts' words None reply = SaysUsage counts counts' reply
 MeansForm held counts counts' words (Some command) reply =
-    RefusesFile held counts counts' (files_of command words) reply ⊎ Runs held command (files_of command words) reply
+    RefusesFile held counts counts' (files_of command words) reply ⊎ Runs held counts counts' command (files_of command words) reply
 
 abbrev pub Meant : (List ℕ → Told) → Counts → Counts → List (List ℕ) → Reply → Type 0
 Meant held counts counts' words = MeansForm held counts counts' words (command_of words)

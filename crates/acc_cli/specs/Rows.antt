@@ -1,10 +1,12 @@
 -- When each status comes.
-use Rattle.std.specs.Prelude.{◌≡◌, ◌⊎◌, ℕ, List, Some, None}
+use Rattle.std.specs.Prelude.{◌≡◌, ◌⊎◌, ℕ, List, length, Some, None}
+use Rattle.acc_io.specs.Counted.{after_files}
 use Rattle.acc_io.specs.Shelves.{Told}
 use Rattle.acc_io.specs.declared.counts.Counts.{Counts}
 use Rattle.acc_io.specs.declared.shelf.ShelfError.{ShelfError}
 use Rattle.acc_cli.specs.declared.words.Command.{Command}
 use Rattle.acc_cli.specs.declared.status.Ending.{Ending}
+use Rattle.acc_cli.specs.declared.status.Ending.TheVariants.{Done}
 use Rattle.acc_cli.specs.declared.status.Status.{Status}
 use Rattle.acc_cli.specs.declared.status.Status.TheVariants.{Usage, File, Sink, Memory, Ran}
 use Rattle.acc_cli.specs.Words.{command_of, files_of}
@@ -23,20 +25,21 @@ pub record LacksFile (held : List ℕ → Told) (counts counts' : Counts) (words
   pub text : List ℕ
   pub printed : SaysRefused name error text
 
--- the words are a form, all files are given, and their command ends so
-pub record EndsSo (held : List ℕ → Told) (words : List (List ℕ)) (ending : Ending) : Type 0 where
+-- the words are a form, all files are given, each by one read, and their command ends so
+pub record EndsSo (held : List ℕ → Told) (counts counts' : Counts) (words : List (List ℕ)) (ending : Ending) : Type 0 where
   pub command : Command
   pub form : command_of words ≡ Some command
   pub files : List (List ℕ)
   pub given : AreFiles held (files_of command words) files
+  pub counted : counts' ≡ after_files (length (files_of command words)) counts
   pub said : Said
   pub ending_is : said.ending ≡ ending
   pub meant : Means command files said
 
--- Want of memory alone is free.
+-- Want of memory alone is free. No status but that of a file comes after a read that gave no file.
 pub record HasCauses (held : List ℕ → Told) (counts counts' : Counts) (words : List (List ℕ)) (sink_fault : Type 0) (status : Status) : Type 0 where
-  pub usage : status ≡ Usage → command_of words ≡ None
+  pub usage : status ≡ Usage → (command_of words ≡ None) × (counts' ≡ counts)
   pub usage_only : command_of words ≡ None → (status ≡ Usage) ⊎ (status ≡ Memory)
   pub file : status ≡ File → LacksFile held counts counts' words
-  pub sink : status ≡ Sink → sink_fault
-  pub ran : (ending : Ending) → status ≡ Ran ending → EndsSo held words ending
+  pub sink : status ≡ Sink → sink_fault × EndsSo held counts counts' words Done
+  pub ran : (ending : Ending) → status ≡ Ran ending → EndsSo held counts counts' words ending
