@@ -80,10 +80,11 @@ impl<'a> NameIndex<'a> {
 
     /// Puts a name at the end, and answers whether it was there already.
     ///
-    /// An error says that memory is short, or that there are 2^32 names.
+    /// An error says that memory is short, or that there are 2^32 names; the names are then as before.
     pub fn add(&mut self, name: &'a Text) -> Result<bool, AllocError>
         ensures again { IfOk result (λ again. again ≡ stands_in name.now self.old) }
         ensures names { OnOk result (self.new ≡ self.old ++ name.now ∷ []) }
+        ensures kept { OnErr result (self.new ≡ self.old) }
         ensures room { OnOk result (length self.new ≤ 2 ^ 32) }
     {
         let text = name.as_slice();
