@@ -12,6 +12,3 @@ mod types;
 mod values;
 
 pub use designs::{Meaning, meaning_of};
-
-#[cfg(test)]
-mod tests;

@@ -19,6 +19,7 @@ fn tell(alloc: Global, out: &mut String, call: &[&str], text: &[u8]) -> Result<(
             let question = Question::LowestOn(number(from), number(to));
             tell_design(alloc, out, question, text)
         }
+        ["meaning"] => tell_design(alloc, out, Question::Meaning, text),
         _ => write!(out, " no call"),
     }
 }

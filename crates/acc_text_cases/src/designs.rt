@@ -1,6 +1,10 @@
 //! The limits that a design's text passes, and what it stands for.
+use acc_base::designs::{Entry, Hint, TxType};
+use acc_base::forms::Lin;
 use acc_lex::texts::words;
 use acc_limits::{Limit, first_fault, lowest_on};
+use acc_meaning::{Meaning, meaning_of};
+use acc_names::names_of;
 use acc_syntax::designs::syntax;
 use acc_syntax::trees::DesignTree;
 use std::alloc::{AllocError, Global};
@@ -11,6 +15,7 @@ use std::fmt::Write;
 pub enum Question {
     FirstFault,
     LowestOn(u64, u64),
+    Meaning,
 }
 
 fn add_limit(out: &mut String, limit: Option<Limit>) -> Result<(), AllocError> {
@@ -30,10 +35,69 @@ fn add_fault(out: &mut String, fault: Option<(u64, Limit)>) -> Result<(), AllocE
     }
 }
 
-fn tell(out: &mut String, question: Question, tree: &DesignTree) -> Result<(), AllocError> {
+fn add_value(out: &mut String, value: &Lin) -> Result<(), AllocError> {
+    write!(out, " {:?} {}", value.coeffs.as_slice(), value.constant)
+}
+
+/// Adds what a type returns, its limit, how many points it has and the variant of its start.
+fn add_type(out: &mut String, x: &TxType) -> Result<(), AllocError> {
+    let points = x.points.as_slice();
+    write!(
+        out,
+        " type {:?} {} {}",
+        x.returns.as_slice(),
+        x.limit,
+        points.len()
+    )?;
+    match points.first() {
+        Some(start) => add_value(out, &start.variant),
+        None => Ok(()),
+    }
+}
+
+fn add_entry(out: &mut String, entry: &Entry) -> Result<(), AllocError> {
+    let pairs = entry.pairs.as_slice();
+    let (held, step, side) = (entry.held.point, entry.step.point, entry.side);
+    write!(out, ", entry {held} {step} {side:?} {pairs:?}")
+}
+
+fn add_hint(out: &mut String, hint: &Hint) -> Result<(), AllocError> {
+    write!(out, ", hint {} {:?}", hint.at.point, hint.side)?;
+    add_value(out, &hint.lin)
+}
+
+/// Adds the parts of the design and its first fault.
+fn add_meaning(out: &mut String, meaning: &Meaning) -> Result<(), AllocError> {
+    let design = &meaning.design;
+    for x in design.types.as_slice() {
+        add_type(out, x)?;
+    }
+    for entry in design.entries.as_slice() {
+        add_entry(out, entry)?;
+    }
+    for hint in design.hints.as_slice() {
+        add_hint(out, hint)?;
+    }
+    write!(out, ", {} {},", design.tables.len(), design.always.len())?;
+    add_fault(out, meaning.first_fault)
+}
+
+fn tell_meaning(alloc: Global, out: &mut String, tree: &DesignTree) -> Result<(), AllocError> {
+    let names = names_of(alloc, tree)?;
+    let meaning = meaning_of(alloc, &names, tree)?;
+    add_meaning(out, &meaning)
+}
+
+fn tell(
+    alloc: Global,
+    out: &mut String,
+    question: Question,
+    tree: &DesignTree,
+) -> Result<(), AllocError> {
     match question {
         Question::FirstFault => add_fault(out, first_fault(tree)),
         Question::LowestOn(from, to) => add_limit(out, lowest_on(tree, from, to)),
+        Question::Meaning => tell_meaning(alloc, out, tree),
     }
 }
 
@@ -48,7 +112,7 @@ pub fn tell_design(
         return write!(out, " no words");
     };
     match syntax(alloc, words.as_slice()) {
-        Ok(tree) => tell(out, question, &tree),
+        Ok(tree) => tell(alloc, out, question, &tree),
         Err(_) => write!(out, " no tree"),
     }
 }
