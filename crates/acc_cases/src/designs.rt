@@ -48,7 +48,7 @@ fn spelled(alloc: Global, text: &str) -> Result<String, AllocError> {
 
 /// The first form rule that a design breaks, and the line of the print that breaks it.
 fn judged(alloc: Global, design: &Design) -> Result<String, AllocError> {
-    match well_formed(alloc, design) {
+    match well_formed(design) {
         Ok(()) => String::from_str(alloc, "status 0\n"),
         Err(FormError::Bad(rule, line)) => {
             format!(in alloc; "refused form {rule} {line}\nstatus 2\n")

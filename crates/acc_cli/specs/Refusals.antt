@@ -1,16 +1,16 @@
 -- A design that is refused: by its text, or by the form rules.
-use Rattle.std.specs.Prelude.{◌⊎◌, ℕ, ◌-◌, List, ◌++◌, codes}
+use Rattle.std.specs.Prelude.{◌≡◌, ◌⊎◌, ℕ, ◌-◌, List, ◌++◌, codes}
 use Rattle.std.specs.Fmt.{decimal}
 use Rattle.acc_base.specs.declared.designs.Design.{Design}
 use Rattle.acc_base.specs.Lines.{line}
-use Rattle.acc_statements.specs.Lines.{IsLineOf}
+use Rattle.acc_statements.specs.Lines.{IsLineOf, first_lines}
 use Rattle.acc_print.specs.Designs.{printed}
 use Rattle.acc_parse.specs.declared.errors.ParseError.{ParseError}
 use Rattle.acc_parse.specs.declared.errors.ParseError.TheVariants as errors
 use Rattle.acc_parse.specs.Texts.{IsDesignText}
 use Rattle.acc_parse.specs.Faults.{Refuses}
 use Rattle.acc_form.specs.Faults.{form_faults, is_before, IsLeast}
-use Rattle.acc_readback.specs.Judged.{IsJudgedAt}
+use Rattle.acc_form.specs.Judged.{IsJudgedOn}
 use Rattle.acc_cli.specs.declared.status.Ending.TheVariants.{Refused}
 use Rattle.acc_cli.specs.Text.{Said, Says}
 
@@ -32,7 +32,7 @@ abbrev pub SaysRule : ℕ → ℕ → Said → Type 0
 SaysRule rule at said = Says Refused (line (codes "refused form " ++ (decimal rule ++ (codes " " ++ decimal at)))) said
 
 -- The text is that of this design, which breaks form rules: the lowest one, and the first line that breaks it. In the design's
--- print a statement ends on that line, and it is the one that breaks the rule.
+-- print a statement ends on that line, and it is the one that breaks the rule: its text is the whole of the line.
 pub record RefusesForm (design : List ℕ) (said : Said) : Type 0 where
   pub d : Design
   pub is_text : IsDesignText design d
@@ -40,7 +40,8 @@ pub record RefusesForm (design : List ℕ) (said : Said) : Type 0 where
   pub at : ℕ
   pub first : IsLeast is_before (form_faults d) (rule, at)
   pub on_line : IsLineOf (printed d) (at - 1) at
-  pub breaks : IsJudgedAt d rule (at - 1)
+  pub breaks : IsJudgedOn d rule at
+  pub own_line : first_lines at (printed d) ≡ first_lines (at - 1) (printed d) ++ breaks.broken.statement.text
   pub says : SaysRule rule at said
 
 abbrev pub RefusesDesign : List ℕ → Said → Type 0

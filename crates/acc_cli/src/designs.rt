@@ -47,7 +47,7 @@ pub fn read_design(alloc: Global, file: &[u8]) -> Result<ReadDesign, AllocError>
         Ok(d) => d,
         Err(error) => return Ok(ReadDesign::Refused(text_refusal(alloc, error)?)),
     };
-    match well_formed(alloc, &d) {
+    match well_formed(&d) {
         Ok(()) => Ok(ReadDesign::Read(d)),
         Err(FormError::Bad(rule, line)) => {
             Ok(ReadDesign::Refused(form_refusal(alloc, rule, line)?))

@@ -10,3 +10,10 @@ pub mod InRange
 pub mod Runs
 pub mod Uses
 pub mod Open
+pub mod StatementEnds
+pub mod StatementCounts
+pub mod JudgedMarks
+pub mod JudgedSteps
+pub mod JudgedDesigns
+pub mod JudgedRules
+pub mod JudgedFaults

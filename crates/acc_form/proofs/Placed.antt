@@ -27,7 +27,7 @@ matched (Some x) P Q h g = g
 
 -- ---- a design whose numbers are in range
 
-faults_in : (d : Design) → design_in d ≡ true → form_faults d ≡ placed 1 (design_marks d)
+pub faults_in : (d : Design) → design_in d ≡ true → form_faults d ≡ placed 1 (design_marks d)
 unfolding form_faults
 faults_in d inside = rw inside refl
 
@@ -45,7 +45,7 @@ first_of_design d w v inside begun ended =
 
 -- ---- a number out of range is the first fault
 
-faults_out : (d : Design) → design_in d ≡ false → form_faults d ≡ (1, 0) ∷ []
+pub faults_out : (d : Design) → design_in d ≡ false → form_faults d ≡ (1, 0) ∷ []
 unfolding form_faults
 faults_out d outside = rw outside refl
 

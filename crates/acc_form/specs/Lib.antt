@@ -9,3 +9,4 @@ pub mod Statements
 pub mod Faults
 pub mod Walks
 pub mod WellFormed
+pub mod Judged

@@ -5,6 +5,7 @@ ghost use Rattle.acc_form.specs.Statements.{table_marks, type_marks, entry_marks
 ghost use Rattle.acc_form.specs.Faults.{form_faults, is_before, IsLeast, IsFirstFault};
 ghost use Rattle.acc_form.specs.WellFormed.{IsWellFormed};
 ghost use Rattle.acc_form.specs.Walks.{after};
+ghost use Rattle.acc_form.specs.Judged.{IsFaultInPrint};
 
 use crate::clauses::meet_clauses;
 use crate::entries::{leaves_starts, pairs_stay, stands_among};
@@ -16,7 +17,6 @@ use crate::types::meet_type;
 use crate::walks::Walk;
 use acc_base::designs::{Design, Entry, Hint, TxType};
 use acc_base::tables::Table;
-use std::alloc::Global;
 
 fn meet_table(walk: &mut Walk, tables: &[Table], i: usize, table: &Table)
     requires { i ≤ length tables.now }
@@ -110,9 +110,11 @@ fn first_fault(design: &Design) -> Option<(u32, u64)>
 
 /// Whether a design keeps the form rules; else the lowest rule that it breaks, and the first line that breaks it. It takes no
 /// memory.
-pub fn well_formed(_alloc: Global, design: &Design) -> Result<(), FormError>
+pub fn well_formed(design: &Design) -> Result<(), FormError>
     ensures ok { IsOk result ↔ IsWellFormed design.now }
     ensures bad { IfErr result (IsFirstFault design.now) }
+    // Above rule 1 the statement on the line breaks the rule.
+    ensures printed { IfErr result (IsFaultInPrint design.now) }
 {
     match first_fault(design) {
         None => Ok(()),

@@ -82,9 +82,5 @@ pub mod RuleMarks
 pub mod RuleStatements
 pub mod RuleTypes
 pub mod StatementLimits
-pub mod JudgedMarks
-pub mod JudgedSteps
-pub mod JudgedDesigns
-pub mod JudgedRules
 pub mod JudgedLines
 pub mod RuleLines

@@ -1,15 +1,8 @@
 -- The form rules are asked of the statements that are printed: the parts have as many by the marks as by the tree. First steps and points.
-use Rattle.std.proofs.Common.{◌≡◌, ℕ, zero, suc, ◌+◌, Bool, false, List, [], ◌∷◌, length, map, take, drop, refl, sym, ◌∙◌, inl, inr, arith, ℤ, pos, negsuc}
+use Rattle.std.proofs.Common.{ℕ, ◌+◌, Bool, false, List, [], ◌∷◌, length, map, take, drop, refl, sym, ◌∙◌, arith}
 use Rattle.std.specs.Prelude.{sum_by, ◌==◌, ◌&&◌, ◌||◌, nat_lt, not}
-use Rattle.std.specs.Ordering.{int_eq}
-use Rattle.std.proofs.lemmas.Bool.{ne_eqb}
-use Rattle.std.proofs.lemmas.Bool.Decides.{Decides-int_eq}
-use Rattle.acc_grammar.proofs.RunReaders.{flag}
 use Rattle.acc_base.specs.declared.forms.Lin.{Lin}
-use Rattle.acc_base.specs.declared.forms.Clause.{Clause}
 use Rattle.acc_base.specs.declared.tables.Table.{Table}
-use Rattle.acc_base.specs.declared.steps.Read.{Read}
-use Rattle.acc_base.specs.declared.steps.Action.{Action}
 use Rattle.acc_base.specs.declared.steps.Path.{Path}
 use Rattle.acc_base.specs.declared.steps.Step.{Step}
 use Rattle.acc_base.specs.declared.designs.Side.{Side}
@@ -17,37 +10,19 @@ use Rattle.acc_base.specs.declared.designs.Side.TheVariants.{Next, Undo}
 use Rattle.acc_base.specs.declared.designs.Point.{Point}
 use Rattle.acc_base.specs.declared.designs.TxType.{TxType}
 use Rattle.acc_form.specs.Marks.{numbered}
-use Rattle.acc_form.specs.Widths.{clause_fits, read_fits, action_fits, read_leaves_a_component, action_is_own}
-use Rattle.acc_form.specs.Sizes.{is_short, lin_small, clause_small, read_small, action_small, guard_small, target_small}
-use Rattle.acc_form.specs.Names.{are_new, names_point}
-use Rattle.acc_form.specs.Ends.{refuses_by_number, divides, may_end, refuses_plainly, assigns_local, may_read, is_undone}
-use Rattle.acc_form.specs.Statements.{clause_marks, read_marks, action_marks, target_marks, path_marks, step_marks, is_zero, variant_marks, point_marks}
+use Rattle.acc_form.specs.Sizes.{is_short, lin_small, guard_small}
+use Rattle.acc_form.specs.Names.{names_point}
+use Rattle.acc_form.specs.Statements.{clause_marks, read_marks, action_marks, path_marks, step_marks, is_zero, variant_marks, point_marks}
 use Rattle.acc_statements.specs.Counts.{if_there, path_statements, step_statements, point_statements}
 use Rattle.acc_print.specs.Names.{Scope}
-use Rattle.acc_print.specs.Types.{is_zero as is_left_out}
 use Rattle.acc_readback.specs.Trees.{clause_tree}
 use Rattle.acc_readback.specs.TypeTrees.{read_statement_tree, action_statement_tree, path_tree, first_path, step_tree, variant_tree, point_tree, first_point}
 use Rattle.acc_readback.specs.PrintableTypes.{IsPathSaid, ArePathsSaid, IsStepSaid, IsPointSaid, ArePointsSaid}
-use Rattle.acc_readback.proofs.RuleMarks.{Counts, recounted, one_statement, one_more, both, asks, unless, each_counts, each_one}
+use Rattle.acc_form.proofs.StatementEnds.{Counts, recounted, one_statement, one_more, both, asks, unless}
+use Rattle.acc_form.proofs.StatementCounts.{clause_counts, read_counts, action_counts, target_counts, same_zero}
+use Rattle.acc_readback.proofs.RuleMarks.{each_counts, each_one}
 
 -- ---- clauses and steps
-
-pub clause_counts : (tables : List Table) (names : List (List ℕ)) (most i : ℕ) (c : Clause) → Counts (clause_marks tables names most i c) 1
-clause_counts tables names most i c = asks 2 (clause_fits tables c) (asks 4 (not (i == most) && clause_small c) (asks 6 (are_new names c.vars) one_statement))
-
-pub read_counts : (tables : List Table) (t : TxType) (side : Side) (i : ℕ) (r : Read) → Counts (read_marks tables t side i r) 1
-read_counts tables t side i r =
-    asks 2 (read_fits tables r) (asks 3 (read_leaves_a_component tables r) (asks 4 (not (i == 32) && read_small r)
-    (asks 5 (divides r) (asks 11 (assigns_local t r) (asks 12 (may_read side r) one_statement)))))
-
-pub action_counts : (tables : List Table) (t : TxType) (is_bare : Bool) (i : ℕ) (a : Action) → Counts (action_marks tables t is_bare i a) 1
-action_counts tables t is_bare i a =
-    asks 2 (action_fits tables a) (asks 4 (not (i == 16) && action_small a) (asks 10 (action_is_own tables (length t.locals) a) (asks 13 (not is_bare) one_statement)))
-
-pub target_counts : (t : TxType) (side : Side) (is_bare : Bool) (p : Path) → Counts (target_marks t side is_bare p) 1
-target_counts t side is_bare p =
-    asks 4 (target_small t.points p.target) (asks 5 (refuses_by_number p.target) (asks 8 (may_end side p.target)
-    (asks 9 (refuses_plainly p.actions p.target) (asks 13 (not is_bare || is_undone p.target) one_statement))))
 
 pub path_counts : (s : Scope) (points : List Point) (tables : List Table) (t : TxType) (side : Side) (is_bare : Bool) (count i : ℕ) (p : Path)
     → Counts (path_marks tables t side is_bare count i p) (path_statements (path_tree s points p))
@@ -70,18 +45,6 @@ step_counts s points tables t side is_bare st h =
     recounted (one_more (both reads paths)) (omega arith)
 
 -- ---- points
-
-pub same_zero : (l : Lin) → is_zero l ≡ is_left_out l.coeffs l.constant
-same_zero l = by_parts l.coeffs l.constant
-  where
-    by_parts : (ts : List (ℕ × ℤ)) (n : ℤ) → ((length ts == 0) && int_eq n (pos 0)) ≡ is_left_out ts n
-    by_parts [] (pos zero) = refl
-    by_parts [] (pos (suc n)) = elim (flag (int_eq (pos (suc n)) (pos 0))) [
-      | inl e ↦ absurd (let wrong = (Decides-int_eq (pos (suc n)) (pos 0)).0 e in cc)
-      | inr e ↦ e
-    ]
-    by_parts [] (negsuc n) = refl
-    by_parts (t ∷ ts) n = rw (ne_eqb (length (t ∷ ts)) 0 (λ e. absurd (omega (arith, e)))) refl
 
 variant_counts : (names : List (List ℕ)) (l : Lin) → Counts (variant_marks l) (if_there (variant_tree names l))
 variant_counts names l = unless (is_zero l) (λ e. rw (sym (same_zero l) ∙ e) refl) (λ e. rw (sym (same_zero l) ∙ e) (asks 4 (lin_small l) one_statement))

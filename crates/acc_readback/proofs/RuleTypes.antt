@@ -1,26 +1,25 @@
 -- The form rules are asked of the statements that are printed: types and the whole have as many by the marks as by the tree.
 use Rattle.std.proofs.Common.{◌≡◌, ◌≤◌, ℕ, List, [], ◌∷◌, length, map, take, drop, refl, sym, ap, arith}
 use Rattle.std.specs.Prelude.{◌==◌, ◌&&◌, nat_le, not}
-use Rattle.std.specs.List.{list_all, list_any}
+use Rattle.std.specs.List.{list_all}
 use Rattle.std.proofs.lemmas.Bool.{ne_eqb, leb-true, leb-false}
 use Rattle.std.proofs.lemmas.List.{drop_all, length-drop}
 use Rattle.acc_base.specs.declared.tables.Table.{Table}
 use Rattle.acc_base.specs.declared.designs.TxType.{TxType}
-use Rattle.acc_base.specs.declared.designs.Entry.{Entry}
-use Rattle.acc_base.specs.declared.designs.Hint.{Hint}
 use Rattle.acc_base.specs.declared.designs.Design.{Design}
-use Rattle.acc_form.specs.Sizes.{is_short, lin_small, table_small, returns_small}
-use Rattle.acc_form.specs.Names.{are_distinct, are_new, names_table, names_type}
+use Rattle.acc_form.specs.Sizes.{is_short, returns_small}
+use Rattle.acc_form.specs.Names.{are_distinct, are_new, names_type}
 use Rattle.acc_form.specs.Ends.{is_limit}
-use Rattle.acc_form.specs.Entries.{leaves_starts, same_entry, pairs_stay}
 use Rattle.acc_form.specs.Statements.{table_marks, clause_marks, head_marks, returns_marks, locals_marks, type_marks, entry_marks, hint_marks, design_marks}
 use Rattle.acc_statements.specs.Counts.{if_there, type_statements, statements_of}
 use Rattle.acc_print.specs.Names.{name_at, within, outside}
 use Rattle.acc_readback.specs.Trees.{names_tree, clause_tree}
 use Rattle.acc_readback.specs.TypeTrees.{type_tree, table_tree, entry_tree, hint_tree, tree_of}
 use Rattle.acc_readback.specs.PrintableTypes.{IsTypeSaid, IsSaid}
-use Rattle.acc_readback.proofs.RuleMarks.{Counts, ends_of, recounted, no_statement, one_statement, one_more, both, asks, unless, each_counts, each_one}
-use Rattle.acc_readback.proofs.RuleStatements.{clause_counts, points_count}
+use Rattle.acc_form.proofs.StatementEnds.{Counts, ends_of, recounted, no_statement, one_statement, one_more, both, asks, unless}
+use Rattle.acc_form.proofs.StatementCounts.{table_counts, clause_counts, entry_counts, hint_counts}
+use Rattle.acc_readback.proofs.RuleMarks.{each_counts, each_one}
+use Rattle.acc_readback.proofs.RuleStatements.{points_count}
 
 -- ---- types
 
@@ -58,16 +57,6 @@ type_counts tables types i t h =
     recounted (both (head_counts types i t) (both (returns_counts t) (both (locals_counts t) (both posts (both repairs points))))) (omega arith)
 
 -- ---- the whole
-
-pub table_counts : (tables : List Table) (i : ℕ) (t : Table) → Counts (table_marks tables i t) 1
-table_counts tables i t = asks 4 (not (i == 64) && table_small t) (asks 6 (not (names_table (take i tables) t.name) && are_distinct t.cols) one_statement)
-
-pub entry_counts : (types : List TxType) (entries : List Entry) (i : ℕ) (e : Entry) → Counts (entry_marks types entries i e) 1
-entry_counts types entries i e =
-    asks 4 (not (i == 1024)) (asks 14 (leaves_starts e) (asks 15 (not (list_any (same_entry e) (take i entries))) (asks 16 (pairs_stay types e) one_statement)))
-
-pub hint_counts : (i : ℕ) (h : Hint) → Counts (hint_marks i h) 1
-hint_counts i h = asks 4 (not (i == 1024) && lin_small h.lin) one_statement
 
 -- each rule is asked of a statement that is printed, and of each statement that is printed the rules are asked
 pub design_counts : (d : Design) → IsSaid d → Counts (design_marks d) (statements_of (tree_of d))

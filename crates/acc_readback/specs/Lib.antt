@@ -2,4 +2,3 @@ pub mod Trees
 pub mod TypeTrees
 pub mod Printable
 pub mod PrintableTypes
-pub mod Judged

@@ -2,8 +2,11 @@ use Rattle.std.proofs.Common.{inr, refl, sym, subst}
 use Rattle.acc_base.specs.Runnable.{IsRunnable}
 use Rattle.acc_form.specs.declared.rules.FormError.TheVariants.{Bad}
 use Rattle.acc_form.specs.Faults.{IsFirstFault}
+use Rattle.acc_form.specs.Judged.{IsFaultInPrint}
 use Rattle.acc_form.specs.WellFormed.{IsWellFormed}
-use Rattle.acc_readback.proofs.RuleLines.{first_fault_line, first_fault_judged}
+use Rattle.acc_readback.proofs.SaidDesigns.{parsed_is_said}
+use Rattle.acc_readback.proofs.JudgedLines.{judged_line}
+use Rattle.acc_readback.proofs.RuleLines.{fault_line, text_fault}
 use Rattle.acc_cli.proofs.Runs.{parsed_runs}
 use Rattle.acc_cli.proofs.designs.read_design.Goals as goal
 
@@ -18,19 +21,25 @@ returns-in-Ok-well_formed c =
       runs = subst IsRunnable (sym t.means) (parsed_runs t.of.tree (subst IsWellFormed t.means formed));
     }
 
--- the line of the first fault is that of a statement in print
+-- the first fault is that of a statement in print, on its line
 pub returns-in-Err-Bad : goal.returns-in-Err-Bad
 returns-in-Err-Bad c =
     let d = c.in-Ok.d in
     let is_text = c.in-Ok.ensures.ok in
-    let first : IsFirstFault d (Bad c.in-Err-Bad.rule c.in-Err-Bad.line) = subst (IsFirstFault d) c.in-Err-Bad.field-0-is c.in-Err-Bad.ensures.bad in
+    let rule = c.in-Err-Bad.rule in
+    let at = c.in-Err-Bad.line in
+    let first : IsFirstFault d (Bad rule at) = subst (IsFirstFault d) c.in-Err-Bad.field-0-is c.in-Err-Bad.ensures.bad in
+    let fault : IsFaultInPrint d (Bad rule at) = subst (IsFaultInPrint d) c.in-Err-Bad.field-0-is c.in-Err-Bad.ensures.printed in
+    let breaks = text_fault c.args.file.now d is_text rule at fault in
+    let said = parsed_is_said c.args.file.now d is_text in
     inr (record {
       d = d;
       is_text = is_text;
-      rule = c.in-Err-Bad.rule;
-      at = c.in-Err-Bad.line;
+      rule = rule;
+      at = at;
       first = first;
-      on_line = first_fault_line c.args.file.now d is_text c.in-Err-Bad.rule c.in-Err-Bad.line first;
-      breaks = first_fault_judged c.args.file.now d is_text c.in-Err-Bad.rule c.in-Err-Bad.line first;
+      on_line = fault_line d said rule at breaks;
+      breaks = breaks;
+      own_line = judged_line d said rule at breaks;
       says = c.in_ok-form_refusal-in-Err-Bad.ensures;
     })

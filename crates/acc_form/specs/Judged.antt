@@ -1,5 +1,5 @@
--- The statements of a design in print, each beside the marks of the form rules on it.
-use Rattle.std.specs.Prelude.{◌≡◌, ℕ, suc, ◌+◌, Bool, false, not, ◌&&◌, ◌||◌, ◌==◌, nat_le, nat_lt, List, [], ◌∷◌, ◌++◌, length, map, take, drop, Contains, if◌then◌else◌, codes}
+-- The statements of a design in print, each beside the marks of the form rules on it; and a fault as the statement that breaks its rule.
+use Rattle.std.specs.Prelude.{◌≡◌, ◌⊎◌, ℕ, zero, suc, ◌+◌, Bool, false, not, ◌&&◌, ◌||◌, ◌==◌, nat_le, nat_lt, List, [], ◌∷◌, ◌++◌, length, map, take, drop, Contains, if◌then◌else◌, codes}
 use Rattle.std.specs.List.{flat_map, list_all}
 use Rattle.std.specs.Fmt.{decimal}
 use Rattle.acc_base.specs.Lines.{line}
@@ -17,12 +17,15 @@ use Rattle.acc_base.specs.declared.designs.TxType.{TxType}
 use Rattle.acc_base.specs.declared.designs.Entry.{Entry}
 use Rattle.acc_base.specs.declared.designs.Hint.{Hint}
 use Rattle.acc_base.specs.declared.designs.Design.{Design}
+use Rattle.acc_form.specs.declared.rules.FormError.{FormError}
+use Rattle.acc_form.specs.declared.rules.FormError.TheVariants.{Bad, Memory}
 use Rattle.acc_form.specs.Marks.{Mark, Broken, ending, asked}
+use Rattle.acc_form.specs.Ranges.{design_in}
 use Rattle.acc_form.specs.Sizes.{is_short, guard_small}
 use Rattle.acc_form.specs.Names.{are_distinct, names_point, names_type}
 use Rattle.acc_form.specs.Ends.{is_limit}
 use Rattle.acc_form.specs.Statements.{table_marks, clause_marks, read_marks, action_marks, target_marks, is_zero, variant_marks, returns_marks, locals_marks, entry_marks, hint_marks}
-use Rattle.acc_statements.specs.Lines.{first_lines}
+use Rattle.acc_form.specs.Faults.{next_line}
 use Rattle.acc_print.specs.Lists.{spaced, listed}
 use Rattle.acc_print.specs.Names.{name_at, outside, within}
 use Rattle.acc_print.specs.Values.{lin_rel_text}
@@ -132,11 +135,13 @@ judged_head types i t =
 
 -- `returns`, where something is returned
 abbrev pub judged_returns : TxType → List Judged
-judged_returns t = if length t.returns == 0 then [] else judge (names_lines (codes "returns") (map (name_at t.locals) t.returns)) (returns_marks t)
+judged_returns t =
+    if length t.returns == 0 then [] else judge (names_lines (codes "returns") (map (name_at t.locals) t.returns)) (returns_marks t)
 
 -- `local`, where there are locals that are no parameters
 abbrev pub judged_locals : TxType → List Judged
-judged_locals t = if nat_le (length t.locals) t.params then [] else judge (names_lines (codes "local") (drop t.params t.locals)) (locals_marks t)
+judged_locals t =
+    if nat_le (length t.locals) t.params then [] else judge (names_lines (codes "local") (drop t.params t.locals)) (locals_marks t)
 
 -- what the type begins with, what it returns, its locals, what it ensures and repairs, its points
 abbrev pub judged_type : List Table → List TxType → ℕ → TxType → List Judged
@@ -172,7 +177,22 @@ pub record IsBroken (js : List Judged) (rule n : ℕ) : Type 0 where
   pub number : length before ≡ n
   pub breaks : Contains statement.marks (Broken rule)
 
--- and its text is the line of print behind so many lines
-pub record IsJudgedAt (d : Design) (rule n : ℕ) : Type 0 where
-  pub broken : IsBroken (judged d) rule n
-  pub own_line : first_lines (suc n) (printed d) ≡ first_lines n (printed d) ++ broken.statement.text
+-- the line of the statement of this number, from 0
+abbrev pub line_of : ℕ → ℕ
+line_of zero = 1
+line_of (suc n) = next_line (line_of n)
+
+abbrev pub texts_of : List Judged → List ℕ
+texts_of js = flat_map (λ j. j.text) js
+
+-- In print the statement on this line breaks the rule: its text follows those of the statements before it, each a line.
+pub record IsJudgedOn (d : Design) (rule at : ℕ) : Type 0 where
+  pub number : ℕ
+  pub broken : IsBroken (judged d) rule number
+  pub on_line : at ≡ line_of number
+  pub text : printed d ≡ texts_of broken.before ++ (broken.statement.text ++ texts_of broken.after)
+
+-- a number is out of range, which is rule 1 on no line; or the statement on the line breaks the rule
+abbrev pub IsFaultInPrint : Design → FormError → Type 0
+IsFaultInPrint d (Bad rule at) = ((design_in d ≡ false) × (rule ≡ 1) × (at ≡ 0)) ⊎ IsJudgedOn d rule at
+IsFaultInPrint d Memory = ⊥

@@ -23,21 +23,22 @@ use Rattle.acc_print.specs.Values.{lin_text}
 use Rattle.acc_print.specs.Clauses.{clause_text, clause_line}
 use Rattle.acc_print.specs.Types.{names_lines, point_lines, type_lines}
 use Rattle.acc_print.specs.Designs.{table_line, side_text, scope_at, pair_text, entry_line, hint_line, printed}
-use Rattle.acc_readback.specs.Judged.{judged_table, judged_always, judged_clause, judged_point, type_name_marks, judged_head, judged_returns, judged_locals, judged_type, judged_entry, judged_hint, judged}
-use Rattle.acc_readback.proofs.RuleMarks.{one_statement, asks}
-use Rattle.acc_readback.proofs.RuleStatements.{clause_counts}
-use Rattle.acc_readback.proofs.RuleTypes.{table_counts, entry_counts, hint_counts}
-use Rattle.acc_readback.proofs.JudgedMarks.{Judges, rejudged, one_judged, judged_unless, both_judged, each_judged, behind_two}
-use Rattle.acc_readback.proofs.JudgedSteps.{clause_judged, point_judged}
+use Rattle.acc_form.specs.Judged.{judged_table, judged_always, judged_clause, judged_point, type_name_marks, judged_head, judged_returns, judged_locals, judged_type, judged_entry, judged_hint, judged}
+use Rattle.acc_form.proofs.StatementEnds.{one_statement, asks}
+use Rattle.acc_form.proofs.StatementCounts.{table_counts, clause_counts, entry_counts, hint_counts}
+use Rattle.acc_form.proofs.JudgedMarks.{Judges, rejudged, one_judged, judged_unless, both_judged, each_judged, behind_two}
+use Rattle.acc_form.proofs.JudgedSteps.{clause_judged, point_judged}
 
 -- ---- types
 
 head_judged : (types : List TxType) (i : ℕ) (t : TxType)
-    → Judges (judged_head types i t) (line (codes "type " ++ (t.name ++ flat_map spaced (take t.params t.locals))) ++ line (codes "limit " ++ decimal t.limit)) (head_marks types i t)
+    → Judges (judged_head types i t) (line (codes "type " ++ (t.name ++ flat_map spaced (take t.params t.locals))) ++ line
+    (codes "limit " ++ decimal t.limit)) (head_marks types i t)
 head_judged types i t =
     let few = not (i == 64) && is_short t.name && nat_le t.params 48 && list_all is_short (take t.params t.locals) in
     let new = not (names_type (take i types) t.name) && are_distinct (take t.params t.locals) in
-    rejudged (both_judged (one_judged (codes "type " ++ (t.name ++ flat_map spaced (take t.params t.locals))) (type_name_marks types i t) (asks 4 few (asks 6 new one_statement)))
+    rejudged (both_judged (one_judged (codes "type " ++ (t.name ++ flat_map spaced (take t.params t.locals))) (type_name_marks types i t)
+    (asks 4 few (asks 6 new one_statement)))
     (one_judged (codes "limit " ++ decimal t.limit) (asked 5 (is_limit t.limit) ++ ending) (asks 5 (is_limit t.limit) one_statement))) refl
     (behind_two (asked 4 few) (asked 6 new) ending (asked 5 (is_limit t.limit) ++ ending))
 
@@ -50,7 +51,8 @@ some_names : (word : List ℕ) (xs : List (List ℕ)) → 1 ≤ length xs → (w
 some_names word [] h = absurd (omega (arith, h))
 some_names word (x ∷ xs) h = (word ++ flat_map spaced (x ∷ xs), refl)
 
-returns_judged : (t : TxType) → Judges (judged_returns t) (names_lines (codes "returns") (map (name_at t.locals) t.returns)) (returns_marks t)
+returns_judged : (t : TxType)
+    → Judges (judged_returns t) (names_lines (codes "returns") (map (name_at t.locals) t.returns)) (returns_marks t)
 returns_judged t =
     let names = map (name_at t.locals) t.returns in
     let count = length-map t.returns (name_at t.locals) in
@@ -74,42 +76,59 @@ locals_judged t =
     (asks 4 few (asks 6 new one_statement))
 
 -- what the type begins with is printed before the rest of it
-head_first : (name limit returns locals rest : List ℕ) → (name ++ limit) ++ (returns ++ (locals ++ rest)) ≡ (name ++ (limit ++ (returns ++ locals))) ++ rest
+head_first : (name limit returns locals rest : List ℕ)
+    → (name ++ limit) ++ (returns ++ (locals ++ rest)) ≡ (name ++ (limit ++ (returns ++ locals))) ++ rest
 head_first name limit returns locals rest =
-    append_assoc name limit (returns ++ (locals ++ rest)) ∙ sym (behind_two name limit (returns ++ locals) rest ∙ ap (λ (bs : List ℕ). name ++ (limit ++ bs)) (append_assoc returns locals rest))
+    append_assoc name limit (returns ++ (locals ++ rest)) ∙ sym
+    (behind_two name limit (returns ++ locals) rest ∙ ap (λ (bs : List ℕ). name ++ (limit ++ bs)) (append_assoc returns locals rest))
 
-type_judged : (tables : List Table) (types : List TxType) (i : ℕ) (t : TxType) → Judges (judged_type tables types i t) (type_lines tables t) (type_marks tables types i t)
+type_judged : (tables : List Table) (types : List TxType) (i : ℕ) (t : TxType)
+    → Judges (judged_type tables types i t) (type_lines tables t) (type_marks tables types i t)
 type_judged tables types i t =
     let s = within tables t in
-    let posts = each_judged (judged_clause tables t (codes "ensures ")) (clause_line s (codes "ensures ")) (clause_marks tables t.locals 64) (clause_judged tables t (codes "ensures ")) 0 t.posts in
-    let repairs = each_judged (judged_clause tables t (codes "repairs ")) (clause_line s (codes "repairs ")) (clause_marks tables t.locals 64) (clause_judged tables t (codes "repairs ")) 0 t.repairs in
+    let posts = each_judged (judged_clause tables t (codes "ensures ")) (clause_line s (codes "ensures "))
+    (clause_marks tables t.locals 64) (clause_judged tables t (codes "ensures ")) 0 t.posts in
+    let repairs = each_judged (judged_clause tables t (codes "repairs ")) (clause_line s (codes "repairs "))
+    (clause_marks tables t.locals 64) (clause_judged tables t (codes "repairs ")) 0 t.repairs in
     let points = each_judged (judged_point tables t) (point_lines s t.points) (point_marks tables t) (point_judged tables t) 0 t.points in
-    rejudged (both_judged (head_judged types i t) (both_judged (returns_judged t) (both_judged (locals_judged t) (both_judged posts (both_judged repairs points)))))
-    (head_first (line (codes "type " ++ (t.name ++ flat_map spaced (take t.params t.locals)))) (line (codes "limit " ++ decimal t.limit)) (names_lines (codes "returns") (map (name_at t.locals) t.returns))
-    (names_lines (codes "local") (drop t.params t.locals)) (flat_map (clause_line s (codes "ensures ")) t.posts ++ (flat_map (clause_line s (codes "repairs ")) t.repairs ++ flat_map (point_lines s t.points) t.points))) refl
+    rejudged (both_judged (head_judged types i t)
+    (both_judged (returns_judged t) (both_judged (locals_judged t) (both_judged posts (both_judged repairs points)))))
+    (head_first (line (codes "type " ++ (t.name ++ flat_map spaced (take t.params t.locals)))) (line (codes "limit " ++ decimal t.limit))
+    (names_lines (codes "returns") (map (name_at t.locals) t.returns))
+    (names_lines (codes "local") (drop t.params t.locals))
+    (flat_map (clause_line s (codes "ensures ")) t.posts ++
+    (flat_map (clause_line s (codes "repairs ")) t.repairs ++ flat_map (point_lines s t.points) t.points))) refl
 
 -- ---- the whole
 
 table_judged : (tables : List Table) (i : ℕ) (t : Table) → Judges (judged_table tables i t) (table_line t) (table_marks tables i t)
 table_judged tables i t =
-    one_judged ((if t.own then codes "private " else codes "table ") ++ (t.name ++ (spaced (decimal t.width) ++ flat_map spaced t.cols))) (table_marks tables i t) (table_counts tables i t)
+    one_judged ((if t.own then codes "private " else codes "table ") ++ (t.name ++ (spaced (decimal t.width) ++ flat_map spaced t.cols)))
+    (table_marks tables i t) (table_counts tables i t)
 
-always_judged : (tables : List Table) (i : ℕ) (c : Clause) → Judges (judged_always tables i c) (clause_line (outside tables) (codes "always ") c) (clause_marks tables [] 128 i c)
-always_judged tables i c = one_judged (codes "always " ++ clause_text (outside tables) c) (clause_marks tables [] 128 i c) (clause_counts tables [] 128 i c)
+always_judged : (tables : List Table) (i : ℕ) (c : Clause)
+    → Judges (judged_always tables i c) (clause_line (outside tables) (codes "always ") c) (clause_marks tables [] 128 i c)
+always_judged tables i c =
+    one_judged (codes "always " ++ clause_text (outside tables) c) (clause_marks tables [] 128 i c) (clause_counts tables [] 128 i c)
 
 entry_judged : (d : Design) (i : ℕ) (e : Entry) → Judges (judged_entry d i e) (entry_line d e) (entry_marks d.types d.entries i e)
 entry_judged d i e =
     let pairs = listed (pair_text (scope_at d e.held).names (scope_at d e.step).names) (codes " : ") e.pairs in
-    one_judged (codes "entry " ++ (at_text d e.held ++ (codes " by " ++ (at_text d e.step ++ (side_text e.side ++ pairs))))) (entry_marks d.types d.entries i e) (entry_counts d.types d.entries i e)
+    one_judged (codes "entry " ++ (at_text d e.held ++ (codes " by " ++ (at_text d e.step ++ (side_text e.side ++ pairs)))))
+    (entry_marks d.types d.entries i e) (entry_counts d.types d.entries i e)
 
 hint_judged : (d : Design) (i : ℕ) (h : Hint) → Judges (judged_hint d i h) (hint_line d h) (hint_marks i h)
-hint_judged d i h = one_judged (codes "hint " ++ (at_text d h.at ++ (side_text h.side ++ spaced (lin_text (scope_at d h.at).names h.lin)))) (hint_marks i h) (hint_counts i h)
+hint_judged d i h =
+    one_judged (codes "hint " ++ (at_text d h.at ++ (side_text h.side ++ spaced (lin_text (scope_at d h.at).names h.lin))))
+    (hint_marks i h) (hint_counts i h)
 
 pub design_judged : (d : Design) → Judges (judged d) (printed d) (design_marks d)
 design_judged d =
     let tables = each_judged (judged_table d.tables) table_line (table_marks d.tables) (table_judged d.tables) 0 d.tables in
-    let always = each_judged (judged_always d.tables) (clause_line (outside d.tables) (codes "always ")) (clause_marks d.tables [] 128) (always_judged d.tables) 0 d.always in
-    let types = each_judged (judged_type d.tables d.types) (type_lines d.tables) (type_marks d.tables d.types) (type_judged d.tables d.types) 0 d.types in
+    let always = each_judged (judged_always d.tables) (clause_line (outside d.tables) (codes "always ")) (clause_marks d.tables [] 128)
+    (always_judged d.tables) 0 d.always in
+    let types = each_judged (judged_type d.tables d.types) (type_lines d.tables) (type_marks d.tables d.types)
+    (type_judged d.tables d.types) 0 d.types in
     let entries = each_judged (judged_entry d) (entry_line d) (entry_marks d.types d.entries) (entry_judged d) 0 d.entries in
     let hints = each_judged (judged_hint d) (hint_line d) hint_marks (hint_judged d) 0 d.hints in
     both_judged tables (both_judged always (both_judged types (both_judged entries hints)))
