@@ -9,7 +9,7 @@ use acc_lex::texts::words;
 use acc_meaning::meaning_of;
 use acc_names::{DesignNames, names_of};
 use acc_parse::parse;
-use acc_readback::print;
+use acc_print::print;
 use acc_syntax::designs::syntax;
 use acc_syntax::trees::DesignTree;
 use std::alloc::{AllocError, Global};

@@ -20,8 +20,7 @@ use acc_base::designs::Design;
 use acc_base::machines::{Call, Event};
 use acc_base::sequences::Seq;
 use acc_play::{Transcript, play};
-use acc_print::PrintError;
-use acc_readback::print;
+use acc_print::{PrintError, print};
 use acc_script::{ScriptError, calls, order};
 use std::alloc::{AllocError, Global};
 

@@ -12,6 +12,7 @@ use Rattle.acc_readback.proofs.DesignParts.{printed_is_lexed}
 use Rattle.acc_readback.proofs.MeantDesigns.{tree_means_design, tree_has_no_sizes}
 use Rattle.acc_readback.proofs.NamedDesigns.{tree_names_well}
 use Rattle.acc_readback.proofs.LimitedDesigns.{tree_passes_no_limit}
+use Rattle.acc_readback.proofs.SaidDesigns.{parsed_is_said}
 use Rattle.acc_readback.proofs.OwnWordsSaid.{tree_is_spelled}
 
 no_limits : (d : Design) → IsSaid d → past_limits (tree_of d) ≡ []
@@ -24,3 +25,7 @@ reads_back d h = record {
   allowed = record { names = tree_names_well d h; limits = no_limits d h };
   means = sym (tree_means_design d h);
 }
+
+-- so each design that some text stands for is
+pub text_reads_back : (source : List ℕ) (d : Design) → IsDesignText source d → IsDesignText (printed d) d
+text_reads_back source d is = reads_back d (parsed_is_said source d is)

@@ -1,6 +1,4 @@
-//! The printed text of a design, and what it reads back as.
+//! What the printed text of a design reads back as, as laws.
 #![tactic(auto)]
 
-mod texts;
-
-pub use texts::print;
+pub mod laws;
