@@ -9,3 +9,6 @@ pub mod signs;
 pub mod texts;
 pub mod tokens;
 pub mod words;
+
+pub use lexers::{LexError, lex};
+pub use tokens::{Kind, Token};

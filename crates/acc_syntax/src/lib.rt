@@ -12,3 +12,5 @@ mod reads;
 mod statements;
 pub mod trees;
 mod values;
+
+pub use designs::{SyntaxError, syntax};
