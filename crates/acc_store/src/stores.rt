@@ -1,7 +1,7 @@
 //! Rows that are kept in some way.
-ghost use Rattle.std.specs.Prelude.{◌≡◌, ◌^◌, ◌<◌, ◌≤◌, length, OnOk, OnErr, pos, [], All, IfOk, IfSome, find, option_copied};
+ghost use Rattle.std.specs.Prelude.{◌≡◌, ◌≤◌, length, OnOk, OnErr, pos, [], All, IfOk, IfSome, find, option_copied};
 ghost use Rattle.std.specs.List.{list_any};
-ghost use Rattle.acc_base.specs.Tables.{is_at, is_under, column_of, count_of, sum_of, least_of, greatest_of};
+ghost use Rattle.acc_base.specs.Tables.{is_at, column_of, count_of, sum_of, least_of, greatest_of};
 ghost use Rattle.acc_store.specs.Rows.{columns_of, written, IsNarrow, SumsFit};
 
 use crate::maps::{
