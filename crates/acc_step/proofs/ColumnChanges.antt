@@ -8,8 +8,8 @@ use Rattle.acc_base.specs.Tables.{Place, place_of, place_cmp, IsInOrder, is_at, 
 use Rattle.acc_base.proofs.Places.{one_place, is_equal}
 use Rattle.acc_store.specs.declared.writes.Write.TheVariants.{Row as ToPut, Gone}
 use Rattle.acc_store.specs.Rows.{columns_of, row_of}
-use Rattle.acc_step.specs.declared.changes.Change.{Change}
-use Rattle.acc_step.specs.declared.changes.Change.TheVariants.{Put as Puts, Drop as Drops, Set as Sets, Add as Adds}
+use Rattle.acc_step.specs.declared.changes.RowChange.{RowChange}
+use Rattle.acc_step.specs.declared.changes.RowChange.TheVariants.{Put as Puts, Drop as Drops, Set as Sets, Add as Adds}
 use Rattle.acc_step.specs.Overlay.{columns_at, may_store, sum_in}
 use Rattle.acc_step.specs.Changing.{place_at, changed, may_change}
 use Rattle.acc_step.specs.RowColumns.{key_of, columns_moved, may_add_to, may_make}
@@ -58,14 +58,14 @@ module _ (f : List ℤ → List ℤ) (p : Place) where
             subst (λ z. option_map f (columns_at p db) ≡ columns_at p (change_row z.0 z.1 made db)) same (sym (columns_there db))
         by false h = sym (columns_elsewhere h db)
 
-pub moved_at : (p : Place) (change : Change) (db : List Row) → IsInOrder db → columns_moved p change (columns_at p db) ≡ columns_at p (changed change db)
+pub moved_at : (p : Place) (change : RowChange) (db : List Row) → IsInOrder db → columns_moved p change (columns_at p db) ≡ columns_at p (changed change db)
 moved_at p (Puts k cols) db order = columns_written p (ToPut (row_of (place_at k) cols)) db order
 moved_at p (Drops k) db order = columns_written p (Gone k.table (record { parts = k.parts })) db order
 moved_at p (Sets k c v) db order = columns_changed (λ cols. slice_set cols c v) p (place_at k) db
 moved_at p (Adds k c v) db order = columns_changed (λ cols. slice_set cols c (sum_in c v cols)) p (place_at k) db
 
 -- whether a change may be made is told by the columns at its place
-pub made_by : (side : Side) (change : Change) (db : List Row) → may_make side change (columns_at (place_at (key_of change)) db) ≡ may_change side change db
+pub made_by : (side : Side) (change : RowChange) (db : List Row) → may_make side change (columns_at (place_at (key_of change)) db) ≡ may_change side change db
 made_by side (Puts k cols) db = refl
 made_by side (Drops k) db = refl
 made_by side (Sets k c v) db = refl

@@ -1,11 +1,10 @@
 -- One read, and then the rest.
 use Rattle.std.proofs.Common.{◌≡◌, ℕ, ◌+◌, ◌<◌, Bool, true, false, cond, List, ◌∷◌, length, get_or, set, drop, ap, sym, ◌∙◌, refl, arith, ℤ, Option, Some, None}
-use Rattle.std.specs.Prelude.{All, option_and_then}
+use Rattle.std.specs.Prelude.{option_and_then}
 use Rattle.std.specs.List.{list_all}
 use Rattle.std.specs.Cmp.{first_so}
 use Rattle.std.proofs.lemmas.Bool.Decides.{nat_tests}
 use Rattle.std.proofs.lemmas.List.{drop_more}
-use Rattle.std.proofs.lemmas.List.Elements.{All-set}
 use Rattle.acc_base.specs.declared.tables.Row.{Row}
 use Rattle.acc_base.specs.declared.steps.Read.{Read}
 use Rattle.acc_base.specs.declared.machines.Frame.{Frame}
@@ -25,9 +24,6 @@ read_small key v x h = by (list_all is_small (v ∷ key)) refl h
     by : (b : Bool) → list_all is_small (v ∷ key) ≡ b → cond b (Some v) None ≡ Some x → IsSmall x
     by true e g = let same : v ≡ x = cc in small_is x (ap is_small (sym same) ∙ first_so (is_small v) (list_all is_small key) e)
     by false e g = cc
-
-pub set_small : (xs : List ℤ) (i : ℕ) (x : ℤ) → All IsSmall xs → IsSmall x → All IsSmall (set xs i x)
-set_small xs i x all h = All-set IsSmall xs i x h all
 
 module _ (db : List Row) (f : Frame) (s : Reading) (r : Read) where
   abbrev then_read : Option ℤ → Option Reading

@@ -7,7 +7,7 @@ use Rattle.acc_base.specs.declared.steps.Action.{Action}
 use Rattle.acc_base.specs.Numbers.{is_small}
 use Rattle.acc_base.specs.Tables.{Place, IsInOrder}
 use Rattle.acc_base.specs.Actions.{action_numbers, stores_small, after_action}
-use Rattle.acc_step.specs.declared.changes.Change.{Change}
+use Rattle.acc_step.specs.declared.changes.RowChange.{RowChange}
 use Rattle.acc_step.specs.Overlay.{columns_at}
 use Rattle.acc_step.specs.Changing.{change_of, change_if_small, may_act}
 use Rattle.acc_step.specs.RowColumns.{columns_acted, columns_through, may_follow}
@@ -41,7 +41,7 @@ module _ (env : List ℤ) (a : Action) where
         by true = made_by side (change_of env a) db ∙ may_change_is side env a db
         by false = refl
 
-    same_columns : (o : Option Change) (f g : Place → Option (List ℤ)) → ((p : Place) → f p ≡ g p) → may_follow side o f ≡ may_follow side o g
+    same_columns : (o : Option RowChange) (f g : Place → Option (List ℤ)) → ((p : Place) → f p ≡ g p) → may_follow side o f ≡ may_follow side o g
     same_columns None f g h = refl
     same_columns (Some change) f g h = λ i. may_follow side (Some change) (λ p. h p i)
 

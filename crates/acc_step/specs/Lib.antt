@@ -1,4 +1,5 @@
 pub mod InRange
+pub mod Variables
 pub mod WideSums
 pub mod ReadValues
 pub mod Overlay

@@ -1,7 +1,6 @@
 //! The actions of a path, one after the other, as writes.
 ghost use Rattle.std.specs.Prelude.{◌≡◌, ◌≤◌, ◌^◌, length, All, Some, None, IfOk, IsErrOf, OnOk, true, false};
-ghost use Rattle.acc_base.specs.Numbers.{IsSmall};
-ghost use Rattle.acc_base.specs.Linear.{variables};
+ghost use Rattle.acc_step.specs.Variables.{values_of};
 ghost use Rattle.acc_base.specs.Tables.{IsInOrder};
 ghost use Rattle.acc_base.specs.Actions.{after_action, after_actions};
 ghost use Rattle.acc_base.specs.Runnable.{CanAct};
@@ -11,6 +10,7 @@ ghost use Rattle.acc_step.specs.Changing.{may_act};
 
 use crate::changes::evaluated;
 use crate::errors::StepError;
+use crate::variables::Variables;
 use crate::writers::make_change;
 use acc_base::designs::Side;
 use acc_base::steps::Action;
@@ -23,22 +23,19 @@ fn act<S: Store>(
     s: &S,
     side: Side,
     action: &Action,
-    locals: &[i64],
-    t: u64,
+    variables: &Variables,
     writes: &mut Vec<Write>,
 ) -> Result<(), StepError>
-    requires small { All IsSmall locals.now }
-    requires number { t ≤ 2 ^ 45 }
     requires can { CanAct action.now }
     requires order { IsInOrder (S.rows s.now) }
     requires narrow { All IsNarrow writes.old.items }
     requires within { AreWithin (2 ^ 121) (written writes.old.items (S.rows s.now)) }
-    ensures rows { OnOk result (written writes.new.items (S.rows s.now) ≡ after_action (variables t locals.now) action.now (written writes.old.items (S.rows s.now))) }
-    ensures in_range { OnOk result (may_act side (variables t locals.now) action.now (written writes.old.items (S.rows s.now)) ≡ true) }
-    ensures range { IsErrOf result StepError.Range → may_act side (variables t locals.now) action.now (written writes.old.items (S.rows s.now)) ≡ false }
+    ensures rows { OnOk result (written writes.new.items (S.rows s.now) ≡ after_action (values_of variables.now) action.now (written writes.old.items (S.rows s.now))) }
+    ensures in_range { OnOk result (may_act side (values_of variables.now) action.now (written writes.old.items (S.rows s.now)) ≡ true) }
+    ensures range { IsErrOf result StepError.Range → may_act side (values_of variables.now) action.now (written writes.old.items (S.rows s.now)) ≡ false }
     ensures narrow { OnOk result (All IsNarrow writes.new.items) }
 {
-    match evaluated(action, locals, t) {
+    match evaluated(action, variables) {
         Some(change) => make_change(alloc, s, side, &change, writes),
         None => Err(StepError::Range),
     }
@@ -50,22 +47,19 @@ pub fn act_all<S: Store>(
     s: &S,
     side: Side,
     actions: &[Action],
-    locals: &[i64],
-    t: u64,
+    variables: &Variables,
 ) -> Result<Vec<Write>, StepError>
-    requires small { All IsSmall locals.now }
-    requires number { t ≤ 2 ^ 45 }
     requires can { All CanAct actions.now }
     requires few { length actions.now ≤ 16 }
     requires order { IsInOrder (S.rows s.now) }
     requires within { AreWithin (2 ^ 120) (S.rows s.now) }
-    ensures rows { IfOk result (λ ws. after_actions side (variables t locals.now) actions.now (S.rows s.now) ≡ Some (written ws.items (S.rows s.now))) }
-    ensures range { IsErrOf result StepError.Range → after_actions side (variables t locals.now) actions.now (S.rows s.now) ≡ None }
+    ensures rows { IfOk result (λ ws. after_actions side (values_of variables.now) actions.now (S.rows s.now) ≡ Some (written ws.items (S.rows s.now))) }
+    ensures range { IsErrOf result StepError.Range → after_actions side (values_of variables.now) actions.now (S.rows s.now) ≡ None }
     ensures narrow { IfOk result (λ ws. All IsNarrow ws.items) }
 {
     let mut writes = Vec::new(alloc);
     for action in actions {
-        act(alloc, s, side, action, locals, t, &mut writes)?;
+        act(alloc, s, side, action, variables, &mut writes)?;
     }
     Ok(writes)
 }

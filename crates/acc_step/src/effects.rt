@@ -1,5 +1,5 @@
 //! The effect of a step.
-ghost use Rattle.std.specs.Prelude.{◌≡◌, ◌^◌, length, All, IfOk, IfSome, IsErrOf, IsNone, Some, option_copied};
+ghost use Rattle.std.specs.Prelude.{◌≡◌, ◌^◌, length, All, IfOk, IfSome, IsErrOf, Some, option_copied};
 ghost use Rattle.acc_base.specs.Numbers.{IsSmall};
 ghost use Rattle.acc_base.specs.Tables.{IsInOrder};
 ghost use Rattle.acc_base.specs.Effects.{OutOfRange, step_of, step_at, step_effect, effect_of};
@@ -12,11 +12,12 @@ use crate::actions::act_all;
 use crate::errors::StepError;
 use crate::paths::path_taken;
 use crate::reads::take_reads;
+use crate::variables::Variables;
 use acc_base::designs::{Design, Point, Side};
 use acc_base::machines::Frame;
 use acc_base::sequences::Seq;
 use acc_base::steps::{Step, Target};
-use acc_store::{Inline, Store, Write};
+use acc_store::{Store, Write};
 use std::alloc::Global;
 
 /// What a step does.
@@ -73,25 +74,18 @@ fn step_effect_on<S: Store>(
     ensures small { IfOk result (λ e. All IsSmall e.locals) }
     ensures kept { IfOk result (λ e. length e.locals ≡ length f.now.locals) }
 {
-    let mut locals: Inline<i64, 48> = Inline::from_slice(0, f.locals.as_slice());
-    let Some(pos) = take_reads(s, f, step.reads.as_slice(), &mut locals) else {
+    let mut variables = Variables::of(f);
+    let Some(pos) = take_reads(s, f, step.reads.as_slice(), &mut variables) else {
         return Err(StepError::Range);
     };
     let paths = step.paths.as_slice();
-    let Some(place) = path_taken(paths, locals.as_slice(), f.t) else {
+    let Some(place) = path_taken(paths, &variables) else {
         return Err(StepError::Range);
     };
     let path = &paths[place];
-    let writes = act_all(
-        alloc,
-        s,
-        side,
-        path.actions.as_slice(),
-        locals.as_slice(),
-        f.t,
-    )?;
+    let writes = act_all(alloc, s, side, path.actions.as_slice(), &variables)?;
     Ok(StepEffect {
-        locals: Seq::from_vec(Vec::from_slice(alloc, locals.as_slice())?),
+        locals: Seq::from_vec(Vec::from_slice(alloc, variables.locals.as_slice())?),
         pos,
         path: place as u32,
         writes: Seq::from_vec(writes),

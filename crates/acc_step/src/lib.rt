@@ -11,6 +11,7 @@ mod paths;
 mod ranges;
 mod reads;
 mod values;
+mod variables;
 mod walks;
 mod wide_sums;
 mod writers;

@@ -1,5 +1,5 @@
 //! What a step would do, told without memory.
-ghost use Rattle.std.specs.Prelude.{◌≡◌, ◌≤◌, ◌^◌, length, take, drop, All, IfSome, Some};
+ghost use Rattle.std.specs.Prelude.{◌≡◌, ◌≤◌, ◌^◌, length, take, drop, IfSome, Some};
 ghost use Rattle.acc_base.specs.Tables.{IsInOrder};
 ghost use Rattle.acc_base.specs.Effects.{step_effect, effect_of};
 ghost use Rattle.acc_base.specs.Runnable.{IsRunnable, CanStep, FrameFits};
@@ -10,10 +10,11 @@ use crate::effects::step_for;
 use crate::paths::path_taken;
 use crate::ranges::are_in_range;
 use crate::reads::take_reads;
+use crate::variables::Variables;
 use acc_base::designs::{Design, Side};
 use acc_base::machines::Frame;
 use acc_base::steps::{Step, Target};
-use acc_store::{Inline, Store};
+use acc_store::Store;
 
 /// What the step of a frame would do now.
 #[derive(Clone, Copy, Debug, PartialEq, Eq)]
@@ -55,17 +56,17 @@ fn look_on<S: Store>(f: &Frame, side: Side, step: &Step, s: &S, after: &mut [i64
     ensures locals { IfSome (locals_after (step_effect (S.rows s.now) f.now side (Some step.now))) (λ locals. take (length f.now.locals) after.new ≡ locals) }
     ensures others { drop (length f.now.locals) after.new ≡ drop (length f.now.locals) after.old }
 {
-    let mut locals: Inline<i64, 48> = Inline::from_slice(0, f.locals.as_slice());
-    let Some(_) = take_reads(s, f, step.reads.as_slice(), &mut locals) else {
+    let mut variables = Variables::of(f);
+    let Some(_) = take_reads(s, f, step.reads.as_slice(), &mut variables) else {
         return Outlook::Range;
     };
-    lay(locals.as_slice(), after);
+    lay(variables.locals.as_slice(), after);
     let paths = step.paths.as_slice();
-    let Some(place) = path_taken(paths, locals.as_slice(), f.t) else {
+    let Some(place) = path_taken(paths, &variables) else {
         return Outlook::Range;
     };
     let path = &paths[place];
-    if are_in_range(s, side, path.actions.as_slice(), locals.as_slice(), f.t) {
+    if are_in_range(s, side, path.actions.as_slice(), &variables) {
         led_to(path.target)
     } else {
         Outlook::Range

@@ -1,7 +1,7 @@
 //! Whether the numbers of actions are in range, without memory.
 ghost use Rattle.std.specs.Prelude.{◌≡◌, ◌≤◌, ◌^◌, ◌+ℤ◌, length, All, is_some, unsigned_abs};
-ghost use Rattle.acc_base.specs.Numbers.{is_small, IsSmall};
-ghost use Rattle.acc_base.specs.Linear.{variables};
+ghost use Rattle.acc_base.specs.Numbers.{is_small};
+ghost use Rattle.acc_step.specs.Variables.{values_of};
 ghost use Rattle.acc_base.specs.declared.designs.Side.TheVariants.{Next as Forward};
 ghost use Rattle.acc_base.specs.Tables.{IsInOrder};
 ghost use Rattle.acc_base.specs.Actions.{after_actions};
@@ -11,8 +11,9 @@ ghost use Rattle.acc_step.specs.Overlay.{columns_at};
 ghost use Rattle.acc_step.specs.Changing.{place_at, change_if_small};
 ghost use Rattle.acc_step.specs.RowColumns.{key_of, columns_through, may_add_to, may_make, may_follow};
 
-use crate::changes::{Change, RowKey, evaluated};
+use crate::changes::{RowChange, RowKey, evaluated};
 use crate::values::in_range;
+use crate::variables::Variables;
 use crate::walks::columns_past;
 use crate::writers::{near_sum, value_at};
 use acc_base::designs::Side;
@@ -41,17 +42,14 @@ fn may_add_forward<S: Store>(
     col: u32,
     more: i64,
     before: &[Action],
-    locals: &[i64],
-    t: u64,
+    variables: &Variables,
 ) -> bool
-    requires small { All IsSmall locals.now }
-    requires number { t ≤ 2 ^ 45 }
     requires can { All CanAct before.now }
     requires few { length before.now ≤ 16 }
     requires within { AreWithin (2 ^ 120) (S.rows s.now) }
-    ensures { result ≡ may_add_to Forward col more (columns_through (variables t locals.now) (place_at key.now) before.now (columns_at (place_at key.now) (S.rows s.now))) }
+    ensures { result ≡ may_add_to Forward col more (columns_through (values_of variables.now) (place_at key.now) before.now (columns_at (place_at key.now) (S.rows s.now))) }
 {
-    match columns_past(s, before, key.table, key.parts.as_slice(), locals, t) {
+    match columns_past(s, before, key.table, key.parts.as_slice(), variables) {
         Some(cols) => is_sum_in_range(value_at(cols.as_slice(), col), more),
         None => true,
     }
@@ -65,18 +63,15 @@ fn may_add<S: Store>(
     col: u32,
     more: i64,
     before: &[Action],
-    locals: &[i64],
-    t: u64,
+    variables: &Variables,
 ) -> bool
-    requires small { All IsSmall locals.now }
-    requires number { t ≤ 2 ^ 45 }
     requires can { All CanAct before.now }
     requires few { length before.now ≤ 16 }
     requires within { AreWithin (2 ^ 120) (S.rows s.now) }
-    ensures { result ≡ may_add_to side col more (columns_through (variables t locals.now) (place_at key.now) before.now (columns_at (place_at key.now) (S.rows s.now))) }
+    ensures { result ≡ may_add_to side col more (columns_through (values_of variables.now) (place_at key.now) before.now (columns_at (place_at key.now) (S.rows s.now))) }
 {
     match side {
-        Side::Next => may_add_forward(s, key, col, more, before, locals, t),
+        Side::Next => may_add_forward(s, key, col, more, before, variables),
         Side::Undo => true,
     }
 }
@@ -85,20 +80,17 @@ fn may_add<S: Store>(
 fn may_change_row<S: Store>(
     s: &S,
     side: Side,
-    change: &Change,
+    change: &RowChange,
     before: &[Action],
-    locals: &[i64],
-    t: u64,
+    variables: &Variables,
 ) -> bool
-    requires small { All IsSmall locals.now }
-    requires number { t ≤ 2 ^ 45 }
     requires can { All CanAct before.now }
     requires few { length before.now ≤ 16 }
     requires within { AreWithin (2 ^ 120) (S.rows s.now) }
-    ensures { result ≡ may_make side change.now (columns_through (variables t locals.now) (place_at (key_of change.now)) before.now (columns_at (place_at (key_of change.now)) (S.rows s.now))) }
+    ensures { result ≡ may_make side change.now (columns_through (values_of variables.now) (place_at (key_of change.now)) before.now (columns_at (place_at (key_of change.now)) (S.rows s.now))) }
 {
     match change {
-        Change::Add(key, col, more) => may_add(s, side, key, *col, *more, before, locals, t),
+        RowChange::Add(key, col, more) => may_add(s, side, key, *col, *more, before, variables),
         _ => true,
     }
 }
@@ -109,35 +101,30 @@ fn is_action_in_range<S: Store>(
     side: Side,
     action: &Action,
     before: &[Action],
-    locals: &[i64],
-    t: u64,
+    variables: &Variables,
 ) -> bool
-    requires small { All IsSmall locals.now }
-    requires number { t ≤ 2 ^ 45 }
     requires can { CanAct action.now }
     requires all_can { All CanAct before.now }
     requires few { length before.now ≤ 16 }
     requires within { AreWithin (2 ^ 120) (S.rows s.now) }
-    ensures { result ≡ may_follow side (change_if_small (variables t locals.now) action.now) (λ p. columns_through (variables t locals.now) p before.now (columns_at p (S.rows s.now))) }
+    ensures { result ≡ may_follow side (change_if_small (values_of variables.now) action.now) (λ p. columns_through (values_of variables.now) p before.now (columns_at p (S.rows s.now))) }
 {
-    match evaluated(action, locals, t) {
-        Some(change) => may_change_row(s, side, &change, before, locals, t),
+    match evaluated(action, variables) {
+        Some(change) => may_change_row(s, side, &change, before, variables),
         None => false,
     }
 }
 
 /// Whether the numbers of the actions of a path are in range. An `add` walks the actions before it.
-pub fn are_in_range<S: Store>(s: &S, side: Side, actions: &[Action], locals: &[i64], t: u64) -> bool
-    requires small { All IsSmall locals.now }
-    requires number { t ≤ 2 ^ 45 }
+pub fn are_in_range<S: Store>(s: &S, side: Side, actions: &[Action], variables: &Variables) -> bool
     requires can { All CanAct actions.now }
     requires few { length actions.now ≤ 16 }
     requires order { IsInOrder (S.rows s.now) }
     requires within { AreWithin (2 ^ 120) (S.rows s.now) }
-    ensures { result ≡ is_some (after_actions side (variables t locals.now) actions.now (S.rows s.now)) }
+    ensures { result ≡ is_some (after_actions side (values_of variables.now) actions.now (S.rows s.now)) }
 {
     for i in 0..actions.len() {
-        if !is_action_in_range(s, side, &actions[i], &actions[..i], locals, t) {
+        if !is_action_in_range(s, side, &actions[i], &actions[..i], variables) {
             return false;
         }
     }

@@ -1,37 +1,34 @@
 //! What the reads of a step assign.
-ghost use Rattle.std.specs.Prelude.{◌≡◌, ◌≤◌, ◌<◌, ◌^◌, [], length, All, Some, None, pos, ◌*ℤ◌, ◌<ℤ◌, IfNone, IfSome};
+ghost use Rattle.std.specs.Prelude.{◌≡◌, ◌<◌, ◌^◌, [], length, All, Some, None, pos, ◌*ℤ◌, ◌<ℤ◌, IfNone, IfSome};
 ghost use Rattle.std.specs.Int.{int_div_euclid};
-ghost use Rattle.acc_base.specs.Numbers.{IsSmall};
-ghost use Rattle.acc_base.specs.Linear.{variables, var, lin_value, lin_values};
+ghost use Rattle.acc_base.specs.Linear.{var, lin_value, lin_values};
 ghost use Rattle.acc_base.specs.Reads.{assigned, at_after, unread, after_reads};
 ghost use Rattle.acc_base.specs.Tables.{column_of, has_row, count_of, sum_of, least_of, greatest_of};
 ghost use Rattle.acc_base.specs.Runnable.{IsKey, CanRead, FrameFits};
 ghost use Rattle.acc_step.specs.InRange.{value_read};
 ghost use Rattle.acc_step.specs.ReadValues.{read_of};
+ghost use Rattle.acc_step.specs.Variables.{values_of};
 
-use crate::values::{in_range, key_in_range, linear_in_range, times, variable, widened};
+use crate::values::{in_range, key_in_range, linear_in_range, times, widened};
+use crate::variables::Variables;
 use acc_base::forms::Lin;
 use acc_base::machines::Frame;
 use acc_base::steps::Read;
-use acc_store::{Inline, Store};
+use acc_store::Store;
 
 /// A product of two variables.
-fn product(y: u32, z: u32, locals: &[i64], t: u64) -> i128
-    requires small { All IsSmall locals.now }
-    requires number { t ≤ 2 ^ 45 }
-    ensures { result ≡ var (variables t locals.now) y *ℤ var (variables t locals.now) z }
+fn product(y: u32, z: u32, variables: &Variables) -> i128
+    ensures { result ≡ var (values_of variables.now) y *ℤ var (values_of variables.now) z }
 {
-    times(variable(y, locals, t), variable(z, locals, t))
+    times(variables.value(y), variables.value(z))
 }
 
 /// A quotient, rounded down.
-fn quotient(y: u32, c: i64, locals: &[i64], t: u64) -> i128
-    requires small { All IsSmall locals.now }
-    requires number { t ≤ 2 ^ 45 }
+fn quotient(y: u32, c: i64, variables: &Variables) -> i128
     requires divisor { pos 0 <ℤ c }
-    ensures { result ≡ int_div_euclid (var (variables t locals.now) y) c }
+    ensures { result ≡ int_div_euclid (var (values_of variables.now) y) c }
 {
-    divided(variable(y, locals, t), c)
+    divided(variables.value(y), c)
 }
 
 /// A quotient, rounded down.
@@ -53,12 +50,10 @@ fn taken(tape: &[i64], at: u32) -> i64
 }
 
 /// A linear value, in range.
-fn read_let(l: &Lin, locals: &[i64], t: u64) -> Option<i64>
-    requires small { All IsSmall locals.now }
-    requires number { t ≤ 2 ^ 45 }
-    ensures { result ≡ value_read [] (lin_value (variables t locals.now) l.now) }
+fn read_let(l: &Lin, variables: &Variables) -> Option<i64>
+    ensures { result ≡ value_read [] (lin_value (values_of variables.now) l.now) }
 {
-    linear_in_range(l, locals, t)
+    linear_in_range(l, variables)
 }
 
 /// A column, in range.
@@ -67,15 +62,12 @@ fn read_column<S: Store>(
     table: u32,
     key: &[Lin],
     col: u32,
-    locals: &[i64],
-    t: u64,
+    variables: &Variables,
 ) -> Option<i64>
-    requires small { All IsSmall locals.now }
-    requires number { t ≤ 2 ^ 45 }
     requires key { IsKey key.now }
-    ensures { result ≡ value_read (lin_values (variables t locals.now) key.now) (column_of (S.rows s.now) table (lin_values (variables t locals.now) key.now) col) }
+    ensures { result ≡ value_read (lin_values (values_of variables.now) key.now) (column_of (S.rows s.now) table (lin_values (values_of variables.now) key.now) col) }
 {
-    match key_in_range(key, locals, t) {
+    match key_in_range(key, variables) {
         Some(key) => in_range(s.get(table, key.as_slice(), col)),
         None => None,
     }
@@ -89,13 +81,11 @@ fn row_there<S: Store>(s: &S, table: u32, key: &[i64]) -> i64
 }
 
 /// Whether there is a row, where its key is in range.
-fn read_row<S: Store>(s: &S, table: u32, key: &[Lin], locals: &[i64], t: u64) -> Option<i64>
-    requires small { All IsSmall locals.now }
-    requires number { t ≤ 2 ^ 45 }
+fn read_row<S: Store>(s: &S, table: u32, key: &[Lin], variables: &Variables) -> Option<i64>
     requires key { IsKey key.now }
-    ensures { result ≡ value_read (lin_values (variables t locals.now) key.now) (has_row (S.rows s.now) table (lin_values (variables t locals.now) key.now)) }
+    ensures { result ≡ value_read (lin_values (values_of variables.now) key.now) (has_row (S.rows s.now) table (lin_values (values_of variables.now) key.now)) }
 {
-    match key_in_range(key, locals, t) {
+    match key_in_range(key, variables) {
         Some(key) => in_range(widened(row_there(s, table, key.as_slice()))),
         None => None,
     }
@@ -109,13 +99,11 @@ fn counted<S: Store>(s: &S, table: u32, prefix: &[i64]) -> i128
 }
 
 /// How many rows there are, in range.
-fn read_count<S: Store>(s: &S, table: u32, prefix: &[Lin], locals: &[i64], t: u64) -> Option<i64>
-    requires small { All IsSmall locals.now }
-    requires number { t ≤ 2 ^ 45 }
+fn read_count<S: Store>(s: &S, table: u32, prefix: &[Lin], variables: &Variables) -> Option<i64>
     requires key { IsKey prefix.now }
-    ensures { result ≡ value_read (lin_values (variables t locals.now) prefix.now) (count_of (S.rows s.now) table (lin_values (variables t locals.now) prefix.now)) }
+    ensures { result ≡ value_read (lin_values (values_of variables.now) prefix.now) (count_of (S.rows s.now) table (lin_values (values_of variables.now) prefix.now)) }
 {
-    match key_in_range(prefix, locals, t) {
+    match key_in_range(prefix, variables) {
         Some(key) => in_range(counted(s, table, key.as_slice())),
         None => None,
     }
@@ -127,41 +115,34 @@ fn read_sum<S: Store>(
     table: u32,
     prefix: &[Lin],
     col: u32,
-    locals: &[i64],
-    t: u64,
+    variables: &Variables,
 ) -> Option<i64>
-    requires small { All IsSmall locals.now }
-    requires number { t ≤ 2 ^ 45 }
     requires key { IsKey prefix.now }
-    ensures { result ≡ value_read (lin_values (variables t locals.now) prefix.now) (sum_of (S.rows s.now) table (lin_values (variables t locals.now) prefix.now) col) }
+    ensures { result ≡ value_read (lin_values (values_of variables.now) prefix.now) (sum_of (S.rows s.now) table (lin_values (values_of variables.now) prefix.now) col) }
 {
-    match key_in_range(prefix, locals, t) {
+    match key_in_range(prefix, variables) {
         Some(key) => in_range(s.sum(table, key.as_slice(), col)),
         None => None,
     }
 }
 
 /// The least part after a prefix, in range.
-fn read_least<S: Store>(s: &S, table: u32, prefix: &[Lin], locals: &[i64], t: u64) -> Option<i64>
-    requires small { All IsSmall locals.now }
-    requires number { t ≤ 2 ^ 45 }
+fn read_least<S: Store>(s: &S, table: u32, prefix: &[Lin], variables: &Variables) -> Option<i64>
     requires key { IsKey prefix.now }
-    ensures { result ≡ value_read (lin_values (variables t locals.now) prefix.now) (least_of (S.rows s.now) table (lin_values (variables t locals.now) prefix.now)) }
+    ensures { result ≡ value_read (lin_values (values_of variables.now) prefix.now) (least_of (S.rows s.now) table (lin_values (values_of variables.now) prefix.now)) }
 {
-    match key_in_range(prefix, locals, t) {
+    match key_in_range(prefix, variables) {
         Some(key) => in_range(widened(s.least(table, key.as_slice()))),
         None => None,
     }
 }
 
 /// The greatest part after a prefix, in range.
-fn read_greatest<S: Store>(s: &S, table: u32, prefix: &[Lin], locals: &[i64], t: u64) -> Option<i64>
-    requires small { All IsSmall locals.now }
-    requires number { t ≤ 2 ^ 45 }
+fn read_greatest<S: Store>(s: &S, table: u32, prefix: &[Lin], variables: &Variables) -> Option<i64>
     requires key { IsKey prefix.now }
-    ensures { result ≡ value_read (lin_values (variables t locals.now) prefix.now) (greatest_of (S.rows s.now) table (lin_values (variables t locals.now) prefix.now)) }
+    ensures { result ≡ value_read (lin_values (values_of variables.now) prefix.now) (greatest_of (S.rows s.now) table (lin_values (values_of variables.now) prefix.now)) }
 {
-    match key_in_range(prefix, locals, t) {
+    match key_in_range(prefix, variables) {
         Some(key) => in_range(widened(s.greatest(table, key.as_slice()))),
         None => None,
     }
@@ -171,29 +152,26 @@ fn read_greatest<S: Store>(s: &S, table: u32, prefix: &[Lin], locals: &[i64], t:
 fn read_one<S: Store>(
     s: &S,
     read: &Read,
-    locals: &[i64],
-    t: u64,
+    variables: &Variables,
     tape: &[i64],
     at: u32,
 ) -> Option<i64>
-    requires small { All IsSmall locals.now }
-    requires number { t ≤ 2 ^ 45 }
     requires can { CanRead read.now }
-    ensures { result ≡ read_of (S.rows s.now) tape.now at (variables t locals.now) read.now }
+    ensures { result ≡ read_of (S.rows s.now) tape.now at (values_of variables.now) read.now }
 {
     match read {
-        Read::Let(_, l) => read_let(l, locals, t),
-        Read::Col(_, table, key, col) => read_column(s, *table, key.as_slice(), *col, locals, t),
-        Read::Has(_, table, key) => read_row(s, *table, key.as_slice(), locals, t),
-        Read::Count(_, table, prefix) => read_count(s, *table, prefix.as_slice(), locals, t),
+        Read::Let(_, l) => read_let(l, variables),
+        Read::Col(_, table, key, col) => read_column(s, *table, key.as_slice(), *col, variables),
+        Read::Has(_, table, key) => read_row(s, *table, key.as_slice(), variables),
+        Read::Count(_, table, prefix) => read_count(s, *table, prefix.as_slice(), variables),
         Read::Sum(_, table, prefix, col) => {
-            read_sum(s, *table, prefix.as_slice(), *col, locals, t)
+            read_sum(s, *table, prefix.as_slice(), *col, variables)
         }
-        Read::Least(_, table, prefix) => read_least(s, *table, prefix.as_slice(), locals, t),
-        Read::Greatest(_, table, prefix) => read_greatest(s, *table, prefix.as_slice(), locals, t),
+        Read::Least(_, table, prefix) => read_least(s, *table, prefix.as_slice(), variables),
+        Read::Greatest(_, table, prefix) => read_greatest(s, *table, prefix.as_slice(), variables),
         Read::Take(_) => in_range(widened(taken(tape, at))),
-        Read::Mul(_, y, z) => in_range(product(*y, *z, locals, t)),
-        Read::Div(_, y, c) => in_range(quotient(*y, *c, locals, t)),
+        Read::Mul(_, y, z) => in_range(product(*y, *z, variables)),
+        Read::Div(_, y, c) => in_range(quotient(*y, *c, variables)),
     }
 }
 
@@ -237,21 +215,22 @@ pub fn take_reads<S: Store>(
     s: &S,
     f: &Frame,
     reads: &[Read],
-    locals: &mut Inline<i64, 48>,
+    variables: &mut Variables,
 ) -> Option<u32>
     requires fits { FrameFits f.now }
     requires can { All CanRead reads.now }
-    requires start { locals.old ≡ f.now.locals }
+    requires locals { variables.old.locals ≡ f.now.locals }
+    requires number { variables.old.number ≡ f.now.t }
     ensures none { IfNone result (after_reads (S.rows s.now) f.now reads.now (unread f.now) ≡ None) }
-    ensures some { IfSome result (λ at. after_reads (S.rows s.now) f.now reads.now (unread f.now) ≡ Some (record { locals = locals.new; at = at })) }
-    ensures small { All IsSmall locals.new }
-    ensures kept { length locals.new ≡ length f.now.locals }
+    ensures some { IfSome result (λ at. after_reads (S.rows s.now) f.now reads.now (unread f.now) ≡ Some (record { locals = variables.new.locals; at = at })) }
+    ensures number { variables.new.number ≡ f.now.t }
+    ensures kept { length variables.new.locals ≡ length f.now.locals }
 {
     let tape = f.tape.as_slice();
     let mut at = f.pos;
     for read in reads {
-        let value = read_one(s, read, locals.as_slice(), f.t, tape, at)?;
-        locals.set(assigned_by(read) as usize, value);
+        let value = read_one(s, read, variables, tape, at)?;
+        variables.assign(assigned_by(read), value);
         at = place_after(tape, at, read);
     }
     Some(at)

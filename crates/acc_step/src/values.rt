@@ -1,34 +1,19 @@
 //! Linear values of a transaction's variables, and values in range.
-ghost use Rattle.std.specs.Prelude.{◌≡◌, ◌≤◌, ◌^◌, ◌+◌, length, map, All, unsigned_abs, ◌+ℤ◌, ◌*ℤ◌};
+ghost use Rattle.std.specs.Prelude.{◌≡◌, ◌≤◌, ◌^◌, ◌+◌, length, map, unsigned_abs, ◌+ℤ◌, ◌*ℤ◌};
 ghost use Rattle.acc_base.specs.Numbers.{IsSmall, total};
-ghost use Rattle.acc_base.specs.Linear.{variables, var, term_value, lin_value, lin_values};
+ghost use Rattle.acc_base.specs.Linear.{term_value, lin_value, lin_values};
 ghost use Rattle.acc_base.specs.Runnable.{IsKey};
 ghost use Rattle.acc_step.specs.InRange.{if_small, if_all_small};
 ghost use Rattle.acc_step.specs.WideSums.{amount, AreAlike};
+ghost use Rattle.acc_step.specs.Variables.{values_of};
 
+use crate::variables::Variables;
 use crate::wide_sums::{WideSum, shortened, with_more};
 use acc_base::forms::Lin;
 use acc_store::Inline;
 
 /// The farthest from 0 that a number of a step may be: 2^45.
 const RANGE: i128 = 35_184_372_088_832;
-
-/// The value of a variable: a local, or the transaction's number.
-pub fn variable(x: u32, locals: &[i64], t: u64) -> i64
-    requires small { All IsSmall locals.now }
-    requires number { t ≤ 2 ^ 45 }
-    ensures value { result ≡ var (variables t locals.now) x }
-    ensures small { IsSmall result }
-{
-    let place = x as usize;
-    if place < locals.len() {
-        locals[place]
-    } else if place == locals.len() {
-        t as i64
-    } else {
-        0
-    }
-}
 
 /// The same number in more bits.
 pub fn widened(x: i64) -> i128
@@ -57,23 +42,19 @@ fn with_product(sum: WideSum, factor: i64, value: i64) -> WideSum
 }
 
 /// A sum and one more term.
-fn with_term(sum: WideSum, term: &(u32, i64), locals: &[i64], t: u64) -> WideSum
-    requires small { All IsSmall locals.now }
-    requires number { t ≤ 2 ^ 45 }
+fn with_term(sum: WideSum, term: &(u32, i64), variables: &Variables) -> WideSum
     requires carries { unsigned_abs sum.carries ≤ 2 ^ 100 }
     requires rest { unsigned_abs sum.rest ≤ 2 ^ 120 }
-    ensures amount { amount result ≡ amount sum +ℤ term_value (variables t locals.now) term.now }
+    ensures amount { amount result ≡ amount sum +ℤ term_value (values_of variables.now) term.now }
     ensures carries { unsigned_abs result.carries ≤ unsigned_abs sum.carries + 1 }
     ensures rest { unsigned_abs result.rest ≤ 2 ^ 120 }
 {
-    with_product(sum, term.1, variable(term.0, locals, t))
+    with_product(sum, term.1, variables.value(term.0))
 }
 
 /// The sum of terms.
-fn terms_sum(terms: &[(u32, i64)], locals: &[i64], t: u64) -> WideSum
-    requires small { All IsSmall locals.now }
-    requires number { t ≤ 2 ^ 45 }
-    ensures amount { amount result ≡ total (map (term_value (variables t locals.now)) terms.now) }
+fn terms_sum(terms: &[(u32, i64)], variables: &Variables) -> WideSum
+    ensures amount { amount result ≡ total (map (term_value (values_of variables.now)) terms.now) }
     ensures carries { unsigned_abs result.carries ≤ 2 ^ 100 }
     ensures rest { unsigned_abs result.rest ≤ 2 ^ 120 }
 {
@@ -82,29 +63,25 @@ fn terms_sum(terms: &[(u32, i64)], locals: &[i64], t: u64) -> WideSum
         rest: 0,
     };
     for term in terms {
-        sum = with_term(sum, term, locals, t);
+        sum = with_term(sum, term, variables);
     }
     sum
 }
 
 /// A linear value, exactly.
-fn linear_sum(l: &Lin, locals: &[i64], t: u64) -> WideSum
-    requires small { All IsSmall locals.now }
-    requires number { t ≤ 2 ^ 45 }
-    ensures amount { amount result ≡ lin_value (variables t locals.now) l.now }
+fn linear_sum(l: &Lin, variables: &Variables) -> WideSum
+    ensures amount { amount result ≡ lin_value (values_of variables.now) l.now }
     ensures rest { unsigned_abs result.rest ≤ 2 ^ 120 }
 {
-    let terms = terms_sum(l.coeffs.as_slice(), locals, t);
+    let terms = terms_sum(l.coeffs.as_slice(), variables);
     with_more(terms, widened(l.constant))
 }
 
 /// A linear value. Where it is far from 0 the number is too, on the same side.
-pub fn linear(l: &Lin, locals: &[i64], t: u64) -> i128
-    requires small { All IsSmall locals.now }
-    requires number { t ≤ 2 ^ 45 }
-    ensures { AreAlike result (lin_value (variables t locals.now) l.now) }
+pub fn linear(l: &Lin, variables: &Variables) -> i128
+    ensures { AreAlike result (lin_value (values_of variables.now) l.now) }
 {
-    shortened(linear_sum(l, locals, t))
+    shortened(linear_sum(l, variables))
 }
 
 /// A number, if it is in range.
@@ -120,28 +97,20 @@ pub fn in_range(v: i128) -> Option<i64>
 
 /// A linear value, if it is in range.
 #[tactic(auto, using(crate::proofs::Alike::alike_if_small))]
-pub fn linear_in_range(l: &Lin, locals: &[i64], t: u64) -> Option<i64>
-    requires small { All IsSmall locals.now }
-    requires number { t ≤ 2 ^ 45 }
-    ensures { result ≡ if_small (lin_value (variables t locals.now) l.now) }
+pub fn linear_in_range(l: &Lin, variables: &Variables) -> Option<i64>
+    ensures { result ≡ if_small (lin_value (values_of variables.now) l.now) }
 {
-    in_range(linear(l, locals, t))
+    in_range(linear(l, variables))
 }
 
 /// Linear values, if all are in range.
-pub fn linears_in_range<const N: usize>(
-    ls: &[Lin],
-    locals: &[i64],
-    t: u64,
-) -> Option<Inline<i64, N>>
-    requires small { All IsSmall locals.now }
-    requires number { t ≤ 2 ^ 45 }
+pub fn linears_in_range<const N: usize>(ls: &[Lin], variables: &Variables) -> Option<Inline<i64, N>>
     requires few { length ls.now ≤ N }
-    ensures { result ≡ if_all_small (lin_values (variables t locals.now) ls.now) }
+    ensures { result ≡ if_all_small (lin_values (values_of variables.now) ls.now) }
 {
     let mut values = Inline::new(0);
     for l in ls {
-        match linear_in_range(l, locals, t) {
+        match linear_in_range(l, variables) {
             Some(v) => values.push(v),
             None => return None,
         }
@@ -150,11 +119,9 @@ pub fn linears_in_range<const N: usize>(
 }
 
 /// The parts of a key, if they are in range.
-pub fn key_in_range(key: &[Lin], locals: &[i64], t: u64) -> Option<Inline<i64, 6>>
-    requires small { All IsSmall locals.now }
-    requires number { t ≤ 2 ^ 45 }
+pub fn key_in_range(key: &[Lin], variables: &Variables) -> Option<Inline<i64, 6>>
     requires key { IsKey key.now }
-    ensures { result ≡ if_all_small (lin_values (variables t locals.now) key.now) }
+    ensures { result ≡ if_all_small (lin_values (values_of variables.now) key.now) }
 {
-    linears_in_range(key, locals, t)
+    linears_in_range(key, variables)
 }

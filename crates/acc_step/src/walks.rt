@@ -1,16 +1,16 @@
 //! The columns of one row as the actions of a path change it, without memory.
 ghost use Rattle.std.specs.Prelude.{◌≡◌, ◌≤◌, ◌^◌, length, All, slice_set, unsigned_abs};
-ghost use Rattle.acc_base.specs.Numbers.{IsSmall};
-ghost use Rattle.acc_base.specs.Linear.{variables};
+ghost use Rattle.acc_step.specs.Variables.{values_of};
 ghost use Rattle.acc_base.specs.Runnable.{CanAct};
 ghost use Rattle.acc_store.specs.Bounds.{AreWithin};
 ghost use Rattle.acc_step.specs.Overlay.{columns_at, sum_in};
 ghost use Rattle.acc_step.specs.Changing.{change_if_small};
-ghost use Rattle.acc_step.specs.RowColumns.{acted_table, key_of, columns_made, columns_moved, columns_acted, columns_through, AreNear};
+ghost use Rattle.acc_step.specs.RowColumns.{acted_table as table_acted, key_of, columns_made, columns_moved, columns_acted, columns_through, AreNear};
 
-use crate::changes::{Change, RowKey, evaluated};
+use crate::changes::{RowChange, RowKey, evaluated};
 use crate::lookups::is_place;
 use crate::values::widened;
+use crate::variables::Variables;
 use crate::writers::{near_sum, value_at};
 use acc_base::steps::Action;
 use acc_store::{Inline, Store};
@@ -46,34 +46,34 @@ fn widened_columns(values: &[i64]) -> Inline<i128, 12>
 }
 
 /// The key of the row that a change is of.
-fn changed_key(change: &Change) -> &RowKey
+fn changed_key(change: &RowChange) -> &RowKey
     ensures { result.now ≡ key_of change.now }
 {
     match change {
-        Change::Put(key, _) => key,
-        Change::Drop(key) => key,
-        Change::Set(key, _, _) => key,
-        Change::Add(key, _, _) => key,
+        RowChange::Put(key, _) => key,
+        RowChange::Drop(key) => key,
+        RowChange::Set(key, _, _) => key,
+        RowChange::Add(key, _, _) => key,
     }
 }
 
 /// The columns of a row after a change of it.
-fn columns_after(cols: Option<Inline<i128, 12>>, change: &Change) -> Option<Inline<i128, 12>>
+fn columns_changed(cols: Option<Inline<i128, 12>>, change: &RowChange) -> Option<Inline<i128, 12>>
     requires near { AreNear (2 ^ 121) cols }
     ensures { result ≡ columns_made change.now cols }
 {
     match change {
-        Change::Put(_, values) => Some(widened_columns(values.as_slice())),
-        Change::Drop(_) => None,
-        Change::Set(_, col, value) => Some(with_cell(cols?, *col, widened(*value))),
-        Change::Add(_, col, more) => Some(with_sum(cols?, *col, *more)),
+        RowChange::Put(_, values) => Some(widened_columns(values.as_slice())),
+        RowChange::Drop(_) => None,
+        RowChange::Set(_, col, value) => Some(with_cell(cols?, *col, widened(*value))),
+        RowChange::Add(_, col, more) => Some(with_sum(cols?, *col, *more)),
     }
 }
 
 /// The columns at a key after a change.
 fn columns_with_change(
     cols: Option<Inline<i128, 12>>,
-    change: &Change,
+    change: &RowChange,
     table: u32,
     key: &[i64],
 ) -> Option<Inline<i128, 12>>
@@ -82,15 +82,15 @@ fn columns_with_change(
 {
     let other = changed_key(change);
     if is_place(table, key, other.table, other.parts.as_slice()) {
-        columns_after(cols, change)
+        columns_changed(cols, change)
     } else {
         cols
     }
 }
 
 /// The table that an action is of.
-fn table_of(action: &Action) -> u32
-    ensures { result ≡ acted_table action.now }
+fn acted_table(action: &Action) -> u32
+    ensures { result ≡ table_acted action.now }
 {
     match action {
         Action::Put(table, _, _) => *table,
@@ -106,19 +106,16 @@ fn columns_with_action(
     action: &Action,
     table: u32,
     key: &[i64],
-    locals: &[i64],
-    t: u64,
+    variables: &Variables,
 ) -> Option<Inline<i128, 12>>
-    requires small { All IsSmall locals.now }
-    requires number { t ≤ 2 ^ 45 }
     requires can { CanAct action.now }
     requires near { AreNear (2 ^ 121) cols }
-    ensures { result ≡ columns_acted (table, key.now) (change_if_small (variables t locals.now) action.now) cols }
+    ensures { result ≡ columns_acted (table, key.now) (change_if_small (values_of variables.now) action.now) cols }
 {
-    if table_of(action) != table {
+    if acted_table(action) != table {
         return cols;
     }
-    match evaluated(action, locals, t) {
+    match evaluated(action, variables) {
         Some(change) => columns_with_change(cols, &change, table, key),
         None => cols,
     }
@@ -140,20 +137,17 @@ pub fn columns_past<S: Store>(
     actions: &[Action],
     table: u32,
     key: &[i64],
-    locals: &[i64],
-    t: u64,
+    variables: &Variables,
 ) -> Option<Inline<i128, 12>>
-    requires small { All IsSmall locals.now }
-    requires number { t ≤ 2 ^ 45 }
     requires can { All CanAct actions.now }
     requires few { length actions.now ≤ 16 }
     requires within { AreWithin (2 ^ 120) (S.rows s.now) }
-    ensures value { result ≡ columns_through (variables t locals.now) (table, key.now) actions.now (columns_at (table, key.now) (S.rows s.now)) }
+    ensures value { result ≡ columns_through (values_of variables.now) (table, key.now) actions.now (columns_at (table, key.now) (S.rows s.now)) }
     ensures near { AreNear (2 ^ 121) result }
 {
     let mut cols = columns_stored(s, table, key);
     for action in actions {
-        cols = columns_with_action(cols, action, table, key, locals, t);
+        cols = columns_with_action(cols, action, table, key, variables);
     }
     cols
 }

@@ -7,9 +7,9 @@ ghost use Rattle.acc_store.specs.declared.writes.Write.TheVariants.{Row as Puts,
 ghost use Rattle.acc_step.specs.InRange.{if_small};
 ghost use Rattle.acc_step.specs.Overlay.{may_store, columns_at, put_with, set_of, add_of, with_write};
 ghost use Rattle.acc_step.specs.Changing.{place_at, changed, may_change};
-ghost use Rattle.acc_step.specs.declared.changes.Change.TheVariants.{Put as ToPut, Drop as ToDrop, Set as ToSet, Add as ToAdd};
+ghost use Rattle.acc_step.specs.declared.changes.RowChange.TheVariants.{Set as ToSet, Add as ToAdd};
 
-use crate::changes::{Change, RowKey};
+use crate::changes::{RowChange, RowKey};
 use crate::errors::StepError;
 use crate::lookups::columns_now;
 use crate::values::{in_range, widened};
@@ -263,7 +263,7 @@ pub fn make_change<S: Store>(
     alloc: Global,
     s: &S,
     side: Side,
-    change: &Change,
+    change: &RowChange,
     writes: &mut Vec<Write>,
 ) -> Result<(), StepError>
     requires order { IsInOrder (S.rows s.now) }
@@ -275,9 +275,9 @@ pub fn make_change<S: Store>(
     ensures narrow { OnOk result (All IsNarrow writes.new.items) }
 {
     match change {
-        Change::Put(key, columns) => Ok(put_row(alloc, key, columns.as_slice(), writes)?),
-        Change::Drop(key) => Ok(drop_row(alloc, key, writes)?),
-        Change::Set(key, col, value) => Ok(set_column(alloc, s, key, *col, *value, writes)?),
-        Change::Add(key, col, more) => add_to_column(alloc, s, side, key, *col, *more, writes),
+        RowChange::Put(key, columns) => Ok(put_row(alloc, key, columns.as_slice(), writes)?),
+        RowChange::Drop(key) => Ok(drop_row(alloc, key, writes)?),
+        RowChange::Set(key, col, value) => Ok(set_column(alloc, s, key, *col, *value, writes)?),
+        RowChange::Add(key, col, more) => add_to_column(alloc, s, side, key, *col, *more, writes),
     }
 }

@@ -2,7 +2,7 @@ use Rattle.std.proofs.Common.{◌∙◌, ap, sym, subst, ◌+◌, ◌*◌, ◌^�
 use Rattle.std.specs.List.{list_all}
 use Rattle.std.specs.Cmp.{first_so}
 use Rattle.acc_base.specs.Numbers.{is_small}
-use Rattle.acc_base.specs.Linear.{variables}
+use Rattle.acc_step.specs.Variables.{values_of}
 use Rattle.acc_base.specs.Actions.{action_numbers, after_action, after_actions, stores_small}
 use Rattle.acc_store.specs.Bounds.{AreWithin}
 use Rattle.acc_store.specs.Rows.{written}
@@ -12,7 +12,7 @@ use Rattle.acc_step.proofs.actions.act_all.Goals as goal
 
 pub loop-action-preserved : goal.loop-action-preserved
 loop-action-preserved g c =
-    let env = variables c.args.t c.args.locals.now in
+    let env = values_of c.args.variables.now in
     let a = c.action-item.result in
     let i = c.loop-action.action-index in
     let rows = written c.loop-action.writes.items (g.S.Store.rows c.args.s.now) in

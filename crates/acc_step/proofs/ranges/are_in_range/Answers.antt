@@ -4,7 +4,7 @@ use Rattle.std.specs.List.{list_all}
 use Rattle.std.specs.Cmp.{first_so}
 use Rattle.std.proofs.lemmas.List.{take_more}
 use Rattle.acc_base.specs.Numbers.{is_small}
-use Rattle.acc_base.specs.Linear.{variables}
+use Rattle.acc_step.specs.Variables.{values_of}
 use Rattle.acc_base.specs.Tables.{IsInOrder}
 use Rattle.acc_base.specs.Actions.{action_numbers, stores_small, after_action, after_actions}
 use Rattle.acc_base.proofs.ActionRuns.{actions_in_order}
@@ -18,7 +18,7 @@ use Rattle.acc_step.proofs.ranges.are_in_range.Goals as goal
 pub returns-then-not-is_action_in_range : goal.returns-then-not-is_action_in_range
 returns-then-not-is_action_in_range g c =
     let db = g.S.Store.rows c.args.s.now in
-    let env = variables c.args.t c.args.locals.now in
+    let env = values_of c.args.variables.now in
     let acts = c.args.actions.now in
     let i = c.loop-i.i in
     let a = c.index-actions-i.result in
@@ -30,7 +30,7 @@ returns-then-not-is_action_in_range g c =
 pub loop-i-preserved : goal.loop-i-preserved
 loop-i-preserved g c =
     let db = g.S.Store.rows c.args.s.now in
-    let env = variables c.args.t c.args.locals.now in
+    let env = values_of c.args.variables.now in
     let acts = c.args.actions.now in
     let i = c.loop-i.i in
     let a = c.index-actions-i.result in

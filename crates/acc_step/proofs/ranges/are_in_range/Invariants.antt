@@ -1,5 +1,5 @@
 use Rattle.std.proofs.Common.{◌≡◌, take, drop}
-use Rattle.acc_base.specs.Linear.{variables}
+use Rattle.acc_step.specs.Variables.{values_of}
 use Rattle.acc_base.specs.Actions.{after_actions}
 use Rattle.acc_base.specs.Tables.{Place, IsInOrder}
 use Rattle.acc_step.specs.Overlay.{columns_at}
@@ -11,7 +11,7 @@ use Rattle.acc_step.proofs.ranges.are_in_range.Given as goal
 abbrev pub invariant-loop-i : goal.invariant-loop-i
 invariant-loop-i g l =
     let db = g.S.Store.rows l.s in
-    let env = variables l.t l.locals in
+    let env = values_of l.variables in
     record {
       rest : after_actions l.side env (drop l.i l.actions) (rows_through env (take l.i l.actions) db) ≡ after_actions l.side env l.actions db;
       columns : (p : Place) → columns_through env p (take l.i l.actions) (columns_at p db) ≡ columns_at p (rows_through env (take l.i l.actions) db);

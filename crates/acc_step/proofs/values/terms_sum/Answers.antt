@@ -1,12 +1,13 @@
 use Rattle.std.proofs.Common.{pos, arith}
-use Rattle.acc_base.specs.Linear.{variables, term_value}
+use Rattle.acc_base.specs.Linear.{term_value}
+use Rattle.acc_step.specs.Variables.{values_of}
 use Rattle.acc_step.specs.WideSums.{amount}
 use Rattle.acc_step.proofs.Sums.{sum_step}
 use Rattle.acc_step.proofs.values.terms_sum.Goals as goal
 
 pub loop-term-preserved : goal.loop-term-preserved
 loop-term-preserved c =
-    let env = variables c.args.t c.args.locals.now in
+    let env = values_of c.args.variables.now in
     let i = c.loop-term.invariant in
     let h = c.with_term-sum.ensures in
     record {

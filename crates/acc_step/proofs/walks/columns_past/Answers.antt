@@ -1,6 +1,6 @@
 use Rattle.std.proofs.Common.{◌∙◌, ap, sym, subst, ◌+◌, ◌*◌, ◌^◌, ◌∷◌, [], ◌++◌, take, arith}
 use Rattle.std.proofs.lemmas.List.{take_more}
-use Rattle.acc_base.specs.Linear.{variables}
+use Rattle.acc_step.specs.Variables.{values_of}
 use Rattle.acc_base.specs.Tables.{Place, is_at}
 use Rattle.acc_step.specs.Overlay.{columns_at}
 use Rattle.acc_step.specs.Changing.{change_if_small}
@@ -21,7 +21,7 @@ loop-action-init g c =
 pub loop-action-preserved : goal.loop-action-preserved
 loop-action-preserved g c =
     let p : Place = (c.args.table, c.args.key.now) in
-    let env = variables c.args.t c.args.locals.now in
+    let env = values_of c.args.variables.now in
     let old = columns_at p (g.S.Store.rows c.args.s.now) in
     let acts = c.args.actions.now in
     let i = c.loop-action.action-index in
