@@ -116,7 +116,8 @@ ask_fits (Some n) = nat_le n 65536
 abbrev pub call_fits : Option TxType → Call → Bool
 call_fits None call = false
 call_fits (Some x) call =
-    (length call.params == x.params) && list_all is_small call.params && list_all is_small call.tape && nat_le (length call.tape) 4096 && ask_fits call.ask
+    (length call.params == x.params) && list_all is_small call.params && list_all is_small call.tape && nat_le (length call.tape) 4096
+    && ask_fits call.ask
 
 abbrev pub locals_in : Option TxType → ℕ
 locals_in None = 0
@@ -125,7 +126,17 @@ locals_in (Some x) = length x.locals
 -- a transaction as it begins: at its first point, its locals the parameters and then zeros
 abbrev pub begun : Design → ℕ → Call → Frame
 begun d t call =
-    record { t = t; ty = call.ty; point = 0; side = Next; locals = call.params ++ replicate (locals_in (slice_get d.types call.ty) - length call.params) (pos 0); tape = call.tape; pos = 0; steps = 0; ask = call.ask }
+    record {
+      t = t;
+      ty = call.ty;
+      point = 0;
+      side = Next;
+      locals = call.params ++ replicate (locals_in (slice_get d.types call.ty) - length call.params) (pos 0);
+      tape = call.tape;
+      pos = 0;
+      steps = 0;
+      ask = call.ask;
+    }
 
 -- ---- a transaction takes a step
 

@@ -56,7 +56,11 @@ number_of p place = option_and_then (λ n. n) (item_at place p.numbers)
 
 -- a place begins: its transaction has the next number
 abbrev pub with_place : Play → ℕ → World → Play
-with_place p place w = record { world = w; numbers = with_item place (Some (next_number p.world)) p.numbers; places = p.places ++ place ∷ [] }
+with_place p place w = record {
+  world = w;
+  numbers = with_item place (Some (next_number p.world)) p.numbers;
+  places = p.places ++ place ∷ [];
+}
 
 -- ---- a mention: what is told of it, and the play after it
 
@@ -113,4 +117,5 @@ play_after p (x ∷ xs) = play_after x.1 xs
 
 -- on the plain machine no order has two plays
 abbrev pub PlaysOnce : Type 0
-PlaysOnce = (d : Design) (calls : List Call) (order : List ℕ) (xs ys : List (Told × Play)) → Plays (plain d) calls order xs → Plays (plain d) calls order ys → xs ≡ ys
+PlaysOnce = (d : Design) (calls : List Call) (order : List ℕ) (xs ys : List (Told × Play)) → Plays (plain d) calls order xs
+    → Plays (plain d) calls order ys → xs ≡ ys

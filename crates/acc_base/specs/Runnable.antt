@@ -75,7 +75,7 @@ abbrev pub IsRunnable : Design → Type 0
 IsRunnable d = All IsRunnableType d.types
 
 -- a frame whose numbers are in range: its number, locals and tape within 2^45 of 0
-pub record FrameFits (f : Frame) : Type 0 where
+pub record IsSmallFrame (f : Frame) : Type 0 where
   pub locals : All IsSmall f.locals
   pub few : length f.locals ≤ 48
   pub tape : All IsSmall f.tape

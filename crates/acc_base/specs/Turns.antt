@@ -51,4 +51,5 @@ said_of w e t (Some x) = Some (said e x.1, became w e t x)
 -- the next turn of transaction t: what is said of it, and the state after it
 abbrev pub turn_of : Design → World → ℕ → Option (Turn × World)
 turn_of d w t =
-    option_and_then (λ e. said_of w e t (changed d w.rows e (transaction_at t w.transactions))) (next_event d w.rows (transaction_at t w.transactions))
+    option_and_then (λ e. said_of w e t (changed d w.rows e (transaction_at t w.transactions)))
+    (next_event d w.rows (transaction_at t w.transactions))

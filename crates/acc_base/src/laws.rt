@@ -11,7 +11,8 @@ ghost use Rattle.acc_base.specs.Worths.{trial, SumsAddUp};
 pub fn an_update_is_lost()
     ensures { PlaysCells three_calls (1 ∷ 2 ∷ 3 ∷ 2 ∷ 3 ∷ [])
         (lines_of (codes "1 ended" ∷ codes "2 stepped bump.mid" ∷ codes "3 stepped bump.mid" ∷ codes "2 ended" ∷
-        codes "3 ended" ∷ codes "1 committed" ∷ codes "2 committed 0" ∷ codes "3 committed 0" ∷ codes "events 8" ∷ [])) (cell_row 1 1 ∷ []) }
+        codes "3 ended" ∷ codes "1 committed" ∷ codes "2 committed 0" ∷ codes "3 committed 0" ∷ codes "events 8" ∷ []))
+        (cell_row 1 1 ∷ []) }
 {}
 
 /// A counter of a cell that isn't there refuses, and the others don't begin.

@@ -20,7 +20,8 @@ AllGiven counts counts' = (counts'.faults ≡ counts.faults) × (counts'.absence
 
 -- The name is the first of the names whose file is refused, and why. The reads were one for each name before it, which gave
 -- its file, and then the one that was refused.
-pub record IsFirstRefused (held : List ℕ → Told) (counts counts' : Counts) (names : List (List ℕ)) (name : List ℕ) (error : ShelfError) : Type 0 where
+pub record IsFirstRefused (held : List ℕ → Told) (counts counts' : Counts) (names : List (List ℕ)) (name : List ℕ)
+    (error : ShelfError) : Type 0 where
   pub before : List (List ℕ)
   pub files : List (List ℕ)
   pub after : List (List ℕ)

@@ -37,7 +37,8 @@ pub record EndsSo (held : List ℕ → Told) (counts counts' : Counts) (words : 
   pub meant : Means command files said
 
 -- Want of memory alone is free. No status but that of a file comes after a read that gave no file.
-pub record HasCauses (held : List ℕ → Told) (counts counts' : Counts) (words : List (List ℕ)) (sink_fault : Type 0) (status : Status) : Type 0 where
+pub record HasCauses (held : List ℕ → Told) (counts counts' : Counts) (words : List (List ℕ)) (sink_fault : Type 0)
+    (status : Status) : Type 0 where
   pub usage : status ≡ Usage → (command_of words ≡ None) × (counts' ≡ counts)
   pub usage_only : command_of words ≡ None → (status ≡ Usage) ⊎ (status ≡ Memory)
   pub file : status ≡ File → LacksFile held counts counts' words

@@ -59,7 +59,8 @@ fn decide<H: Shelf>(alloc: Global, words: &[String], shelf: &mut H) -> Result<An
     ensures faults { (H.counts shelf.old).faults ≤ (H.counts shelf.new).faults }
     ensures absences { (H.counts shelf.old).absences ≤ (H.counts shelf.new).absences }
     ensures clean { IfOk result (λ a. a.status ≡ Ran Done → AllGiven (H.counts shelf.old) (H.counts shelf.new)) }
-    ensures meant { IfOk result (λ a. Meant (H.held shelf.old) (H.counts shelf.old) (H.counts shelf.new) (map string_bytes words.now) (reply_of a)) }
+    ensures meant { IfOk result (λ a. Meant (H.held shelf.old) (H.counts shelf.old) (H.counts shelf.new) (map string_bytes words.now)
+        (reply_of a)) }
 {
     let Some(command) = words::command_of(words) else {
         return Ok(Answer {

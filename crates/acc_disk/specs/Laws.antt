@@ -10,10 +10,12 @@ use Rattle.acc_disk.specs.declared.history.History.{History}
 
 -- with all changes done there stands what stands now
 pub past_standing-all : (history : History) (count : ℕ) → change_count history ≤ count → past_standing history count ≡ present history
-past_standing-all history count all = ap (λ changes. after_all changes (settled history.start.items)) (take_all count history.past.items all)
+past_standing-all history count all = ap (λ changes. after_all changes (settled history.start.items))
+    (take_all count history.past.items all)
 
 -- the present moment is one of those since an earlier one
-pub left_now : (history : History) (time : ℕ) (image : List ℕ) → time ≤ change_count history → IsImage (present history) image → LeftSince history time image
+pub left_now : (history : History) (time : ℕ) (image : List ℕ) → time ≤ change_count history → IsImage (present history) image
+    → LeftSince history time image
 left_now history time image le now = record {
   count = change_count history;
   since = le;
@@ -26,7 +28,8 @@ pub left_only_now : (history : History) (image : List ℕ) → LeftSince history
 left_only_now history image left = subst (λ standing. IsImage standing image) (past_standing-all history left.count left.since) left.left
 
 -- the moments since a time are among those since an earlier one
-pub left_earlier : (history : History) (sooner time : ℕ) (image : List ℕ) → sooner ≤ time → LeftSince history time image → LeftSince history sooner image
+pub left_earlier : (history : History) (sooner time : ℕ) (image : List ℕ) → sooner ≤ time → LeftSince history time image
+    → LeftSince history sooner image
 left_earlier history sooner time image le left = record {
   count = left.count;
   since = omega (arith, le, left.since);

@@ -54,7 +54,8 @@ is_written written place = list_any (λ range. nat_le range.0 place && nat_lt pl
 pub record IsImage (standing : Standing) (image : List ℕ) : Type 0 where
   pub no_shorter : standing.lowest ≤ length image
   pub no_longer : length image ≤ standing.highest
-  pub untouched : (i : ℕ) → i < standing.lowest → is_written standing.written i ≡ false → slice_index image i ≡ slice_index standing.synced i
+  pub untouched : (i : ℕ) → i < standing.lowest → is_written standing.written i ≡ false → slice_index image i
+      ≡ slice_index standing.synced i
 
 -- nothing was done since the sync
 abbrev pub IsSettled : Standing → Type 0

@@ -122,7 +122,8 @@ step_in tables vars points s =
 -- what holds at a point, its variant, and its steps
 abbrev pub point_in : List Table → ℕ → ℕ → Point → Bool
 point_in tables vars points p =
-    list_all (clause_in tables vars) p.clauses && lin_in vars p.variant && step_in tables vars points p.next && step_in tables vars points p.undo
+    list_all (clause_in tables vars) p.clauses && lin_in vars p.variant && step_in tables vars points p.next
+    && step_in tables vars points p.undo
 
 -- at most as many parameters as locals, and a point
 abbrev pub head_in : TxType → Bool
@@ -162,7 +163,8 @@ pair_in held step p = nat_lt p.0 held && nat_lt p.1 step
 -- the two points of an entry, and its pairs
 abbrev pub entry_in : List TxType → Entry → Bool
 entry_in types e =
-    at_in types e.held && at_in types e.step && list_all (pair_in (locals_of (slice_get types e.held.ty)) (locals_of (slice_get types e.step.ty))) e.pairs
+    at_in types e.held && at_in types e.step
+    && list_all (pair_in (locals_of (slice_get types e.held.ty)) (locals_of (slice_get types e.step.ty))) e.pairs
 
 -- the point of a hint, and the locals of its value
 abbrev pub hint_in : List TxType → Hint → Bool
@@ -173,4 +175,5 @@ hint_in types h = at_in types h.at && lin_in (locals_of (slice_get types h.at.ty
 -- everything in a design
 abbrev pub design_in : Design → Bool
 design_in d =
-    list_all (clause_in d.tables 0) d.always && list_all (type_in d.tables) d.types && list_all (entry_in d.types) d.entries && list_all (hint_in d.types) d.hints
+    list_all (clause_in d.tables 0) d.always && list_all (type_in d.tables) d.types && list_all (entry_in d.types) d.entries
+    && list_all (hint_in d.types) d.hints

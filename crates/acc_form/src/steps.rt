@@ -89,7 +89,8 @@ fn meet_target(walk: &mut Walk, around: &Around<'_>, path: &Path)
 /// A path, one of so many.
 fn meet_path(walk: &mut Walk, around: &Around<'_>, count: usize, i: usize, path: &Path)
     requires { i < count }
-    ensures { walk.new ≡ after walk.old (path_marks around.now.tables.now around.now.ty.now around.now.side around.now.is_bare count i path.now) }
+    ensures { walk.new ≡ after walk.old
+        (path_marks around.now.tables.now around.now.ty.now around.now.side around.now.is_bare count i path.now) }
 {
     let guard = path.guard.as_slice();
     walk.ask(LIMITS, i != 16 && guard_small(guard));
@@ -101,7 +102,8 @@ fn meet_path(walk: &mut Walk, around: &Around<'_>, count: usize, i: usize, path:
 
 /// At most 16 paths.
 fn meet_paths(walk: &mut Walk, around: &Around<'_>, paths: &[Path])
-    ensures { walk.new ≡ after walk.old (numbered (path_marks around.now.tables.now around.now.ty.now around.now.side around.now.is_bare (length paths.now)) paths.now) }
+    ensures { walk.new ≡ after walk.old (numbered (path_marks around.now.tables.now around.now.ty.now around.now.side around.now.is_bare
+        (length paths.now)) paths.now) }
 {
     for (i, path) in paths.iter().enumerate() {
         meet_path(walk, around, paths.len(), i, path);

@@ -80,7 +80,8 @@ token_of None line from to = []
 -- the tokens of parts that begin on a line, at a place
 abbrev pub tokens_from : ℕ → ℕ → List Part → List TokenValue
 tokens_from line from [] = []
-tokens_from line from (p ∷ ps) = token_of (kind_of p.shape) line from (from + p.len) ++ tokens_from (line + feeds_of p.shape) (from + p.len) ps
+tokens_from line from (p ∷ ps) = token_of (kind_of p.shape) line from (from + p.len)
+    ++ tokens_from (line + feeds_of p.shape) (from + p.len) ps
 
 -- the tokens of lines
 abbrev pub lines_tokens : Line × List Line → List TokenValue

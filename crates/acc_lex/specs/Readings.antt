@@ -1,4 +1,5 @@
--- A text is read from left to right, up to the first byte with which no text goes on. Only the code speaks of this; Spellings says what a text is.
+-- A text is read from left to right, up to the first byte with which no text goes on. Only the code speaks of this; Spellings
+-- says what a text is.
 use Rattle.std.specs.Prelude.{ℕ, ◌+◌, Bool, true, false, ◌==◌, not, ◌||◌, List, [], ◌∷◌, ◌++◌, length, Option, Some, None, is_some, unwrap_or, Ok, if◌then◌else◌}
 use Rattle.acc_grammar.specs.Readers.{OutcomeOf, ◌>>=◌, joined, many}
 use Rattle.acc_grammar.specs.Runs.{next_is, one_at, run_at, front_at, absent_at}
@@ -66,7 +67,8 @@ equal_at bs = do
 
 -- the marks of one byte with which no other mark begins
 abbrev pub marks : List (ℕ × Sign)
-marks = (91, sign.Open) ∷ (93, sign.Close) ∷ (44, sign.Comma) ∷ (46, sign.Dot) ∷ (58, sign.Colon) ∷ (43, sign.Plus) ∷ (45, sign.Minus) ∷ (42, sign.Times) ∷ []
+marks = (91, sign.Open) ∷ (93, sign.Close) ∷ (44, sign.Comma) ∷ (46, sign.Dot) ∷ (58, sign.Colon) ∷ (43, sign.Plus) ∷ (45, sign.Minus)
+    ∷ (42, sign.Times) ∷ []
 
 -- the mark of a table that a byte is
 abbrev pub mark_among : List (ℕ × Sign) → ℕ → Option Sign

@@ -8,7 +8,8 @@ use Rattle.acc_lex.specs.Spellings.{IsNumeral}
 use Rattle.acc_lex.specs.LineWords.{number_of}
 use Rattle.acc_grammar.specs.Runs.{IsRun}
 
--- words that a text can have: a name is a letter and then letters, digits and _, and none of the words that the grammar fixes; a number is what some digits mean
+-- words that a text can have: a name is a letter and then letters, digits and _, and none of the words that the grammar fixes; a
+-- number is what some digits mean
 abbrev pub CanSpell : Word → Type 0
 CanSpell (word.Name x) = IsRun is_letter is_inner x × (keyword_of x ≡ None)
 CanSpell (word.Number n) = (w : List ℕ) × IsNumeral w × (number_of w ≡ n)

@@ -329,7 +329,8 @@ impl<'a> Lexer<'a> {
     }
 
     fn next_statements(&mut self) -> Result<(), Fault>
-        ensures { Adds (joined next_statement_parts) result self.old.parts self.new.parts self.new.rest.now (next_statements_at self.old.rest.now) }
+        ensures { Adds (joined next_statement_parts) result self.old.parts self.new.parts self.new.rest.now
+            (next_statements_at self.old.rest.now) }
     {
         while self.comes(b';') {
             self.next_statement()?;

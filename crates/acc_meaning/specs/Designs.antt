@@ -41,7 +41,10 @@ points_or_none (Some t) = point_names t
 
 -- a point, by the numbers of its type and of its own
 abbrev pub at_of : List TypeTree → PointName → At
-at_of types p = record { ty = number_of p.type_name (type_names types); point = number_of p.point (points_or_none (type_named types p.type_name)) }
+at_of types p = record {
+  ty = number_of p.type_name (type_names types);
+  point = number_of p.point (points_or_none (type_named types p.type_name));
+}
 
 abbrev pub side_of : SideTree → Side
 side_of side_tree.Next = side.Next

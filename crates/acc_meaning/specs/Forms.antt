@@ -1,4 +1,5 @@
--- What forms, relations between them and clauses stand for: terms of one unknown are collected, and unknowns are the same where they are equal as data.
+-- What forms, relations between them and clauses stand for: terms of one unknown are collected, and unknowns are the same where
+-- they are equal as data.
 use Rattle.std.specs.Prelude.{ℕ, List, [], ◌∷◌, map, Option, Some, None}
 use Rattle.acc_base.specs.UnknownEquality.{unknown_eq}
 use Rattle.acc_base.specs.declared.forms.Atom.{Atom}

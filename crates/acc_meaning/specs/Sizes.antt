@@ -145,7 +145,8 @@ variant_sizes v (Some s) = sum_sizes v s ++ ending
 -- `point` with its name, the variant, what holds, the two steps
 abbrev pub point_sizes : Scope → PointTree → List Mark
 point_sizes s p =
-    ending ++ (variant_sizes s.variables p.variant ++ (flat_map (clause_statement_sizes s) p.holds ++ (step_sizes s p.next ++ step_sizes s p.undo)))
+    ending ++ (variant_sizes s.variables p.variant
+    ++ (flat_map (clause_statement_sizes s) p.holds ++ (step_sizes s p.next ++ step_sizes s p.undo)))
 
 -- `returns` or `local`, which may be left out
 abbrev pub names_sizes : Option Names → List Mark

@@ -114,7 +114,8 @@ clause_scope s c = record { tables = s.tables; variables = s.variables ++ listed
 -- a variable of `forall` is new, and what the clause uses is defined
 abbrev pub clause_fault : Scope → ClauseTree → Bool
 clause_fault s c =
-    defines_again s.variables (listed_or_none c.variables) || (premises_fault (clause_scope s c) c.guards || form_rel_fault (clause_scope s c) c.relation)
+    defines_again s.variables (listed_or_none c.variables)
+    || (premises_fault (clause_scope s c) c.guards || form_rel_fault (clause_scope s c) c.relation)
 
 -- ---- steps
 
@@ -161,12 +162,14 @@ variant_faults variables (Some v) = sum_fault variables v ∷ []
 -- `point` with its name, whether that is given again, `variant`, what holds, the steps
 abbrev pub point_faults : Scope → List (List ℕ) → Bool → PointTree → List Bool
 point_faults s points again p =
-    again ∷ (variant_faults s.variables p.variant ++ (map (clause_fault s) p.holds ++ (step_faults s points p.next ++ step_faults s points p.undo)))
+    again ∷ (variant_faults s.variables p.variant
+    ++ (map (clause_fault s) p.holds ++ (step_faults s points p.next ++ step_faults s points p.undo)))
 
 -- the points behind those of the earlier names
 abbrev pub points_faults : Scope → List (List ℕ) → List (List ℕ) → List PointTree → List Bool
 points_faults s points earlier [] = []
-points_faults s points earlier (p ∷ ps) = point_faults s points (stands_in p.name earlier) p ++ points_faults s points (earlier ++ p.name ∷ []) ps
+points_faults s points earlier (p ∷ ps) =
+    point_faults s points (stands_in p.name earlier) p ++ points_faults s points (earlier ++ p.name ∷ []) ps
 
 -- `returns` names locals, also ones that `local` declares behind it
 abbrev pub returns_faults : List (List ℕ) → Option Names → List Bool
@@ -189,7 +192,8 @@ type_scope tables t = record { tables = tables; variables = locals_of t }
 -- the head, what is ensured and repaired, the points
 abbrev pub type_faults : List TableTree → Bool → TypeTree → List Bool
 type_faults tables again t =
-    head_faults again t ++ (map (clause_fault (type_scope tables t)) t.ensured ++ (map (clause_fault (type_scope tables t)) t.repaired ++ points_faults (type_scope tables t) (point_names t) [] (points_in t)))
+    head_faults again t ++ (map (clause_fault (type_scope tables t)) t.ensured
+    ++ (map (clause_fault (type_scope tables t)) t.repaired ++ points_faults (type_scope tables t) (point_names t) [] (points_in t)))
 
 -- the types behind those of the earlier names
 abbrev pub types_faults : List TableTree → List (List ℕ) → List TypeTree → List Bool
@@ -242,7 +246,8 @@ outside tables = record { tables = tables; variables = [] }
 -- for each statement, in the order of the text, whether it has a fault of names
 abbrev pub statement_faults : DesignTree → List Bool
 statement_faults d =
-    tables_faults [] d.tables ++ (map (clause_fault (outside d.tables)) d.always ++ (types_faults d.tables [] d.types ++ (map (entry_fault d.types) d.entries ++ map (hint_fault d.types) d.hints)))
+    tables_faults [] d.tables ++ (map (clause_fault (outside d.tables)) d.always
+    ++ (types_faults d.tables [] d.types ++ (map (entry_fault d.types) d.entries ++ map (hint_fault d.types) d.hints)))
 
 -- the numbers of the statements with a fault of names, from 0
 abbrev pub name_faults : DesignTree → List ℕ

@@ -9,7 +9,8 @@ pub mod names;
 mod rows;
 mod scopes;
 mod steps;
-mod tables;mod types;
+mod tables;
+mod types;
 mod values;
 
 pub use designs::{DesignNames, names_of};

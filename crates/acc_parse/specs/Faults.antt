@@ -24,7 +24,8 @@ pub record PassesAt (text : List ℕ) (tree : DesignTree) (line which : ℕ) : T
   pub there : Contains (past_limits tree) (statement, limit)
   pub on_line : IsLineOf text statement line
   pub number : which ≡ number_of limit
-  pub first : (n : ℕ) (k : Limit) (at : ℕ) → Contains (past_limits tree) (n, k) → IsLineOf text n at → (line < at) ⊎ ((line ≡ at) × (which ≤ number_of k))
+  pub first : (n : ℕ) (k : Limit) (at : ℕ) → Contains (past_limits tree) (n, k) → IsLineOf text n at → (line < at)
+      ⊎ ((line ≡ at) × (which ≤ number_of k))
 
 -- the text has no fault of names, and passes a limit first on this line, the lowest of those by this number
 pub record IsLimitAt (text : List ℕ) (line which : ℕ) : Type 0 where

@@ -13,7 +13,7 @@ use Rattle.acc_base.specs.declared.machines.Frame.{Frame}
 use Rattle.acc_base.specs.declared.machines.Transaction.{Transaction}
 use Rattle.acc_base.specs.declared.machines.Transaction.TheVariants.{Forward}
 use Rattle.acc_base.specs.Machine.{frame_in, call_fits, ask_fits, locals_in, begun}
-use Rattle.acc_base.specs.Runnable.{IsRunnable, IsRunnableType, FrameFits}
+use Rattle.acc_base.specs.Runnable.{IsRunnable, IsRunnableType, IsSmallFrame}
 use Rattle.acc_base.proofs.Items.{at_slice_get}
 use Rattle.acc_base.proofs.Smalls.{all_small}
 
@@ -61,7 +61,7 @@ fit_get n (y ∷ xs) (suc i) x h e =
     subst (λ (m : ℕ). Fits m x) k (fit_get (n + 1) xs i x h.1 e)
 
 -- a frame that fits, whose number isn't too large
-pub fits_frame : (n : ℕ) (f : Frame) → IsOwn n f → n ≤ 2 ^ 45 → FrameFits f
+pub fits_frame : (n : ℕ) (f : Frame) → IsOwn n f → n ≤ 2 ^ 45 → IsSmallFrame f
 fits_frame n f own le = record {
   locals = own.fitting.locals;
   few = own.fitting.few;

@@ -9,7 +9,7 @@ use Rattle.acc_base.specs.declared.machines.Frame.{Frame}
 use Rattle.acc_base.specs.declared.machines.Transaction.{Transaction}
 use Rattle.acc_base.specs.Tables.{IsInOrder}
 use Rattle.acc_base.specs.Machine.{World, transaction_at, frame_in, became, becomes, changed, after_event}
-use Rattle.acc_base.specs.Runnable.{FrameFits}
+use Rattle.acc_base.specs.Runnable.{IsSmallFrame}
 use Rattle.acc_store.specs.Bounds.{AreWithin}
 use Rattle.acc_store.specs.Rows.{written, SumsFit}
 use Rattle.acc_step.proofs.Bounds.{within_weaker}
@@ -28,7 +28,7 @@ pub record IsBegun (t : ℕ) (w : World) (x : Transaction) (e : Event) : Type 0 
   pub from_one : 0 < t
   pub got : slice_get w.transactions (t - 1) ≡ Some x
   pub of : IsOf x e
-  pub fits : IfSome (frame_in x) FrameFits
+  pub fits : IfSome (frame_in x) IsSmallFrame
   pub order : IsInOrder w.rows
   pub within : AreWithin (2 ^ 120) w.rows
 

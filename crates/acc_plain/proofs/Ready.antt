@@ -10,7 +10,7 @@ use Rattle.acc_base.specs.declared.machines.Turn.{Turn}
 use Rattle.acc_base.specs.Tables.{IsInOrder}
 use Rattle.acc_base.specs.Machine.{World, transaction_at, frame_in, became, after_event}
 use Rattle.acc_base.specs.Turns.{said, turn_of}
-use Rattle.acc_base.specs.Runnable.{FrameFits}
+use Rattle.acc_base.specs.Runnable.{IsSmallFrame}
 use Rattle.acc_store.specs.Bounds.{AreWithin}
 use Rattle.acc_store.specs.Rows.{written, SumsFit}
 use Rattle.acc_step.proofs.Bounds.{within_weaker}
@@ -30,12 +30,12 @@ pub record IsReady (t : ℕ) (w : World) : Type 0 where
   pub from_one : 0 < t
   pub got : slice_get w.transactions (t - 1) ≡ Some x
   pub numbered : IsNumbered t x
-  pub fits : IfSome (frame_in x) FrameFits
+  pub fits : IfSome (frame_in x) IsSmallFrame
   pub order : IsInOrder w.rows
   pub within : AreWithin (2 ^ 120) w.rows
 
 -- its frame, if it has one, fits
-pub frame_fits : (t : ℕ) (o : Option Frame) → IfSome o (IsOwn t) → t ≤ 2 ^ 45 → IfSome o FrameFits
+pub frame_fits : (t : ℕ) (o : Option Frame) → IfSome o (IsOwn t) → t ≤ 2 ^ 45 → IfSome o IsSmallFrame
 frame_fits t None h le = tt
 frame_fits t (Some f) h le = fits_frame t f h le
 

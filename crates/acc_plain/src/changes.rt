@@ -4,7 +4,7 @@ ghost use Rattle.acc_base.specs.Linear.{var};
 ghost use Rattle.acc_base.specs.Tables.{IsInOrder};
 ghost use Rattle.acc_base.specs.Machine.{limit_of, is_asked, returns_of, forward_to, back_to};
 ghost use Rattle.acc_base.specs.Turns.{next_event};
-ghost use Rattle.acc_base.specs.Runnable.{IsRunnable, FrameFits};
+ghost use Rattle.acc_base.specs.Runnable.{IsRunnable, IsSmallFrame};
 ghost use Rattle.acc_base.specs.declared.machines.Outcome.TheVariants.{Committed};
 ghost use Rattle.acc_base.specs.declared.machines.Transaction.TheVariants.{Forward, Undoing};
 ghost use Rattle.acc_store.specs.Bounds.{AreWithin};
@@ -108,7 +108,7 @@ fn unless_refused(e: StepEffect) -> Ahead
 /// What the step of a forward frame does, where it was not asked to turn and has steps left.
 fn step_ahead<S: Store>(alloc: Global, d: &Design, f: &Frame, s: &S) -> Result<Ahead, PlainError>
     requires runnable { IsRunnable d.now }
-    requires fits { FrameFits f.now }
+    requires fits { IsSmallFrame f.now }
     requires order { IsInOrder (S.rows s.now) }
     requires within { AreWithin (2 ^ 120) (S.rows s.now) }
     requires unasked { is_asked f.now.ask f.now.steps ≡ false }
@@ -126,7 +126,7 @@ fn step_ahead<S: Store>(alloc: Global, d: &Design, f: &Frame, s: &S) -> Result<A
 /// What lies ahead of a forward frame.
 fn look_ahead<S: Store>(alloc: Global, d: &Design, f: &Frame, s: &S) -> Result<Ahead, PlainError>
     requires runnable { IsRunnable d.now }
-    requires fits { FrameFits f.now }
+    requires fits { IsSmallFrame f.now }
     requires order { IsInOrder (S.rows s.now) }
     requires within { AreWithin (2 ^ 120) (S.rows s.now) }
     ensures { IfOk result (IsAhead d.now (S.rows s.now) f.now) }
@@ -169,7 +169,10 @@ fn returns<'a>(d: &'a Design, f: &Frame) -> &'a [u32]
 
 /// A frame's reply, where it commits with these locals.
 fn committed(alloc: Global, d: &Design, f: &Frame, locals: &[i64]) -> Result<Reply, AllocError>
-    ensures { IfOk result (λ reply. reply ≡ record { t = f.now.t; outcome = Committed (map (var locals.now) (returns_of (slice_get d.now.types f.now.ty))) }) }
+    ensures { IfOk result (λ reply. reply ≡ record {
+      t = f.now.t;
+      outcome = Committed (map (var locals.now) (returns_of (slice_get d.now.types f.now.ty)));
+    }) }
 {
     let values = values(alloc, locals, returns(d, f))?;
     Ok(Reply {
@@ -216,7 +219,7 @@ pub fn forward_change<S: Store>(
     s: &S,
 ) -> Result<Change, PlainError>
     requires runnable { IsRunnable d.now }
-    requires fits { FrameFits f.now }
+    requires fits { IsSmallFrame f.now }
     requires order { IsInOrder (S.rows s.now) }
     requires within { AreWithin (2 ^ 120) (S.rows s.now) }
     ensures { IfOk result (IsNextChange d.now (S.rows s.now) (Forward f.now)) }
@@ -272,10 +275,11 @@ pub fn undo_change<S: Store>(
     s: &S,
 ) -> Result<Option<Change>, PlainError>
     requires runnable { IsRunnable d.now }
-    requires fits { FrameFits f.now }
+    requires fits { IsSmallFrame f.now }
     requires order { IsInOrder (S.rows s.now) }
     requires within { AreWithin (2 ^ 120) (S.rows s.now) }
-    ensures { IfOk result (λ c. MatchOption c (next_event d.now (S.rows s.now) (Some (Undoing f.now cause)) ≡ None) (IsNextChange d.now (S.rows s.now) (Undoing f.now cause))) }
+    ensures { IfOk result (λ c. MatchOption c (next_event d.now (S.rows s.now) (Some (Undoing f.now cause)) ≡ None)
+        (IsNextChange d.now (S.rows s.now) (Undoing f.now cause))) }
 {
     match effect(alloc, d, f, Side::Undo, s) {
         Ok(e) => Ok(Some(back_change(f, cause, e))),

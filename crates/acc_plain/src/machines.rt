@@ -3,7 +3,7 @@ ghost use Rattle.std.specs.Prelude.{◌≡◌, ◌≤◌, ◌<◌, ◌^◌, ◌+
 ghost use Rattle.acc_base.specs.Tables.{IsInOrder};
 ghost use Rattle.acc_base.specs.Machine.{start, next_number, call_fits, locals_in, begun, transaction_at, frame_in, reply_in, unfinished, after_event};
 ghost use Rattle.acc_base.specs.Turns.{next_event, said};
-ghost use Rattle.acc_base.specs.Runnable.{IsRunnable, FrameFits};
+ghost use Rattle.acc_base.specs.Runnable.{IsRunnable, IsSmallFrame};
 ghost use Rattle.acc_base.specs.declared.machines.Event.TheVariants.{Begin};
 ghost use Rattle.acc_base.specs.declared.machines.Event.{Event as TheEvent};
 ghost use Rattle.acc_store.specs.Bounds.{AreWithin};
@@ -45,7 +45,10 @@ impl<'a, S: Store> Model for Machine<'a, S> {
 
     ghost Value = { Running };
 
-    ghost view = { λ m. record { design = m.design.now; world = record { rows = S.rows m.store; transactions = m.transactions; events = m.events } } };
+    ghost view = { λ m. record {
+      design = m.design.now;
+      world = record { rows = S.rows m.store; transactions = m.transactions; events = m.events };
+    } };
 
     ghost invariant = { λ m. IsReached m.design.now (record { rows = S.rows m.store; transactions = m.transactions; events = m.events }) };
 }
@@ -130,10 +133,11 @@ fn next_change<S: Store>(
     s: &S,
 ) -> Result<Option<Change>, PlainError>
     requires runnable { IsRunnable d.now }
-    requires fits { IfSome (frame_in (transaction_of x)) FrameFits }
+    requires fits { IfSome (frame_in (transaction_of x)) IsSmallFrame }
     requires order { IsInOrder (S.rows s.now) }
     requires within { AreWithin (2 ^ 120) (S.rows s.now) }
-    ensures { IfOk result (λ c. MatchOption c (next_event d.now (S.rows s.now) (Some (transaction_of x.entry)) ≡ None) (IsNextChange d.now (S.rows s.now) (transaction_of x.entry))) }
+    ensures { IfOk result (λ c. MatchOption c (next_event d.now (S.rows s.now) (Some (transaction_of x.entry)) ≡ None)
+        (IsNextChange d.now (S.rows s.now) (transaction_of x.entry))) }
 {
     match x {
         TransactionRef::Forward(f) => Ok(Some(forward_change(alloc, d, f, s)?)),

@@ -2,7 +2,7 @@
 ghost use Rattle.std.specs.Prelude.{◌≡◌, ◌^◌, Some, None, IfOk, IfSome, MatchOption};
 ghost use Rattle.acc_base.specs.Tables.{IsInOrder};
 ghost use Rattle.acc_base.specs.Machine.{is_cause, frame_in, changed};
-ghost use Rattle.acc_base.specs.Runnable.{IsRunnable, FrameFits};
+ghost use Rattle.acc_base.specs.Runnable.{IsRunnable, IsSmallFrame};
 ghost use Rattle.acc_base.specs.declared.machines.Event.TheVariants.{Step, Abort};
 ghost use Rattle.acc_base.specs.declared.machines.Transaction.TheVariants.{Forward};
 ghost use Rattle.acc_store.specs.Bounds.{AreWithin};
@@ -58,10 +58,11 @@ fn change_by_step<S: Store>(
     s: &S,
 ) -> Result<Option<Change>, PlainError>
     requires runnable { IsRunnable d.now }
-    requires fits { FrameFits f.now }
+    requires fits { IsSmallFrame f.now }
     requires order { IsInOrder (S.rows s.now) }
     requires within { AreWithin (2 ^ 120) (S.rows s.now) }
-    ensures { IfOk result (λ c. MatchOption c (changed d.now (S.rows s.now) (Step f.now.t) (Some (Forward f.now)) ≡ None) (IsChangeBy d.now (S.rows s.now) (Forward f.now) (Step f.now.t))) }
+    ensures { IfOk result (λ c. MatchOption c (changed d.now (S.rows s.now) (Step f.now.t) (Some (Forward f.now)) ≡ None)
+        (IsChangeBy d.now (S.rows s.now) (Forward f.now) (Step f.now.t))) }
 {
     Ok(if_step(forward_change(alloc, d, f, s)?))
 }
@@ -75,10 +76,11 @@ fn change_by_abort<S: Store>(
     s: &S,
 ) -> Result<Option<Change>, PlainError>
     requires runnable { IsRunnable d.now }
-    requires fits { FrameFits f.now }
+    requires fits { IsSmallFrame f.now }
     requires order { IsInOrder (S.rows s.now) }
     requires within { AreWithin (2 ^ 120) (S.rows s.now) }
-    ensures { IfOk result (λ c. MatchOption c (changed d.now (S.rows s.now) (Abort f.now.t cause) (Some (Forward f.now)) ≡ None) (IsChangeBy d.now (S.rows s.now) (Forward f.now) (Abort f.now.t cause))) }
+    ensures { IfOk result (λ c. MatchOption c (changed d.now (S.rows s.now) (Abort f.now.t cause) (Some (Forward f.now)) ≡ None)
+        (IsChangeBy d.now (S.rows s.now) (Forward f.now) (Abort f.now.t cause))) }
 {
     match cause {
         Cause::Victim | Cause::Crash => Ok(Some(Change {
@@ -100,10 +102,11 @@ pub fn change_by<S: Store>(
 ) -> Result<Option<Change>, PlainError>
     requires runnable { IsRunnable d.now }
     requires of { IsOf (transaction_of x) event.now }
-    requires fits { IfSome (frame_in (transaction_of x)) FrameFits }
+    requires fits { IfSome (frame_in (transaction_of x)) IsSmallFrame }
     requires order { IsInOrder (S.rows s.now) }
     requires within { AreWithin (2 ^ 120) (S.rows s.now) }
-    ensures { IfOk result (λ c. MatchOption c (changed d.now (S.rows s.now) event.now (Some (transaction_of x.entry)) ≡ None) (IsChangeBy d.now (S.rows s.now) (transaction_of x.entry) event.now)) }
+    ensures { IfOk result (λ c. MatchOption c (changed d.now (S.rows s.now) event.now (Some (transaction_of x.entry)) ≡ None)
+        (IsChangeBy d.now (S.rows s.now) (transaction_of x.entry) event.now)) }
 {
     match (event, x) {
         (Event::Step(_), TransactionRef::Forward(f)) => change_by_step(alloc, d, f, s),

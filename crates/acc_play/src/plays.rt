@@ -42,7 +42,8 @@ fn number(stage: &mut Stage, d: &Design, calls: &[Call], place: u64) -> Result<u
     requires fit { AllFit d.now calls.now }
     requires place { IsPlace (length calls.now) place }
     requires room { length stage.old.machine.world.events < 2 ^ 30 }
-    ensures begun { IfOk result (λ t. HasBegun d.now calls.now place (play_of stage.old) (number_of (play_of stage.old) place) t (play_of stage.new)) }
+    ensures begun { IfOk result (λ t. HasBegun d.now calls.now place (play_of stage.old) (number_of (play_of stage.old) place) t
+        (play_of stage.new)) }
     ensures stage { IsStage d.now calls.now stage.new }
     ensures text { stage.new.text.items ≡ stage.old.text.items }
     ensures count { length stage.new.machine.world.events ≤ length stage.old.machine.world.events + 1 }
@@ -110,7 +111,8 @@ fn mention(stage: &mut Stage, d: &Design, calls: &[Call], place: u64) -> Result<
 
 /// Writes the reply line of each place.
 fn push_replies(stage: &mut Stage) -> Result<(), AllocError>
-    ensures text { OnOk result (stage.new.text.items ≡ stage.old.text.items ++ flat_map (reply_line (play_of stage.old)) (range_with_len 1 (length stage.old.numbers.items))) }
+    ensures text { OnOk result (stage.new.text.items ≡ stage.old.text.items
+        ++ flat_map (reply_line (play_of stage.old)) (range_with_len 1 (length stage.old.numbers.items))) }
     ensures play { play_of stage.new ≡ play_of stage.old }
     ensures design { stage.new.machine.design ≡ stage.old.machine.design }
 {

@@ -55,7 +55,8 @@ fn push_cell_read(
     key: &[Lin],
     column: u32,
 ) -> Result<(), AllocError>
-    ensures { OnOk result (out.new.items ≡ out.old.items ++ (assigned scope.now word.now local ++ cell_text scope.now table key.now column)) }
+    ensures { OnOk result (out.new.items ≡ out.old.items ++ (assigned scope.now word.now local
+        ++ cell_text scope.now table key.now column)) }
 {
     push_assigned(out, scope, word, local)?;
     push_cell(out, scope, table, key, column)
@@ -128,7 +129,8 @@ fn push_change(
     column: u32,
     lin: &Lin,
 ) -> Result<(), AllocError>
-    ensures { OnOk result (out.new.items ≡ out.old.items ++ (cell_text scope.now table key.now column ++ spaced (lin_text scope.now.names lin.now))) }
+    ensures { OnOk result (out.new.items ≡ out.old.items ++ (cell_text scope.now table key.now column
+        ++ spaced (lin_text scope.now.names lin.now))) }
 {
     push_cell(out, scope, table, key, column)?;
     out.extend_from_slice(b" ")?;

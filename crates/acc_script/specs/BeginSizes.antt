@@ -4,7 +4,8 @@ use Rattle.std.specs.Prelude.{ℕ, ◌+◌, ◌*◌, List, length}
 use Rattle.std.specs.List.{sum_by}
 use Rattle.acc_base.specs.declared.machines.Call.{Call}
 
--- one byte for the kind of event, two for the type; one for how many parameters there are, and eight for each; two for how long the tape is, and eight for each of its numbers; four for the asked abort
+-- one byte for the kind of event, two for the type; one for how many parameters there are, and eight for each; two for how long
+-- the tape is, and eight for each of its numbers; four for the asked abort
 abbrev pub begin_size : Call → ℕ
 begin_size call = 1 + 2 + (1 + 8 * length call.params) + (2 + 8 * length call.tape) + 4
 

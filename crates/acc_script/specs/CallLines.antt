@@ -30,7 +30,8 @@ abbrev pub ask_words : Option ℕ → List (List ℕ)
 ask_words None = []
 ask_words (Some n) = codes "@" ∷ decimal n ∷ []
 
--- A line asks for a call: its words are the name of the call's type, which is the first type of that name, the parameters, the words of the tape, and those of the asked abort. The call fits its type. A type's number is below 2^32.
+-- A line asks for a call: its words are the name of the call's type, which is the first type of that name, the parameters, the
+-- words of the tape, and those of the asked abort. The call fits its type. A type's number is below 2^32.
 pub record IsCallLine (d : Design) (line : List ℕ) (call : Call) : Type 0 where
   pub name : List ℕ
   pub tape_words : List (List ℕ)

@@ -24,7 +24,8 @@ pub record IsSaid {X : Type 0} (Line : List ℕ → List X → Type 0) (most : �
 abbrev pub IsTooMuch : {X : Type 0} → (List ℕ → List X → Type 0) → ℕ → List ℕ → ℕ → Type 0
 IsTooMuch {X} Line most line n = (here : List X) → Line line here → most < n + length here
 
--- Line number n, from 1, is the first that is refused: the lines before it say few enough items, it isn't skipped, and whatever it may say is too much behind those.
+-- Line number n, from 1, is the first that is refused: the lines before it say few enough items, it isn't skipped, and whatever
+-- it may say is too much behind those.
 pub record Refuses {X : Type 0} (Line : List ℕ → List X → Type 0) (most : ℕ) (text : List ℕ) (n : ℕ) : Type 0 where
   pub before : List (List ℕ)
   pub line : List ℕ

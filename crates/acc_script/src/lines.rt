@@ -108,7 +108,8 @@ fn push_holder(out: &mut Vec<u8>, holder: Option<u64>) -> Result<(), AllocError>
 }
 
 fn push_blocked(out: &mut Vec<u8>, holder: Option<u64>, entry: u32) -> Result<(), AllocError>
-    ensures { OnOk result (out.new.items ≡ out.old.items ++ (codes " blocked by " ++ (holder_text holder ++ (codes " entry " ++ decimal entry)))) }
+    ensures { OnOk result (out.new.items ≡ out.old.items ++ (codes " blocked by "
+        ++ (holder_text holder ++ (codes " entry " ++ decimal entry)))) }
 {
     push_holder(out, holder)?;
     push_labelled(out, b" entry ", u64::from(entry))

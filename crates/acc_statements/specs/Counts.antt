@@ -27,7 +27,8 @@ point_statements p = 1 + if_there p.variant + length p.holds + step_statements p
 -- `type` with its name and parameters, `limit`, `returns`, `local`, what is ensured and repaired, the points
 abbrev pub type_statements : TypeTree → ℕ
 type_statements t =
-    2 + if_there t.returns + if_there t.locals + length t.ensured + length t.repaired + point_statements t.first + sum_by point_statements t.others
+    2 + if_there t.returns + if_there t.locals + length t.ensured + length t.repaired
+    + point_statements t.first + sum_by point_statements t.others
 
 -- the tables, what holds always, the types, the entries, the hints
 unfoldable pub statements_of : DesignTree → ℕ

@@ -14,7 +14,7 @@ use Rattle.acc_base.specs.Linear.{variables}
 use Rattle.acc_base.specs.Reads.{Reading, unread}
 use Rattle.acc_base.specs.Actions.{after_action, after_actions}
 use Rattle.acc_base.specs.Effects.{Goes, effect_of}
-use Rattle.acc_base.specs.Runnable.{CanGo, IsRunnable, FrameFits}
+use Rattle.acc_base.specs.Runnable.{CanGo, IsRunnable, IsSmallFrame}
 use Rattle.acc_base.proofs.Items.{at_slice_get}
 use Rattle.acc_base.proofs.ActionRuns.{goes_on, actions_in_order, length-actions}
 use Rattle.acc_base.proofs.ReadRuns.{reads_leave}
@@ -40,7 +40,7 @@ pub record Leaves (n m : ℕ) (f : Frame) (after : List Row) (s : Reading) : Typ
   pub kept : length s.locals ≡ length f.locals
   pub at : f.pos ≤ length f.tape → s.at ≤ length f.tape
 
-pub goes_leaves : (d : Design) (db : List Row) (f : Frame) (side : Side) (after : List Row) (s : Reading) (i : ℕ) (to : Target) (n m : ℕ) → effect_of d db f side ≡ Goes after s i to → IsRunnable d → FrameFits f → IsInOrder db → length db ≤ n → AreWithin m db → 2 ^ 45 ≤ m → Leaves n m f after s
+pub goes_leaves : (d : Design) (db : List Row) (f : Frame) (side : Side) (after : List Row) (s : Reading) (i : ℕ) (to : Target) (n m : ℕ) → effect_of d db f side ≡ Goes after s i to → IsRunnable d → IsSmallFrame f → IsInOrder db → length db ≤ n → AreWithin m db → 2 ^ 45 ≤ m → Leaves n m f after s
 goes_leaves d db f side after s i to n m e runnable fits order few within large =
     let by = parts after s i to d db f side e in
     let env = variables f.t s.locals in

@@ -30,9 +30,11 @@ fn act<S: Store>(
     requires order { IsInOrder (S.rows s.now) }
     requires narrow { All IsNarrow writes.old.items }
     requires within { AreWithin (2 ^ 121) (written writes.old.items (S.rows s.now)) }
-    ensures rows { OnOk result (written writes.new.items (S.rows s.now) ≡ after_action (values_of variables.now) action.now (written writes.old.items (S.rows s.now))) }
+    ensures rows { OnOk result (written writes.new.items (S.rows s.now)
+        ≡ after_action (values_of variables.now) action.now (written writes.old.items (S.rows s.now))) }
     ensures in_range { OnOk result (may_act side (values_of variables.now) action.now (written writes.old.items (S.rows s.now)) ≡ true) }
-    ensures range { IsErrOf result StepError.Range → may_act side (values_of variables.now) action.now (written writes.old.items (S.rows s.now)) ≡ false }
+    ensures range { IsErrOf result StepError.Range
+        → may_act side (values_of variables.now) action.now (written writes.old.items (S.rows s.now)) ≡ false }
     ensures narrow { OnOk result (All IsNarrow writes.new.items) }
 {
     match evaluated(action, variables) {
@@ -53,7 +55,8 @@ pub fn act_all<S: Store>(
     requires few { length actions.now ≤ 16 }
     requires order { IsInOrder (S.rows s.now) }
     requires within { AreWithin (2 ^ 120) (S.rows s.now) }
-    ensures rows { IfOk result (λ ws. after_actions side (values_of variables.now) actions.now (S.rows s.now) ≡ Some (written ws.items (S.rows s.now))) }
+    ensures rows { IfOk result (λ ws. after_actions side (values_of variables.now) actions.now (S.rows s.now)
+        ≡ Some (written ws.items (S.rows s.now))) }
     ensures range { IsErrOf result StepError.Range → after_actions side (values_of variables.now) actions.now (S.rows s.now) ≡ None }
     ensures narrow { IfOk result (λ ws. All IsNarrow ws.items) }
 {

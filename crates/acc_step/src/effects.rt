@@ -3,7 +3,7 @@ ghost use Rattle.std.specs.Prelude.{◌≡◌, ◌^◌, length, All, IfOk, IfSom
 ghost use Rattle.acc_base.specs.Numbers.{IsSmall};
 ghost use Rattle.acc_base.specs.Tables.{IsInOrder};
 ghost use Rattle.acc_base.specs.Effects.{OutOfRange, step_of, step_at, step_effect, effect_of};
-ghost use Rattle.acc_base.specs.Runnable.{IsRunnable, CanStep, FrameFits};
+ghost use Rattle.acc_base.specs.Runnable.{IsRunnable, CanStep, IsSmallFrame};
 ghost use Rattle.acc_store.specs.Bounds.{AreWithin};
 ghost use Rattle.acc_store.specs.Rows.{IsNarrow};
 ghost use Rattle.acc_step.specs.Seen.{seen};
@@ -65,7 +65,7 @@ fn step_effect_on<S: Store>(
     s: &S,
 ) -> Result<StepEffect, StepError>
     requires can { CanStep side step.now }
-    requires fits { FrameFits f.now }
+    requires fits { IsSmallFrame f.now }
     requires order { IsInOrder (S.rows s.now) }
     requires within { AreWithin (2 ^ 120) (S.rows s.now) }
     ensures value { IfOk result (λ e. seen (S.rows s.now) e ≡ step_effect (S.rows s.now) f.now side (Some step.now)) }
@@ -105,7 +105,7 @@ pub fn effect<S: Store>(
     s: &S,
 ) -> Result<StepEffect, StepError>
     requires runnable { IsRunnable d.now }
-    requires fits { FrameFits f.now }
+    requires fits { IsSmallFrame f.now }
     requires order { IsInOrder (S.rows s.now) }
     requires within { AreWithin (2 ^ 120) (S.rows s.now) }
     ensures value { IfOk result (λ e. seen (S.rows s.now) e ≡ effect_of d.now (S.rows s.now) f.now side) }

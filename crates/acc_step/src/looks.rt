@@ -2,7 +2,7 @@
 ghost use Rattle.std.specs.Prelude.{◌≡◌, ◌≤◌, ◌^◌, length, take, drop, IfSome, Some};
 ghost use Rattle.acc_base.specs.Tables.{IsInOrder};
 ghost use Rattle.acc_base.specs.Effects.{step_effect, effect_of};
-ghost use Rattle.acc_base.specs.Runnable.{IsRunnable, CanStep, FrameFits};
+ghost use Rattle.acc_base.specs.Runnable.{IsRunnable, CanStep, IsSmallFrame};
 ghost use Rattle.acc_store.specs.Bounds.{AreWithin};
 ghost use Rattle.acc_step.specs.Outlooks.{outlook_to, outlook_of, locals_after};
 
@@ -49,11 +49,12 @@ fn lay(items: &[i64], places: &mut [i64; 48])
 /// What a step of a frame would do.
 fn look_on<S: Store>(f: &Frame, side: Side, step: &Step, s: &S, after: &mut [i64; 48]) -> Outlook
     requires can { CanStep side step.now }
-    requires fits { FrameFits f.now }
+    requires fits { IsSmallFrame f.now }
     requires order { IsInOrder (S.rows s.now) }
     requires within { AreWithin (2 ^ 120) (S.rows s.now) }
     ensures outcome { result ≡ outlook_of (step_effect (S.rows s.now) f.now side (Some step.now)) }
-    ensures locals { IfSome (locals_after (step_effect (S.rows s.now) f.now side (Some step.now))) (λ locals. take (length f.now.locals) after.new ≡ locals) }
+    ensures locals { IfSome (locals_after (step_effect (S.rows s.now) f.now side (Some step.now)))
+        (λ locals. take (length f.now.locals) after.new ≡ locals) }
     ensures others { drop (length f.now.locals) after.new ≡ drop (length f.now.locals) after.old }
 {
     let mut variables = Variables::of(f);
@@ -79,11 +80,12 @@ fn look_on<S: Store>(f: &Frame, side: Side, step: &Step, s: &S, after: &mut [i64
 /// for a read or an `add`, and an `add` walks the actions before it, of which there are at most 15.
 pub fn look<S: Store>(d: &Design, f: &Frame, side: Side, s: &S, after: &mut [i64; 48]) -> Outlook
     requires runnable { IsRunnable d.now }
-    requires fits { FrameFits f.now }
+    requires fits { IsSmallFrame f.now }
     requires order { IsInOrder (S.rows s.now) }
     requires within { AreWithin (2 ^ 120) (S.rows s.now) }
     ensures outcome { result ≡ outlook_of (effect_of d.now (S.rows s.now) f.now side) }
-    ensures locals { IfSome (locals_after (effect_of d.now (S.rows s.now) f.now side)) (λ locals. take (length f.now.locals) after.new ≡ locals) }
+    ensures locals { IfSome (locals_after (effect_of d.now (S.rows s.now) f.now side))
+        (λ locals. take (length f.now.locals) after.new ≡ locals) }
 
     // The places after those of the locals stay as they were.
     ensures others { drop (length f.now.locals) after.new ≡ drop (length f.now.locals) after.old }

@@ -47,7 +47,8 @@ fn may_add_forward<S: Store>(
     requires can { All CanAct before.now }
     requires few { length before.now ≤ 16 }
     requires within { AreWithin (2 ^ 120) (S.rows s.now) }
-    ensures { result ≡ may_add_to Forward col more (columns_through (values_of variables.now) (place_at key.now) before.now (columns_at (place_at key.now) (S.rows s.now))) }
+    ensures { result ≡ may_add_to Forward col more
+        (columns_through (values_of variables.now) (place_at key.now) before.now (columns_at (place_at key.now) (S.rows s.now))) }
 {
     match columns_past(s, before, key.table, key.parts.as_slice(), variables) {
         Some(cols) => is_sum_in_range(value_at(cols.as_slice(), col), more),
@@ -68,7 +69,8 @@ fn may_add<S: Store>(
     requires can { All CanAct before.now }
     requires few { length before.now ≤ 16 }
     requires within { AreWithin (2 ^ 120) (S.rows s.now) }
-    ensures { result ≡ may_add_to side col more (columns_through (values_of variables.now) (place_at key.now) before.now (columns_at (place_at key.now) (S.rows s.now))) }
+    ensures { result ≡ may_add_to side col more
+        (columns_through (values_of variables.now) (place_at key.now) before.now (columns_at (place_at key.now) (S.rows s.now))) }
 {
     match side {
         Side::Next => may_add_forward(s, key, col, more, before, variables),
@@ -87,7 +89,9 @@ fn may_change_row<S: Store>(
     requires can { All CanAct before.now }
     requires few { length before.now ≤ 16 }
     requires within { AreWithin (2 ^ 120) (S.rows s.now) }
-    ensures { result ≡ may_make side change.now (columns_through (values_of variables.now) (place_at (key_of change.now)) before.now (columns_at (place_at (key_of change.now)) (S.rows s.now))) }
+    ensures { result ≡ may_make side change.now
+        (columns_through (values_of variables.now) (place_at (key_of change.now)) before.now
+        (columns_at (place_at (key_of change.now)) (S.rows s.now))) }
 {
     match change {
         RowChange::Add(key, col, more) => may_add(s, side, key, *col, *more, before, variables),
@@ -107,7 +111,8 @@ fn is_action_in_range<S: Store>(
     requires all_can { All CanAct before.now }
     requires few { length before.now ≤ 16 }
     requires within { AreWithin (2 ^ 120) (S.rows s.now) }
-    ensures { result ≡ may_follow side (change_if_small (values_of variables.now) action.now) (λ p. columns_through (values_of variables.now) p before.now (columns_at p (S.rows s.now))) }
+    ensures { result ≡ may_follow side (change_if_small (values_of variables.now) action.now)
+        (λ p. columns_through (values_of variables.now) p before.now (columns_at p (S.rows s.now))) }
 {
     match evaluated(action, variables) {
         Some(change) => may_change_row(s, side, &change, before, variables),

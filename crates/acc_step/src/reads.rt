@@ -4,7 +4,7 @@ ghost use Rattle.std.specs.Int.{int_div_euclid};
 ghost use Rattle.acc_base.specs.Linear.{var, lin_value, lin_values};
 ghost use Rattle.acc_base.specs.Reads.{assigned, at_after, unread, after_reads};
 ghost use Rattle.acc_base.specs.Tables.{column_of, has_row, count_of, sum_of, least_of, greatest_of};
-ghost use Rattle.acc_base.specs.Runnable.{IsKey, CanRead, FrameFits};
+ghost use Rattle.acc_base.specs.Runnable.{IsKey, CanRead, IsSmallFrame};
 ghost use Rattle.acc_step.specs.InRange.{value_read};
 ghost use Rattle.acc_step.specs.ReadValues.{read_of};
 ghost use Rattle.acc_step.specs.Variables.{values_of};
@@ -65,7 +65,8 @@ fn read_column<S: Store>(
     variables: &Variables,
 ) -> Option<i64>
     requires key { IsKey key.now }
-    ensures { result ≡ value_read (lin_values (values_of variables.now) key.now) (column_of (S.rows s.now) table (lin_values (values_of variables.now) key.now) col) }
+    ensures { result ≡ value_read (lin_values (values_of variables.now) key.now)
+        (column_of (S.rows s.now) table (lin_values (values_of variables.now) key.now) col) }
 {
     match key_in_range(key, variables) {
         Some(key) => in_range(s.get(table, key.as_slice(), col)),
@@ -83,7 +84,8 @@ fn row_there<S: Store>(s: &S, table: u32, key: &[i64]) -> i64
 /// Whether there is a row, where its key is in range.
 fn read_row<S: Store>(s: &S, table: u32, key: &[Lin], variables: &Variables) -> Option<i64>
     requires key { IsKey key.now }
-    ensures { result ≡ value_read (lin_values (values_of variables.now) key.now) (has_row (S.rows s.now) table (lin_values (values_of variables.now) key.now)) }
+    ensures { result ≡ value_read (lin_values (values_of variables.now) key.now)
+        (has_row (S.rows s.now) table (lin_values (values_of variables.now) key.now)) }
 {
     match key_in_range(key, variables) {
         Some(key) => in_range(widened(row_there(s, table, key.as_slice()))),
@@ -101,7 +103,8 @@ fn counted<S: Store>(s: &S, table: u32, prefix: &[i64]) -> i128
 /// How many rows there are, in range.
 fn read_count<S: Store>(s: &S, table: u32, prefix: &[Lin], variables: &Variables) -> Option<i64>
     requires key { IsKey prefix.now }
-    ensures { result ≡ value_read (lin_values (values_of variables.now) prefix.now) (count_of (S.rows s.now) table (lin_values (values_of variables.now) prefix.now)) }
+    ensures { result ≡ value_read (lin_values (values_of variables.now) prefix.now)
+        (count_of (S.rows s.now) table (lin_values (values_of variables.now) prefix.now)) }
 {
     match key_in_range(prefix, variables) {
         Some(key) => in_range(counted(s, table, key.as_slice())),
@@ -118,7 +121,8 @@ fn read_sum<S: Store>(
     variables: &Variables,
 ) -> Option<i64>
     requires key { IsKey prefix.now }
-    ensures { result ≡ value_read (lin_values (values_of variables.now) prefix.now) (sum_of (S.rows s.now) table (lin_values (values_of variables.now) prefix.now) col) }
+    ensures { result ≡ value_read (lin_values (values_of variables.now) prefix.now)
+        (sum_of (S.rows s.now) table (lin_values (values_of variables.now) prefix.now) col) }
 {
     match key_in_range(prefix, variables) {
         Some(key) => in_range(s.sum(table, key.as_slice(), col)),
@@ -129,7 +133,8 @@ fn read_sum<S: Store>(
 /// The least part after a prefix, in range.
 fn read_least<S: Store>(s: &S, table: u32, prefix: &[Lin], variables: &Variables) -> Option<i64>
     requires key { IsKey prefix.now }
-    ensures { result ≡ value_read (lin_values (values_of variables.now) prefix.now) (least_of (S.rows s.now) table (lin_values (values_of variables.now) prefix.now)) }
+    ensures { result ≡ value_read (lin_values (values_of variables.now) prefix.now)
+        (least_of (S.rows s.now) table (lin_values (values_of variables.now) prefix.now)) }
 {
     match key_in_range(prefix, variables) {
         Some(key) => in_range(widened(s.least(table, key.as_slice()))),
@@ -140,7 +145,8 @@ fn read_least<S: Store>(s: &S, table: u32, prefix: &[Lin], variables: &Variables
 /// The greatest part after a prefix, in range.
 fn read_greatest<S: Store>(s: &S, table: u32, prefix: &[Lin], variables: &Variables) -> Option<i64>
     requires key { IsKey prefix.now }
-    ensures { result ≡ value_read (lin_values (values_of variables.now) prefix.now) (greatest_of (S.rows s.now) table (lin_values (values_of variables.now) prefix.now)) }
+    ensures { result ≡ value_read (lin_values (values_of variables.now) prefix.now)
+        (greatest_of (S.rows s.now) table (lin_values (values_of variables.now) prefix.now)) }
 {
     match key_in_range(prefix, variables) {
         Some(key) => in_range(widened(s.greatest(table, key.as_slice()))),
@@ -217,12 +223,13 @@ pub fn take_reads<S: Store>(
     reads: &[Read],
     variables: &mut Variables,
 ) -> Option<u32>
-    requires fits { FrameFits f.now }
+    requires fits { IsSmallFrame f.now }
     requires can { All CanRead reads.now }
     requires locals { variables.old.locals ≡ f.now.locals }
     requires number { variables.old.number ≡ f.now.t }
     ensures none { IfNone result (after_reads (S.rows s.now) f.now reads.now (unread f.now) ≡ None) }
-    ensures some { IfSome result (λ at. after_reads (S.rows s.now) f.now reads.now (unread f.now) ≡ Some (record { locals = variables.new.locals; at = at })) }
+    ensures some { IfSome result (λ at. after_reads (S.rows s.now) f.now reads.now (unread f.now)
+        ≡ Some (record { locals = variables.new.locals; at = at })) }
     ensures number { variables.new.number ≡ f.now.t }
     ensures kept { length variables.new.locals ≡ length f.now.locals }
 {

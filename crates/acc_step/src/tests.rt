@@ -2,7 +2,7 @@
 ghost use Rattle.std.specs.Prelude.{◌≡◌, ◌≤◌, ◌<◌, ◌^◌, ◌+◌, [], ◌∷◌, ◌++◌, length, pos, All, IfOk, unsigned_abs};
 ghost use Rattle.acc_base.specs.Numbers.{IsSmall};
 ghost use Rattle.acc_base.specs.Tables.{IsInOrder};
-ghost use Rattle.acc_base.specs.Runnable.{IsShort, HasShort, IsKey, CanRead, CanAct, CanEnd, CanGo, CanStep, IsRunnable, FrameFits};
+ghost use Rattle.acc_base.specs.Runnable.{IsShort, HasShort, IsKey, CanRead, CanAct, CanEnd, CanGo, CanStep, IsRunnable, IsSmallFrame};
 ghost use Rattle.acc_base.specs.declared.designs.Side.TheVariants.{Next as Forward, Undo as Back};
 ghost use Rattle.acc_store.specs.Bounds.{AreWithin};
 
@@ -177,7 +177,7 @@ fn row_one(alloc: Global, value: i128) -> Result<MapStore, StoreError>
 fn frame(alloc: Global, locals: &[i64]) -> Result<Frame, AllocError>
     requires small { All IsSmall locals.now }
     requires few { length locals.now ≤ 48 }
-    ensures { IfOk result FrameFits }
+    ensures { IfOk result IsSmallFrame }
 {
     Ok(Frame {
         t: 1,

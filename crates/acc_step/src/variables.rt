@@ -2,7 +2,7 @@
 ghost use Rattle.std.specs.Prelude.{◌≡◌, ◌≤◌, ◌^◌, All, slice_set};
 ghost use Rattle.acc_base.specs.Numbers.{IsSmall};
 ghost use Rattle.acc_base.specs.Linear.{var};
-ghost use Rattle.acc_base.specs.Runnable.{FrameFits};
+ghost use Rattle.acc_base.specs.Runnable.{IsSmallFrame};
 
 use acc_base::machines::Frame;
 use acc_store::Inline;
@@ -21,7 +21,7 @@ impl Variables {
 
     /// Those of a frame.
     pub fn of(f: &Frame) -> Self
-        requires { FrameFits f.now }
+        requires { IsSmallFrame f.now }
         ensures locals { result.locals ≡ f.now.locals }
         ensures number { result.number ≡ f.now.t }
     {

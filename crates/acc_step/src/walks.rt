@@ -142,7 +142,8 @@ pub fn columns_past<S: Store>(
     requires can { All CanAct actions.now }
     requires few { length actions.now ≤ 16 }
     requires within { AreWithin (2 ^ 120) (S.rows s.now) }
-    ensures value { result ≡ columns_through (values_of variables.now) (table, key.now) actions.now (columns_at (table, key.now) (S.rows s.now)) }
+    ensures value { result ≡ columns_through (values_of variables.now) (table, key.now) actions.now
+        (columns_at (table, key.now) (S.rows s.now)) }
     ensures near { AreNear (2 ^ 121) result }
 {
     let mut cols = columns_stored(s, table, key);

@@ -97,7 +97,8 @@ fn put_row(
 /// Drops a row, if it is there.
 fn drop_row(alloc: Global, key: &RowKey, writes: &mut Vec<Write>) -> Result<(), AllocError>
     requires narrow { All IsNarrow writes.old.items }
-    ensures value { OnOk result (writes.new.items ≡ with_write writes.old.items (Some (Gone key.now.table (record { parts = key.now.parts })))) }
+    ensures value { OnOk result (writes.new.items ≡ with_write writes.old.items
+        (Some (Gone key.now.table (record { parts = key.now.parts })))) }
     ensures narrow { OnOk result (All IsNarrow writes.new.items) }
 {
     let gone = Write::Gone(key.table, owned_key(alloc, key)?);
@@ -143,7 +144,8 @@ fn set_write<S: Store>(
 ) -> Result<Option<Write>, AllocError>
     requires order { IsInOrder (S.rows s.now) }
     requires narrow { All IsNarrow writes.now }
-    ensures value { IfOk result (λ w. w ≡ set_of (place_at key.now) col value (columns_at (place_at key.now) (written writes.now (S.rows s.now)))) }
+    ensures value { IfOk result (λ w. w ≡ set_of (place_at key.now) col value
+        (columns_at (place_at key.now) (written writes.now (S.rows s.now)))) }
     ensures narrow { IfOk result (λ w. IfSome w IsNarrow) }
 {
     match columns_now(s, writes, key.table, key.parts.as_slice()) {
@@ -163,7 +165,8 @@ fn set_column<S: Store>(
 ) -> Result<(), AllocError>
     requires order { IsInOrder (S.rows s.now) }
     requires narrow { All IsNarrow writes.old.items }
-    ensures rows { OnOk result (written writes.new.items (S.rows s.now) ≡ changed (ToSet key.now col value) (written writes.old.items (S.rows s.now))) }
+    ensures rows { OnOk result (written writes.new.items (S.rows s.now)
+        ≡ changed (ToSet key.now col value) (written writes.old.items (S.rows s.now))) }
     ensures narrow { OnOk result (All IsNarrow writes.new.items) }
 {
     let write = set_write(alloc, s, key, col, value, writes.as_slice())?;
@@ -222,8 +225,10 @@ fn add_write<S: Store>(
     requires order { IsInOrder (S.rows s.now) }
     requires narrow { All IsNarrow writes.now }
     requires within { AreWithin (2 ^ 121) (written writes.now (S.rows s.now)) }
-    ensures value { IfOk result (λ w. Some w ≡ add_of side (place_at key.now) col more (columns_at (place_at key.now) (written writes.now (S.rows s.now)))) }
-    ensures range { IsErrOf result StepError.Range → None ≡ add_of side (place_at key.now) col more (columns_at (place_at key.now) (written writes.now (S.rows s.now))) }
+    ensures value { IfOk result (λ w. Some w ≡ add_of side (place_at key.now) col more
+        (columns_at (place_at key.now) (written writes.now (S.rows s.now)))) }
+    ensures range { IsErrOf result StepError.Range → None
+        ≡ add_of side (place_at key.now) col more (columns_at (place_at key.now) (written writes.now (S.rows s.now))) }
     ensures narrow { IfOk result (λ w. IfSome w IsNarrow) }
 {
     match columns_now(s, writes, key.table, key.parts.as_slice()) {
@@ -248,9 +253,11 @@ fn add_to_column<S: Store>(
     requires order { IsInOrder (S.rows s.now) }
     requires narrow { All IsNarrow writes.old.items }
     requires within { AreWithin (2 ^ 121) (written writes.old.items (S.rows s.now)) }
-    ensures rows { OnOk result (written writes.new.items (S.rows s.now) ≡ changed (ToAdd key.now col more) (written writes.old.items (S.rows s.now))) }
+    ensures rows { OnOk result (written writes.new.items (S.rows s.now)
+        ≡ changed (ToAdd key.now col more) (written writes.old.items (S.rows s.now))) }
     ensures may { OnOk result (may_change side (ToAdd key.now col more) (written writes.old.items (S.rows s.now)) ≡ true) }
-    ensures range { IsErrOf result StepError.Range → may_change side (ToAdd key.now col more) (written writes.old.items (S.rows s.now)) ≡ false }
+    ensures range { IsErrOf result StepError.Range → may_change side (ToAdd key.now col more) (written writes.old.items (S.rows s.now))
+        ≡ false }
     ensures narrow { OnOk result (All IsNarrow writes.new.items) }
 {
     let write = add_write(alloc, s, side, key, col, more, writes.as_slice())?;

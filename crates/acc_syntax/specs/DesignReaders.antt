@@ -84,7 +84,20 @@ type_at ws = do
   cs ← many (comes sign.Repairs) (clause_statement_at sign.Repairs) es.1
   p ← point_at cs.1
   ps ← many (comes sign.Point) point_at p.1
-  Ok (record { name = h.0.name; params = h.0.params; limit = h.0.limit; returns = rs.0; locals = ls.0; ensured = es.0; repaired = cs.0; first = p.0; others = ps.0 }, ps.1)
+  Ok (
+    record {
+      name = h.0.name;
+      params = h.0.params;
+      limit = h.0.limit;
+      returns = rs.0;
+      locals = ls.0;
+      ensured = es.0;
+      repaired = cs.0;
+      first = p.0;
+      others = ps.0;
+    },
+    ps.1,
+  )
 
 -- a design, and the end of the words
 unfoldable pub design_at : List Word → Outcome DesignTree

@@ -126,4 +126,6 @@ read_at ws =
 -- a read begins
 abbrev pub starts_read : List Word → Bool
 starts_read ws =
-    comes sign.Let ws || (comes sign.Get ws || (comes sign.Has ws || (comes sign.Count ws || (comes sign.Sum ws || (comes sign.Least ws || (comes sign.Greatest ws || (comes sign.Take ws || (comes sign.Mul ws || (comes sign.Div ws)))))))))
+    comes sign.Let ws || (comes sign.Get ws
+    || (comes sign.Has ws || (comes sign.Count ws || (comes sign.Sum ws
+    || (comes sign.Least ws || (comes sign.Greatest ws || (comes sign.Take ws || (comes sign.Mul ws || (comes sign.Div ws)))))))))

@@ -176,7 +176,8 @@ clause_statement s c = just s ++ (clause c ++ just sign.End)
 
 -- table NAME width { column }, or private ..
 abbrev pub table : TableTree → List Word
-table t = (if t.private then just sign.Private else just sign.Table) ++ (name t.name ++ (number t.width ++ (joined name t.columns ++ just sign.End)))
+table t = (if t.private then just sign.Private else just sign.Table)
+    ++ (name t.name ++ (number t.width ++ (joined name t.columns ++ just sign.End)))
 
 -- let X = value, get X = row.column, has X = row, count X = row, sum X = row.column, least X = row, greatest X = row,
 -- take X, mul X = X X, div X = X INT

@@ -2,7 +2,7 @@ use Rattle.std.proofs.Common.{◌≡◌, ◌∙◌, List, Option, Some, None, re
 use Rattle.std.specs.Prelude.{IfSome, IsNone, option_map}
 use Rattle.acc_base.specs.declared.machines.Turn.{Turn}
 use Rattle.acc_base.specs.Machine.{World, frame_in, transaction_at}
-use Rattle.acc_base.specs.Runnable.{FrameFits}
+use Rattle.acc_base.specs.Runnable.{IsSmallFrame}
 use Rattle.acc_base.specs.Turns.{said, next_event}
 use Rattle.acc_store.specs.declared.writes.Write.{Write}
 use Rattle.acc_store.specs.Rows.{written}
@@ -21,7 +21,7 @@ next_change-requires-clause-fits g c =
     let room = rw (← c.self.view_is) at c.requires.room in
     let r = ready d w c.args.t c.self.invariant room (rw (← c.self.view_is) at c.requires.unfinished) in
     let same = read_is c.args.t w r (transaction_of c.in-Some.x) (sym c.in-Some.ensures) in
-    subst (λ z. IfSome (frame_in z) FrameFits) same r.fits
+    subst (λ z. IfSome (frame_in z) IsSmallFrame) same r.fits
 
 pub next_change-requires-clause-order : goal.next_change-requires-clause-order
 next_change-requires-clause-order g c =
