@@ -10,7 +10,4 @@ mod replay;
 
 pub use disk::Disk;
 pub use file_disk::FileDisk;
-pub use mem_disk::MemDisk;
-
-/// Want of memory.
-pub type DiskMemory = acc_io::IoMemory;
+pub use mem_disk::{DiskMemory, MemDisk};

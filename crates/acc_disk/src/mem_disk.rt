@@ -5,9 +5,25 @@ ghost use Rattle.acc_io.specs.Causes.{one_more};
 ghost use Rattle.acc_disk.specs.Crashes.{ReadsAt};
 
 use crate::history::History;
-use crate::{Disk, DiskMemory};
+use crate::Disk;
 use acc_io::Failed;
-use std::alloc::{AllocError, Global};
+use std::alloc::{AllocError, AllocFailed, Global};
+
+/// Want of memory.
+#[derive(Clone, Copy, Debug, PartialEq, Eq)]
+pub struct DiskMemory;
+
+impl From<AllocError> for DiskMemory {
+    fn from(_: AllocError) -> Self {
+        DiskMemory
+    }
+}
+
+impl<T: Drop> From<AllocFailed<T>> for DiskMemory {
+    fn from(_: AllocFailed<T>) -> Self {
+        DiskMemory
+    }
+}
 
 /// A disk in memory. It notes each call that changes something, so it answers for every moment what stood there and
 /// what a crash may have left.
