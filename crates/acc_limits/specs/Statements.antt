@@ -1,6 +1,8 @@
 -- The marks on a design's statements, part by part.
-use Rattle.std.specs.Prelude.{ℕ, ◌+◌, ◌||◌, List, [], ◌++◌, length, Option, Some, None, nat_lt}
+use Rattle.std.specs.Prelude.{ℕ, ◌+◌, ◌-◌, ◌||◌, List, [], ◌++◌, length, Option, Some, None, nat_lt}
 use Rattle.std.specs.List.{flat_map}
+use Rattle.acc_base.specs.declared.bounds.TheConstants.{MOST_ACTIONS, MOST_ALWAYS, MOST_CLAUSES, MOST_COLUMNS, MOST_ENTRIES, MOST_HINTS, MOST_KEY_PARTS}
+use Rattle.acc_base.specs.declared.bounds.TheConstants.{MOST_LOCALS, MOST_PATHS, MOST_POINTS, MOST_READS, MOST_TABLES, MOST_TYPES}
 use Rattle.acc_syntax.specs.declared.trees.Sum.{Sum}
 use Rattle.acc_syntax.specs.declared.trees.Sums.{Sums}
 use Rattle.acc_syntax.specs.declared.trees.Names.{Names}
@@ -28,8 +30,8 @@ use Rattle.acc_limits.specs.Words.{name_marks, number_marks, small_number_marks,
 -- a key has 1 to 6 components; at most 12 columns
 abbrev pub table_marks : TableTree → List Mark
 table_marks t =
-    past limit.KeyWidth (nat_lt t.width 1 || nat_lt 6 t.width) ++ (
-    past limit.Columns (nat_lt 12 (length t.columns)) ++ (
+    past limit.KeyWidth (nat_lt t.width 1 || nat_lt MOST_KEY_PARTS t.width) ++ (
+    past limit.Columns (nat_lt MOST_COLUMNS (length t.columns)) ++ (
     name_marks t.name ++ (number_marks t.width ++ (flat_map name_marks t.columns ++ ending))))
 
 -- `always`, `ensures`, `repairs` or `holds`
@@ -82,7 +84,7 @@ returns_marks (Some ns) = names_marks ns ++ ending
 abbrev pub locals_marks : ℕ → Option Names → List Mark
 locals_marks params None = []
 locals_marks params (Some ns) =
-    past limit.Locals (nat_lt 47 (params + length ns.others)) ++ (names_marks ns ++ ending)
+    past limit.Locals (nat_lt (MOST_LOCALS - 1) (params + length ns.others)) ++ (names_marks ns ++ ending)
 
 -- `variant`, which may be left out
 abbrev pub variant_marks : Option Sum → List Mark
@@ -99,27 +101,27 @@ hint_marks h = point_name_marks h.of ++ (sum_marks h.value ++ ending)
 
 -- `path` with its guard, at most 16 actions, and the target
 abbrev pub path_marks : PathTree → List Mark
-path_marks p = guard_marks p.guard ++ (ending ++ (counted limit.Actions 16 action_marks p.actions ++ target_marks p.target))
+path_marks p = guard_marks p.guard ++ (ending ++ (counted limit.Actions MOST_ACTIONS action_marks p.actions ++ target_marks p.target))
 
 -- `next` or `undo`, at most 32 reads, and at most 16 paths: a first one, and 15 others
 abbrev pub step_marks : StepTree → List Mark
 step_marks s =
     ending ++ (
-    counted limit.Reads 32 read_marks s.reads ++ (
-    path_marks s.first ++ counted limit.Paths 15 path_marks s.others))
+    counted limit.Reads MOST_READS read_marks s.reads ++ (
+    path_marks s.first ++ counted limit.Paths (MOST_PATHS - 1) path_marks s.others))
 
 -- `point` with its name, the variant, at most 64 clauses that hold, and the two steps
 abbrev pub point_marks : PointTree → List Mark
 point_marks p =
     name_marks p.name ++ (ending ++ (
     variant_marks p.variant ++ (
-    counted limit.Clauses 64 clause_statement_marks p.holds ++ (
+    counted limit.Clauses MOST_CLAUSES clause_statement_marks p.holds ++ (
     step_marks p.next ++ step_marks p.undo))))
 
 -- `type` with its name and parameters, and the number of steps
 abbrev pub head_marks : TypeTree → List Mark
 head_marks t =
-    past limit.Locals (nat_lt 48 (length t.params)) ++ (
+    past limit.Locals (nat_lt MOST_LOCALS (length t.params)) ++ (
     name_marks t.name ++ (flat_map name_marks t.params ++ (ending ++ (
     small_number_marks t.limit ++ ending))))
 
@@ -129,16 +131,16 @@ type_marks t =
     head_marks t ++ (
     returns_marks t.returns ++ (
     locals_marks (length t.params) t.locals ++ (
-    counted limit.Clauses 64 clause_statement_marks t.ensured ++ (
-    counted limit.Clauses 64 clause_statement_marks t.repaired ++ (
-    point_marks t.first ++ counted limit.Points 31 point_marks t.others)))))
+    counted limit.Clauses MOST_CLAUSES clause_statement_marks t.ensured ++ (
+    counted limit.Clauses MOST_CLAUSES clause_statement_marks t.repaired ++ (
+    point_marks t.first ++ counted limit.Points (MOST_POINTS - 1) point_marks t.others)))))
 
 -- ---- the whole text
 
 -- at most 64 tables, 128 clauses that hold always, 64 types, 1,024 entries and 1,024 hints
 abbrev pub design_marks : DesignTree → List Mark
 design_marks d =
-    counted limit.Tables 64 table_marks d.tables ++ (
-    counted limit.AlwaysClauses 128 clause_statement_marks d.always ++ (
-    counted limit.Types 64 type_marks d.types ++ (
-    counted limit.EntriesAndHints 1024 entry_marks d.entries ++ counted limit.EntriesAndHints 1024 hint_marks d.hints)))
+    counted limit.Tables MOST_TABLES table_marks d.tables ++ (
+    counted limit.AlwaysClauses MOST_ALWAYS clause_statement_marks d.always ++ (
+    counted limit.Types MOST_TYPES type_marks d.types ++ (
+    counted limit.EntriesAndHints MOST_ENTRIES entry_marks d.entries ++ counted limit.EntriesAndHints MOST_HINTS hint_marks d.hints)))

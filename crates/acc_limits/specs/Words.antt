@@ -1,6 +1,7 @@
 -- The marks within a statement: names and numbers that are too long or too large, and lists that are too long.
-use Rattle.std.specs.Prelude.{ℕ, ◌^◌, List, [], ◌++◌, length, Option, Some, None, nat_lt, nat_le}
+use Rattle.std.specs.Prelude.{ℕ, ◌-◌, List, [], ◌++◌, length, Option, Some, None, nat_lt, nat_le}
 use Rattle.std.specs.List.{flat_map}
+use Rattle.acc_base.specs.declared.bounds.TheConstants.{LARGEST_NUMBER, LONGEST_NAME, MOST_GUARDS, MOST_VARIABLES, PAST_SMALL_NUMBERS}
 use Rattle.acc_syntax.specs.declared.trees.Variable.{Variable}
 use Rattle.acc_syntax.specs.declared.trees.Variable.TheVariants.{Named, Oneself}
 use Rattle.acc_syntax.specs.declared.trees.Term.{Term}
@@ -32,15 +33,15 @@ use Rattle.acc_limits.specs.Marks.{Mark, past}
 
 -- a name of more than 32 bytes
 abbrev pub name_marks : List ℕ → List Mark
-name_marks x = past limit.NameLength (nat_lt 32 (length x))
+name_marks x = past limit.NameLength (nat_lt LONGEST_NAME (length x))
 
 -- a number above 2^45
 abbrev pub number_marks : ℕ → List Mark
-number_marks n = past limit.NumberSize (nat_lt (2 ^ 45) n)
+number_marks n = past limit.NumberSize (nat_lt LARGEST_NUMBER n)
 
 -- a type's limit or a refusal's number, from 2^32 on
 abbrev pub small_number_marks : ℕ → List Mark
-small_number_marks n = past limit.NumberSize (nat_le (2 ^ 32) n)
+small_number_marks n = past limit.NumberSize (nat_le PAST_SMALL_NUMBERS n)
 
 abbrev pub names_marks : Names → List Mark
 names_marks ns = name_marks ns.first ++ flat_map name_marks ns.others
@@ -80,7 +81,7 @@ lin_rel_marks r = sum_marks r.left ++ sum_marks r.right
 abbrev pub guard_marks : Option LinRels → List Mark
 guard_marks None = []
 guard_marks (Some rs) =
-    past limit.GuardRelations (nat_lt 15 (length rs.others)) ++ (lin_rel_marks rs.first ++ flat_map lin_rel_marks rs.others)
+    past limit.GuardRelations (nat_lt (MOST_GUARDS - 1) (length rs.others)) ++ (lin_rel_marks rs.first ++ flat_map lin_rel_marks rs.others)
 
 -- ---- clauses
 
@@ -108,13 +109,13 @@ form_rel_marks r = form_marks r.left ++ form_marks r.right
 -- at most 8 variables: a first one, and 7 others
 abbrev pub binder_marks : Option Names → List Mark
 binder_marks None = []
-binder_marks (Some ns) = past limit.Variables (nat_lt 7 (length ns.others)) ++ names_marks ns
+binder_marks (Some ns) = past limit.Variables (nat_lt (MOST_VARIABLES - 1) (length ns.others)) ++ names_marks ns
 
 -- at most 16 relations before the arrow
 abbrev pub premises_marks : Option FormRels → List Mark
 premises_marks None = []
 premises_marks (Some rs) =
-    past limit.GuardRelations (nat_lt 15 (length rs.others)) ++ (form_rel_marks rs.first ++ flat_map form_rel_marks rs.others)
+    past limit.GuardRelations (nat_lt (MOST_GUARDS - 1) (length rs.others)) ++ (form_rel_marks rs.first ++ flat_map form_rel_marks rs.others)
 
 abbrev pub clause_marks : ClauseTree → List Mark
 clause_marks c = binder_marks c.variables ++ (premises_marks c.guards ++ form_rel_marks c.relation)

@@ -7,6 +7,7 @@ ghost use Rattle.acc_limits.specs.Walks.{after};
 use crate::limits::Limit;
 use crate::values::{meet_cell, meet_names, meet_number, meet_place, meet_variable};
 use crate::walks::Walk;
+use acc_base::bounds::{MOST_GUARDS, MOST_VARIABLES};
 use acc_syntax::trees::{
     ClauseTree, FormRelTree, FormRels, FormTerm, FormTree, Names, Operand, SignedFormTerm,
 };
@@ -71,7 +72,7 @@ fn meet_binder(walk: &mut Walk, variables: &Option<Names>)
     ensures { walk.new ≡ after walk.old (binder_marks variables.now) }
 {
     if let Some(names) = variables {
-        walk.pass_if(Limit::Variables, names.others.len() > 7);
+        walk.pass_if(Limit::Variables, names.others.len() > MOST_VARIABLES - 1);
         meet_names(walk, names);
     }
 }
@@ -81,7 +82,10 @@ fn meet_premises(walk: &mut Walk, guards: &Option<FormRels>)
     ensures { walk.new ≡ after walk.old (premises_marks guards.now) }
 {
     if let Some(relations) = guards {
-        walk.pass_if(Limit::GuardRelations, relations.others.len() > 15);
+        walk.pass_if(
+            Limit::GuardRelations,
+            relations.others.len() > MOST_GUARDS - 1,
+        );
         meet_relation(walk, &relations.first);
         meet_each_relation(walk, relations.others.as_slice());
     }

@@ -10,54 +10,55 @@ ghost use Rattle.acc_limits.specs.Walks.{after};
 use crate::limits::Limit;
 use crate::types::{meet_clause_statement, meet_entry, meet_hint, meet_table, meet_type};
 use crate::walks::Walk;
+use acc_base::bounds::{MOST_ALWAYS, MOST_ENTRIES, MOST_HINTS, MOST_TABLES, MOST_TYPES};
 use acc_syntax::trees::{ClauseTree, DesignTree, EntryTree, HintTree, TableTree, TypeTree};
 
 /// At most 64 tables.
 fn meet_tables(walk: &mut Walk, tables: &[TableTree])
-    ensures { walk.new ≡ after walk.old (counted Limit.Tables 64 table_marks tables.now) }
+    ensures { walk.new ≡ after walk.old (counted Limit.Tables MOST_TABLES table_marks tables.now) }
 {
     for (i, table) in tables.iter().enumerate() {
-        walk.pass_if(Limit::Tables, i == 64);
+        walk.pass_if(Limit::Tables, i == MOST_TABLES);
         meet_table(walk, table);
     }
 }
 
 /// At most 128 clauses that hold always.
 fn meet_always(walk: &mut Walk, clauses: &[ClauseTree])
-    ensures { walk.new ≡ after walk.old (counted Limit.AlwaysClauses 128 clause_statement_marks clauses.now) }
+    ensures { walk.new ≡ after walk.old (counted Limit.AlwaysClauses MOST_ALWAYS clause_statement_marks clauses.now) }
 {
     for (i, clause) in clauses.iter().enumerate() {
-        walk.pass_if(Limit::AlwaysClauses, i == 128);
+        walk.pass_if(Limit::AlwaysClauses, i == MOST_ALWAYS);
         meet_clause_statement(walk, clause);
     }
 }
 
 /// At most 64 types.
 fn meet_types(walk: &mut Walk, types: &[TypeTree])
-    ensures { walk.new ≡ after walk.old (counted Limit.Types 64 type_marks types.now) }
+    ensures { walk.new ≡ after walk.old (counted Limit.Types MOST_TYPES type_marks types.now) }
 {
     for (i, t) in types.iter().enumerate() {
-        walk.pass_if(Limit::Types, i == 64);
+        walk.pass_if(Limit::Types, i == MOST_TYPES);
         meet_type(walk, t);
     }
 }
 
 /// At most 1,024 entries.
 fn meet_entries(walk: &mut Walk, entries: &[EntryTree])
-    ensures { walk.new ≡ after walk.old (counted Limit.EntriesAndHints 1024 entry_marks entries.now) }
+    ensures { walk.new ≡ after walk.old (counted Limit.EntriesAndHints MOST_ENTRIES entry_marks entries.now) }
 {
     for (i, entry) in entries.iter().enumerate() {
-        walk.pass_if(Limit::EntriesAndHints, i == 1024);
+        walk.pass_if(Limit::EntriesAndHints, i == MOST_ENTRIES);
         meet_entry(walk, entry);
     }
 }
 
 /// At most 1,024 hints.
 fn meet_hints(walk: &mut Walk, hints: &[HintTree])
-    ensures { walk.new ≡ after walk.old (counted Limit.EntriesAndHints 1024 hint_marks hints.now) }
+    ensures { walk.new ≡ after walk.old (counted Limit.EntriesAndHints MOST_HINTS hint_marks hints.now) }
 {
     for (i, hint) in hints.iter().enumerate() {
-        walk.pass_if(Limit::EntriesAndHints, i == 1024);
+        walk.pass_if(Limit::EntriesAndHints, i == MOST_HINTS);
         meet_hint(walk, hint);
     }
 }

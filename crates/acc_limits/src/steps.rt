@@ -1,5 +1,5 @@
 //! The statements of a step: its reads, and its paths with what they write and where they end.
-ghost use Rattle.std.specs.Prelude.{◌≡◌};
+ghost use Rattle.std.specs.Prelude.{◌≡◌, ◌-◌};
 ghost use Rattle.acc_limits.specs.Marks.{counted};
 ghost use Rattle.acc_limits.specs.Statements.{read_words_marks, read_marks, values_marks, action_words_marks, action_marks, target_words_marks, target_marks, path_marks, step_marks};
 ghost use Rattle.acc_limits.specs.Walks.{after};
@@ -10,6 +10,7 @@ use crate::values::{
     meet_sums, meet_variable,
 };
 use crate::walks::Walk;
+use acc_base::bounds::{MOST_ACTIONS, MOST_PATHS, MOST_READS};
 use acc_syntax::trees::{ActionTree, PathTree, ReadTree, StepTree, Sums, TargetTree};
 
 fn meet_read_words(walk: &mut Walk, read: &ReadTree)
@@ -54,10 +55,10 @@ fn meet_read(walk: &mut Walk, read: &ReadTree)
 
 /// At most 32 reads.
 fn meet_reads(walk: &mut Walk, reads: &[ReadTree])
-    ensures { walk.new ≡ after walk.old (counted Limit.Reads 32 read_marks reads.now) }
+    ensures { walk.new ≡ after walk.old (counted Limit.Reads MOST_READS read_marks reads.now) }
 {
     for (i, read) in reads.iter().enumerate() {
-        walk.pass_if(Limit::Reads, i == 32);
+        walk.pass_if(Limit::Reads, i == MOST_READS);
         meet_read(walk, read);
     }
 }
@@ -95,10 +96,10 @@ fn meet_action(walk: &mut Walk, action: &ActionTree)
 
 /// At most 16 actions.
 fn meet_actions(walk: &mut Walk, actions: &[ActionTree])
-    ensures { walk.new ≡ after walk.old (counted Limit.Actions 16 action_marks actions.now) }
+    ensures { walk.new ≡ after walk.old (counted Limit.Actions MOST_ACTIONS action_marks actions.now) }
 {
     for (i, action) in actions.iter().enumerate() {
-        walk.pass_if(Limit::Actions, i == 16);
+        walk.pass_if(Limit::Actions, i == MOST_ACTIONS);
         meet_action(walk, action);
     }
 }
@@ -125,10 +126,10 @@ fn meet_path(walk: &mut Walk, path: &PathTree)
 
 /// The paths behind the first: at most 15.
 fn meet_other_paths(walk: &mut Walk, paths: &[PathTree])
-    ensures { walk.new ≡ after walk.old (counted Limit.Paths 15 path_marks paths.now) }
+    ensures { walk.new ≡ after walk.old (counted Limit.Paths (MOST_PATHS - 1) path_marks paths.now) }
 {
     for (i, path) in paths.iter().enumerate() {
-        walk.pass_if(Limit::Paths, i == 15);
+        walk.pass_if(Limit::Paths, i == MOST_PATHS - 1);
         meet_path(walk, path);
     }
 }

@@ -1,5 +1,5 @@
 //! The statements of tables, clauses, points, types, entries and hints.
-ghost use Rattle.std.specs.Prelude.{◌≡◌, length};
+ghost use Rattle.std.specs.Prelude.{◌≡◌, ◌-◌, length};
 ghost use Rattle.acc_limits.specs.Marks.{counted};
 ghost use Rattle.acc_limits.specs.Statements.{table_marks, clause_statement_marks, returns_marks, locals_marks, variant_marks, point_marks, head_marks, type_marks, entry_marks, hint_marks};
 ghost use Rattle.acc_limits.specs.Walks.{after};
@@ -12,6 +12,7 @@ use crate::values::{
     meet_small_number, meet_sum,
 };
 use crate::walks::Walk;
+use acc_base::bounds::{MOST_CLAUSES, MOST_COLUMNS, MOST_KEY_PARTS, MOST_LOCALS, MOST_POINTS};
 use acc_syntax::trees::{
     ClauseTree, EntryTree, HintTree, Names, PointTree, Sum, TableTree, TypeTree,
 };
@@ -19,8 +20,11 @@ use acc_syntax::trees::{
 pub fn meet_table(walk: &mut Walk, table: &TableTree)
     ensures { walk.new ≡ after walk.old (table_marks table.now) }
 {
-    walk.pass_if(Limit::KeyWidth, table.width < 1 || table.width > 6);
-    walk.pass_if(Limit::Columns, table.columns.len() > 12);
+    walk.pass_if(
+        Limit::KeyWidth,
+        table.width < 1 || table.width > MOST_KEY_PARTS as u64,
+    );
+    walk.pass_if(Limit::Columns, table.columns.len() > MOST_COLUMNS);
     meet_name(walk, &table.name);
     meet_number(walk, table.width);
     meet_each_name(walk, table.columns.as_slice());
@@ -37,10 +41,10 @@ pub fn meet_clause_statement(walk: &mut Walk, clause: &ClauseTree)
 
 /// At most 64 clauses, of a point or of a type.
 fn meet_clauses(walk: &mut Walk, clauses: &[ClauseTree])
-    ensures { walk.new ≡ after walk.old (counted Limit.Clauses 64 clause_statement_marks clauses.now) }
+    ensures { walk.new ≡ after walk.old (counted Limit.Clauses MOST_CLAUSES clause_statement_marks clauses.now) }
 {
     for (i, clause) in clauses.iter().enumerate() {
-        walk.pass_if(Limit::Clauses, i == 64);
+        walk.pass_if(Limit::Clauses, i == MOST_CLAUSES);
         meet_clause_statement(walk, clause);
     }
 }
@@ -67,10 +71,10 @@ fn meet_point(walk: &mut Walk, point: &PointTree)
 
 /// The points behind the first: at most 31.
 fn meet_other_points(walk: &mut Walk, points: &[PointTree])
-    ensures { walk.new ≡ after walk.old (counted Limit.Points 31 point_marks points.now) }
+    ensures { walk.new ≡ after walk.old (counted Limit.Points (MOST_POINTS - 1) point_marks points.now) }
 {
     for (i, point) in points.iter().enumerate() {
-        walk.pass_if(Limit::Points, i == 31);
+        walk.pass_if(Limit::Points, i == MOST_POINTS - 1);
         meet_point(walk, point);
     }
 }
@@ -79,7 +83,7 @@ fn meet_other_points(walk: &mut Walk, points: &[PointTree])
 fn meet_head(walk: &mut Walk, t: &TypeTree)
     ensures { walk.new ≡ after walk.old (head_marks t.now) }
 {
-    walk.pass_if(Limit::Locals, t.params.len() > 48);
+    walk.pass_if(Limit::Locals, t.params.len() > MOST_LOCALS);
     meet_name(walk, &t.name);
     meet_each_name(walk, t.params.as_slice());
     walk.end();
@@ -102,7 +106,10 @@ fn meet_locals(walk: &mut Walk, params: usize, locals: &Option<Names>)
 {
     if let Some(names) = locals {
         let others = names.others.len();
-        walk.pass_if(Limit::Locals, params > 47 || others > 47 - params);
+        walk.pass_if(
+            Limit::Locals,
+            params >= MOST_LOCALS || others >= MOST_LOCALS - params,
+        );
         meet_names(walk, names);
         walk.end();
     }

@@ -6,6 +6,7 @@ ghost use Rattle.acc_limits.specs.Walks.{after};
 
 use crate::limits::Limit;
 use crate::walks::Walk;
+use acc_base::bounds::{LARGEST_NUMBER, LONGEST_NAME, MOST_GUARDS, PAST_SMALL_NUMBERS};
 use acc_base::sequences::Text;
 use acc_syntax::trees::{
     Cell, LinRelTree, LinRels, Names, PairTree, Pairs, Place, PointName, SignedTerm, Sum, Sums,
@@ -15,20 +16,20 @@ use acc_syntax::trees::{
 pub fn meet_name(walk: &mut Walk, name: &Text)
     ensures { walk.new ≡ after walk.old (name_marks name.now) }
 {
-    walk.pass_if(Limit::NameLength, name.len() > 32);
+    walk.pass_if(Limit::NameLength, name.len() > LONGEST_NAME);
 }
 
 pub fn meet_number(walk: &mut Walk, n: u64)
     ensures { walk.new ≡ after walk.old (number_marks n) }
 {
-    walk.pass_if(Limit::NumberSize, n > 1 << 45);
+    walk.pass_if(Limit::NumberSize, n > LARGEST_NUMBER);
 }
 
 /// The number of a type's limit or of a refusal.
 pub fn meet_small_number(walk: &mut Walk, n: u64)
     ensures { walk.new ≡ after walk.old (small_number_marks n) }
 {
-    walk.pass_if(Limit::NumberSize, n >= 1 << 32);
+    walk.pass_if(Limit::NumberSize, n >= PAST_SMALL_NUMBERS);
 }
 
 pub fn meet_each_name(walk: &mut Walk, names: &[Text])
@@ -132,7 +133,10 @@ pub fn meet_guard(walk: &mut Walk, guard: &Option<LinRels>)
     ensures { walk.new ≡ after walk.old (guard_marks guard.now) }
 {
     if let Some(relations) = guard {
-        walk.pass_if(Limit::GuardRelations, relations.others.len() > 15);
+        walk.pass_if(
+            Limit::GuardRelations,
+            relations.others.len() > MOST_GUARDS - 1,
+        );
         meet_relation(walk, &relations.first);
         meet_each_relation(walk, relations.others.as_slice());
     }
