@@ -186,7 +186,7 @@ fn make(alloc: Global, design: &mut Design, change: Change) -> Result<(), AllocE
 fn judged(alloc: Global, change: Change) -> Result<Option<FormError>, Fail> {
     let mut design = parse(alloc, FORMED)?;
     make(alloc, &mut design, change)?;
-    Ok(well_formed(alloc, &design).err())
+    Ok(well_formed(&design).err())
 }
 
 /// Each change, with the lowest rule that it breaks and the first line that breaks it.
