@@ -1,6 +1,7 @@
 -- Rows and frames that fit a design: of its tables' shapes and its types' lengths, with numbers in range.
 -- Soundness, the invariant of runs and the obligations of a design speak of them.
-use Rattle.std.specs.Prelude.{◌≡◌, ◌<◌, ◌≤◌, ◌^◌, List, length, All, Option, Some, None, slice_get}
+use Rattle.std.specs.Prelude.{◌≡◌, ◌<◌, ◌≤◌, List, length, All, Option, Some, None, slice_get}
+use Rattle.acc_base.specs.declared.bounds.TheConstants.{LARGEST_NUMBER}
 use Rattle.acc_base.specs.declared.tables.Row.{Row}
 use Rattle.acc_base.specs.declared.designs.Design.{Design}
 use Rattle.acc_base.specs.declared.designs.TxType.{TxType}
@@ -15,7 +16,7 @@ pub record RowsFit (d : Design) (db : List Row) : Type 0 where
   pub shapes : All (RowFits d.tables) db
   pub order : IsInOrder db
   pub keys : All (λ r. All IsSmall r.key.parts) db
-  pub few : length db ≤ 2 ^ 45
+  pub few : length db ≤ LARGEST_NUMBER
 
 -- a frame of this type: at one of its points, with its locals, within its limit of steps; its number is from 1
 pub record IsFrameOf (x : TxType) (f : Frame) : Type 0 where
@@ -24,7 +25,7 @@ pub record IsFrameOf (x : TxType) (f : Frame) : Type 0 where
   pub locals : All IsSmall f.locals
   pub tape : All IsSmall f.tape
   pub first : 1 ≤ f.t
-  pub number : f.t ≤ 2 ^ 45
+  pub number : f.t ≤ LARGEST_NUMBER
   pub steps : f.steps ≤ x.limit
   pub at : f.pos ≤ length f.tape
 

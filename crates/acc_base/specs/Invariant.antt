@@ -1,5 +1,6 @@
 -- What is true of each state that lawful events reach. The machine with locks keeps it, and its users start from it.
-use Rattle.std.specs.Prelude.{◌≡◌, ◌≢◌, ℕ, ◌+◌, ◌-◌, ◌*◌, ◌≤◌, ◌^◌, IsTrue, List, length, sum_by, All, Some, slice_get, pos, unsigned_abs}
+use Rattle.std.specs.Prelude.{◌≡◌, ◌≢◌, ℕ, ◌+◌, ◌-◌, ◌*◌, ◌≤◌, IsTrue, List, length, sum_by, All, Some, slice_get, pos, unsigned_abs}
+use Rattle.acc_base.specs.declared.bounds.TheConstants.{LARGEST_NUMBER, MOST_ACTIONS, LARGEST_LIMIT, LARGEST_VARIANT, MOST_EVENTS, MOST_UNFINISHED}
 use Rattle.acc_base.specs.declared.tables.Row.{Row}
 use Rattle.acc_base.specs.declared.designs.Design.{Design}
 use Rattle.acc_base.specs.declared.designs.Side.{Side}
@@ -32,7 +33,7 @@ IsKept d db t (Ended reply) = reply.t ≡ t
 
 -- the events that a transaction may still take at most
 abbrev pub rest_of : Design → Transaction → ℕ
-rest_of d (Forward f) = limit_of (slice_get d.types f.ty) - f.steps + 65538
+rest_of d (Forward f) = limit_of (slice_get d.types f.ty) - f.steps + (LARGEST_VARIANT + 2)
 rest_of d (Undoing f c) = unsigned_abs (variant_of d f) + 1
 rest_of d (Ended reply) = 0
 
@@ -57,7 +58,7 @@ IsWithin n r = (c : ℕ) → unsigned_abs (cell c r) ≤ n
 -- all that holds of a state apart from how it came about
 pub record IsSteady (d : Design) (w : World) : Type 0 where
   pub rows : RowsFit d w.rows
-  pub few : length w.rows ≤ 16 * length w.events
+  pub few : length w.rows ≤ MOST_ACTIONS * length w.events
   pub counted : length w.transactions ≤ length w.events
   pub each : (t : ℕ) (x : Transaction) → transaction_at t w.transactions ≡ Some x → IsKept d w.rows t x
   pub always : Always d w.rows
@@ -65,8 +66,10 @@ pub record IsSteady (d : Design) (w : World) : Type 0 where
       (t u : ℕ) (f g : Frame) → frame_at t w ≡ Some f → frame_at u w ≡ Some g → t ≢ u
       → AreCompatibleFrames d f g
   pub owned : All (IsOwned d w) w.rows
-  pub bounded : All (IsWithin (2 ^ 45 * (1 + length w.events))) w.rows
-  pub ends : length w.events + sum_by (rest_of d) w.transactions ≤ 2 ^ 20 + 64 * 131074
+  pub bounded : All (IsWithin (LARGEST_NUMBER * (1 + length w.events))) w.rows
+  pub ends :
+      length w.events + sum_by (rest_of d) w.transactions
+      ≤ MOST_EVENTS + MOST_UNFINISHED * (LARGEST_LIMIT + LARGEST_VARIANT + 2)
 
 -- the events are lawful and lead to this state
 pub record IsGood (d : Design) (w : World) : Type 0 where

@@ -1,6 +1,7 @@
 -- Which events may come: those of the plain machine by the rules of locks, limits and victims.
 -- The machine with locks does these and no others, and a journal that is read again has no others.
-use Rattle.std.specs.Prelude.{◌≡◌, ⊤, ◌<◌, ◌^◌, List, [], ◌∷◌, length, Some}
+use Rattle.std.specs.Prelude.{◌≡◌, ⊤, ◌<◌, List, [], ◌∷◌, length, Some}
+use Rattle.acc_base.specs.declared.bounds.TheConstants.{MOST_EVENTS, MOST_UNFINISHED}
 use Rattle.acc_base.specs.declared.designs.Design.{Design}
 use Rattle.acc_base.specs.declared.machines.Frame.{Frame}
 use Rattle.acc_base.specs.declared.machines.Cause.{Cause}
@@ -21,7 +22,7 @@ HasGround d w Crash = ⊤
 
 -- a transaction begins where there is room, and steps where nobody blocks it; an undo step needs no leave
 abbrev pub HasLeave : Design → World → Event → Type 0
-HasLeave d w (Begin call) = (length w.events < 2 ^ 20) × (length (unfinished w) < 64)
+HasLeave d w (Begin call) = (length w.events < MOST_EVENTS) × (length (unfinished w) < MOST_UNFINISHED)
 HasLeave d w (Step t) = (f : Frame) → frame_at t w ≡ Some f → IsUnblocked d w f
 HasLeave d w (Abort t c) = HasGround d w c
 HasLeave d w (Undo t) = ⊤

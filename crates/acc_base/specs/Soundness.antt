@@ -1,6 +1,7 @@
 -- When a design is sound: each step keeps what stands, its own assertions and those of the others that don't forbid it.
 -- The obligations of a design show it, and every run by the rules of locks rests on it.
-use Rattle.std.specs.Prelude.{◌≢◌, ℕ, ◌≤◌, ◌^◌, ◌/◌, Bool, false, ◌&&◌, ◌==◌, IsTrue, List, [], All, count_by, Option, Some, None, slice_get, ℤ, pos, ◌≤ℤ◌, ◌<ℤ◌, unsigned_abs, ⊤}
+use Rattle.std.specs.Prelude.{◌≢◌, ℕ, ◌≤◌, ◌/◌, Bool, false, ◌&&◌, ◌==◌, IsTrue, List, [], All, count_by, Option, Some, None, slice_get, ℤ, pos, ◌≤ℤ◌, ◌<ℤ◌, unsigned_abs, ⊤}
+use Rattle.acc_base.specs.declared.bounds.TheConstants.{LARGEST_NUMBER, LARGEST_VARIANT}
 use Rattle.acc_base.specs.declared.forms.Clause.{Clause}
 use Rattle.acc_base.specs.declared.tables.Row.{Row}
 use Rattle.acc_base.specs.declared.steps.Action.{Action}
@@ -83,7 +84,7 @@ abbrev pub IsShared : List ℤ → List Action → Action → Type 0
 IsShared env actions (Put t k vs) = ⊤
 IsShared env actions (Del t k) = ⊤
 IsShared env actions (Set t k c v) = ⊤
-IsShared env actions (Add t k c v) = unsigned_abs (lin_value env v) ≤ 2 ^ 45 / count_by (adds_to t c) actions
+IsShared env actions (Add t k c v) = unsigned_abs (lin_value env v) ≤ LARGEST_NUMBER / count_by (adds_to t c) actions
 
 abbrev pub AreShared : List ℤ → List Action → Type 0
 AreShared env actions = All (IsShared env actions) actions
@@ -112,7 +113,7 @@ pub record IsSound (d : Design) : Type 0 where
   pub begins :
       (db : List Row) (t : ℕ) (call : Call) → RowsFit d db → Always d db
       → IsTrue (call_fits (slice_get d.types call.ty) call)
-      → 1 ≤ t → t ≤ 2 ^ 45 → HasNoPrivate d (pos t) db
+      → 1 ≤ t → t ≤ LARGEST_NUMBER → HasNoPrivate d (pos t) db
       → Holds d db (begun d t call)
   -- each path leaves what is promised where it leads
   pub meets :
@@ -138,7 +139,7 @@ pub record IsSound (d : Design) : Type 0 where
   -- and fall, from a variant that isn't negative and not large
   pub variant :
       (db : List Row) (f : Frame) → IsReady d db f
-      → (pos 0 ≤ℤ variant_of d f) × (variant_of d f ≤ℤ pos 65536)
+      → (pos 0 ≤ℤ variant_of d f) × (variant_of d f ≤ℤ pos LARGEST_VARIANT)
   pub falls :
       (db : List Row) (f : Frame) → IsReady d db f
       → WhereGoes (λ after s i to. FallsAt d f s to) (effect_of d db f UndoSide)

@@ -41,6 +41,8 @@ pub const MOST_PATHS: usize = 16;
 pub const MOST_ACTIONS: usize = 16;
 /// Steps forward of a transaction, as its type allows them.
 pub const LARGEST_LIMIT: u32 = 65_536;
+/// The variant of a point: how far compensation has still to go.
+pub const LARGEST_VARIANT: u32 = 65_536;
 /// The number of a refusal.
 pub const LARGEST_REFUSAL: u32 = 255;
 /// The number of a limit or of a refusal in a design's text is below this: 2^32.

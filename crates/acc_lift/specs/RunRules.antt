@@ -1,5 +1,6 @@
 -- What the invariant of a design's states asks of its form: a part of what it is to be well-formed.
 use Rattle.std.specs.Prelude.{◌≡◌, ◌≢◌, ℕ, ◌-◌, ◌<◌, ◌≤◌, ⊤, IsTrue, List, [], ◌∷◌, length, All, Some, slice_get, pos}
+use Rattle.acc_base.specs.declared.bounds.TheConstants.{MOST_ACTIONS, LARGEST_LIMIT}
 use Rattle.acc_base.specs.declared.forms.Lin.{Lin}
 use Rattle.acc_base.specs.declared.steps.Action.{Action}
 use Rattle.acc_base.specs.declared.steps.Action.TheVariants.{Put, Del, Set, Add}
@@ -40,14 +41,14 @@ IsTargetOf x (Refuse n) = ⊤
 pub record IsPathOf (d : Design) (x : TxType) (side : Side) (path : Path) : Type 0 where
   pub target : IsTargetOf x path.target
   pub ends : CanEnd side path.target
-  pub few : length path.actions ≤ 16
+  pub few : length path.actions ≤ MOST_ACTIONS
   pub shapes : All (ActionFits d.tables) path.actions
   pub own : All (PutsOwn d (length x.locals)) path.actions
 
 pub record IsTypeOf (x : TxType) : Type 0 where
   pub start : 0 < length x.points
   pub params : x.params ≤ length x.locals
-  pub limit : x.limit ≤ 65536
+  pub limit : x.limit ≤ LARGEST_LIMIT
 
 -- no undo step of the type assigns the local
 abbrev pub IsUnassigned : Design → ℕ → ℕ → Type 0

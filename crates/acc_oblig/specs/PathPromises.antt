@@ -2,6 +2,7 @@
 -- always of no rows.
 use Rattle.std.specs.Prelude.{ℕ, ◌+◌, ◌==◌, Bool, false, ◌||◌, if◌then◌else◌, List, [], ◌∷◌, ◌++◌, take, Option, Some, None, slice_get, pos, negsuc}
 use Rattle.std.specs.List.{list_any}
+use Rattle.acc_base.specs.declared.bounds.TheConstants.{MOST_CLAUSES, MOST_ACTIONS}
 use Rattle.acc_base.specs.declared.forms.Lin.{Lin}
 use Rattle.acc_base.specs.declared.forms.Atom.{Atom}
 use Rattle.acc_base.specs.declared.forms.Atom.TheVariants as atom
@@ -40,9 +41,9 @@ promise_at d k w x p step path =
     let s : Setting = setting_of d x p step w.path path in
     of_some (path_drafts 1 s k w (last_now s ++ s.locals ∷ [])) (slice_get (promised x path.target) k)
 
--- at most 64 clauses are promised
+-- so many clauses are promised at most
 abbrev pub promise_drafts : Design → List Draft
-promise_drafts d = each_number 0 64 (λ k. each_path d (promise_at d k))
+promise_drafts d = each_number 0 MOST_CLAUSES (λ k. each_path d (promise_at d k))
 
 -- ---- rule 2: what holds always
 
@@ -91,7 +92,7 @@ there_at d k w x p step path =
     of_some (λ a. of_some there (changed_row a)) (slice_get path.actions k)
 
 abbrev pub there_drafts : Design → List Draft
-there_drafts d = each_number 0 16 (λ k. each_path d (there_at d k))
+there_drafts d = each_number 0 MOST_ACTIONS (λ k. each_path d (there_at d k))
 
 -- ---- rule 8: what holds always of no rows
 

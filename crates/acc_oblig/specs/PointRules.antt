@@ -1,5 +1,6 @@
 -- The obligations on begins, on variants and on ends.
 use Rattle.std.specs.Prelude.{ℕ, ◌+◌, ◌-◌, Bool, true, false, ◌&&◌, if◌then◌else◌, List, [], ◌∷◌, ◌++◌, length, map, codes, replicate, Option, Some, None, slice_get, pos, negsuc, neg_ℤ}
+use Rattle.acc_base.specs.declared.bounds.TheConstants.{MOST_CLAUSES, LARGEST_VARIANT}
 use Rattle.acc_base.specs.declared.tables.Table.{Table}
 use Rattle.acc_base.specs.declared.forms.Lin.{Lin}
 use Rattle.acc_base.specs.declared.forms.Atom.TheVariants as atom
@@ -52,7 +53,7 @@ begin_at d k ty x =
     of_some make (slice_get (point_clauses (slice_get x.points 0)) k)
 
 abbrev pub begin_drafts : Design → List Draft
-begin_drafts d = each_number 0 64 (λ k. each (begin_at d k) d.types)
+begin_drafts d = each_number 0 MOST_CLAUSES (λ k. each (begin_at d k) d.types)
 
 -- ---- rule 6: the variant lies from 0 to 65,536, and an undo path to a point makes it fall
 
@@ -105,7 +106,7 @@ fall_at d w x p step path =
 abbrev pub variant_drafts : Design → List Draft
 variant_drafts d =
     each_point d (λ ty x i p. rest_drafts 1 d ty x i p negated)
-    ++ (each_point d (λ ty x i p. rest_drafts 2 d ty x i p (λ f. plus_number f (neg_ℤ (pos 65536)))) ++ each_path d (fall_at d))
+    ++ (each_point d (λ ty x i p. rest_drafts 2 d ty x i p (λ f. plus_number f (neg_ℤ (pos LARGEST_VARIANT)))) ++ each_path d (fall_at d))
 
 -- ---- rule 7: what has ended leaves no private row that its type puts
 

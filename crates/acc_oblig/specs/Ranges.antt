@@ -1,5 +1,6 @@
 -- The obligations on ranges: the numbers of an undo step stay within bounds.
-use Rattle.std.specs.Prelude.{ℕ, ◌+◌, ◌-◌, ◌/◌, ◌^◌, nat_lt, Bool, true, false, if◌then◌else◌, List, [], ◌∷◌, ◌++◌, length, map, count_by, Some, None, slice_get, slice_set, pos, neg_ℤ}
+use Rattle.std.specs.Prelude.{ℕ, ◌+◌, ◌-◌, ◌/◌, nat_lt, Bool, true, false, if◌then◌else◌, List, [], ◌∷◌, ◌++◌, length, map, count_by, Some, None, slice_get, slice_set, pos, neg_ℤ, ◌*◌}
+use Rattle.acc_base.specs.declared.bounds.TheConstants.{LARGEST_NUMBER, MOST_KEY_PARTS, MOST_COLUMNS, MOST_READS, MOST_ACTIONS}
 use Rattle.acc_base.specs.declared.forms.Lin.{Lin}
 use Rattle.acc_base.specs.declared.forms.Form.{Form}
 use Rattle.acc_base.specs.declared.steps.Read.{Read}
@@ -67,7 +68,7 @@ pub record ActionNumber : Type 0 where
   pub most : ℕ
 
 abbrev pub in_range : Lin → ActionNumber
-in_range l = record { value = l; most = 2 ^ 45 }
+in_range l = record { value = l; most = LARGEST_NUMBER }
 
 -- of k `add` actions on one table and column each has a k-th of the range
 abbrev pub one_action_numbers : List Action → Action → List ActionNumber
@@ -75,7 +76,7 @@ one_action_numbers all (action.Put t k vs) = map in_range k ++ map in_range vs
 one_action_numbers all (action.Del t k) = map in_range k
 one_action_numbers all (action.Set t k c v) = map in_range k ++ in_range v ∷ []
 one_action_numbers all (action.Add t k c v) =
-    map in_range k ++ record { value = v; most = 2 ^ 45 / count_by (adds_to t c) all } ∷ []
+    map in_range k ++ record { value = v; most = LARGEST_NUMBER / count_by (adds_to t c) all } ∷ []
 
 abbrev pub numbers_of : List Action → List Action → List ActionNumber
 numbers_of all [] = []
@@ -106,7 +107,7 @@ setting_numbers s vars = read_numbers s.locals vars (first_now s) (s.locals + 1)
 abbrev pub read_range_in : ℕ → At → Setting → ℕ → ReadNumber → List Draft
 read_range_in k at s vars m =
     let rels = step_bounds s m.bounded ++ step_rels s vars in
-    if m.asked then goal_drafts (read_origin k at) vars (step_hyps s vars) rels false 1 (within m.value (2 ^ 45)) else []
+    if m.asked then goal_drafts (read_origin k at) vars (step_hyps s vars) rels false 1 (within m.value LARGEST_NUMBER) else []
 
 abbrev pub action_range_in : ℕ → Place → Setting → ℕ → ActionNumber → List Draft
 action_range_in k w s vars m =
@@ -132,6 +133,9 @@ range_at d k ty x i p =
     of_some (read_range_in k at s (step_vars s)) (slice_get numbers k)
     ++ each (path_range_at d k (length numbers) at x p) p.undo.paths
 
--- a step has at most 512 numbers: 7 of each of 32 reads, and 18 of each of 16 actions
+-- the numbers of a step: of each read its key's and its value, and of each action its key's and its operands
+abbrev pub most_numbers : ℕ
+most_numbers = MOST_READS * (MOST_KEY_PARTS + 1) + MOST_ACTIONS * (MOST_KEY_PARTS + MOST_COLUMNS)
+
 abbrev pub range_drafts : Design → List Draft
-range_drafts d = each_number 0 512 (λ k. each_point d (range_at d k))
+range_drafts d = each_number 0 most_numbers (λ k. each_point d (range_at d k))

@@ -1,5 +1,6 @@
 -- The relations and hypotheses of a sequent, one by one.
-use Rattle.std.specs.Prelude.{ℕ, ◌^◌, true, false, if◌then◌else◌, List, [], ◌∷◌, ◌++◌, map, codes, ℤ, pos, negsuc, neg_ℤ, ◌+ℤ◌}
+use Rattle.std.specs.Prelude.{ℕ, true, false, if◌then◌else◌, List, [], ◌∷◌, ◌++◌, map, codes, ℤ, pos, negsuc, neg_ℤ, ◌+ℤ◌}
+use Rattle.acc_base.specs.declared.bounds.TheConstants.{LARGEST_NUMBER}
 use Rattle.acc_base.specs.declared.forms.Lin.{Lin}
 use Rattle.acc_base.specs.declared.forms.LinRel.{LinRel}
 use Rattle.acc_base.specs.declared.forms.Atom.{Atom}
@@ -51,7 +52,7 @@ is_none f = record { form = f; equal = true }
 -- ---- bounds
 
 abbrev pub bound : ℤ
-bound = pos (2 ^ 45)
+bound = pos LARGEST_NUMBER
 
 abbrev pub at_most : ℕ → Rel
 at_most x = not_above (form (variable (pos 1) x ∷ []) (neg_ℤ bound))
