@@ -115,7 +115,8 @@ binder_marks (Some ns) = past limit.Variables (nat_lt (MOST_VARIABLES - 1) (leng
 abbrev pub premises_marks : Option FormRels → List Mark
 premises_marks None = []
 premises_marks (Some rs) =
-    past limit.GuardRelations (nat_lt (MOST_GUARDS - 1) (length rs.others)) ++ (form_rel_marks rs.first ++ flat_map form_rel_marks rs.others)
+    past limit.GuardRelations (nat_lt (MOST_GUARDS - 1) (length rs.others))
+    ++ (form_rel_marks rs.first ++ flat_map form_rel_marks rs.others)
 
 abbrev pub clause_marks : ClauseTree → List Mark
 clause_marks c = binder_marks c.variables ++ (premises_marks c.guards ++ form_rel_marks c.relation)
