@@ -18,12 +18,14 @@ point_can Undo p h = h.undo
 pub step_can : (d : Design) (ty p : ℕ) (side : Side) (step : Step) → IsRunnable d → step_of d ty p side ≡ Some step → CanStep side step
 step_can d ty p side step h e = in_type (slice_get d.types ty) refl e
   where
-    in_point : (x : TxType) → IsRunnableType x → (o : Option Point) → slice_get x.points p ≡ o → option_and_then (λ q. Some (step_at side q)) o ≡ Some step → CanStep side step
+    in_point : (x : TxType) → IsRunnableType x → (o : Option Point) → slice_get x.points p ≡ o
+        → option_and_then (λ q. Some (step_at side q)) o ≡ Some step → CanStep side step
     in_point x r None f g = cc
     in_point x r (Some q) f g =
         let same : step_at side q ≡ step = cc in
         subst (CanStep side) same (point_can side q (at_slice_get IsRunnablePoint x.points p q r.points f))
 
-    in_type : (o : Option TxType) → slice_get d.types ty ≡ o → option_and_then (λ q. Some (step_at side q)) (option_and_then (λ x. slice_get x.points p) o) ≡ Some step → CanStep side step
+    in_type : (o : Option TxType) → slice_get d.types ty ≡ o
+        → option_and_then (λ q. Some (step_at side q)) (option_and_then (λ x. slice_get x.points p) o) ≡ Some step → CanStep side step
     in_type None f g = cc
     in_type (Some x) f g = in_point x (at_slice_get IsRunnableType d.types ty x h f) (slice_get x.points p) refl g

@@ -1,6 +1,7 @@
 -- What is true of each state that lawful events reach. The machine with locks keeps it, and its users start from it.
 use Rattle.std.specs.Prelude.{◌≡◌, ◌≢◌, ℕ, ◌+◌, ◌-◌, ◌*◌, ◌≤◌, IsTrue, List, length, sum_by, All, Some, slice_get, pos, unsigned_abs}
-use Rattle.acc_base.specs.declared.bounds.TheConstants.{LARGEST_NUMBER, MOST_ACTIONS, LARGEST_LIMIT, LARGEST_VARIANT, MOST_EVENTS, MOST_UNFINISHED}
+use Rattle.acc_base.specs.declared.bounds.TheConstants.{LARGEST_NUMBER, MOST_ACTIONS, LARGEST_LIMIT, LARGEST_VARIANT, MOST_EVENTS}
+use Rattle.acc_base.specs.declared.bounds.TheConstants.{MOST_UNFINISHED}
 use Rattle.acc_base.specs.declared.tables.Row.{Row}
 use Rattle.acc_base.specs.declared.designs.Design.{Design}
 use Rattle.acc_base.specs.declared.designs.Side.{Side}

@@ -1,6 +1,8 @@
 -- The plain machine of steps: its states, and what each event does.
-use Rattle.std.specs.Prelude.{ℕ, ◌+◌, ◌-◌, Bool, true, false, ◌&&◌, ◌==◌, nat_lt, nat_le, if◌then◌else◌, List, [], ◌∷◌, ◌++◌, length, map, replicate, slice_get, slice_set, Option, Some, None, option_and_then, pos}
+use Rattle.std.specs.Prelude.{ℕ, ◌+◌, ◌-◌, Bool, true, false, ◌&&◌, ◌==◌, nat_lt, nat_le, if◌then◌else◌, List, [], ◌∷◌, ◌++◌, length, map}
+use Rattle.std.specs.Prelude.{replicate, slice_get, slice_set, Option, Some, None, option_and_then, pos}
 use Rattle.std.specs.List.{list_all, filter_map}
+use Rattle.acc_base.specs.declared.bounds.TheConstants.{LATEST_ASK, LONGEST_TAPE}
 use Rattle.acc_base.specs.declared.tables.Row.{Row}
 use Rattle.acc_base.specs.declared.steps.Target.{Target}
 use Rattle.acc_base.specs.declared.steps.Target.TheVariants.{Point as ToPoint, Commit, Undone, Refuse}
@@ -110,13 +112,14 @@ may_turn d db f Asked = is_cause Asked (stop_of d db f)
 -- an abort can be asked for ahead of any of its steps
 abbrev pub ask_fits : Option ℕ → Bool
 ask_fits None = true
-ask_fits (Some n) = nat_le n 65536
+ask_fits (Some n) = nat_le n LATEST_ASK
 
 -- the type exists and has so many parameters, and the numbers are in range
 abbrev pub call_fits : Option TxType → Call → Bool
 call_fits None call = false
 call_fits (Some x) call =
-    (length call.params == x.params) && list_all is_small call.params && list_all is_small call.tape && nat_le (length call.tape) 4096
+    (length call.params == x.params) && list_all is_small call.params && list_all is_small call.tape
+    && nat_le (length call.tape) LONGEST_TAPE
     && ask_fits call.ask
 
 abbrev pub locals_in : Option TxType → ℕ

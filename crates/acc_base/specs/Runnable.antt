@@ -1,5 +1,6 @@
 -- What a design has to keep so that the machine can run it: the form rules and limits on which that rests. Each well-formed design does.
 use Rattle.std.specs.Prelude.{◌≤◌, ◌<◌, ◌^◌, List, length, All, pos, ◌<ℤ◌, ⊤}
+use Rattle.acc_base.specs.declared.bounds.TheConstants.{LARGEST_NUMBER, MOST_ACTIONS, MOST_COLUMNS, MOST_KEY_PARTS, MOST_LOCALS}
 use Rattle.acc_base.specs.declared.forms.Lin.{Lin}
 use Rattle.acc_base.specs.declared.steps.Read.{Read}
 use Rattle.acc_base.specs.declared.steps.Read.TheVariants.{Let, Col, Has, Count, Sum, Least, Greatest, Take, Mul, Div}
@@ -19,7 +20,7 @@ use Rattle.acc_base.specs.Numbers.{IsSmall}
 
 -- a key or a prefix of at most 6 parts
 abbrev pub IsKey : List Lin → Type 0
-IsKey k = length k ≤ 6
+IsKey k = length k ≤ MOST_KEY_PARTS
 
 abbrev pub CanRead : Read → Type 0
 CanRead (Let x l) = ⊤
@@ -35,7 +36,7 @@ CanRead (Div x y c) = pos 0 <ℤ c
 
 -- a row that is put has at most 12 columns
 abbrev pub CanAct : Action → Type 0
-CanAct (Put t k vs) = IsKey k × (length vs ≤ 12)
+CanAct (Put t k vs) = IsKey k × (length vs ≤ MOST_COLUMNS)
 CanAct (Del t k) = IsKey k
 CanAct (Set t k c v) = IsKey k
 CanAct (Add t k c v) = IsKey k
@@ -53,7 +54,7 @@ CanEnd Undo (Refuse n) = ⊥
 
 pub record CanGo (side : Side) (p : Path) : Type 0 where
   pub actions : All CanAct p.actions
-  pub few : length p.actions ≤ 16
+  pub few : length p.actions ≤ MOST_ACTIONS
   pub target : CanEnd side p.target
 
 pub record CanStep (side : Side) (step : Step) : Type 0 where
@@ -67,7 +68,7 @@ pub record IsRunnablePoint (p : Point) : Type 0 where
 
 pub record IsRunnableType (x : TxType) : Type 0 where
   pub points : All IsRunnablePoint x.points
-  pub few : length x.locals ≤ 48
+  pub few : length x.locals ≤ MOST_LOCALS
   pub params : x.params ≤ length x.locals
 
 -- every step keeps them; whether one of its paths is open is not asked
@@ -77,7 +78,7 @@ IsRunnable d = All IsRunnableType d.types
 -- a frame whose numbers are in range: its number, locals and tape within 2^45 of 0
 pub record IsSmallFrame (f : Frame) : Type 0 where
   pub locals : All IsSmall f.locals
-  pub few : length f.locals ≤ 48
+  pub few : length f.locals ≤ MOST_LOCALS
   pub tape : All IsSmall f.tape
   pub long : length f.tape < 2 ^ 32
-  pub number : f.t ≤ 2 ^ 45
+  pub number : f.t ≤ LARGEST_NUMBER

@@ -1,6 +1,7 @@
 -- When a design is sound: each step keeps what stands, its own assertions and those of the others that don't forbid it.
 -- The obligations of a design show it, and every run by the rules of locks rests on it.
-use Rattle.std.specs.Prelude.{◌≢◌, ℕ, ◌≤◌, ◌/◌, Bool, false, ◌&&◌, ◌==◌, IsTrue, List, [], All, count_by, Option, Some, None, slice_get, ℤ, pos, ◌≤ℤ◌, ◌<ℤ◌, unsigned_abs, ⊤}
+use Rattle.std.specs.Prelude.{◌≢◌, ℕ, ◌≤◌, ◌/◌, Bool, false, ◌&&◌, ◌==◌, IsTrue, List, [], All, count_by, Option, Some, None, slice_get}
+use Rattle.std.specs.Prelude.{ℤ, pos, ◌≤ℤ◌, ◌<ℤ◌, unsigned_abs, ⊤}
 use Rattle.acc_base.specs.declared.bounds.TheConstants.{LARGEST_NUMBER, LARGEST_VARIANT}
 use Rattle.acc_base.specs.declared.forms.Clause.{Clause}
 use Rattle.acc_base.specs.declared.tables.Row.{Row}

@@ -9,4 +9,9 @@ pub returns : goal.returns
 unfolding digits
 returns c =
     let found = or_none (run cells three_calls (opening three_calls) (1 ∷ 2 ∷ 3 ∷ 2 ∷ 3 ∷ [])) in
-    record { mentions = found; is_played = run_plays cells three_calls (1 ∷ 2 ∷ 3 ∷ 2 ∷ 3 ∷ []) (opening three_calls) found refl; text_is = refl; rows_are = refl }
+    record {
+      mentions = found;
+      is_played = run_plays cells three_calls (1 ∷ 2 ∷ 3 ∷ 2 ∷ 3 ∷ []) (opening three_calls) found refl;
+      text_is = refl;
+      rows_are = refl;
+    }

@@ -15,8 +15,10 @@ loop-unknown-preserved c =
     let before = c.loop-unknown.invariant in
     let added = c.in_ok-add_multiple.ensures in
     record {
-      value = multiples_step c.args.terms.now c.loop-unknown.unknown-index term c.loop-unknown-test.true c.loop-unknown-item.is _ _ _ refl number c.loop-unknown.sums c.add_multiple.new.sums added.value ∙ before.value;
-      wide = wide_step c.args.terms.now c.loop-unknown.unknown-index term c.loop-unknown-test.true c.loop-unknown-item.is _ _ _ refl number c.loop-unknown.sums c.add_multiple.new.sums added.value added.wide ∙ before.wide;
+      value = multiples_step c.args.terms.now c.loop-unknown.unknown-index term c.loop-unknown-test.true c.loop-unknown-item.is _ _ _ refl
+          number c.loop-unknown.sums c.add_multiple.new.sums added.value ∙ before.value;
+      wide = wide_step c.args.terms.now c.loop-unknown.unknown-index term c.loop-unknown-test.true c.loop-unknown-item.is _ _ _ refl
+          number c.loop-unknown.sums c.add_multiple.new.sums added.value added.wide ∙ before.wide;
     }
 
 pub returns-in_err-add_multiple-clause-wide : goal.returns-in_err-add_multiple-clause-wide
@@ -27,7 +29,8 @@ returns-in_err-add_multiple-clause-wide c =
     let same = to_z-of_z w128 c.args.by c.ranges.by in
     handed_on _ (Unit {0}) _ _ _ _ c.from_residual.ensures.1 (λ h. ap (λ z. multiples_wide z c.args.sums.now c.args.terms.now) (sym same)
     ∙ (sym c.loop-unknown.invariant.wide
-    ∙ wide_here c.args.terms.now c.loop-unknown.unknown-index term c.loop-unknown-test.true c.loop-unknown-item.is _ _ _ refl number c.loop-unknown.sums h)) c.in_err-add_multiple.ensures.wide
+    ∙ wide_here c.args.terms.now c.loop-unknown.unknown-index term c.loop-unknown-test.true c.loop-unknown-item.is _ _ _ refl number
+    c.loop-unknown.sums h)) c.in_err-add_multiple.ensures.wide
 
 pub returns-clause-value : goal.returns-clause-value
 returns-clause-value c =

@@ -29,7 +29,8 @@ returns-in_err-add_term-clause-wide c =
     let fits : FitsSigned w128 term.1 = search rules in
     let number = to_z-of_z w128 term.1 fits in
     handed_on _ (Unit {0}) _ _ _ _ c.from_residual.ensures.1 (λ h. sym c.loop-unknown.invariant.wide
-    ∙ term_wide c.args.terms.now c.loop-unknown.unknown-index term c.loop-unknown-test.true c.loop-unknown-item.is _ number c.loop-unknown.sums h) c.in_err-add_term.ensures.wide
+    ∙ term_wide c.args.terms.now c.loop-unknown.unknown-index term c.loop-unknown-test.true c.loop-unknown-item.is _ number
+    c.loop-unknown.sums h) c.in_err-add_term.ensures.wide
 
 pub returns-clause-value : goal.returns-clause-value
 returns-clause-value c =

@@ -10,7 +10,8 @@ returns-in-Some g c =
     let here = c.index.result.now in
     let fits : FitsSigned w128 here.1 = search rules in
     to_z-of_z w128 here.1 fits
-    ∙ sum_at g.K.PartialEq.eq c.args.unknown.now c.args.self.now c.self.inside.sums.items c.in-Some.place here c.self.view_is c.in-Some.ensures.value c.index.ensures
+    ∙ sum_at g.K.PartialEq.eq c.args.unknown.now c.args.self.now c.self.inside.sums.items c.in-Some.place here c.self.view_is
+    c.in-Some.ensures.value c.index.ensures
 
 pub returns-in-None : goal.returns-in-None
 returns-in-None g c = sym (sum_new g.K.PartialEq.eq c.args.unknown.now c.args.self.now (sym c.in-None.ensures.value))

@@ -15,7 +15,8 @@ pub returns-in-Some : goal.returns-in-Some
 returns-in-Some g c =
     let here = c.index_mut.result.now in
     let same = to_z-of_z w128 c.args.sum c.ranges.sum in
-    written_at g.K.PartialEq.eq c.args.unknown.now c.args.sum c.args.self.now c.self.inside.sums.items c.in-Some.place here _ c.self.view_is c.in-Some.ensures.value c.index_mut.ensures.value same
+    written_at g.K.PartialEq.eq c.args.unknown.now c.args.sum c.args.self.now c.self.inside.sums.items c.in-Some.place here _
+    c.self.view_is c.in-Some.ensures.value c.index_mut.ensures.value same
 
 pub returns-in-None : goal.returns-in-None
 returns-in-None g c =
