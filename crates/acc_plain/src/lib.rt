@@ -10,6 +10,3 @@ mod transactions;
 
 pub use changes::PlainError;
 pub use machines::Machine;
-
-#[cfg(test)]
-mod tests;

@@ -4,6 +4,3 @@
 mod plays;
 
 pub use plays::{Transcript, play};
-
-#[cfg(test)]
-mod tests;

@@ -16,6 +16,3 @@ pub use lines::{
 };
 pub use orders::order;
 pub use scripts::calls;
-
-#[cfg(test)]
-mod tests;

@@ -19,6 +19,3 @@ mod writers;
 pub use effects::{StepEffect, effect};
 pub use errors::StepError;
 pub use looks::{Outlook, look};
-
-#[cfg(test)]
-mod tests;

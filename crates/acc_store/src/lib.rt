@@ -11,6 +11,3 @@ pub mod writes;
 pub use inline::Inline;
 pub use stores::{MapStore, Store, StoreError};
 pub use writes::Write;
-
-#[cfg(test)]
-mod tests;

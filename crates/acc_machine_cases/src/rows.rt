@@ -1,0 +1,75 @@
+//! Questions about the rows of a store.
+use crate::words::{list, small};
+use acc_base::tables::Row;
+use acc_store::{MapStore, Store, StoreError};
+use std::alloc::{AllocError, Global};
+use std::fmt::Write;
+
+/// Pushes a row: its table, its key and its columns.
+pub fn push_row(out: &mut String, row: &Row) -> Result<(), AllocError> {
+    let table = row.table;
+    write!(
+        out,
+        "{table} {:?} {:?}",
+        row.key.parts.as_slice(),
+        row.cols.as_slice()
+    )
+}
+
+fn push_rows(alloc: Global, out: &mut String, store: &MapStore) -> Result<(), AllocError> {
+    let plain = match store.rows(alloc) {
+        Ok(plain) => plain,
+        Err(StoreError::Memory) => return Err(AllocError),
+    };
+    out.push_str("rows")?;
+    for row in plain.rows.as_slice() {
+        out.push_str(" ")?;
+        push_row(out, row)?;
+    }
+    Ok(())
+}
+
+/// Pushes what a look-up of a key answers.
+fn push_look_up(
+    out: &mut String,
+    store: &MapStore,
+    verb: &str,
+    table: u32,
+    key: &[i64],
+    col: u32,
+) -> Result<(), AllocError> {
+    if key.len() > 6 {
+        return out.push_str("no key");
+    }
+    match verb {
+        "has" => write!(out, "{}", store.has(table, key)),
+        "get" => write!(out, "{}", store.get(table, key, col)),
+        "columns" => write!(out, "{:?}", store.columns(table, key)),
+        "count" => write!(out, "{}", store.count(table, key)),
+        "sum" => write!(out, "{}", store.sum(table, key, col)),
+        "least" => write!(out, "{}", store.least(table, key)),
+        "greatest" => write!(out, "{}", store.greatest(table, key)),
+        _ => out.push_str("no question"),
+    }
+}
+
+/// Pushes what a question about the rows answers.
+pub fn push_row_answer(
+    alloc: Global,
+    out: &mut String,
+    store: &MapStore,
+    words: &[&str],
+) -> Result<(), AllocError> {
+    match words {
+        ["rows"] => push_rows(alloc, out, store),
+        [verb, table, key] => {
+            let key = list(alloc, key)?;
+            push_look_up(out, store, verb, small(table), key.as_slice(), 0)
+        }
+        [verb, table, key, col] => {
+            let key = list(alloc, key)?;
+            push_look_up(out, store, verb, small(table), key.as_slice(), small(col))
+        }
+        _ => out.push_str("no question"),
+    }
+}
