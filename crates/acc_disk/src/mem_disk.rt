@@ -4,8 +4,8 @@ ghost use Rattle.std.specs.List.{list_all};
 ghost use Rattle.acc_io.specs.Causes.{one_more};
 ghost use Rattle.acc_disk.specs.Crashes.{ReadsAt};
 
-use crate::history::History;
 use crate::Disk;
+use crate::history::History;
 use acc_io::Failed;
 use std::alloc::{AllocError, AllocFailed, Global};
 

@@ -1,7 +1,7 @@
 //! A step of which no path is open: no design that keeps the form rules has one.
 ghost use Rattle.std.specs.Prelude.{◌≡◌, ◌^◌, [], ◌∷◌, IfOk};
 ghost use Rattle.acc_base.specs.Tables.{IsInOrder};
-ghost use Rattle.acc_base.specs.Runnable.{CanStep, IsRunnable, FrameFits};
+ghost use Rattle.acc_base.specs.Runnable.{CanStep, IsRunnable, IsSmallFrame};
 ghost use Rattle.acc_base.specs.declared.designs.Side.TheVariants.{Next as Forward, Undo as Back};
 ghost use Rattle.acc_store.specs.Bounds.{AreWithin};
 
@@ -78,7 +78,7 @@ fn design(alloc: Global) -> Result<Design, AllocError>
 
 /// A frame without locals.
 fn frame(alloc: Global) -> Frame
-    ensures { FrameFits result }
+    ensures { IsSmallFrame result }
 {
     Frame {
         t: 1,
