@@ -2,5 +2,3 @@ pub mod FilesLemmas
 pub mod RowsLemmas
 pub mod SaidLemmas
 pub mod StatusLemmas
-pub mod FewTerms
-pub mod Runs

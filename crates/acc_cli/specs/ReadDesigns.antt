@@ -1,7 +1,6 @@
 -- What comes of reading a design.
 use Rattle.std.specs.Prelude.{List, ℕ}
 use Rattle.acc_base.specs.declared.designs.Design.{Design}
-use Rattle.acc_base.specs.Runnable.{IsRunnable}
 use Rattle.acc_parse.specs.Texts.{IsDesignText}
 use Rattle.acc_form.specs.WellFormed.{IsWellFormed}
 use Rattle.acc_cli.specs.declared.designs.ReadDesign.{ReadDesign}
@@ -9,11 +8,10 @@ use Rattle.acc_cli.specs.declared.designs.ReadDesign.TheVariants.{Read, Refused}
 use Rattle.acc_cli.specs.Outcome.{said_of}
 use Rattle.acc_cli.specs.Refusals.{RefusesDesign}
 
--- the text is that of the design, which is well-formed and can be run
+-- the text is that of the design, which is well-formed
 pub record IsRead (text : List ℕ) (d : Design) : Type 0 where
   pub is_text : IsDesignText text d
   pub formed : IsWellFormed d
-  pub runs : IsRunnable d
 
 abbrev pub Reads : List ℕ → ReadDesign → Type 0
 Reads text (Read d) = IsRead text d

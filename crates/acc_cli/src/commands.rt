@@ -90,6 +90,7 @@ fn play_script(alloc: Global, d: &Design, script: &[u8], file: &[u8]) -> Result<
 }
 
 /// Plays a script's calls in the order that is given, on the plain machine of a design.
+#[tactic(auto, using(acc_form::proofs::Runs::well_formed_runs))]
 fn play_files(
     alloc: Global,
     design: &[u8],

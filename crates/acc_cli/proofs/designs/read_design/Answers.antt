@@ -1,25 +1,14 @@
-use Rattle.std.proofs.Common.{inr, refl, sym, subst}
-use Rattle.acc_base.specs.Runnable.{IsRunnable}
+use Rattle.std.proofs.Common.{inr, refl, subst}
 use Rattle.acc_form.specs.declared.rules.FormError.TheVariants.{Bad}
 use Rattle.acc_form.specs.Faults.{IsFirstFault}
 use Rattle.acc_form.specs.Judged.{IsFaultInPrint}
-use Rattle.acc_form.specs.WellFormed.{IsWellFormed}
 use Rattle.acc_readback.proofs.SaidDesigns.{parsed_is_said}
 use Rattle.acc_readback.proofs.JudgedLines.{judged_line}
 use Rattle.acc_readback.proofs.RuleLines.{fault_line, text_fault}
-use Rattle.acc_cli.proofs.Runs.{parsed_runs}
 use Rattle.acc_cli.proofs.designs.read_design.Goals as goal
 
--- a well-formed design that a text stands for can be run
 pub returns-in-Ok-well_formed : goal.returns-in-Ok-well_formed
-returns-in-Ok-well_formed c =
-    let t = c.in-Ok.ensures.ok in
-    let formed = c.in-Ok-well_formed.ensures.ok.0 refl in
-    record {
-      is_text = t;
-      formed = formed;
-      runs = subst IsRunnable (sym t.means) (parsed_runs t.of.tree (subst IsWellFormed t.means formed));
-    }
+returns-in-Ok-well_formed c = record { is_text = c.in-Ok.ensures.ok; formed = c.in-Ok-well_formed.ensures.ok.0 refl }
 
 -- the first fault is that of a statement in print, on its line
 pub returns-in-Err-Bad : goal.returns-in-Err-Bad
