@@ -64,6 +64,7 @@ pub fn shortened(sum: WideSum) -> i128
         0 => sum.rest,
         1 => plus(sum.rest, CARRY),
         -1 => plus(sum.rest, -CARRY),
-        carries => { if carries > 0 { CARRY } else { -CARRY } }
+        carries if carries > 0 => CARRY,
+        _ => -CARRY,
     }
 }

@@ -12,7 +12,8 @@ use Rattle.acc_store.specs.Rows.{Entry, entry_at, is_blank, is_blank_at, BlanksA
 
 -- ---- a change of the entry at one place
 
-module _ (es fs : List Entry) (p : Place) (o : Option Content) (new : (q : Place) → entry_at q fs ≡ cond (at (place_cmp p) q) o (entry_at q es)) where
+module _ (es fs : List Entry) (p : Place) (o : Option Content)
+    (new : (q : Place) → entry_at q fs ≡ cond (at (place_cmp p) q) o (entry_at q es)) where
   -- it adds a blank there at most
   pub change_adds : AddsBlanks (at (place_cmp p)) es fs
   change_adds q h = by (at (place_cmp p) q) (sym (ap is_blank (new q)) ∙ h)
@@ -82,7 +83,8 @@ module _ (ws : List Write) (i : ℕ) (w : Write) (within : i < length ws) (here 
   any_more test = list_any_more test ws i w within ∙ ap (λ x. list_any test (take i ws) || test x) (sym here)
 
   -- one more write has room
-  pub blanks_more : (es fs : List Entry) → AddsBlanks (λ p. is_put p w) es fs → BlanksAre is_put (take i ws) es → BlanksAre is_put (take (i + 1) ws) fs
+  pub blanks_more : (es fs : List Entry) → AddsBlanks (λ p. is_put p w) es fs →
+      BlanksAre is_put (take i ws) es → BlanksAre is_put (take (i + 1) ws) fs
   blanks_more es fs adds so_far q h =
       any_more (is_put q) ∙ added (list_any (is_put q) (take i ws)) (is_put q w) (is_blank_at es q) (adds q h) (so_far q)
 
@@ -107,7 +109,8 @@ module _ (ws : List Write) (i : ℕ) (w : Write) (within : i < length ws) (here 
 -- blanks of the first writes are blanks of the writes
 pub blanks_of_first : (n : ℕ) (ws : List Write) (es : List Entry) → BlanksAre is_put (take n ws) es → BlanksAre is_put ws es
 blanks_of_first n ws es first q h =
-    ap (list_any (is_put q)) (sym (take-append-drop n ws)) ∙ list_any-append (is_put q) (take n ws) (drop n ws) ∙ ap (λ b. b || list_any (is_put q) (drop n ws)) (first q h)
+    ap (list_any (is_put q)) (sym (take-append-drop n ws)) ∙ list_any-append (is_put q) (take n ws) (drop n ws) ∙
+    ap (λ b. b || list_any (is_put q) (drop n ws)) (first q h)
 
 -- where no write is left no blank is
 pub none_blank : (test : Place → Write → Bool) (es : List Entry) → BlanksAre test [] es → HasNoBlank es
@@ -119,10 +122,12 @@ none_blank test es none q = by (is_blank_at es q) (none q)
 
 -- behind the last write no row is still to be put
 pub all_written : (ws : List Write) (n : ℕ) (es : List Entry) → length ws ≤ n →
-    ((q : Place) → is_blank_at es q ≡ true → (list_any (is_put q) (drop n ws) || list_any (is_gone q) (take n ws)) ≡ true) → BlanksAre is_gone ws es
+    ((q : Place) → is_blank_at es q ≡ true → (list_any (is_put q) (drop n ws) || list_any (is_gone q) (take n ws)) ≡ true) →
+    BlanksAre is_gone ws es
 all_written ws n es whole so_far q h =
     sym (λ i. list_any (is_put q) (drop_all n ws whole i) || list_any (is_gone q) (take_all n ws whole i)) ∙ so_far q h
 
 -- and none is still to be forgotten
-pub all_forgotten : (test : Place → Write → Bool) (ws : List Write) (n : ℕ) (es : List Entry) → length ws ≤ n → BlanksAre test (drop n ws) es → HasNoBlank es
+pub all_forgotten : (test : Place → Write → Bool) (ws : List Write) (n : ℕ) (es : List Entry) → length ws ≤ n →
+    BlanksAre test (drop n ws) es → HasNoBlank es
 all_forgotten test ws n es whole left = none_blank test es (subst (λ xs. BlanksAre test xs es) (drop_all n ws whole) left)

@@ -16,9 +16,12 @@ module _ (t : ℕ) (p : List ℤ) where
   under_table [] = refl
   under_table (r ∷ rows) = by (r.table == t) refl (under_table rows)
     where
-      by : (b : Bool) → (r.table == t) ≡ b → filter under (in_table t rows) ≡ filter under rows → filter under (cond b (r ∷ in_table t rows) (in_table t rows)) ≡ cond (b && starts_with int_eq r.key.parts p) (r ∷ filter under rows) (filter under rows)
+      by : (b : Bool) → (r.table == t) ≡ b → filter under (in_table t rows) ≡ filter under rows →
+          filter under (cond b (r ∷ in_table t rows) (in_table t rows)) ≡
+          cond (b && starts_with int_eq r.key.parts p) (r ∷ filter under rows) (filter under rows)
       by true e ih =
-          ap (λ b. cond (b && starts_with int_eq r.key.parts p) (r ∷ filter under (in_table t rows)) (filter under (in_table t rows))) e ∙ ap (λ xs. cond (starts_with int_eq r.key.parts p) (r ∷ xs) xs) ih
+          ap (λ b. cond (b && starts_with int_eq r.key.parts p) (r ∷ filter under (in_table t rows)) (filter under (in_table t rows))) e ∙
+          ap (λ xs. cond (starts_with int_eq r.key.parts p) (r ∷ xs) xs) ih
       by false e ih = ih
 
   pub under_sum : (size : Row → ℕ) (rows : List Row) → sum_by size (filter under rows) ≤ sum_by size (in_table t rows)
