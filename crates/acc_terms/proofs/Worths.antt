@@ -1,5 +1,6 @@
 -- What collected terms are worth.
-use Rattle.std.proofs.Common.{◌≡◌, Bool, List, [], ◌∷◌, ◌++◌, map, Option, Some, None, ap, sym, subst, ◌∙◌, refl, arith, append_assoc, ℤ, ◌+ℤ◌}
+use Rattle.std.proofs.Common.{◌≡◌, Bool, List, [], ◌∷◌, ◌++◌, map, Option, Some, None, ap, sym, subst, ◌∙◌, refl, arith, append_assoc, ℤ}
+use Rattle.std.proofs.Common.{◌+ℤ◌}
 use Rattle.std.specs.Prelude.{Decides}
 use Rattle.std.specs.List.{filter_map}
 use Rattle.std.proofs.lemmas.Int.{ints}
@@ -15,7 +16,9 @@ use Rattle.acc_terms.specs.Worths.{part_worth, CollectingKeepsWorth}
 use Rattle.acc_terms.proofs.Totals.{total-append, one_part}
 
 module _ {K : Type 0} (E : K → K → Bool) (decides : (x y : K) → Decides (E x y) (x ≡ y)) (f : K → ℤ) where
-  worth-with_part : (o : Option K) (n : ℤ) (ts : List (K × ℤ)) → worth f (with_part E (record { of = o; number = n }) ts) +ℤ constant_in (record { of = o; number = n }) ≡ worth f ts +ℤ part_worth f (record { of = o; number = n })
+  worth-with_part : (o : Option K) (n : ℤ) (ts : List (K × ℤ))
+      → worth f (with_part E (record { of = o; number = n }) ts) +ℤ constant_in (record { of = o; number = n })
+      ≡ worth f ts +ℤ part_worth f (record { of = o; number = n })
   worth-with_part None n ts = refl
   worth-with_part (Some x) n ts = let h = worth-with_term f E decides x n ts in omega (arith, ints, h)
 

@@ -13,6 +13,10 @@ loop-part-preserved g c =
     let one = c.negated.ensures in
     let next = negated c.in-Some.part in
     record {
-      so_far = pushed ∙ (ap (λ p. c.loop-part.left ++ p ∷ []) one.value ∙ (ap (λ ps. ps ++ next ∷ []) before.so_far ∙ (append_assoc c.args.left (map negated c.loop-part.yielded) (next ∷ []) ∙ ap (λ ps. c.args.left ++ ps) (sym (map_push negated c.loop-part.yielded c.in-Some.part)))));
-      small = subst (λ (ps : List (Part g.row.K.Denot)). All IsTermSized ps) (sym pushed) (All-push IsTermSized c.loop-part.left c.negated.result before.small one.small);
+      so_far = pushed ∙ (ap (λ p. c.loop-part.left ++ p ∷ []) one.value
+          ∙ (ap (λ ps. ps ++ next ∷ []) before.so_far
+          ∙ (append_assoc c.args.left (map negated c.loop-part.yielded) (next ∷ [])
+          ∙ ap (λ ps. c.args.left ++ ps) (sym (map_push negated c.loop-part.yielded c.in-Some.part)))));
+      small = subst (λ (ps : List (Part g.row.K.Denot)). All IsTermSized ps) (sym pushed)
+          (All-push IsTermSized c.loop-part.left c.negated.result before.small one.small);
     }
