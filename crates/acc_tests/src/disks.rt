@@ -58,21 +58,28 @@ fn is_real(rt: &HostRuntime, disk: &mut FileDisk<HostRuntime>) -> Result<bool, F
     Ok(is_filled(rt.alloc(), disk)? && is_shortened(rt, disk)?)
 }
 
+// Whether the file is made by the first call, and then has what is written.
+fn is_made(rt: &HostRuntime, disk: &mut FileDisk<HostRuntime>) -> Result<bool, Fail> {
+    Ok(!fs::exists(rt, "new")? && is_real(rt, disk)?)
+}
+
 #[test]
 fn a_real_file(rt: HostRuntime) -> Result<(), Fail> {
     remove(&rt, "new")?;
     let mut disk = disk(&rt, "new")?;
-    assert!(rt; !fs::exists(&rt, "new")?, "opened too early");
-    assert!(rt; is_real(&rt, &mut disk)?);
+    assert!(rt; is_made(&rt, &mut disk)?);
     Ok(())
+}
+
+fn is_there(alloc: Global, disk: &mut FileDisk<HostRuntime>) -> Result<bool, Fail> {
+    Ok(reads(alloc, disk, 1, b"bcX")? && reads(alloc, disk, 4, b"")?)
 }
 
 #[test]
 fn a_file_that_is_there(rt: HostRuntime) -> Result<(), Fail> {
     fs::write(&rt, "file", b"abcX")?;
     let mut disk = disk(&rt, "file")?;
-    assert!(rt; reads(rt.alloc(), &mut disk, 1, b"bcX")?);
-    assert!(rt; reads(rt.alloc(), &mut disk, 4, b"")?);
+    assert!(rt; is_there(rt.alloc(), &mut disk)?);
     Ok(())
 }
 

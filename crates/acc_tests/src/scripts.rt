@@ -94,11 +94,24 @@ fn has_long_tape(alloc: Global, design: &Design, script: &[u8]) -> bool {
     calls(alloc, design, script).is_ok_and(|calls| are_two(calls.as_slice()))
 }
 
+fn takes_the_longest_tape(alloc: Global, design: &Design) -> Result<bool, AllocError> {
+    let script = long_tape(alloc, 4096)?;
+    Ok(has_long_tape(alloc, design, &script))
+}
+
+fn refuses_a_longer_tape(alloc: Global, design: &Design) -> Result<bool, AllocError> {
+    let script = long_tape(alloc, 4097)?;
+    Ok(is_refused(alloc, design, &script, 2))
+}
+
+fn bounds_tapes(alloc: Global, design: &Design) -> Result<bool, AllocError> {
+    Ok(takes_the_longest_tape(alloc, design)? && refuses_a_longer_tape(alloc, design)?)
+}
+
 #[test]
 fn the_longest_tape(rt: HostRuntime) -> Result<(), Fail> {
     let design = design(rt.alloc(), types(rt.alloc())?);
-    assert!(rt; has_long_tape(rt.alloc(), &design, &long_tape(rt.alloc(), 4096)?));
-    assert!(rt; is_refused(rt.alloc(), &design, &long_tape(rt.alloc(), 4097)?, 2));
+    assert!(rt; bounds_tapes(rt.alloc(), &design)?);
     Ok(())
 }
 
@@ -110,25 +123,24 @@ fn many_calls(alloc: Global, last: &[u8]) -> Result<Vec<u8>, AllocError> {
     repeated(alloc, b"", b"stop\n", 1 << 20, last)
 }
 
+fn takes_the_most_calls(alloc: Global, design: &Design) -> Result<bool, AllocError> {
+    let script = many_calls(alloc, b"\n#\n")?;
+    Ok(has_calls(alloc, design, &script, 1 << 20))
+}
+
+fn refuses_more_calls(alloc: Global, design: &Design) -> Result<bool, AllocError> {
+    let script = many_calls(alloc, b"\n#\nstop")?;
+    Ok(is_refused(alloc, design, &script, (1 << 20) + 3))
+}
+
+fn bounds_calls(alloc: Global, design: &Design) -> Result<bool, AllocError> {
+    Ok(takes_the_most_calls(alloc, design)? && refuses_more_calls(alloc, design)?)
+}
+
 #[test]
 fn the_most_calls(rt: HostRuntime) -> Result<(), Fail> {
     let design = design(rt.alloc(), types(rt.alloc())?);
-    assert!(rt;
-        has_calls(
-            rt.alloc(),
-            &design,
-            &many_calls(rt.alloc(), b"\n#\n")?,
-            1 << 20
-        )
-    );
-    assert!(rt;
-        is_refused(
-            rt.alloc(),
-            &design,
-            &many_calls(rt.alloc(), b"\n#\nstop")?,
-            (1 << 20) + 3
-        )
-    );
+    assert!(rt; bounds_calls(rt.alloc(), &design)?);
     Ok(())
 }
 

@@ -78,13 +78,20 @@ fn hold(alloc: Global, shelf: &mut MemShelf, name: &str, count: usize) -> Result
     Ok(())
 }
 
+fn fill(alloc: Global, shelf: &mut MemShelf) -> Result<(), Fail> {
+    hold(alloc, shelf, "whole", MOST as usize)?;
+    hold(alloc, shelf, "long", MOST as usize + 1)
+}
+
+fn bounds_lengths(alloc: Global, shelf: &mut MemShelf) -> bool {
+    gives(alloc, shelf, "whole", MOST) && refuses(alloc, shelf, "long", ShelfError::Long(MOST + 1))
+}
+
 #[test]
 fn a_shelf_in_memory_refuses_what_is_too_long(rt: HostRuntime) -> Result<(), Fail> {
     let mut shelf = MemShelf::new(rt.alloc(), &[])?;
-    hold(rt.alloc(), &mut shelf, "whole", MOST as usize)?;
-    hold(rt.alloc(), &mut shelf, "long", MOST as usize + 1)?;
-    assert!(rt; gives(rt.alloc(), &mut shelf, "whole", MOST));
-    assert!(rt; refuses(rt.alloc(), &mut shelf, "long", ShelfError::Long(MOST + 1)));
+    fill(rt.alloc(), &mut shelf)?;
+    assert!(rt; bounds_lengths(rt.alloc(), &mut shelf));
     Ok(())
 }
 
