@@ -11,6 +11,7 @@ use crate::values::{
 };
 use crate::walks::Walk;
 use acc_base::bounds::{MOST_ACTIONS, MOST_PATHS, MOST_READS};
+use acc_syntax::boxes::Boxed;
 use acc_syntax::trees::{ActionTree, PathTree, ReadTree, StepTree, Sums, TargetTree};
 
 fn meet_read_words(walk: &mut Walk, read: &ReadTree)
@@ -63,11 +64,11 @@ fn meet_reads(walk: &mut Walk, reads: &[ReadTree])
     }
 }
 
-fn meet_values(walk: &mut Walk, values: &Option<Sums>)
+fn meet_values(walk: &mut Walk, values: &Option<Boxed<Sums>>)
     ensures { walk.new ≡ after walk.old (values_marks values.now) }
 {
     if let Some(sums) = values {
-        meet_sums(walk, sums);
+        meet_sums(walk, sums.get());
     }
 }
 

@@ -65,8 +65,8 @@ fn meet_point(walk: &mut Walk, point: &PointTree)
     walk.end();
     meet_variant(walk, &point.variant);
     meet_clauses(walk, point.holds.as_slice());
-    meet_step(walk, &point.next);
-    meet_step(walk, &point.undo);
+    meet_step(walk, point.next.get());
+    meet_step(walk, point.undo.get());
 }
 
 /// The points behind the first: at most 31.

@@ -8,6 +8,7 @@ use crate::limits::Limit;
 use crate::walks::Walk;
 use acc_base::bounds::{LARGEST_NUMBER, LONGEST_NAME, MOST_GUARDS, PAST_SMALL_NUMBERS};
 use acc_base::sequences::Text;
+use acc_syntax::boxes::Boxed;
 use acc_syntax::trees::{
     Cell, LinRelTree, LinRels, Names, PairTree, Pairs, Place, PointName, SignedTerm, Sum, Sums,
     Term, Variable,
@@ -103,7 +104,7 @@ pub fn meet_place(walk: &mut Walk, place: &Place)
     ensures { walk.new ≡ after walk.old (place_marks place.now) }
 {
     meet_name(walk, &place.table);
-    meet_sums(walk, &place.key);
+    meet_sums(walk, place.key.get());
 }
 
 pub fn meet_cell(walk: &mut Walk, cell: &Cell)
@@ -129,10 +130,11 @@ fn meet_each_relation(walk: &mut Walk, relations: &[LinRelTree])
 }
 
 /// A path's guard: at most 16 relations.
-pub fn meet_guard(walk: &mut Walk, guard: &Option<LinRels>)
+pub fn meet_guard(walk: &mut Walk, guard: &Option<Boxed<LinRels>>)
     ensures { walk.new ≡ after walk.old (guard_marks guard.now) }
 {
     if let Some(relations) = guard {
+        let relations = relations.get();
         walk.pass_if(
             Limit::GuardRelations,
             relations.others.len() > MOST_GUARDS - 1,

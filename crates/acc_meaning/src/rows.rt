@@ -23,5 +23,5 @@ pub fn key<'a>(
     ensures value { IfOk result (λ k. k ≡ key_in (scope_in scope.now) place.now) }
     ensures walk { OnOk result (walk.new ≡ after walk.old (place_sizes (scope_in scope.now) place.now)) }
 {
-    lins(alloc, walk, scope.variables, &place.key)
+    lins(alloc, walk, scope.variables, place.key.get())
 }

@@ -59,8 +59,8 @@ fn point<'a>(
     walk.end();
     let variant = variant(alloc, walk, scope.variables, &tree.variant)?;
     let clauses = clauses(alloc, walk, scope, tree.holds.as_slice())?;
-    let next = step(alloc, walk, scope, points, &tree.next)?;
-    let undo = step(alloc, walk, scope, points, &tree.undo)?;
+    let next = step(alloc, walk, scope, points, tree.next.get())?;
+    let undo = step(alloc, walk, scope, points, tree.undo.get())?;
     Ok(Point {
         name: copied(&tree.name)?,
         clauses,

@@ -11,6 +11,7 @@ use crate::scopes::{VariableNames, variable};
 use acc_base::forms::{Lin, LinRel};
 use acc_base::sequences::Seq;
 use acc_limits::{Limit, Walk};
+use acc_syntax::boxes::Boxed;
 use acc_syntax::trees::{LinRelTree, LinRels, Relation, SignedTerm, Sum, Sums, Term};
 use acc_terms::{Part, Terms, collected, difference};
 use std::alloc::{AllocError, Global};
@@ -136,13 +137,13 @@ pub fn values<'a>(
     alloc: Global,
     walk: &mut Walk,
     variables: &VariableNames<'_, 'a>,
-    values: &'a Option<Sums>,
+    values: &'a Option<Boxed<Sums>>,
 ) -> Result<Seq<Lin>, AllocError>
     ensures value { IfOk result (λ ls. ls ≡ values_of (variables_in variables.now) values.now) }
     ensures walk { OnOk result (walk.new ≡ after walk.old (values_sizes (variables_in variables.now) values.now)) }
 {
     match values {
-        Some(sums) => lins(alloc, walk, variables, sums),
+        Some(sums) => lins(alloc, walk, variables, sums.get()),
         None => Ok(Seq::new(alloc)),
     }
 }
@@ -218,13 +219,13 @@ pub fn guard<'a>(
     alloc: Global,
     walk: &mut Walk,
     variables: &VariableNames<'_, 'a>,
-    guard: &'a Option<LinRels>,
+    guard: &'a Option<Boxed<LinRels>>,
 ) -> Result<Seq<LinRel>, AllocError>
     ensures value { IfOk result (λ rs. rs ≡ guard_of (variables_in variables.now) guard.now) }
     ensures walk { OnOk result (walk.new ≡ after walk.old (guard_sizes (variables_in variables.now) guard.now)) }
 {
     match guard {
-        Some(trees) => lin_rels(alloc, walk, variables, trees),
+        Some(trees) => lin_rels(alloc, walk, variables, trees.get()),
         None => Ok(Seq::new(alloc)),
     }
 }

@@ -15,7 +15,7 @@ pub fn place_fault<'a>(definitions: &Definitions<'_, 'a>, place: &'a Place) -> b
     ensures { result ≡ place_fault (scope_in definitions.now) place.now }
 {
     definitions.tables.columns_of(&place.table).is_none()
-        || sums_fault(definitions.variables, &place.key)
+        || sums_fault(definitions.variables, place.key.get())
 }
 
 fn column_fault<'a>(tables: &Tables<'a>, table: &'a Text, column: &'a Text) -> bool

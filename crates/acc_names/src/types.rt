@@ -116,8 +116,8 @@ fn point_faults<'a>(
     faults.push(again)?;
     variant_faults(definitions.variables, &point.variant, faults)?;
     clauses_faults(alloc, definitions, point.holds.as_slice(), faults)?;
-    step_faults(definitions, points, &point.next, faults)?;
-    step_faults(definitions, points, &point.undo, faults)?;
+    step_faults(definitions, points, point.next.get(), faults)?;
+    step_faults(definitions, points, point.undo.get(), faults)?;
     Ok(())
 }
 

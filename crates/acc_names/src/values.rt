@@ -5,6 +5,7 @@ ghost use Rattle.acc_names.specs.Views.{variables_in};
 ghost use Rattle.acc_names.specs.Faults.{variable_fault, term_fault, sum_fault, sums_fault, values_fault, lin_rel_fault, guard_fault};
 
 use crate::scopes::Variables;
+use acc_syntax::boxes::Boxed;
 use acc_syntax::trees::{LinRelTree, LinRels, SignedTerm, Sum, Sums, Term, Variable};
 
 /// Whether a variable isn't defined; `self` always is.
@@ -63,11 +64,11 @@ pub fn sums_fault<'a>(variables: &Variables<'_, 'a>, sums: &'a Sums) -> bool
 }
 
 /// Whether a variable of one of the values, if there are any, isn't defined.
-pub fn values_fault<'a>(variables: &Variables<'_, 'a>, values: &'a Option<Sums>) -> bool
+pub fn values_fault<'a>(variables: &Variables<'_, 'a>, values: &'a Option<Boxed<Sums>>) -> bool
     ensures { result ≡ values_fault (variables_in variables.now) values.now }
 {
     match values {
-        Some(sums) => sums_fault(variables, sums),
+        Some(sums) => sums_fault(variables, sums.get()),
         None => false,
     }
 }
@@ -90,11 +91,12 @@ fn any_lin_rel_fault<'a>(variables: &Variables<'_, 'a>, relations: &'a [LinRelTr
 }
 
 /// Whether a variable of a guard isn't defined.
-pub fn guard_fault<'a>(variables: &Variables<'_, 'a>, guard: &'a Option<LinRels>) -> bool
+pub fn guard_fault<'a>(variables: &Variables<'_, 'a>, guard: &'a Option<Boxed<LinRels>>) -> bool
     ensures { result ≡ guard_fault (variables_in variables.now) guard.now }
 {
     match guard {
         Some(relations) => {
+            let relations = relations.get();
             lin_rel_fault(variables, &relations.first)
                 || any_lin_rel_fault(variables, relations.others.as_slice())
         }

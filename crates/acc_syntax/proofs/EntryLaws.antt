@@ -11,7 +11,7 @@ use Rattle.acc_syntax.specs.declared.trees.PairTree.{PairTree}
 use Rattle.acc_syntax.specs.declared.trees.Pairs.{Pairs}
 use Rattle.acc_syntax.specs.Spelling.{just, further, side_sign, point_name, pair, pairs, entry, hint}
 use Rattle.acc_syntax.specs.WordReaders.{comes, further_at}
-use Rattle.acc_syntax.specs.EntryReaders.{point_name_at, side_name_at, pair_at, pairs_at, entry_at, hint_at}
+use Rattle.acc_syntax.specs.EntryReaders.{point_name_at, side_name_at, pair_at, pairs_at, entry_head_at, entry_at, hint_at}
 use Rattle.acc_syntax.proofs.Following.{CanFollow}
 use Rattle.acc_syntax.proofs.Combinators.{made_free, all_in, runs_end}
 use Rattle.acc_syntax.proofs.WordLaws.{comes_head, sign_exact, name_exact, after_exact, closed_exact, further_shrinks, furthers_exact}
@@ -88,7 +88,7 @@ pairs_end (Some ps) rest h c = runs_end (further pair) (comes sign.Comma) ps.oth
 -- ---- entries
 
 pub entry_exact : Exact CanFollow entry All Free entry_at
-unfolding entry_at
+unfolding entry_at entry_head_at
 entry_exact =
     let ended = closed_exact sign.End refl pairs_exact (λ ps rest. pairs_end ps _ refl refl) in
     let by = after_exact sign.By refl (seq_exact point_name_exact (seq_exact side_name_exact ended)) in

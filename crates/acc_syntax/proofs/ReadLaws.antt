@@ -14,7 +14,8 @@ use Rattle.acc_syntax.specs.declared.trees.Cell.{Cell}
 use Rattle.acc_syntax.specs.declared.trees.ReadTree.{ReadTree}
 use Rattle.acc_syntax.specs.declared.trees.ReadTree.TheVariants as read
 use Rattle.acc_syntax.specs.Spelling.{just, variable, place, cell, read_statement}
-use Rattle.acc_syntax.specs.ReadReaders.{row_read_at, cell_read_at, let_at, get_at, has_at, count_at, sum_read_at, least_at, greatest_at, take_at, mul_at, div_at, read_at, starts_read}
+use Rattle.acc_syntax.specs.ReadReaders.{assigned_at, row_read_at, cell_read_at, let_at, get_at, has_at, count_at, sum_read_at, least_at}
+use Rattle.acc_syntax.specs.ReadReaders.{greatest_at, take_at, mul_at, div_at, read_at, starts_read}
 use Rattle.acc_syntax.proofs.Following.{CanFollow, is_own}
 use Rattle.acc_syntax.proofs.Combinators.{made_free, all_in}
 use Rattle.acc_syntax.proofs.WordLaws.{number_exact, after_exact, closed_exact}
@@ -28,7 +29,7 @@ abbrev IsLet : ReadTree → Type 0
 IsLet t = (x : Variable) × (v : Sum) × (read.Let x v ≡ t)
 
 let_exact : Exact CanFollow read_statement IsLet Free let_at
-unfolding let_at
+unfolding let_at assigned_at
 let_exact =
     let value = closed_exact sign.End refl sum_exact (λ v rest. sum_ends v _ (record { times = refl; signed = refl })) in
     let whole = made_free (after_exact sign.Let refl (seq_exact variable_exact (after_exact sign.Equal refl value))) (λ p. read.Let p.0 p.1) read_statement (λ a p. refl) (λ a rest. (tt, tt)) in
@@ -39,7 +40,7 @@ abbrev row_read : Sign → Variable × Place → List Word
 row_read s p = just s ++ (variable p.0 ++ (just sign.Equal ++ (place p.1 ++ just sign.End)))
 
 row_read_exact : (s : Sign) → is_own s ≡ false → Exact CanFollow (row_read s) All Free (row_read_at s)
-unfolding row_read_at
+unfolding row_read_at assigned_at
 row_read_exact s n =
     let row = closed_exact sign.End refl place_exact (λ p rest. tt) in
     let whole = made_free (after_exact s n (seq_exact variable_exact (after_exact sign.Equal refl row))) (λ p. p) (row_read s) (λ a p. refl) (λ a rest. (tt, tt)) in
@@ -58,7 +59,7 @@ abbrev cell_read : Sign → Variable × Cell → List Word
 cell_read s p = just s ++ (variable p.0 ++ (just sign.Equal ++ (cell p.1 ++ just sign.End)))
 
 cell_read_exact : (s : Sign) → is_own s ≡ false → Exact CanFollow (cell_read s) All Free (cell_read_at s)
-unfolding cell_read_at
+unfolding cell_read_at assigned_at
 cell_read_exact s n =
     let column = closed_exact sign.End refl cell_exact (λ c rest. tt) in
     let whole = made_free (after_exact s n (seq_exact variable_exact (after_exact sign.Equal refl column))) (λ p. p) (cell_read s) (λ a p. refl) (λ a rest. (tt, tt)) in
@@ -110,7 +111,7 @@ abbrev IsMul : ReadTree → Type 0
 IsMul t = (x : Variable) × (a : Variable) × (b : Variable) × (read.Mul x a b ≡ t)
 
 mul_exact : Exact CanFollow read_statement IsMul Free mul_at
-unfolding mul_at
+unfolding mul_at assigned_at
 mul_exact =
     let right = closed_exact sign.End refl variable_exact (λ b rest. tt) in
     let whole = made_free (after_exact sign.Mul refl (seq_exact variable_exact (after_exact sign.Equal refl (seq_exact variable_exact right)))) (λ p. read.Mul p.0 p.1.0 p.1.1) read_statement (λ a p. refl) (λ a rest. (tt, (tt, tt))) in
@@ -120,7 +121,7 @@ abbrev IsDiv : ReadTree → Type 0
 IsDiv t = (x : Variable) × (a : Variable) × (n : ℕ) × (read.Div x a n ≡ t)
 
 div_exact : Exact CanFollow read_statement IsDiv Free div_at
-unfolding div_at
+unfolding div_at assigned_at
 div_exact =
     let divisor = closed_exact sign.End refl number_exact (λ n rest. tt) in
     let whole = made_free (after_exact sign.Div refl (seq_exact variable_exact (after_exact sign.Equal refl (seq_exact variable_exact divisor)))) (λ p. read.Div p.0 p.1.0 p.1.1) read_statement (λ a p. refl) (λ a rest. (tt, (tt, tt))) in

@@ -20,7 +20,8 @@ use Rattle.acc_syntax.specs.declared.trees.DesignTree.{DesignTree}
 use Rattle.acc_syntax.specs.Spelling.{side, clause_statement, point, limit, names_statement, type_words, entry, hint, spelled_design, table}
 use Rattle.acc_syntax.specs.WordReaders.{same_sign, comes, is_word}
 use Rattle.acc_syntax.specs.StatementReaders.{starts_table}
-use Rattle.acc_syntax.specs.DesignReaders.{point_at, limit_at, type_head_at, type_at, design_at}
+use Rattle.acc_syntax.specs.DesignReaders.{point_head_at, point_at, limit_at, type_head_at, type_names_at, type_clauses_at, type_points_at}
+use Rattle.acc_syntax.specs.DesignReaders.{type_at, design_at}
 use Rattle.acc_syntax.proofs.Following.{CanFollow}
 use Rattle.acc_syntax.proofs.Combinators.{all_in, runs_end}
 use Rattle.acc_syntax.proofs.WordLaws.{comes_head, name_exact, number_exact, end_exact, after_exact, closed_exact, names_run, names_end, list_skips}
@@ -39,7 +40,7 @@ variant_before : (v : Option Sum) (hs : List ClauseTree) (n u : StepTree) (rest 
 variant_before v hs n u rest = variant_ends v _ (clauses_skip sign.Holds sign.Variant refl hs (side sign.Next n ++ side sign.Undo u) rest refl)
 
 pub point_exact : Exact CanFollow point All PointGoes point_at
-unfolding point_at
+unfolding point_at point_head_at
 point_exact =
     let sides = seq_exact (side_exact sign.Next refl) (side_exact sign.Undo refl) in
     let body = seq_exact variant_exact (seq_exact (clauses_exact sign.Holds refl) sides) in
@@ -113,7 +114,7 @@ abbrev BodyGoes : BodyRead → List Word → Type 0
 BodyGoes b rest = PointGoes b.1.1.1.1.0 (joined point b.1.1.1.1.1 ++ rest) × PointsRun b.1.1.1.1.1 rest
 
 pub type_exact : Exact CanFollow type_words All TypeGoes type_at
-unfolding type_at type_head_at
+unfolding type_at type_head_at type_names_at type_clauses_at type_points_at
 type_exact =
     let clauses = seq_exact (clauses_exact sign.Ensures refl) (seq_exact (clauses_exact sign.Repairs refl) (seq_exact point_exact points_exact)) in
     let body = seq_exact (names_statement_exact sign.Returns refl) (seq_exact (names_statement_exact sign.Local refl) clauses) in

@@ -10,7 +10,11 @@ use Rattle.acc_syntax.specs.declared.trees.StepTree.{StepTree}
 use Rattle.acc_syntax.specs.declared.trees.PointTree.{PointTree}
 use Rattle.acc_syntax.specs.declared.trees.TypeTree.{TypeTree}
 use Rattle.acc_syntax.specs.declared.trees.DesignTree.{DesignTree}
+use Rattle.acc_syntax.specs.declared.designs.PointHead.{PointHead}
 use Rattle.acc_syntax.specs.declared.designs.TypeHead.{TypeHead}
+use Rattle.acc_syntax.specs.declared.designs.TypeNames.{TypeNames}
+use Rattle.acc_syntax.specs.declared.designs.TypeClauses.{TypeClauses}
+use Rattle.acc_syntax.specs.declared.designs.TypePoints.{TypePoints}
 use Rattle.acc_syntax.specs.WordReaders.{Outcome, comes, is_name, sign_at, name_at, number_at, end_at}
 use Rattle.acc_syntax.specs.ValueReaders.{guard_at}
 use Rattle.acc_syntax.specs.ReadReaders.{read_at, starts_read}
@@ -44,17 +48,23 @@ side_at s ws = do
   st ← step_at e.1
   Ok (st.0, st.1)
 
--- a point
-unfoldable pub point_at : List Word → Outcome PointTree
-point_at ws = do
+-- what a point begins with, up to its variant
+unfoldable pub point_head_at : List Word → Outcome PointHead
+point_head_at ws = do
   k ← sign_at sign.Point ws
   x ← name_at k.1
   e ← sign_at sign.End x.1
   v ← variant_at e.1
-  hs ← many (comes sign.Holds) (clause_statement_at sign.Holds) v.1
+  Ok (record { name = x.0; variant = v.0 }, v.1)
+
+-- a point
+unfoldable pub point_at : List Word → Outcome PointTree
+point_at ws = do
+  h ← point_head_at ws
+  hs ← many (comes sign.Holds) (clause_statement_at sign.Holds) h.1
   n ← side_at sign.Next hs.1
   u ← side_at sign.Undo n.1
-  Ok (record { name = x.0; variant = v.0; holds = hs.0; next = n.0; undo = u.0 }, u.1)
+  Ok (record { name = h.0.name; variant = h.0.variant; holds = hs.0; next = n.0; undo = u.0 }, u.1)
 
 -- limit INT
 unfoldable pub limit_at : List Word → Outcome ℕ
@@ -74,27 +84,45 @@ type_head_at ws = do
   n ← limit_at e.1
   Ok (record { name = x.0; params = xs.0; limit = n.0 }, n.1)
 
+-- what a type returns, and its other locals
+unfoldable pub type_names_at : List Word → Outcome TypeNames
+type_names_at ws = do
+  rs ← names_statement_at sign.Returns ws
+  ls ← names_statement_at sign.Local rs.1
+  Ok (record { returns = rs.0; locals = ls.0 }, ls.1)
+
+-- what a commit of a type ensures, and what a compensation repairs
+unfoldable pub type_clauses_at : List Word → Outcome TypeClauses
+type_clauses_at ws = do
+  es ← many (comes sign.Ensures) (clause_statement_at sign.Ensures) ws
+  cs ← many (comes sign.Repairs) (clause_statement_at sign.Repairs) es.1
+  Ok (record { ensured = es.0; repaired = cs.0 }, cs.1)
+
+-- the points of a type
+unfoldable pub type_points_at : List Word → Outcome TypePoints
+type_points_at ws = do
+  p ← point_at ws
+  ps ← many (comes sign.Point) point_at p.1
+  Ok (record { first = p.0; others = ps.0 }, ps.1)
+
 -- a type
 unfoldable pub type_at : List Word → Outcome TypeTree
 type_at ws = do
   h ← type_head_at ws
-  rs ← names_statement_at sign.Returns h.1
-  ls ← names_statement_at sign.Local rs.1
-  es ← many (comes sign.Ensures) (clause_statement_at sign.Ensures) ls.1
-  cs ← many (comes sign.Repairs) (clause_statement_at sign.Repairs) es.1
-  p ← point_at cs.1
-  ps ← many (comes sign.Point) point_at p.1
+  ns ← type_names_at h.1
+  cs ← type_clauses_at ns.1
+  ps ← type_points_at cs.1
   Ok (
     record {
       name = h.0.name;
       params = h.0.params;
       limit = h.0.limit;
-      returns = rs.0;
-      locals = ls.0;
-      ensured = es.0;
-      repaired = cs.0;
-      first = p.0;
-      others = ps.0;
+      returns = ns.0.returns;
+      locals = ns.0.locals;
+      ensured = cs.0.ensured;
+      repaired = cs.0.repaired;
+      first = ps.0.first;
+      others = ps.0.others;
     },
     ps.1,
   )

@@ -10,6 +10,7 @@ use Rattle.acc_syntax.specs.declared.trees.PointName.{PointName}
 use Rattle.acc_syntax.specs.declared.trees.PairTree.{PairTree}
 use Rattle.acc_syntax.specs.declared.trees.Pairs.{Pairs}
 use Rattle.acc_syntax.specs.declared.trees.EntryTree.{EntryTree}
+use Rattle.acc_syntax.specs.declared.entries.EntryHead.{EntryHead}
 use Rattle.acc_syntax.specs.declared.trees.HintTree.{HintTree}
 use Rattle.acc_syntax.specs.WordReaders.{Outcome, comes, sign_at, name_at, further_at}
 use Rattle.acc_syntax.specs.ValueReaders.{variable_at, sum_at}
@@ -50,17 +51,23 @@ pairs_at ws =
       Ok (Some (record { first = p.0; others = ps.0 }), ps.1))
     else Ok (None, ws)
 
--- an entry
-unfoldable pub entry_at : List Word → Outcome EntryTree
-entry_at ws = do
+-- what an entry begins with: two points
+unfoldable pub entry_head_at : List Word → Outcome EntryHead
+entry_head_at ws = do
   k ← sign_at sign.Entry ws
   h ← point_name_at k.1
   b ← sign_at sign.By h.1
   y ← point_name_at b.1
-  s ← side_name_at y.1
+  Ok (record { held = h.0; by = y.0 }, y.1)
+
+-- an entry
+unfoldable pub entry_at : List Word → Outcome EntryTree
+entry_at ws = do
+  h ← entry_head_at ws
+  s ← side_name_at h.1
   ps ← pairs_at s.1
   e ← sign_at sign.End ps.1
-  Ok (record { held = h.0; by = y.0; side = s.0; pairs = ps.0 }, e.1)
+  Ok (record { held = h.0.held; by = h.0.by; side = s.0; pairs = ps.0 }, e.1)
 
 -- a hint
 unfoldable pub hint_at : List Word → Outcome HintTree

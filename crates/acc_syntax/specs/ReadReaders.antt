@@ -13,33 +13,35 @@ use Rattle.acc_syntax.specs.declared.trees.ReadTree.TheVariants as read
 use Rattle.acc_syntax.specs.WordReaders.{Outcome, comes, sign_at, number_at}
 use Rattle.acc_syntax.specs.ValueReaders.{variable_at, sum_at, place_at, cell_at}
 
--- this word, X = row
-unfoldable pub row_read_at : Sign → List Word → Outcome (Variable × Place)
-row_read_at s ws = do
+-- this word, X =
+unfoldable pub assigned_at : Sign → List Word → Outcome Variable
+assigned_at s ws = do
   k ← sign_at s ws
   x ← variable_at k.1
   q ← sign_at sign.Equal x.1
-  p ← place_at q.1
+  Ok (x.0, q.1)
+
+-- this word, X = row
+unfoldable pub row_read_at : Sign → List Word → Outcome (Variable × Place)
+row_read_at s ws = do
+  x ← assigned_at s ws
+  p ← place_at x.1
   e ← sign_at sign.End p.1
   Ok ((x.0, p.0), e.1)
 
 -- this word, X = row.column
 unfoldable pub cell_read_at : Sign → List Word → Outcome (Variable × Cell)
 cell_read_at s ws = do
-  k ← sign_at s ws
-  x ← variable_at k.1
-  q ← sign_at sign.Equal x.1
-  c ← cell_at q.1
+  x ← assigned_at s ws
+  c ← cell_at x.1
   e ← sign_at sign.End c.1
   Ok ((x.0, c.0), e.1)
 
 -- let X = value
 unfoldable pub let_at : List Word → Outcome ReadTree
 let_at ws = do
-  k ← sign_at sign.Let ws
-  x ← variable_at k.1
-  q ← sign_at sign.Equal x.1
-  v ← sum_at q.1
+  x ← assigned_at sign.Let ws
+  v ← sum_at x.1
   e ← sign_at sign.End v.1
   Ok (read.Let x.0 v.0, e.1)
 
@@ -90,10 +92,8 @@ take_at ws = do
 -- mul X = X X
 unfoldable pub mul_at : List Word → Outcome ReadTree
 mul_at ws = do
-  k ← sign_at sign.Mul ws
-  x ← variable_at k.1
-  q ← sign_at sign.Equal x.1
-  a ← variable_at q.1
+  x ← assigned_at sign.Mul ws
+  a ← variable_at x.1
   b ← variable_at a.1
   e ← sign_at sign.End b.1
   Ok (read.Mul x.0 a.0 b.0, e.1)
@@ -101,10 +101,8 @@ mul_at ws = do
 -- div X = X INT
 unfoldable pub div_at : List Word → Outcome ReadTree
 div_at ws = do
-  k ← sign_at sign.Div ws
-  x ← variable_at k.1
-  q ← sign_at sign.Equal x.1
-  a ← variable_at q.1
+  x ← assigned_at sign.Div ws
+  a ← variable_at x.1
   n ← number_at a.1
   e ← sign_at sign.End n.1
   Ok (read.Div x.0 a.0 n.0, e.1)

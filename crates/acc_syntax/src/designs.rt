@@ -6,11 +6,13 @@ ghost use Rattle.acc_syntax.specs.declared.trees.DesignTree.{DesignTree};
 ghost use Rattle.acc_syntax.specs.Spelling.{spelled_design};
 ghost use Rattle.acc_syntax.specs.Texts.{Answers, IsSpelling};
 ghost use Rattle.acc_syntax.specs.WordReaders.{comes};
-ghost use Rattle.acc_syntax.specs.DesignReaders.{path_at, step_at, side_at, point_at, limit_at, type_head_at, type_at, design_at};
+ghost use Rattle.acc_syntax.specs.DesignReaders.{path_at, step_at, side_at, point_head_at, point_at, limit_at, type_head_at, type_names_at};
+ghost use Rattle.acc_syntax.specs.DesignReaders.{type_clauses_at, type_points_at, type_at, design_at};
 
+use crate::boxes::Boxed;
 use crate::own_words::words_before_stray_self;
 use crate::parsers::Parser;
-use crate::trees::{DesignTree, PathTree, PointTree, StepTree, TypeTree};
+use crate::trees::{ClauseTree, DesignTree, Names, PathTree, PointTree, StepTree, Sum, TypeTree};
 use acc_base::sequences::{Seq, Text};
 use acc_grammar::faults::Fault;
 use acc_lex::words::{Sign, Word};
@@ -26,12 +28,40 @@ pub enum SyntaxError {
     At(usize),
 }
 
+/// What a point begins with.
+#[derive(Drop)]
+struct PointHead {
+    name: Text,
+    variant: Option<Sum>,
+}
+
 /// What a type begins with.
 #[derive(Drop)]
 struct TypeHead {
     name: Text,
     params: Seq<Text>,
     limit: u64,
+}
+
+/// What a type names beside its parameters.
+#[derive(Drop)]
+struct TypeNames {
+    returns: Option<Names>,
+    locals: Option<Names>,
+}
+
+/// What a commit of a type ensures, and what a compensation repairs.
+#[derive(Drop)]
+struct TypeClauses {
+    ensured: Seq<ClauseTree>,
+    repaired: Seq<ClauseTree>,
+}
+
+/// The points of a type.
+#[derive(Drop)]
+struct TypePoints {
+    first: PointTree,
+    others: Seq<PointTree>,
 }
 
 impl Parser<'_> {
@@ -63,22 +93,23 @@ impl Parser<'_> {
     }
 
     #[tactic(auto, unfolding(crate::specs::DesignReaders::step_at))]
-    fn step(&mut self) -> Result<StepTree, Fault>
+    fn step(&mut self) -> Result<Boxed<StepTree>, Fault>
         ensures { Gives result self.new.words.now (step_at self.old.words.now) }
     {
         let reads = self.reads()?;
         let first = self.path()?;
         let others = self.paths()?;
-        Ok(StepTree {
+        let step = StepTree {
             reads,
             first,
             others,
-        })
+        };
+        Ok(Boxed::new(self.alloc, step)?)
     }
 
     /// `next` or `undo`, and its step.
     #[tactic(auto, unfolding(crate::specs::DesignReaders::side_at))]
-    fn side(&mut self, sign: Sign) -> Result<StepTree, Fault>
+    fn side(&mut self, sign: Sign) -> Result<Boxed<StepTree>, Fault>
         ensures { Gives result self.new.words.now (side_at sign self.old.words.now) }
     {
         self.sign(sign)?;
@@ -86,20 +117,28 @@ impl Parser<'_> {
         self.step()
     }
 
-    #[tactic(auto, unfolding(crate::specs::DesignReaders::point_at))]
-    fn point(&mut self) -> Result<PointTree, Fault>
-        ensures { Gives result self.new.words.now (point_at self.old.words.now) }
+    #[tactic(auto, unfolding(crate::specs::DesignReaders::point_head_at))]
+    fn point_head(&mut self) -> Result<PointHead, Fault>
+        ensures { Gives result self.new.words.now (point_head_at self.old.words.now) }
     {
         self.sign(Sign::Point)?;
         let name = self.name()?;
         self.sign(Sign::End)?;
         let variant = self.variant()?;
+        Ok(PointHead { name, variant })
+    }
+
+    #[tactic(auto, unfolding(crate::specs::DesignReaders::point_at))]
+    fn point(&mut self) -> Result<PointTree, Fault>
+        ensures { Gives result self.new.words.now (point_at self.old.words.now) }
+    {
+        let head = self.point_head()?;
         let holds = self.clauses(Sign::Holds)?;
         let next = self.side(Sign::Next)?;
         let undo = self.side(Sign::Undo)?;
         Ok(PointTree {
-            name,
-            variant,
+            name: head.name,
+            variant: head.variant,
             holds,
             next,
             undo,
@@ -143,27 +182,51 @@ impl Parser<'_> {
         })
     }
 
+    #[tactic(auto, unfolding(crate::specs::DesignReaders::type_names_at))]
+    fn type_names(&mut self) -> Result<TypeNames, Fault>
+        ensures { Gives result self.new.words.now (type_names_at self.old.words.now) }
+    {
+        let returns = self.names_statement(Sign::Returns)?;
+        let locals = self.names_statement(Sign::Local)?;
+        Ok(TypeNames { returns, locals })
+    }
+
+    #[tactic(auto, unfolding(crate::specs::DesignReaders::type_clauses_at))]
+    fn type_clauses(&mut self) -> Result<TypeClauses, Fault>
+        ensures { Gives result self.new.words.now (type_clauses_at self.old.words.now) }
+    {
+        let ensured = self.clauses(Sign::Ensures)?;
+        let repaired = self.clauses(Sign::Repairs)?;
+        Ok(TypeClauses { ensured, repaired })
+    }
+
+    #[tactic(auto, unfolding(crate::specs::DesignReaders::type_points_at))]
+    fn type_points(&mut self) -> Result<TypePoints, Fault>
+        ensures { Gives result self.new.words.now (type_points_at self.old.words.now) }
+    {
+        let first = self.point()?;
+        let others = self.points()?;
+        Ok(TypePoints { first, others })
+    }
+
     #[tactic(auto, unfolding(crate::specs::DesignReaders::type_at))]
     fn type_tree(&mut self) -> Result<TypeTree, Fault>
         ensures { Gives result self.new.words.now (type_at self.old.words.now) }
     {
         let head = self.type_head()?;
-        let returns = self.names_statement(Sign::Returns)?;
-        let locals = self.names_statement(Sign::Local)?;
-        let ensured = self.clauses(Sign::Ensures)?;
-        let repaired = self.clauses(Sign::Repairs)?;
-        let first = self.point()?;
-        let others = self.points()?;
+        let names = self.type_names()?;
+        let clauses = self.type_clauses()?;
+        let points = self.type_points()?;
         Ok(TypeTree {
             name: head.name,
             params: head.params,
             limit: head.limit,
-            returns,
-            locals,
-            ensured,
-            repaired,
-            first,
-            others,
+            returns: names.returns,
+            locals: names.locals,
+            ensured: clauses.ensured,
+            repaired: clauses.repaired,
+            first: points.first,
+            others: points.others,
         })
     }
 

@@ -3,13 +3,20 @@ ghost use Rattle.std.specs.Prelude.{◌≡◌};
 ghost use Rattle.acc_grammar.specs.Readers.{many};
 ghost use Rattle.acc_grammar.specs.Answers.{Gives};
 ghost use Rattle.acc_syntax.specs.WordReaders.{comes, further_at};
-ghost use Rattle.acc_syntax.specs.EntryReaders.{point_name_at, side_name_at, pair_at, pairs_at, entry_at, hint_at};
+ghost use Rattle.acc_syntax.specs.EntryReaders.{point_name_at, side_name_at, pair_at, pairs_at, entry_head_at, entry_at, hint_at};
 
 use crate::parsers::Parser;
 use crate::trees::{EntryTree, HintTree, PairTree, Pairs, PointName, SideTree};
 use acc_base::sequences::Seq;
 use acc_grammar::faults::Fault;
 use acc_lex::words::Sign;
+
+/// What an entry begins with: two points.
+#[derive(Drop)]
+struct EntryHead {
+    held: PointName,
+    by: PointName,
+}
 
 impl Parser<'_> {
     #[tactic(auto, unfolding(crate::specs::EntryReaders::point_name_at))]
@@ -79,20 +86,28 @@ impl Parser<'_> {
         }
     }
 
-    #[tactic(auto, unfolding(crate::specs::EntryReaders::entry_at))]
-    fn entry(&mut self) -> Result<EntryTree, Fault>
-        ensures { Gives result self.new.words.now (entry_at self.old.words.now) }
+    #[tactic(auto, unfolding(crate::specs::EntryReaders::entry_head_at))]
+    fn entry_head(&mut self) -> Result<EntryHead, Fault>
+        ensures { Gives result self.new.words.now (entry_head_at self.old.words.now) }
     {
         self.sign(Sign::Entry)?;
         let held = self.point_name()?;
         self.sign(Sign::By)?;
         let by = self.point_name()?;
+        Ok(EntryHead { held, by })
+    }
+
+    #[tactic(auto, unfolding(crate::specs::EntryReaders::entry_at))]
+    fn entry(&mut self) -> Result<EntryTree, Fault>
+        ensures { Gives result self.new.words.now (entry_at self.old.words.now) }
+    {
+        let head = self.entry_head()?;
         let side = self.side_name()?;
         let pairs = self.pairs()?;
         self.sign(Sign::End)?;
         Ok(EntryTree {
-            held,
-            by,
+            held: head.held,
+            by: head.by,
             side,
             pairs,
         })

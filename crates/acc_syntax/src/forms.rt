@@ -18,7 +18,7 @@ use acc_lex::words::Sign;
 impl Parser<'_> {
     /// What a table's name stands before.
     #[tactic(auto, unfolding(crate::specs::FormReaders::key_and_column_at))]
-    fn key_and_column(&mut self) -> Result<Option<(Sums, Text)>, Fault>
+    fn key_and_column(&mut self) -> Result<Option<(Boxed<Sums>, Text)>, Fault>
         ensures { Gives result self.new.words.now (key_and_column_at self.old.words.now) }
     {
         if self.comes(Sign::Open) {

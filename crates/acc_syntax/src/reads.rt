@@ -2,7 +2,8 @@
 ghost use Rattle.std.specs.Prelude.{◌≡◌};
 ghost use Rattle.acc_grammar.specs.Readers.{many};
 ghost use Rattle.acc_grammar.specs.Answers.{Gives};
-ghost use Rattle.acc_syntax.specs.ReadReaders.{row_read_at, cell_read_at, let_at, get_at, has_at, count_at, sum_read_at, least_at, greatest_at, take_at, mul_at, div_at, read_at, starts_read};
+ghost use Rattle.acc_syntax.specs.ReadReaders.{assigned_at, row_read_at, cell_read_at, let_at, get_at, has_at, count_at, sum_read_at};
+ghost use Rattle.acc_syntax.specs.ReadReaders.{least_at, greatest_at, take_at, mul_at, div_at, read_at, starts_read};
 
 use crate::parsers::Parser;
 use crate::trees::{Cell, Place, ReadTree, Variable};
@@ -11,14 +12,23 @@ use acc_grammar::faults::Fault;
 use acc_lex::words::Sign;
 
 impl Parser<'_> {
+    /// The word, and the variable that is assigned.
+    #[tactic(auto, unfolding(crate::specs::ReadReaders::assigned_at))]
+    fn assigned(&mut self, sign: Sign) -> Result<Variable, Fault>
+        ensures { Gives result self.new.words.now (assigned_at sign self.old.words.now) }
+    {
+        self.sign(sign)?;
+        let variable = self.variable()?;
+        self.sign(Sign::Equal)?;
+        Ok(variable)
+    }
+
     /// The word, the variable that is assigned, and a row.
     #[tactic(auto, unfolding(crate::specs::ReadReaders::row_read_at))]
     fn row_read(&mut self, sign: Sign) -> Result<(Variable, Place), Fault>
         ensures { Gives result self.new.words.now (row_read_at sign self.old.words.now) }
     {
-        self.sign(sign)?;
-        let variable = self.variable()?;
-        self.sign(Sign::Equal)?;
+        let variable = self.assigned(sign)?;
         let place = self.place()?;
         self.sign(Sign::End)?;
         Ok((variable, place))
@@ -29,9 +39,7 @@ impl Parser<'_> {
     fn cell_read(&mut self, sign: Sign) -> Result<(Variable, Cell), Fault>
         ensures { Gives result self.new.words.now (cell_read_at sign self.old.words.now) }
     {
-        self.sign(sign)?;
-        let variable = self.variable()?;
-        self.sign(Sign::Equal)?;
+        let variable = self.assigned(sign)?;
         let cell = self.cell()?;
         self.sign(Sign::End)?;
         Ok((variable, cell))
@@ -41,9 +49,7 @@ impl Parser<'_> {
     fn let_read(&mut self) -> Result<ReadTree, Fault>
         ensures { Gives result self.new.words.now (let_at self.old.words.now) }
     {
-        self.sign(Sign::Let)?;
-        let variable = self.variable()?;
-        self.sign(Sign::Equal)?;
+        let variable = self.assigned(Sign::Let)?;
         let value = self.sum()?;
         self.sign(Sign::End)?;
         Ok(ReadTree::Let(variable, value))
@@ -111,9 +117,7 @@ impl Parser<'_> {
     fn mul_read(&mut self) -> Result<ReadTree, Fault>
         ensures { Gives result self.new.words.now (mul_at self.old.words.now) }
     {
-        self.sign(Sign::Mul)?;
-        let variable = self.variable()?;
-        self.sign(Sign::Equal)?;
+        let variable = self.assigned(Sign::Mul)?;
         let left = self.variable()?;
         let right = self.variable()?;
         self.sign(Sign::End)?;
@@ -124,9 +128,7 @@ impl Parser<'_> {
     fn div_read(&mut self) -> Result<ReadTree, Fault>
         ensures { Gives result self.new.words.now (div_at self.old.words.now) }
     {
-        self.sign(Sign::Div)?;
-        let variable = self.variable()?;
-        self.sign(Sign::Equal)?;
+        let variable = self.assigned(Sign::Div)?;
         let divided = self.variable()?;
         let divisor = self.number()?;
         self.sign(Sign::End)?;

@@ -44,7 +44,7 @@ pub struct Sums {
 #[derive(Drop)]
 pub struct Place {
     pub table: Text,
-    pub key: Sums,
+    pub key: Boxed<Sums>,
 }
 
 /// A column of a row, by its name.
@@ -182,7 +182,7 @@ pub enum ReadTree {
 #[derive(Drop)]
 pub enum ActionTree {
     /// `put`: the row, with a value a column; none where the table has no columns.
-    Put(Place, Option<Sums>),
+    Put(Place, Option<Boxed<Sums>>),
     /// `del`: the row goes.
     Del(Place),
     /// `set`: the column gets the value.
@@ -205,7 +205,7 @@ pub enum TargetTree {
 /// `path`: the guard, if it has one, what is written, and where it ends.
 #[derive(Drop)]
 pub struct PathTree {
-    pub guard: Option<LinRels>,
+    pub guard: Option<Boxed<LinRels>>,
     pub actions: Seq<ActionTree>,
     pub target: TargetTree,
 }
@@ -224,8 +224,8 @@ pub struct PointTree {
     pub name: Text,
     pub variant: Option<Sum>,
     pub holds: Seq<ClauseTree>,
-    pub next: StepTree,
-    pub undo: StepTree,
+    pub next: Boxed<StepTree>,
+    pub undo: Boxed<StepTree>,
 }
 
 /// `type`: a name, the parameters' names, the limit, what is returned, the other locals, what a commit ensures and a

@@ -5,6 +5,7 @@ ghost use Rattle.acc_grammar.specs.Answers.{Gives};
 ghost use Rattle.acc_syntax.specs.WordReaders.{comes, further_at};
 ghost use Rattle.acc_syntax.specs.ValueReaders.{variable_at, factor_at, number_term_at, term_at, minus_at, direction_at, signed_term_at, starts_signed_term, sum_at, starts_sum, sums_at, values_at, place_at, cell_at, relation_at, lin_rel_at, lin_rels_at, guard_at};
 
+use crate::boxes::Boxed;
 use crate::parsers::Parser;
 use crate::trees::{
     Cell, LinRelTree, LinRels, Place, Relation, SignedTerm, Sum, Sums, Term, Variable,
@@ -151,16 +152,16 @@ impl Parser<'_> {
     }
 
     #[tactic(auto, unfolding(crate::specs::ValueReaders::sums_at))]
-    pub(crate) fn sums(&mut self) -> Result<Sums, Fault>
+    pub(crate) fn sums(&mut self) -> Result<Boxed<Sums>, Fault>
         ensures { Gives result self.new.words.now (sums_at self.old.words.now) }
     {
         let first = self.sum()?;
         let others = self.further_sums()?;
-        Ok(Sums { first, others })
+        Ok(Boxed::new(self.alloc, Sums { first, others })?)
     }
 
     #[tactic(auto, unfolding(crate::specs::ValueReaders::values_at))]
-    pub(crate) fn values(&mut self) -> Result<Option<Sums>, Fault>
+    pub(crate) fn values(&mut self) -> Result<Option<Boxed<Sums>>, Fault>
         ensures { Gives result self.new.words.now (values_at self.old.words.now) }
     {
         if self.starts_sum() {
@@ -241,16 +242,16 @@ impl Parser<'_> {
     }
 
     #[tactic(auto, unfolding(crate::specs::ValueReaders::lin_rels_at))]
-    fn lin_rels(&mut self) -> Result<LinRels, Fault>
+    fn lin_rels(&mut self) -> Result<Boxed<LinRels>, Fault>
         ensures { Gives result self.new.words.now (lin_rels_at self.old.words.now) }
     {
         let first = self.lin_rel()?;
         let others = self.further_lin_rels()?;
-        Ok(LinRels { first, others })
+        Ok(Boxed::new(self.alloc, LinRels { first, others })?)
     }
 
     #[tactic(auto, unfolding(crate::specs::ValueReaders::guard_at))]
-    pub(crate) fn guard(&mut self) -> Result<Option<LinRels>, Fault>
+    pub(crate) fn guard(&mut self) -> Result<Option<Boxed<LinRels>>, Fault>
         ensures { Gives result self.new.words.now (guard_at self.old.words.now) }
     {
         if self.starts_sum() {
