@@ -68,7 +68,7 @@ fn a_real_file(rt: HostRuntime) -> Result<(), Fail> {
     remove(&rt, "new")?;
     let mut disk = disk(&rt, "new")?;
     assert!(rt; is_made(&rt, &mut disk)?);
-    Ok(())
+    remove(&rt, "new")
 }
 
 fn is_there(alloc: Global, disk: &mut FileDisk<HostRuntime>) -> Result<bool, Fail> {
@@ -80,7 +80,7 @@ fn a_file_that_is_there(rt: HostRuntime) -> Result<(), Fail> {
     fs::write(&rt, "file", b"abcX")?;
     let mut disk = disk(&rt, "file")?;
     assert!(rt; is_there(rt.alloc(), &mut disk)?);
-    Ok(())
+    remove(&rt, "file")
 }
 
 fn writes_a_byte(rt: &HostRuntime, path: &str) -> Result<bool, Fail> {
@@ -92,11 +92,12 @@ fn writes_a_byte(rt: &HostRuntime, path: &str) -> Result<bool, Fail> {
 // always full.
 #[test]
 fn what_is_no_file(rt: HostRuntime) -> Result<(), Fail> {
-    fs::create_dir_all(&rt, "folder")?;
-    for path in &["folder", "absent/file", "/dev/full"] {
+    fs::create_dir_all(&rt, "disks")?;
+    for path in &["disks", "absent/file", "/dev/full"] {
         assert!(rt; !writes_a_byte(&rt, path)?, "{path}");
     }
-    assert!(rt; writes_a_byte(&rt, "folder/file")?);
+    assert!(rt; writes_a_byte(&rt, "disks/file")?);
+    fs::remove_dir_all(&rt, "disks")?;
     Ok(())
 }
 
@@ -115,5 +116,5 @@ fn a_read_only_file(rt: HostRuntime) -> Result<(), Fail> {
     make_read_only(&rt, "kept")?;
     let may_write = OpenOptions::new().write(true).open(&rt, "kept").is_ok();
     assert_eq!(rt; writes_a_byte(&rt, "kept")?, may_write);
-    Ok(())
+    remove(&rt, "kept")
 }

@@ -29,33 +29,27 @@ fn make(rt: &HostRuntime, path: &str, length: u64) -> Result<(), Fail> {
 }
 
 fn make_folder(rt: &HostRuntime) -> Result<(), Fail> {
-    fs::create_dir_all(rt, "folder")?;
-    fs::write(rt, "folder/here", b"text")?;
-    make(rt, "folder/whole", MOST)?;
-    make(rt, "folder/long", MOST + 1)
-}
-
-fn remove_long(rt: &HostRuntime) -> Result<(), Fail> {
-    fs::remove_file(rt, "folder/whole")?;
-    fs::remove_file(rt, "folder/long")?;
-    Ok(())
+    fs::create_dir_all(rt, "shelf")?;
+    fs::write(rt, "shelf/here", b"text")?;
+    make(rt, "shelf/whole", MOST)?;
+    make(rt, "shelf/long", MOST + 1)
 }
 
 fn holds_text(alloc: Global, shelf: &mut FolderShelf<HostRuntime>) -> bool {
     shelf
-        .read(alloc, "folder/here")
+        .read(alloc, "shelf/here")
         .is_ok_and(|bytes| bytes.as_slice() == b"text".as_slice())
 }
 
 // A folder is opened and then can't be read.
 fn refuses_what_is_no_file(alloc: Global, shelf: &mut FolderShelf<HostRuntime>) -> bool {
-    refuses(alloc, shelf, "folder/gone", ShelfError::Absent)
-        && refuses(alloc, shelf, "folder", ShelfError::Failed)
+    refuses(alloc, shelf, "shelf/gone", ShelfError::Absent)
+        && refuses(alloc, shelf, "shelf", ShelfError::Failed)
 }
 
 fn refuses_what_is_too_long(alloc: Global, shelf: &mut FolderShelf<HostRuntime>) -> bool {
-    gives(alloc, shelf, "folder/whole", MOST)
-        && refuses(alloc, shelf, "folder/long", ShelfError::Long(MOST + 1))
+    gives(alloc, shelf, "shelf/whole", MOST)
+        && refuses(alloc, shelf, "shelf/long", ShelfError::Long(MOST + 1))
 }
 
 #[test]
@@ -65,7 +59,8 @@ fn the_real_shelf(rt: HostRuntime) -> Result<(), Fail> {
     assert!(rt; holds_text(rt.alloc(), &mut shelf));
     assert!(rt; refuses_what_is_no_file(rt.alloc(), &mut shelf));
     assert!(rt; refuses_what_is_too_long(rt.alloc(), &mut shelf));
-    remove_long(&rt)
+    fs::remove_dir_all(&rt, "shelf")?;
+    Ok(())
 }
 
 fn zeros(alloc: Global, count: usize) -> Result<Vec<u8>, AllocError> {
