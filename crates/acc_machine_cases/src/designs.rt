@@ -1,7 +1,6 @@
 //! Designs that are read.
 ghost use Rattle.std.specs.Prelude.{IfOk, IfSome};
 ghost use Rattle.acc_base.specs.Runnable.{IsRunnable};
-ghost use Rattle.acc_parse.specs.Texts.{IsDesignText};
 
 use acc_base::designs::Design;
 use acc_form::well_formed;
@@ -9,9 +8,7 @@ use acc_parse::{ParseError, parse};
 use std::alloc::{AllocError, Global};
 
 /// The design of a text, if it is one.
-pub fn read(alloc: Global, text: &[u8]) -> Result<Option<Design>, AllocError>
-    ensures { IfOk result (λ design. IfSome design (IsDesignText text.now)) }
-{
+pub fn read(alloc: Global, text: &[u8]) -> Result<Option<Design>, AllocError> {
     match parse(alloc, text) {
         Ok(design) => Ok(Some(design)),
         Err(ParseError::Memory) => Err(AllocError),
@@ -20,14 +17,14 @@ pub fn read(alloc: Global, text: &[u8]) -> Result<Option<Design>, AllocError>
 }
 
 /// The design of a text, if it keeps the form rules.
-#[tactic(auto, using(crate::proofs::Runs::text_runs))]
+#[tactic(auto, using(crate::proofs::Runs::formed_runs))]
 pub fn formed(alloc: Global, text: &[u8]) -> Result<Option<Design>, AllocError>
     ensures { IfOk result (λ design. IfSome design IsRunnable) }
 {
     let Some(design) = read(alloc, text)? else {
         return Ok(None);
     };
-    if well_formed(alloc, &design).is_err() {
+    if well_formed(&design).is_err() {
         return Ok(None);
     }
     Ok(Some(design))

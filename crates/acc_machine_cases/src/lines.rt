@@ -6,9 +6,13 @@ use acc_base::designs::{At, Design};
 use acc_base::machines::{Outcome, Reply, Turn};
 use acc_base::sequences::Seq;
 use acc_script::{
-    push_events, push_over, push_reply, push_stuck, push_turn, push_unbegun, push_unfinished,
+    push_events, push_full, push_over, push_reply, push_stuck, push_turn, push_unbegun,
+    push_unfinished, push_unsettled,
 };
 use std::alloc::{AllocError, Global};
+
+/// The places of two transactions, by number from 1.
+const PLACES: [u64; 2] = [9, 7];
 
 fn at(ty: &str, point: &str) -> At {
     At {
@@ -45,6 +49,8 @@ fn push_plain(out: &mut Vec<u8>, word: &str, place: u64) -> Result<(), AllocErro
         "stuck" => push_stuck(out, place),
         "over" => push_over(out, place),
         "unbegun" => push_unbegun(out, place),
+        "full" => push_full(out, place),
+        "unsettled" => push_unsettled(out, place),
         "unfinished" => push_unfinished(out, place),
         _ => push_events(out, place),
     }
@@ -59,7 +65,7 @@ fn push_line(
     words: &[&str],
 ) -> Result<(), AllocError> {
     if let Some(turn) = turn(words) {
-        return push_turn(out, design, place, turn);
+        return push_turn(out, design, &PLACES, place, turn);
     }
     match words {
         [word] => push_plain(out, word, place),
