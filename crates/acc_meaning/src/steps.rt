@@ -10,6 +10,7 @@ ghost use Rattle.acc_meaning.specs.Views.{scope_in};
 use crate::rows::key;
 use crate::scopes::{Surroundings, column, fitted, number_of, table, variable};
 use crate::values::{guard, lin, values};
+use acc_base::bounds::LARGEST_NUMBER;
 use acc_base::sequences::Seq;
 use acc_base::steps::{Action, Path, Read, Step, Target};
 use acc_limits::Walk;
@@ -21,7 +22,7 @@ use std::alloc::{AllocError, Global};
 fn divisor(n: u64) -> i64
     ensures { result ≡ kept (pos n) }
 {
-    if n <= 1 << 45 { n as i64 } else { 0 }
+    if n <= LARGEST_NUMBER { n as i64 } else { 0 }
 }
 
 /// The read that is written.

@@ -8,6 +8,7 @@ ghost use Rattle.acc_meaning.specs.Sizes.{size_mark, term_sizes, terms_sizes, su
 ghost use Rattle.acc_meaning.specs.Views.{variables_in};
 
 use crate::scopes::{VariableNames, variable};
+use acc_base::bounds::LARGEST_NUMBER;
 use acc_base::forms::{Lin, LinRel};
 use acc_base::sequences::Seq;
 use acc_limits::{Limit, Walk};
@@ -71,7 +72,7 @@ pub fn kept(walk: &mut Walk, n: i128) -> i64
     ensures value { result ≡ kept n }
     ensures walk { walk.new ≡ after walk.old (size_mark n) }
 {
-    const LARGEST: i128 = 1 << 45;
+    const LARGEST: i128 = LARGEST_NUMBER as i128;
     let small = -LARGEST <= n && n <= LARGEST;
     walk.pass_if(Limit::NumberSize, !small);
     if small { n as i64 } else { 0 }

@@ -4,6 +4,7 @@ ghost use Rattle.std.specs.List.{list_all};
 ghost use Rattle.acc_base.specs.Numbers.{is_small};
 ghost use Rattle.acc_base.specs.Machine.{ask_fits, call_fits};
 
+use acc_base::bounds::{LARGEST_NUMBER, LATEST_ASK, LONGEST_TAPE};
 use acc_base::designs::Design;
 use acc_base::machines::Call;
 
@@ -11,7 +12,7 @@ use acc_base::machines::Call;
 fn is_small(n: i64) -> bool
     ensures { result ≡ is_small n }
 {
-    n.unsigned_abs() <= 1 << 45
+    n.unsigned_abs() <= LARGEST_NUMBER
 }
 
 /// Whether each number is within 2^45 of 0.
@@ -26,7 +27,7 @@ fn ask_fits(ask: Option<u32>) -> bool
     ensures { result ≡ ask_fits ask }
 {
     match ask {
-        Some(steps) => steps <= 65536,
+        Some(steps) => steps <= LATEST_ASK,
         None => true,
     }
 }
@@ -40,7 +41,7 @@ pub fn call_fits(d: &Design, call: &Call) -> bool
             call.params.len() as u64 == x.params as u64
                 && all_small(call.params.as_slice())
                 && all_small(call.tape.as_slice())
-                && call.tape.len() <= 4096
+                && call.tape.len() <= LONGEST_TAPE
                 && ask_fits(call.ask)
         }
         None => false,

@@ -8,11 +8,10 @@ ghost use Rattle.acc_base.specs.Numbers.{IsSmall};
 ghost use Rattle.acc_script.specs.Numerals.{is_numeral};
 ghost use Rattle.acc_script.specs.OrderLines.{IsPlace};
 
-/// The largest absolute value of a script's numbers: 2^45.
-const LARGEST: u64 = 1 << 45;
+use acc_base::bounds::{LARGEST_NUMBER, LATEST_ASK};
 
-/// The largest number of steps after which a call can be asked to turn: 2^16.
-const LATEST: u64 = 1 << 16;
+/// The largest number of steps after which a call can be asked to turn.
+const LATEST: u64 = LATEST_ASK as u64;
 
 fn are_digits(bytes: &[u8]) -> bool
     ensures { result ≡ list_all is_ascii_digit bytes.now }
@@ -67,7 +66,7 @@ fn bounded(word: &[u8], most: u64) -> Option<u64>
 fn magnitude(word: &[u8]) -> Option<u64>
     ensures { MatchOption result ((n : ℕ) → n ≤ 2 ^ 45 → word.now ≢ decimal n) (λ n. (n ≤ 2 ^ 45) × (word.now ≡ decimal n)) }
 {
-    bounded(word, LARGEST)
+    bounded(word, LARGEST_NUMBER)
 }
 
 /// The number of steps, up to 65,536, that a word spells, if there is one.

@@ -6,11 +6,9 @@ ghost use Rattle.acc_script.specs.OrderLines.{IsPlace, SaysPlaces, IsOrder, Refu
 use crate::cuts::{Pieces, Words, is_skipped};
 use crate::errors::{LineError, ScriptError};
 use crate::numbers::place;
+use acc_base::bounds::MOST_TURNS;
 use acc_base::sequences::Seq;
 use std::alloc::Global;
-
-/// How many numbers an order may have: 2^20.
-const MOST_NUMBERS: usize = 1 << 20;
 
 /// Reads the numbers of a line; after an error a part of them may stand there.
 fn push_places(numbers: &mut Seq<u64>, places: u64, line: &[u8]) -> Result<(), LineError>
@@ -23,7 +21,7 @@ fn push_places(numbers: &mut Seq<u64>, places: u64, line: &[u8]) -> Result<(), L
         let Some(number) = place(word, places) else {
             return Err(LineError::Refused);
         };
-        if numbers.len() == MOST_NUMBERS {
+        if numbers.len() == MOST_TURNS {
             return Err(LineError::Refused);
         }
         numbers.push(number)?;

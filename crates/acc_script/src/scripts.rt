@@ -10,13 +10,11 @@ use crate::cuts::{Pieces, Words, is_skipped};
 use crate::errors::{LineError, ScriptError};
 use crate::numbers::integer;
 use crate::tapes::{ask, tape};
+use acc_base::bounds::MOST_CALLS;
 use acc_base::designs::Design;
 use acc_base::machines::Call;
 use acc_base::sequences::Seq;
 use std::alloc::Global;
-
-/// How many calls a script may have: 2^20.
-const MOST_CALLS: usize = 1 << 20;
 
 /// The place of the first type of a name.
 fn type_named(d: &Design, name: &[u8]) -> Option<usize>

@@ -9,11 +9,12 @@ ghost use Rattle.acc_step.specs.Variables.{values_of};
 
 use crate::variables::Variables;
 use crate::wide_sums::{WideSum, shortened, with_more};
+use acc_base::bounds::LARGEST_NUMBER;
 use acc_base::forms::Lin;
 use acc_store::Inline;
 
-/// The farthest from 0 that a number of a step may be: 2^45.
-const RANGE: i128 = 35_184_372_088_832;
+/// The farthest from 0 that a number of a step may be.
+const RANGE: i128 = LARGEST_NUMBER as i128;
 
 /// The same number in more bits.
 pub fn widened(x: i64) -> i128

@@ -6,9 +6,9 @@ pub returns-in_default-place-clause-refused : goal.returns-in_default-place-clau
 returns-in_default-place-clause-refused c = λ h.
     no_place c.args.places c.args.line.now c.in-Some.word.now c.next.new.self c.args.numbers.now c.loop-word.numbers (rw c.in-Some.ensures at c.loop-word.invariant) c.in_default-place.ensures
 
-pub returns-then-len-eq-MOST_NUMBERS-clause-refused :
-    goal.returns-then-len-eq-MOST_NUMBERS-clause-refused
-returns-then-len-eq-MOST_NUMBERS-clause-refused c = λ h.
+pub returns-then-len-eq-MOST_TURNS-clause-refused :
+    goal.returns-then-len-eq-MOST_TURNS-clause-refused
+returns-then-len-eq-MOST_TURNS-clause-refused c = λ h.
     too_many c.args.places c.args.line.now c.in-Some.word.now c.next.new.self c.args.numbers.now c.loop-word.numbers (rw c.in-Some.ensures at c.loop-word.invariant) (omega arith)
 
 pub loop-word-preserved : goal.loop-word-preserved
