@@ -1,5 +1,6 @@
 -- Rules 5, 8, 9, 11, 12 and 13: where paths end, and what the reads of a step may do.
 use Rattle.std.specs.Prelude.{ℕ, Bool, true, false, ◌&&◌, ◌==◌, nat_le, nat_lt, List, length, pos, int_le}
+use Rattle.acc_base.specs.declared.bounds.TheConstants.{LARGEST_LIMIT, LARGEST_REFUSAL}
 use Rattle.acc_base.specs.declared.steps.Read.{Read}
 use Rattle.acc_base.specs.declared.steps.Read.TheVariants as read
 use Rattle.acc_base.specs.declared.steps.Action.{Action}
@@ -14,14 +15,14 @@ use Rattle.acc_base.specs.Reads.{assigned}
 
 -- a type's limit
 abbrev pub is_limit : ℕ → Bool
-is_limit n = nat_le 1 n && nat_le n 65536
+is_limit n = nat_le 1 n && nat_le n LARGEST_LIMIT
 
 -- the number of a refusal
 abbrev pub refuses_by_number : Target → Bool
 refuses_by_number (target.Point p) = true
 refuses_by_number target.Commit = true
 refuses_by_number target.Undone = true
-refuses_by_number (target.Refuse n) = nat_le 1 n && nat_le n 255
+refuses_by_number (target.Refuse n) = nat_le 1 n && nat_le n LARGEST_REFUSAL
 
 -- the divisor of a read
 abbrev pub divides : Read → Bool

@@ -1,7 +1,9 @@
 -- The statements of a design in print, each beside the marks of the form rules on it; and a fault as the statement that breaks its rule.
-use Rattle.std.specs.Prelude.{◌≡◌, ◌⊎◌, ℕ, zero, suc, ◌+◌, Bool, false, not, ◌&&◌, ◌||◌, ◌==◌, nat_le, nat_lt, List, [], ◌∷◌, ◌++◌, length, map, take, drop, Contains, if◌then◌else◌, codes}
+use Rattle.std.specs.Prelude.{◌≡◌, ◌⊎◌, ℕ, zero, suc, ◌+◌, Bool, false, not, ◌&&◌, ◌||◌, ◌==◌, nat_le, nat_lt, List, [], ◌∷◌, ◌++◌}
+use Rattle.std.specs.Prelude.{length, map, take, drop, Contains, if◌then◌else◌, codes}
 use Rattle.std.specs.List.{flat_map, list_all}
 use Rattle.std.specs.Fmt.{decimal}
+use Rattle.acc_base.specs.declared.bounds.TheConstants.{MOST_CLAUSES, MOST_LOCALS, MOST_PATHS, MOST_POINTS, MOST_TYPES}
 use Rattle.acc_base.specs.Lines.{line}
 use Rattle.acc_base.specs.declared.forms.Lin.{Lin}
 use Rattle.acc_base.specs.declared.forms.Clause.{Clause}
@@ -24,7 +26,8 @@ use Rattle.acc_form.specs.Ranges.{design_in}
 use Rattle.acc_form.specs.Sizes.{is_short, guard_small}
 use Rattle.acc_form.specs.Names.{are_distinct, names_point, names_type}
 use Rattle.acc_form.specs.Ends.{is_limit}
-use Rattle.acc_form.specs.Statements.{table_marks, clause_marks, read_marks, action_marks, target_marks, is_zero, variant_marks, returns_marks, locals_marks, entry_marks, hint_marks}
+use Rattle.acc_form.specs.Statements.{table_marks, clause_marks, read_marks, action_marks, target_marks, is_zero, variant_marks}
+use Rattle.acc_form.specs.Statements.{returns_marks, locals_marks, entry_marks, hint_marks}
 use Rattle.acc_form.specs.Faults.{next_line}
 use Rattle.acc_print.specs.Lists.{spaced, listed}
 use Rattle.acc_print.specs.Names.{name_at, outside, within}
@@ -64,7 +67,7 @@ judged_always tables i c = judge (clause_line (outside tables) (codes "always ")
 
 -- `ensures`, `repairs` or `holds`, within a type
 abbrev pub judged_clause : List Table → TxType → List ℕ → ℕ → Clause → List Judged
-judged_clause tables t word i c = judge (clause_line (within tables t) word c) (clause_marks tables t.locals 64 i c)
+judged_clause tables t word i c = judge (clause_line (within tables t) word c) (clause_marks tables t.locals MOST_CLAUSES i c)
 
 -- ---- steps, on a side; the undo of a start point is bare
 
@@ -81,7 +84,7 @@ judged_target t side is_bare p = judge (line (target_text t.points p.target)) (t
 -- what is asked of `path` with its guard, one of at most 16 and of so many
 abbrev pub guard_marks : ℕ → ℕ → Path → List Mark
 guard_marks count i p =
-    asked 4 (not (i == 16) && guard_small p.guard) ++ (asked 7 (nat_lt (i + 1) count || (length p.guard == 0)) ++ ending)
+    asked 4 (not (i == MOST_PATHS) && guard_small p.guard) ++ (asked 7 (nat_lt (i + 1) count || (length p.guard == 0)) ++ ending)
 
 -- `path` with its guard, its actions, its end
 abbrev pub judged_path : List Table → TxType → Side → Bool → ℕ → ℕ → Path → List Judged
@@ -109,7 +112,7 @@ judged_variant tables t l = if is_zero l then [] else judge (variant_lines (with
 -- what is asked of `point` with its name, one of at most 32
 abbrev pub point_name_marks : TxType → ℕ → Point → List Mark
 point_name_marks t i p =
-    asked 4 (not (i == 32) && is_short p.name) ++ (asked 6 (not (names_point (take i t.points) p.name)) ++ ending)
+    asked 4 (not (i == MOST_POINTS) && is_short p.name) ++ (asked 6 (not (names_point (take i t.points) p.name)) ++ ending)
 
 -- `point` with its name; the variant; what holds; the two steps
 abbrev pub judged_point : List Table → TxType → ℕ → Point → List Judged
@@ -124,7 +127,7 @@ judged_point tables t i p =
 -- what is asked of `type` with its name and parameters, one of at most 64 and with at most 48 parameters
 abbrev pub type_name_marks : List TxType → ℕ → TxType → List Mark
 type_name_marks types i t =
-    asked 4 (not (i == 64) && is_short t.name && nat_le t.params 48 && list_all is_short (take t.params t.locals)) ++ (
+    asked 4 (not (i == MOST_TYPES) && is_short t.name && nat_le t.params MOST_LOCALS && list_all is_short (take t.params t.locals)) ++ (
     asked 6 (not (names_type (take i types) t.name) && are_distinct (take t.params t.locals)) ++ ending)
 
 -- `type` with its name and parameters; `limit`

@@ -2,6 +2,7 @@
 -- count as they are collected.
 use Rattle.std.specs.Prelude.{ℕ, Bool, true, ◌&&◌, nat_le, List, length, ℤ, Option, Some, None, slice_get}
 use Rattle.std.specs.List.{list_all}
+use Rattle.acc_base.specs.declared.bounds.TheConstants.{LONGEST_NAME, MOST_COLUMNS, MOST_GUARDS, MOST_KEY_PARTS, MOST_VARIABLES}
 use Rattle.acc_base.specs.declared.forms.Lin.{Lin}
 use Rattle.acc_base.specs.declared.forms.LinRel.{LinRel}
 use Rattle.acc_base.specs.declared.forms.Atom.{Atom}
@@ -21,7 +22,7 @@ use Rattle.acc_base.specs.Numbers.{is_small}
 
 -- a name
 abbrev pub is_short : List ℕ → Bool
-is_short name = nat_le (length name) 32
+is_short name = nat_le (length name) LONGEST_NAME
 
 -- a name, where there is one
 abbrev pub is_short_or_none : Option (List ℕ) → Bool
@@ -60,12 +61,13 @@ rel_small r = list_all product_small r.form.terms && is_small r.form.constant
 -- at most 8 variables, and 16 guards
 abbrev pub clause_small : Clause → Bool
 clause_small c =
-    nat_le (length c.vars) 8 && list_all is_short c.vars && nat_le (length c.guards) 16 && list_all rel_small c.guards && rel_small c.rel
+    nat_le (length c.vars) MOST_VARIABLES && list_all is_short c.vars && nat_le (length c.guards) MOST_GUARDS
+    && list_all rel_small c.guards && rel_small c.rel
 
 -- a key has 1 to 6 components, a row at most 12 columns
 abbrev pub table_small : Table → Bool
 table_small t =
-    is_short t.name && nat_le 1 t.width && nat_le t.width 6 && nat_le (length t.cols) 12 && list_all is_short t.cols
+    is_short t.name && nat_le 1 t.width && nat_le t.width MOST_KEY_PARTS && nat_le (length t.cols) MOST_COLUMNS && list_all is_short t.cols
 
 -- the numbers of a read, the divisor among them
 abbrev pub read_small : Read → Bool
@@ -89,7 +91,7 @@ action_small (action.Add t k c v) = list_all lin_small k && lin_small v
 
 -- at most 16 relations
 abbrev pub guard_small : List LinRel → Bool
-guard_small guard = nat_le (length guard) 16 && list_all lin_rel_small guard
+guard_small guard = nat_le (length guard) MOST_GUARDS && list_all lin_rel_small guard
 
 -- the name of a point
 abbrev pub point_small : Option Point → Bool

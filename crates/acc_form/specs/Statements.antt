@@ -1,7 +1,10 @@
 -- The marks on a design's statements in print, part by part.
-use Rattle.std.specs.Prelude.{ℕ, ◌+◌, Bool, false, not, ◌&&◌, ◌||◌, ◌==◌, nat_le, nat_lt, List, [], ◌++◌, length, take, drop, pos, if◌then◌else◌}
+use Rattle.std.specs.Prelude.{ℕ, ◌+◌, Bool, false, not, ◌&&◌, ◌||◌, ◌==◌, nat_le, nat_lt, List, [], ◌++◌, length, take, drop, pos}
+use Rattle.std.specs.Prelude.{if◌then◌else◌}
 use Rattle.std.specs.List.{list_all, list_any}
 use Rattle.std.specs.Ordering.{int_eq}
+use Rattle.acc_base.specs.declared.bounds.TheConstants.{MOST_ACTIONS, MOST_CLAUSES, MOST_LOCALS, MOST_PATHS, MOST_POINTS, MOST_READS}
+use Rattle.acc_base.specs.declared.bounds.TheConstants.{MOST_TABLES, MOST_TYPES}
 use Rattle.acc_base.specs.declared.forms.Lin.{Lin}
 use Rattle.acc_base.specs.declared.forms.Clause.{Clause}
 use Rattle.acc_base.specs.declared.tables.Table.{Table}
@@ -18,7 +21,8 @@ use Rattle.acc_base.specs.declared.designs.Hint.{Hint}
 use Rattle.acc_base.specs.declared.designs.Design.{Design}
 use Rattle.acc_form.specs.Marks.{Mark, ending, asked, numbered}
 use Rattle.acc_form.specs.Widths.{clause_fits, read_fits, action_fits, read_leaves_a_component, action_is_own}
-use Rattle.acc_form.specs.Sizes.{is_short, lin_small, clause_small, table_small, read_small, action_small, guard_small, target_small, returns_small}
+use Rattle.acc_form.specs.Sizes.{is_short, lin_small, clause_small, table_small, read_small, action_small, guard_small, target_small}
+use Rattle.acc_form.specs.Sizes.{returns_small}
 use Rattle.acc_form.specs.Names.{are_distinct, are_new, names_table, names_point, names_type}
 use Rattle.acc_form.specs.Ends.{is_limit, refuses_by_number, divides, may_end, refuses_plainly, assigns_local, may_read, is_undone}
 use Rattle.acc_form.specs.Entries.{leaves_starts, same_entry, pairs_stay}
@@ -28,7 +32,7 @@ use Rattle.acc_form.specs.Entries.{leaves_starts, same_entry, pairs_stay}
 -- at most 64 tables
 abbrev pub table_marks : List Table → ℕ → Table → List Mark
 table_marks tables i t =
-    asked 4 (not (i == 64) && table_small t) ++ (
+    asked 4 (not (i == MOST_TABLES) && table_small t) ++ (
     asked 6 (not (names_table (take i tables) t.name) && are_distinct t.cols) ++ ending)
 
 -- `always`, `ensures`, `repairs` or `holds`: so many clauses, each behind names that its own variables don't repeat
@@ -44,14 +48,14 @@ abbrev pub read_marks : List Table → TxType → Side → ℕ → Read → List
 read_marks tables t side i r =
     asked 2 (read_fits tables r) ++ (
     asked 3 (read_leaves_a_component tables r) ++ (
-    asked 4 (not (i == 32) && read_small r) ++ (
+    asked 4 (not (i == MOST_READS) && read_small r) ++ (
     asked 5 (divides r) ++ (asked 11 (assigns_local t r) ++ (asked 12 (may_read side r) ++ ending)))))
 
 -- at most 16 actions
 abbrev pub action_marks : List Table → TxType → Bool → ℕ → Action → List Mark
 action_marks tables t is_bare i a =
     asked 2 (action_fits tables a) ++ (
-    asked 4 (not (i == 16) && action_small a) ++ (
+    asked 4 (not (i == MOST_ACTIONS) && action_small a) ++ (
     asked 10 (action_is_own tables (length t.locals) a) ++ (asked 13 (not is_bare) ++ ending)))
 
 -- where a path ends
@@ -65,7 +69,7 @@ target_marks t side is_bare p =
 -- `path` with its guard, one of at most 16 and of so many; its actions; its end
 abbrev pub path_marks : List Table → TxType → Side → Bool → ℕ → ℕ → Path → List Mark
 path_marks tables t side is_bare count i p =
-    asked 4 (not (i == 16) && guard_small p.guard) ++ (
+    asked 4 (not (i == MOST_PATHS) && guard_small p.guard) ++ (
     asked 7 (nat_lt (i + 1) count || (length p.guard == 0)) ++ (
     ending ++ (numbered (action_marks tables t is_bare) p.actions ++ target_marks t side is_bare p)))
 
@@ -86,11 +90,11 @@ variant_marks l = if is_zero l then [] else (asked 4 (lin_small l) ++ ending)
 -- `point` with its name, one of at most 32; the variant; at most 64 clauses that hold; the two steps
 abbrev pub point_marks : List Table → TxType → ℕ → Point → List Mark
 point_marks tables t i p =
-    asked 4 (not (i == 32) && is_short p.name) ++ (
+    asked 4 (not (i == MOST_POINTS) && is_short p.name) ++ (
     asked 6 (not (names_point (take i t.points) p.name)) ++ (
     ending ++ (
     variant_marks p.variant ++ (
-    numbered (clause_marks tables t.locals 64) p.clauses ++ (
+    numbered (clause_marks tables t.locals MOST_CLAUSES) p.clauses ++ (
     step_marks tables t Next false p.next ++ step_marks tables t Undo (i == 0) p.undo)))))
 
 -- ---- types
@@ -98,7 +102,7 @@ point_marks tables t i p =
 -- `type` with its name and parameters, one of at most 64 and with at most 48 parameters; `limit`
 abbrev pub head_marks : List TxType → ℕ → TxType → List Mark
 head_marks types i t =
-    asked 4 (not (i == 64) && is_short t.name && nat_le t.params 48 && list_all is_short (take t.params t.locals)) ++ (
+    asked 4 (not (i == MOST_TYPES) && is_short t.name && nat_le t.params MOST_LOCALS && list_all is_short (take t.params t.locals)) ++ (
     asked 6 (not (names_type (take i types) t.name) && are_distinct (take t.params t.locals)) ++ (
     ending ++ (asked 5 (is_limit t.limit) ++ ending)))
 
@@ -110,7 +114,7 @@ returns_marks t = if length t.returns == 0 then [] else (asked 4 (returns_small 
 abbrev pub locals_marks : TxType → List Mark
 locals_marks t =
     if nat_le (length t.locals) t.params then [] else (
-    asked 4 (nat_le (length t.locals) 48 && list_all is_short (drop t.params t.locals)) ++ (
+    asked 4 (nat_le (length t.locals) MOST_LOCALS && list_all is_short (drop t.params t.locals)) ++ (
     asked 6 (are_new (take t.params t.locals) (drop t.params t.locals)) ++ ending))
 
 -- a type: at most 64 clauses that it ensures, and 64 that it repairs
@@ -119,8 +123,8 @@ type_marks tables types i t =
     head_marks types i t ++ (
     returns_marks t ++ (
     locals_marks t ++ (
-    numbered (clause_marks tables t.locals 64) t.posts ++ (
-    numbered (clause_marks tables t.locals 64) t.repairs ++ numbered (point_marks tables t) t.points))))
+    numbered (clause_marks tables t.locals MOST_CLAUSES) t.posts ++ (
+    numbered (clause_marks tables t.locals MOST_CLAUSES) t.repairs ++ numbered (point_marks tables t) t.points))))
 
 -- ---- entries, hints, and the whole
 

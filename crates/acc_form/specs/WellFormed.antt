@@ -1,6 +1,9 @@
 -- Well-formed designs, part by part: what each rule asks of each statement.
-use Rattle.std.specs.Prelude.{◌≡◌, ℕ, ◌+◌, ◌<◌, ◌≤◌, Bool, false, not, ◌||◌, ◌==◌, List, [], length, take, drop, slice_index_or, IsTrue, All}
+use Rattle.std.specs.Prelude.{◌≡◌, ℕ, ◌+◌, ◌<◌, ◌≤◌, Bool, false, not, ◌||◌, ◌==◌, List, [], length, take, drop, slice_index_or, IsTrue}
+use Rattle.std.specs.Prelude.{All}
 use Rattle.std.specs.List.{list_all, list_any}
+use Rattle.acc_base.specs.declared.bounds.TheConstants.{MOST_ACTIONS, MOST_CLAUSES, MOST_LOCALS, MOST_PATHS, MOST_POINTS, MOST_READS}
+use Rattle.acc_base.specs.declared.bounds.TheConstants.{MOST_TABLES, MOST_TYPES}
 use Rattle.acc_base.specs.declared.forms.Clause.{Clause}
 use Rattle.acc_base.specs.declared.tables.Table.{Table}
 use Rattle.acc_base.specs.declared.steps.Read.{Read}
@@ -52,7 +55,7 @@ pub record IsActionFormed (tables : List Table) (t : TxType) (is_bare : Bool) (a
 
 pub record IsPathFormed (tables : List Table) (t : TxType) (side : Side) (is_bare : Bool) (p : Path) : Type 0 where
   pub guard : IsTrue (guard_small p.guard)
-  pub few : length p.actions ≤ 16
+  pub few : length p.actions ≤ MOST_ACTIONS
   pub actions : All (IsActionFormed tables t is_bare) p.actions
   pub limits : IsTrue (target_small t.points p.target)
   pub number : IsTrue (refuses_by_number p.target)
@@ -62,9 +65,9 @@ pub record IsPathFormed (tables : List Table) (t : TxType) (side : Side) (is_bar
 
 -- the last path has no guard
 pub record IsStepFormed (tables : List Table) (t : TxType) (side : Side) (is_bare : Bool) (s : Step) : Type 0 where
-  pub few_reads : length s.reads ≤ 32
+  pub few_reads : length s.reads ≤ MOST_READS
   pub reads : All (IsReadFormed tables t side) s.reads
-  pub few_paths : length s.paths ≤ 16
+  pub few_paths : length s.paths ≤ MOST_PATHS
   pub paths : All (IsPathFormed tables t side is_bare) s.paths
   pub last : EachNumbered (λ i (p : Path). i + 1 ≡ length s.paths → length p.guard ≡ 0) s.paths
 
@@ -78,7 +81,7 @@ pub record IsPointFormed (tables : List Table) (t : TxType) (i : ℕ) (p : Point
   pub limits : IsTrue (is_short p.name)
   pub new : IsTrue (not (names_point (take i t.points) p.name))
   pub variant : IsTrue (lin_small p.variant)
-  pub clauses : AreClausesFormed tables t.locals 64 p.clauses
+  pub clauses : AreClausesFormed tables t.locals MOST_CLAUSES p.clauses
   pub next : IsStepFormed tables t Next false p.next
   pub undo : IsStepFormed tables t Undo (i == 0) p.undo
 
@@ -86,14 +89,14 @@ pub record IsTypeFormed (tables : List Table) (types : List TxType) (i : ℕ) (t
   pub name : IsTrue (is_short t.name)
   pub new : IsTrue (not (names_type (take i types) t.name))
   pub limit : IsTrue (is_limit t.limit)
-  pub few_params : t.params ≤ 48
-  pub few_locals : length t.locals ≤ 48
+  pub few_params : t.params ≤ MOST_LOCALS
+  pub few_locals : length t.locals ≤ MOST_LOCALS
   pub locals : IsTrue (list_all is_short t.locals)
   pub params_distinct : IsTrue (are_distinct (take t.params t.locals))
   pub others_new : IsTrue (are_new (take t.params t.locals) (drop t.params t.locals))
-  pub posts : AreClausesFormed tables t.locals 64 t.posts
-  pub repairs : AreClausesFormed tables t.locals 64 t.repairs
-  pub few_points : length t.points ≤ 32
+  pub posts : AreClausesFormed tables t.locals MOST_CLAUSES t.posts
+  pub repairs : AreClausesFormed tables t.locals MOST_CLAUSES t.repairs
+  pub few_points : length t.points ≤ MOST_POINTS
   pub points : EachNumbered (IsPointFormed tables t) t.points
 
 pub record IsEntryFormed (types : List TxType) (entries : List Entry) (i : ℕ) (e : Entry) : Type 0 where
@@ -107,10 +110,10 @@ IsHintFormed h = IsTrue (lin_small h.lin)
 -- every rule is kept
 pub record IsWellFormed (d : Design) : Type 0 where
   pub in_range : IsTrue (design_in d)
-  pub few_tables : length d.tables ≤ 64
+  pub few_tables : length d.tables ≤ MOST_TABLES
   pub tables : EachNumbered (IsTableFormed d.tables) d.tables
   pub always : AreClausesFormed d.tables [] 128 d.always
-  pub few_types : length d.types ≤ 64
+  pub few_types : length d.types ≤ MOST_TYPES
   pub types : EachNumbered (IsTypeFormed d.tables d.types) d.types
   pub few_entries : length d.entries ≤ 1024
   pub entries : EachNumbered (IsEntryFormed d.types d.entries) d.entries

@@ -5,11 +5,11 @@ ghost use Rattle.acc_form.specs.Statements.{clause_marks};
 ghost use Rattle.acc_form.specs.Walks.{after};
 
 use crate::names::are_new;
-use crate::rules::{LIMITS, NAMES, WIDTHS};
 use crate::sizes::clause_small;
 use crate::walks::Walk;
 use crate::widths::clause_fits;
 use acc_base::forms::Clause;
+use acc_base::rules::{LIMITS, NAMES, WIDTHS};
 use acc_base::sequences::Text;
 use acc_base::tables::Table;
 

@@ -11,18 +11,20 @@ use crate::clauses::meet_clauses;
 use crate::entries::{leaves_starts, pairs_stay, stands_among};
 use crate::names::{are_distinct, names_table};
 use crate::ranges::design_in;
-use crate::rules::{ENTRIES, FormError, LIMITS, NAMES, PAIRS, RANGES, STARTS};
+use crate::rules::FormError;
 use crate::sizes::{lin_small, table_small};
 use crate::types::meet_type;
 use crate::walks::Walk;
+use acc_base::bounds::MOST_TABLES;
 use acc_base::designs::{Design, Entry, Hint, TxType};
+use acc_base::rules::{ENTRIES, LIMITS, NAMES, PAIRS, RANGES, STARTS};
 use acc_base::tables::Table;
 
 fn meet_table(walk: &mut Walk, tables: &[Table], i: usize, table: &Table)
     requires { i ≤ length tables.now }
     ensures { walk.new ≡ after walk.old (table_marks tables.now i table.now) }
 {
-    walk.ask(LIMITS, i != 64 && table_small(table));
+    walk.ask(LIMITS, i != MOST_TABLES && table_small(table));
     walk.ask(
         NAMES,
         !names_table(&tables[..i], &table.name) && are_distinct(table.cols.as_slice()),

@@ -3,6 +3,7 @@ ghost use Rattle.std.specs.Prelude.{◌≡◌};
 ghost use Rattle.acc_base.specs.Reads.{assigned};
 ghost use Rattle.acc_form.specs.Ends.{refuses_by_number, divides, may_end, refuses_plainly, assigns_local, may_read, is_undone};
 
+use acc_base::bounds::LARGEST_REFUSAL;
 use acc_base::designs::{Side, TxType};
 use acc_base::steps::{Action, Read, Target};
 
@@ -12,7 +13,7 @@ pub fn refuses_by_number(target: Target) -> bool
 {
     match target {
         Target::Point(_) | Target::Commit | Target::Undone => true,
-        Target::Refuse(n) => 1 <= n && n <= 255,
+        Target::Refuse(n) => 1 <= n && n <= LARGEST_REFUSAL,
     }
 }
 

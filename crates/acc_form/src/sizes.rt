@@ -2,8 +2,13 @@
 ghost use Rattle.std.specs.Prelude.{◌≡◌, slice_get};
 ghost use Rattle.std.specs.List.{list_all};
 ghost use Rattle.acc_base.specs.Numbers.{is_small};
-ghost use Rattle.acc_form.specs.Sizes.{is_short, is_short_or_none, term_small, lin_small, lin_rel_small, atom_small, product_small, rel_small, clause_small, table_small, read_small, action_small, guard_small, point_small, target_small, returns_small};
+ghost use Rattle.acc_form.specs.Sizes.{is_short, is_short_or_none, term_small, lin_small, lin_rel_small, atom_small, product_small};
+ghost use Rattle.acc_form.specs.Sizes.{rel_small, clause_small, table_small, read_small, action_small, guard_small, point_small};
+ghost use Rattle.acc_form.specs.Sizes.{target_small, returns_small};
 
+use acc_base::bounds::{
+    LARGEST_NUMBER, LONGEST_NAME, MOST_COLUMNS, MOST_GUARDS, MOST_KEY_PARTS, MOST_VARIABLES,
+};
 use acc_base::designs::Point;
 use acc_base::forms::{Atom, Clause, Lin, LinRel, Rel, Unknown};
 use acc_base::sequences::Text;
@@ -14,7 +19,7 @@ use acc_base::tables::Table;
 pub fn is_short(name: &Text) -> bool
     ensures { result ≡ is_short name.now }
 {
-    name.len() <= 32
+    name.len() <= LONGEST_NAME
 }
 
 /// Whether each name has at most 32 bytes.
@@ -27,13 +32,13 @@ pub fn all_short(names: &[Text]) -> bool
 fn is_small(n: i64) -> bool
     ensures { result ≡ is_small n }
 {
-    n.unsigned_abs() <= 1 << 45
+    n.unsigned_abs() <= LARGEST_NUMBER
 }
 
 fn is_small_wide(n: i128) -> bool
     ensures { result ≡ is_small n }
 {
-    n.unsigned_abs() <= 1 << 45
+    n.unsigned_abs() <= u128::from(LARGEST_NUMBER)
 }
 
 fn all_terms_small(coeffs: &[(u32, i64)]) -> bool
@@ -93,9 +98,9 @@ fn all_rels_small(rels: &[Rel]) -> bool
 pub fn clause_small(clause: &Clause) -> bool
     ensures { result ≡ clause_small clause.now }
 {
-    clause.vars.len() <= 8
+    clause.vars.len() <= MOST_VARIABLES
         && all_short(clause.vars.as_slice())
-        && clause.guards.len() <= 16
+        && clause.guards.len() <= MOST_GUARDS
         && all_rels_small(clause.guards.as_slice())
         && rel_small(&clause.rel)
 }
@@ -106,8 +111,8 @@ pub fn table_small(table: &Table) -> bool
 {
     is_short(&table.name)
         && 1 <= table.width
-        && table.width <= 6
-        && table.cols.len() <= 12
+        && table.width as usize <= MOST_KEY_PARTS
+        && table.cols.len() <= MOST_COLUMNS
         && all_short(table.cols.as_slice())
 }
 
@@ -153,7 +158,7 @@ fn all_lin_rels_small(rels: &[LinRel]) -> bool
 pub fn guard_small(guard: &[LinRel]) -> bool
     ensures { result ≡ guard_small guard.now }
 {
-    guard.len() <= 16 && all_lin_rels_small(guard)
+    guard.len() <= MOST_GUARDS && all_lin_rels_small(guard)
 }
 
 fn point_small(points: &[Point], point: u32) -> bool

@@ -7,14 +7,15 @@ ghost use Rattle.acc_form.specs.Walks.{after};
 use crate::ends::{
     assigns_local, divides, is_undone, may_end, may_read, refuses_by_number, refuses_plainly,
 };
-use crate::rules::{
-    ASSIGNED, ENDS, LAST_PATHS, LIMITS, NUMBERS, PRIVATE_KEYS, REFUSALS, SHORT_PREFIXES,
-    START_UNDOS, UNDO_READS, WIDTHS,
-};
 use crate::sizes::{action_small, guard_small, read_small, target_small};
 use crate::walks::Walk;
 use crate::widths::{action_fits, action_is_own, read_fits, read_leaves_a_component};
+use acc_base::bounds::{MOST_ACTIONS, MOST_PATHS, MOST_READS};
 use acc_base::designs::{Side, TxType};
+use acc_base::rules::{
+    ASSIGNED, ENDS, LAST_PATHS, LIMITS, NUMBERS, PRIVATE_KEYS, REFUSALS, SHORT_PREFIXES,
+    START_UNDOS, UNDO_READS, WIDTHS,
+};
 use acc_base::steps::{Action, Path, Read, Step};
 use acc_base::tables::Table;
 
@@ -36,7 +37,7 @@ fn meet_read(walk: &mut Walk, around: &Around<'_>, i: usize, read: &Read)
 {
     walk.ask(WIDTHS, read_fits(around.tables, read));
     walk.ask(SHORT_PREFIXES, read_leaves_a_component(around.tables, read));
-    walk.ask(LIMITS, i != 32 && read_small(read));
+    walk.ask(LIMITS, i != MOST_READS && read_small(read));
     walk.ask(NUMBERS, divides(read));
     walk.ask(ASSIGNED, assigns_local(around.ty, read));
     walk.ask(UNDO_READS, may_read(around.side, read));
@@ -56,7 +57,7 @@ fn meet_action(walk: &mut Walk, around: &Around<'_>, i: usize, action: &Action)
     ensures { walk.new ≡ after walk.old (action_marks around.now.tables.now around.now.ty.now around.now.is_bare i action.now) }
 {
     walk.ask(WIDTHS, action_fits(around.tables, action));
-    walk.ask(LIMITS, i != 16 && action_small(action));
+    walk.ask(LIMITS, i != MOST_ACTIONS && action_small(action));
     walk.ask(
         PRIVATE_KEYS,
         action_is_own(around.tables, around.ty.locals.len(), action),
@@ -93,7 +94,7 @@ fn meet_path(walk: &mut Walk, around: &Around<'_>, count: usize, i: usize, path:
         (path_marks around.now.tables.now around.now.ty.now around.now.side around.now.is_bare count i path.now) }
 {
     let guard = path.guard.as_slice();
-    walk.ask(LIMITS, i != 16 && guard_small(guard));
+    walk.ask(LIMITS, i != MOST_PATHS && guard_small(guard));
     walk.ask(LAST_PATHS, i + 1 < count || guard.is_empty());
     walk.end();
     meet_actions(walk, around, path.actions.as_slice());

@@ -6,12 +6,13 @@ ghost use Rattle.acc_form.specs.Walks.{after};
 
 use crate::clauses::meet_clauses;
 use crate::names::{are_distinct, are_new, names_point, names_type};
-use crate::rules::{LIMITS, NAMES, NUMBERS};
 use crate::sizes::{all_short, is_short, lin_small, returns_small};
 use crate::steps::{Around, meet_step};
 use crate::walks::Walk;
+use acc_base::bounds::{LARGEST_LIMIT, MOST_CLAUSES, MOST_LOCALS, MOST_POINTS, MOST_TYPES};
 use acc_base::designs::{Point, Side, TxType};
 use acc_base::forms::Lin;
+use acc_base::rules::{LIMITS, NAMES, NUMBERS};
 use acc_base::sequences::Text;
 use acc_base::tables::Table;
 
@@ -37,7 +38,7 @@ fn meet_point(walk: &mut Walk, tables: &[Table], ty: &TxType, i: usize, point: &
     ensures { walk.new ≡ after walk.old (point_marks tables.now ty.now i point.now) }
 {
     let earlier = &ty.points.as_slice()[..i];
-    walk.ask(LIMITS, i != 32 && is_short(&point.name));
+    walk.ask(LIMITS, i != MOST_POINTS && is_short(&point.name));
     walk.ask(NAMES, !names_point(earlier, &point.name));
     walk.end();
     meet_variant(walk, &point.variant);
@@ -45,7 +46,7 @@ fn meet_point(walk: &mut Walk, tables: &[Table], ty: &TxType, i: usize, point: &
         walk,
         tables,
         ty.locals.as_slice(),
-        64,
+        MOST_CLAUSES,
         point.clauses.as_slice(),
     );
     let forward = Around {
@@ -100,14 +101,17 @@ fn meet_head(walk: &mut Walk, types: &[TxType], i: usize, ty: &TxType)
     let params = params_of(ty);
     walk.ask(
         LIMITS,
-        i != 64 && is_short(&ty.name) && ty.params <= 48 && all_short(params),
+        i != MOST_TYPES
+            && is_short(&ty.name)
+            && ty.params as usize <= MOST_LOCALS
+            && all_short(params),
     );
     walk.ask(
         NAMES,
         !names_type(&types[..i], &ty.name) && are_distinct(params),
     );
     walk.end();
-    walk.ask(NUMBERS, 1 <= ty.limit && ty.limit <= 65536);
+    walk.ask(NUMBERS, 1 <= ty.limit && ty.limit <= LARGEST_LIMIT);
     walk.end();
 }
 
@@ -128,7 +132,7 @@ fn meet_locals(walk: &mut Walk, ty: &TxType)
 {
     if ty.locals.len() > ty.params as usize {
         let others = others_of(ty);
-        walk.ask(LIMITS, ty.locals.len() <= 48 && all_short(others));
+        walk.ask(LIMITS, ty.locals.len() <= MOST_LOCALS && all_short(others));
         walk.ask(NAMES, are_new(params_of(ty), others));
         walk.end();
     }
@@ -143,7 +147,7 @@ pub fn meet_type(walk: &mut Walk, tables: &[Table], types: &[TxType], i: usize, 
     meet_head(walk, types, i, ty);
     meet_returns(walk, ty);
     meet_locals(walk, ty);
-    meet_clauses(walk, tables, locals, 64, ty.posts.as_slice());
-    meet_clauses(walk, tables, locals, 64, ty.repairs.as_slice());
+    meet_clauses(walk, tables, locals, MOST_CLAUSES, ty.posts.as_slice());
+    meet_clauses(walk, tables, locals, MOST_CLAUSES, ty.repairs.as_slice());
     meet_points(walk, tables, ty);
 }
