@@ -2,3 +2,4 @@ pub mod FilesLemmas
 pub mod RowsLemmas
 pub mod SaidLemmas
 pub mod StatusLemmas
+pub mod OneMeaning

@@ -25,6 +25,10 @@ Means command.Help [] = Says Done help_text
 Means command.Version [] = Says Done version_text
 Means _ _ = λ said. ⊥
 
+-- a command says one thing of its files
+abbrev pub CommandsMeanOne : Type 0
+CommandsMeanOne = (c : Command) (files : List (List ℕ)) (a b : Said) → Means c files a → Means c files b → a ≡ b
+
 -- the first file that isn't given is refused
 abbrev pub RefusesFile : (List ℕ → Told) → Counts → Counts → List (List ℕ) → Reply → Type 0
 RefusesFile held counts counts' names reply = (reply.status ≡ File) × (reply.history ≡ []) ×

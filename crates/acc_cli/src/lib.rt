@@ -4,6 +4,7 @@
 mod commands;
 mod designs;
 mod files;
+pub mod laws;
 mod notes;
 mod status;
 mod top;

@@ -1,1 +1,2 @@
 pub mod Mentioning
+pub mod OneTold

@@ -1,5 +1,5 @@
 -- Lines that are read one after the other.
-use Rattle.std.proofs.Common.{◌≡◌, ℕ, ◌+◌, ◌≤◌, Bool, true, false, List, [], ◌∷◌, ◌++◌, length, refl, sym, ap, subst, ◌∙◌, arith, append_assoc, length-append, MatchBool}
+use Rattle.std.proofs.Common.{◌≡◌, ℕ, ◌+◌, ◌<◌, ◌≤◌, Bool, true, false, List, [], ◌∷◌, ◌++◌, length, refl, sym, ap, subst, ◌∙◌, arith, append_assoc, length-append, MatchBool}
 use Rattle.std.proofs.lemmas.List.{append-nil}
 use Rattle.std.specs.Prelude.{All}
 use Rattle.std.proofs.lemmas.List.Elements.{All-append, All-nil, All-same}
@@ -112,3 +112,28 @@ pub refused_none : {X : Type 0} (Line : List ℕ → List X → Type 0) → Says
 refused_none Line same most text n r items whole =
     let p = parted Line same r.before r.line r.behind r.items items r.said r.counts (subst (λ ls. AreSaid Line ls items) r.parts whole.said) in
     absurd (omega (arith, r.wrong p.0 p.1, p.2, whole.few))
+
+-- ---- no other line is the first that is refused
+
+-- of two fronts of a list the longer one goes on from the shorter
+front_goes_on : {X : Type 0} (a : List X) (x : X) (more : List X) (b : List X) (y : X) (bs : List X) → a ++ x ∷ more ≡ b ++ y ∷ bs → length a < length b → (rest : List X) × (b ≡ a ++ x ∷ rest)
+front_goes_on [] x more [] y bs e lt = absurd (omega (arith, lt))
+front_goes_on {X} [] x more (z ∷ b) y bs e lt = let same : x ≡ z = cc in (b, ap (λ (w : X). w ∷ b) (sym same))
+front_goes_on (w ∷ a) x more [] y bs e lt = absurd (omega (arith, lt))
+front_goes_on {X} (w ∷ a) x more (z ∷ b) y bs e lt =
+    let same : w ≡ z = cc in
+    let tails : a ++ x ∷ more ≡ b ++ y ∷ bs = cc in
+    let cut = front_goes_on a x more b y bs tails (omega (arith, lt)) in
+    (cut.0, λ i. sym same i ∷ cut.1 i)
+
+not_refused_before : {X : Type 0} (Line : List ℕ → List X → Type 0) → SaysOne Line → (most : ℕ) (text : List ℕ) (m n : ℕ) → Refuses Line most text m → Refuses Line most text n → m < n → ⊥
+not_refused_before Line same most text m n h k lt =
+    let cut = front_goes_on h.before h.line h.behind k.before k.line k.behind (sym h.parts ∙ k.parts) (omega (arith, h.number, k.number, lt)) in
+    let p = parted Line same h.before h.line cut.0 h.items k.items h.said h.counts (subst (λ ls. AreSaid Line ls k.items) cut.1 k.said) in
+    absurd (omega (arith, h.wrong p.0 p.1, p.2, k.few))
+
+pub one_refused_line : {X : Type 0} (Line : List ℕ → List X → Type 0) → SaysOne Line → (most : ℕ) (text : List ℕ) (m n : ℕ) → Refuses Line most text m → Refuses Line most text n → m ≡ n
+one_refused_line Line same most text m n h k =
+    let not_less : ¬ (m < n) = not_refused_before Line same most text m n h k in
+    let not_more : ¬ (n < m) = not_refused_before Line same most text n m k h in
+    omega (arith, not_less, not_more)
