@@ -1,4 +1,5 @@
-//! Computes sums, collected terms and weakest preconditions, a question a line of the input, and prints the answers.
+//! Computes sums, collected terms, weakest preconditions and whether multipliers refute relations, a question a line of the
+//! input, and prints the answers.
 //!
 //! The variables are v0, v1 and so on. A value is `2*v0+-1*v1+5`. A form is a list of terms and constants, as
 //! `3*has[1*v0,7] -1*v1 4*one{1*v0+-1} 9`: what stands in braces has to be 0 for the term to count. Each row is one of the
@@ -8,6 +9,7 @@
 mod answers;
 mod parts;
 mod printed;
+mod refuted;
 mod spelled;
 
 use std::alloc::Global;
