@@ -3,7 +3,7 @@
 ghost use Rattle.std.specs.Prelude.{◌^◌, ◌↔◌, IsTrue, IfOk, IfSome};
 ghost use Rattle.acc_base.specs.Numbers.{IsSmall};
 ghost use Rattle.acc_base.specs.Tables.{IsInOrder};
-ghost use Rattle.acc_base.specs.Runnable.{IsRunnable, FrameFits};
+ghost use Rattle.acc_base.specs.Runnable.{IsRunnable, IsSmallFrame};
 ghost use Rattle.acc_store.specs.Bounds.{AreWithin};
 
 use crate::designs::formed;
@@ -66,7 +66,7 @@ fn is_small(number: i64) -> bool
 
 /// The frame of a transaction at that point, if its locals are few and in range.
 fn frame(alloc: Global, point: u32, side: Side, locals: Vec<i64>) -> Option<Frame>
-    ensures { IfSome result FrameFits }
+    ensures { IfSome result IsSmallFrame }
 {
     if locals.len() > 48 || !locals.iter().all(|number| is_small(*number)) {
         return None;
