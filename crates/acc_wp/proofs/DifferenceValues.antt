@@ -16,7 +16,7 @@ module _ (env : List ℤ) where
   abbrev worth : List Coefficient → ℤ
   worth cs = total (map (term_value env) cs)
 
-  worth-with : (c : Coefficient) (cs : List Coefficient) → worth (with_coefficient c cs) ≡ worth cs +ℤ term_value env c
+  pub worth-with : (c : Coefficient) (cs : List Coefficient) → worth (with_coefficient c cs) ≡ worth cs +ℤ term_value env c
   worth-with c [] = omega (arith, ints)
   worth-with c (s ∷ rest) = by (s.0 == c.0) refl (worth-with c rest)
     where
@@ -27,7 +27,7 @@ module _ (env : List ℤ) where
           omega (arith, ints, both, same)
       by false e h = omega (arith, ints, h)
 
-  worth-all : (sums cs : List Coefficient) → worth (with_coefficients sums cs) ≡ worth sums +ℤ worth cs
+  pub worth-all : (sums cs : List Coefficient) → worth (with_coefficients sums cs) ≡ worth sums +ℤ worth cs
   worth-all sums [] = omega (arith, ints)
   worth-all sums (c ∷ cs) =
       let h = worth-all (with_coefficient c sums) cs in
@@ -48,7 +48,7 @@ module _ (env : List ℤ) where
       let one = negated_value c in
       omega (arith, ints, h, one)
 
-  worth-left : (cs : List Coefficient) → worth (filter counts cs) ≡ worth cs
+  pub worth-left : (cs : List Coefficient) → worth (filter counts cs) ≡ worth cs
   worth-left [] = refl
   worth-left (c ∷ cs) = by (int_eq c.1 (pos 0)) refl (worth-left cs)
     where

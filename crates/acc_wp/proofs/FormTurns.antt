@@ -36,7 +36,7 @@ module _ (db : List Row) (env : List ℤ) where
   worth-append (x ∷ xs) ys = let h = worth-append xs ys in omega (arith, ints, h)
 
   -- m times parts, where what has to be 0 is 0
-  parts_worth : (under : List Lin) (m : ℤ) (ps : List Part) → worth (map (part_summand under m) ps) ≡ (if all_zero env under then m *ℤ parts_value db env ps else pos 0)
+  pub parts_worth : (under : List Lin) (m : ℤ) (ps : List Part) → worth (map (part_summand under m) ps) ≡ (if all_zero env under then m *ℤ parts_value db env ps else pos 0)
   parts_worth under m [] = by (all_zero env under)
     where
       by : (b : Bool) → pos 0 ≡ (if b then m *ℤ pos 0 else pos 0)
@@ -62,7 +62,7 @@ module _ (db : List Row) (env : List ℤ) where
           omega (arith, ints, same, one)
       by false e = let h = worth-append g.terms (s ∷ []) in omega (arith, ints, h)
 
-  summands_value : (ss : List Term) (g : Form) → form_value db env (with_summands ss g) ≡ form_value db env g +ℤ worth ss
+  pub summands_value : (ss : List Term) (g : Form) → form_value db env (with_summands ss g) ≡ form_value db env g +ℤ worth ss
   summands_value [] g = omega (arith, ints)
   summands_value (s ∷ ss) g =
       let h = summands_value ss (with_summand s g) in

@@ -49,7 +49,7 @@ fn add_variables(parts: &mut Vec<(Atom, i64)>, value: &Lin) -> Result<(), AllocE
 }
 
 /// Adds a linear value.
-fn add_lin(parts: &mut Vec<(Atom, i64)>, value: &Lin) -> Result<(), AllocError>
+pub fn add_lin(parts: &mut Vec<(Atom, i64)>, value: &Lin) -> Result<(), AllocError>
     ensures { OnOk result (parts.new.items ≡ parts.old.items ++ lin_parts value.now) }
 {
     add_variables(parts, value)?;

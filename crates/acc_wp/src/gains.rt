@@ -21,7 +21,7 @@ fn is_number(unknown: &Unknown) -> bool
 }
 
 /// Adds a summand: a number to the constant, and any other one behind the terms.
-fn add_summand(gained: &mut Form, unknown: Unknown, n: i128) -> Result<(), WpError>
+pub fn add_summand(gained: &mut Form, unknown: Unknown, n: i128) -> Result<(), WpError>
     ensures value { OnOk result (gained.new ≡ with_summand (unknown, n) gained.old) }
     ensures wide { TellsWide result (is_constant_wide (unknown, n) gained.old) }
 {
@@ -55,7 +55,7 @@ fn add_part(gained: &mut Form, under: &Seq<Lin>, m: i128, part: &(Atom, i64)) ->
 }
 
 /// Adds m times the parts of a change.
-fn add_parts(
+pub fn add_parts(
     gained: &mut Form,
     under: &Seq<Lin>,
     m: i128,

@@ -1,11 +1,11 @@
 //! Weakest preconditions: the relation that is true before actions exactly where a relation is true after them.
 #![tactic(auto)]
 
-mod changes;
+pub mod changes;
 mod errors;
-mod gains;
+pub mod gains;
 pub mod laws;
-mod lins;
+pub mod lins;
 mod preconditions;
 mod unders;
 

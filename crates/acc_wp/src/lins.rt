@@ -10,7 +10,7 @@ use acc_base::sequences::Seq;
 use std::alloc::Global;
 
 /// A number of a linear value.
-fn narrow(n: i128) -> Result<i64, WpError>
+pub fn narrow(n: i128) -> Result<i64, WpError>
     ensures value { IfOk result (λ m. m ≡ n) }
     ensures wide { TellsWide result (is_long n) }
 {
@@ -18,7 +18,7 @@ fn narrow(n: i128) -> Result<i64, WpError>
 }
 
 /// The sum of two numbers as one of a linear value.
-fn narrow_sum(a: i64, b: i128) -> Result<i64, WpError>
+pub fn narrow_sum(a: i64, b: i128) -> Result<i64, WpError>
     ensures value { IfOk result (λ m. m ≡ a +ℤ b) }
     ensures wide { TellsWide result (is_long (a +ℤ b)) }
 {
@@ -37,7 +37,7 @@ fn place_of(variable: u32, coeffs: &[(u32, i64)]) -> Option<usize>
 }
 
 /// Adds a coefficient to that of its variable. The cost is that of going over the coefficients.
-fn add_coefficient(sums: &mut Vec<(u32, i64)>, variable: u32, n: i128) -> Result<(), WpError>
+pub fn add_coefficient(sums: &mut Vec<(u32, i64)>, variable: u32, n: i128) -> Result<(), WpError>
     ensures value { OnOk result (sums.new.items ≡ with_coefficient (variable, n) sums.old.items) }
     ensures wide { TellsWide result (is_long (enlarged (variable, n) sums.old.items)) }
 {
@@ -88,7 +88,7 @@ fn collected(alloc: Global, a: &Lin, b: &Lin) -> Result<Vec<(u32, i64)>, WpError
 }
 
 /// Drops the coefficients that are 0.
-fn drop_zeros(sums: &mut Vec<(u32, i64)>)
+pub fn drop_zeros(sums: &mut Vec<(u32, i64)>)
     ensures { sums.new.items ≡ filter counts sums.old.items }
 {
     sums.retain(|c| c.1 != 0);
