@@ -96,7 +96,7 @@ module _ (db : List Row) (env : List ℤ) where
       let z = zero_from (lin_difference p k) (first (is_zero (lin_difference p k)) (differences ps ks) h) in
       let here : lin_value env p ≡ lin_value env k = omega (arith, ints, d, z) in
       let rest = same_values ps ks (omega (arith, e))
-          (second_so (rel_true db env (is_zero (lin_difference p k))) (all_true db env (differences ps ks)) h) in
+      (second_so (rel_true db env (is_zero (lin_difference p k))) (all_true db env (differences ps ks)) h) in
       λ i. here i ∷ rest i
 
   -- atoms of one kind at equal keys
@@ -126,11 +126,11 @@ module _ (db : List Row) (env : List ℤ) where
   one_length (atom.Has t k) (atom.Has u l) h = (Decides-eqb (length k) (length l)).0 (second_so (t == u) (length k == length l) h)
   one_length (atom.Col t k c) (atom.Col u l x) h =
       (Decides-eqb (length k) (length l)).0
-          (second_so (c == x) (length k == length l) (second_so (t == u) ((c == x) && (length k == length l)) h))
+      (second_so (c == x) (length k == length l) (second_so (t == u) ((c == x) && (length k == length l)) h))
   one_length (atom.Count t k) (atom.Count u l) h = (Decides-eqb (length k) (length l)).0 (second_so (t == u) (length k == length l) h)
   one_length (atom.Sum t k c) (atom.Sum u l x) h =
       (Decides-eqb (length k) (length l)).0
-          (second_so (c == x) (length k == length l) (second_so (t == u) ((c == x) && (length k == length l)) h))
+      (second_so (c == x) (length k == length l) (second_so (t == u) ((c == x) && (length k == length l)) h))
   one_length a b h = absurd (cc)
 
   plain_is : (u : Unknown) → is_plain u ≡ true → worth db env u ≡ atom_value db env u.atom
@@ -148,8 +148,8 @@ module _ (db : List Row) (env : List ℤ) where
   under_zero (l ∷ ls) h =
       let z = zero_from (lin_form l) (first (is_zero (lin_form l)) (map (λ x. is_zero (lin_form x)) ls) h) in
       both_true (is_lin_zero env l) (list_all (is_lin_zero env) ls)
-          ((Decides-int_eq (lin_value env l) (pos 0)).1 (sym (lin_worth db env l) ∙ z))
-          (under_zero ls (second_so (rel_true db env (is_zero (lin_form l))) (all_true db env (map (λ x. is_zero (lin_form x)) ls)) h))
+      ((Decides-int_eq (lin_value env l) (pos 0)).1 (sym (lin_worth db env l) ∙ z))
+      (under_zero ls (second_so (rel_true db env (is_zero (lin_form l))) (all_true db env (map (λ x. is_zero (lin_form x)) ls)) h))
 
   one_off : (ls : List Lin) (n : ℕ) (l : Lin) → slice_get ls n ≡ Some l → is_lin_zero env l ≡ false → list_all (is_lin_zero env) ls ≡ false
   one_off [] n l e h = absurd (cc)
@@ -166,7 +166,7 @@ module _ (db : List Row) (env : List ℤ) where
       → rel_true db env (is_zero (alone u)) ≡ true
   shut u n l e h =
       alone_zero u (ap (λ b. if b then atom_value db env u.atom else pos 0)
-          (one_off u.under n l e (off_true (is_lin_zero env l) (λ z. h ((Decides-int_eq (lin_value env l) (pos 0)).0 z)))))
+      (one_off u.under n l e (off_true (is_lin_zero env l) (λ z. h ((Decides-int_eq (lin_value env l) (pos 0)).0 z)))))
 
   opened : (u : Unknown) → worth db env u ≡ atom_value db env u.atom → rel_true db env (is_zero (less_atom u u.atom)) ≡ true
   opened u h = by u.atom h
@@ -223,9 +223,11 @@ same_width (Some t) n m h g = (Decides-eqb n t.width).0 h ∙ sym g
 lengths : (tables : List Table) (t n : ℕ) → is_width (slice_get tables t) n ≡ true → (db : List Row) → AllByRecursion (RowFits tables) db
     → AllByRecursion (HasLength t n) db
 lengths tables t n h [] g = tt
-lengths tables t n h (r ∷ db) g =
-    ((λ e. same_width (slice_get tables t) n (length r.key.parts) h
-        (subst (λ (x : ℕ). IsFullKey (slice_get tables x) (length r.key.parts)) (sym e) g.0.0)), lengths tables t n h db g.1)
+lengths tables t n h (r ∷ db) g = (
+  (λ e. same_width (slice_get tables t) n (length r.key.parts) h
+      (subst (λ (x : ℕ). IsFullKey (slice_get tables x) (length r.key.parts)) (sym e) g.0.0)),
+  lengths tables t n h db g.1,
+)
 
 module _ (d : Design) (q : Sequent) (db : List Row) (env : List ℤ) (asked : IsAskedOf d q db env) where
   rows_fit : AllByRecursion (RowFits d.tables) db
@@ -244,10 +246,10 @@ module _ (d : Design) (q : Sequent) (db : List Row) (env : List ℤ) (asked : Is
       by (Some r) e =
           let at = found_at (t, key) db r e in
           let none =
-              found_holds (λ y. ¬ IsPrivateOf d n y) (is_at t key) db r e
-              (recursion_from_All (λ y. ¬ IsPrivateOf d n y) db h) in
+          found_holds (λ y. ¬ IsPrivateOf d n y) (is_at t key) db r e
+          (recursion_from_All (λ y. ¬ IsPrivateOf d n y) db h) in
           let there : is_own_table (slice_get d.tables r.table) ≡ true =
-              ap (λ (p : Place). is_own_table (slice_get d.tables p.0)) (sym at) ∙ own in
+          ap (λ (p : Place). is_own_table (slice_get d.tables p.0)) (sym at) ∙ own in
           let last = subst (λ (p : Place). last_is n (slice_get p.1 (length p.1 - 1))) at ends in
           absurd (none (record { own = there; ends = last }))
 
@@ -283,27 +285,27 @@ module _ (d : Design) (q : Sequent) (db : List Row) (env : List ℤ) (asked : Is
       let m = minus_worth db env (has t k) (pos 0) in
       let p = plus_worth db env (has t k) (negsuc 0) in
       both_true (rel_true db env (at_most (form (minus (has t k) ∷ []) (pos 0))))
-          (all_true db env (at_most (form (plus (has t k) ∷ []) (negsuc 0)) ∷ []))
-          (least_true db env (form (minus (has t k) ∷ []) (pos 0)) (omega (arith, ints, least, m)))
-          (only db env (at_most (form (plus (has t k) ∷ []) (negsuc 0)))
-          (least_true db env (form (plus (has t k) ∷ []) (negsuc 0)) (omega (arith, ints, most, p))))
+      (all_true db env (at_most (form (plus (has t k) ∷ []) (negsuc 0)) ∷ []))
+      (least_true db env (form (minus (has t k) ∷ []) (pos 0)) (omega (arith, ints, least, m)))
+      (only db env (at_most (form (plus (has t k) ∷ []) (negsuc 0)))
+      (least_true db env (form (plus (has t k) ∷ []) (negsuc 0)) (omega (arith, ints, most, p))))
   axiom_true (schema.Count t p) may facts =
       let m = minus_worth db env (count t p) (pos 0) in
       only db env (at_most (form (minus (count t p) ∷ []) (pos 0)))
-          (least_true db env (form (minus (count t p) ∷ []) (pos 0)) (omega (arith, ints, m)))
+      (least_true db env (form (minus (count t p) ∷ []) (pos 0)) (omega (arith, ints, m)))
   axiom_true (schema.Front t k n) may facts =
       let f = front db t n (lin_values env k) in
       let s = ap (count_of db t) (take-map (lin_value env) n k) in
       let w = less_worth db env (has t k) (count t (take n k)) in
       only db env (at_most (less (has t k) (count t (take n k))))
-          (least_true db env (less (has t k) (count t (take n k))) (omega (arith, ints, f, s, w)))
+      (least_true db env (less (has t k) (count t (take n k))) (omega (arith, ints, f, s, w)))
   axiom_true (schema.Same u v) may facts =
       let p = and_true (is_table_atom d u.atom) (alike u.atom v.atom && (is_plain u && is_plain v)) may in
       let a = and_true (alike u.atom v.atom) (is_plain u && is_plain v) p.1 in
       let b = and_true (is_plain u) (is_plain v) a.1 in
       let keys = same_values db env (key_of u.atom) (key_of v.atom) (one_length db env u.atom v.atom a.0) facts in
       only db env (is_zero (less u v)) (less_zero db env u v
-          (plain_is db env u b.0 ∙ (same_atoms db env u.atom v.atom a.0 keys ∙ sym (plain_is db env v b.1))))
+      (plain_is db env u b.0 ∙ (same_atoms db env u.atom v.atom a.0 keys ∙ sym (plain_is db env v b.1))))
   axiom_true (schema.NoCol t k c) may facts =
       let h = alone_least db env (has t k) (first db env (at_most (alone (has t k))) [] facts) in
       only db env (is_zero (alone (col t k c))) (alone_zero db env (col t k c) (no_column db t (lin_values env k) c h))
@@ -312,15 +314,15 @@ module _ (d : Design) (q : Sequent) (db : List Row) (env : List ℤ) (asked : Is
       only db env (is_zero (alone (sum t p c))) (alone_zero db env (sum t p c) (no_sum db t (lin_values env p) c h))
   axiom_true (schema.OneCount t k) may facts =
       only db env (is_zero (less (count t k) (has t k)))
-          (less_zero db env (count t k) (has t k)
-          (whole_count db t (lin_values env k) (order_from db asked.fit.order) (has_length t k may)))
+      (less_zero db env (count t k) (has t k)
+      (whole_count db t (lin_values env k) (order_from db asked.fit.order) (has_length t k may)))
   axiom_true (schema.OneSum t k c) may facts =
       only db env (is_zero (less (sum t k c) (col t k c)))
-          (less_zero db env (sum t k c) (col t k c)
-          (whole_sum_is db t (lin_values env k) c (order_from db asked.fit.order) (has_length t k may)))
+      (less_zero db env (sum t k c) (col t k c)
+      (whole_sum_is db t (lin_values env k) c (order_from db asked.fit.order) (has_length t k may)))
   axiom_true (schema.Opened u) may facts =
       only db env (is_zero (less_atom u u.atom))
-          (opened db env u (ap (λ b. if b then atom_value db env u.atom else pos 0) (under_zero db env u.under facts)))
+      (opened db env u (ap (λ b. if b then atom_value db env u.atom else pos 0) (under_zero db env u.under facts)))
   axiom_true (schema.Shut u n side) may facts = off_true_of u n side (slice_get u.under n) refl may facts
   axiom_true (schema.Empty u) may facts =
       let p = and_true (q.origin.rule == 8) (is_table_atom d u.atom) may in
@@ -328,7 +330,7 @@ module _ (d : Design) (q : Sequent) (db : List Row) (env : List ℤ) (asked : Is
       only db env (is_zero (alone u)) (alone_zero db env u (unknown_nothing db env u (nothing_there db env d u.atom p.1 none)))
   axiom_true (schema.Fresh t k) may facts =
       let p = and_true (q.origin.rule == 0)
-          (is_own_table (slice_get d.tables t) && (is_whole d t k && ends_in_own (own_number d q) k)) may in
+      (is_own_table (slice_get d.tables t) && (is_whole d t k && ends_in_own (own_number d q) k)) may in
       let private = and_true (is_own_table (slice_get d.tables t)) (is_whole d t k && ends_in_own (own_number d q) k) p.1 in
       let ends = second_so (is_whole d t k) (ends_in_own (own_number d q) k) private.1 in
       let none = asked.fresh ((Decides-eqb q.origin.rule 0).0 p.0) in

@@ -63,12 +63,12 @@ module _ (d : Design) (q : Sequent) (db : List Row) (env : List ℤ) (asked : Is
       let low = below_value db env e in
       let high = above_value db env e in
       let not_low = λ (k : form_value db env e ≤ℤ negsuc 0). o.0
-          (with_one known (below e) holds (le_yes (form_value db env (form_sum e (pos 1) one)) (pos 0) (omega (arith, ints, low, k)))) in
+      (with_one known (below e) holds (le_yes (form_value db env (form_sum e (pos 1) one)) (pos 0) (omega (arith, ints, low, k)))) in
       let not_zero = λ (k : form_value db env e ≡ pos 0). o.1.0
-          (with_one known (is_zero e) holds ((Decides-int_eq (form_value db env e) (pos 0)).1 k)) in
+      (with_one known (is_zero e) holds ((Decides-int_eq (form_value db env e) (pos 0)).1 k)) in
       let not_high = λ (k : pos 1 ≤ℤ form_value db env e). o.1.1.0
-          (with_one known (above e) holds
-          (le_yes (form_value db env (form_sum one (negsuc 0) e)) (pos 0) (omega (arith, ints, high, k)))) in
+      (with_one known (above e) holds
+      (le_yes (form_value db env (form_sum one (negsuc 0) e)) (pos 0) (omega (arith, ints, high, k)))) in
       by (form_value db env e) not_low not_zero not_high
     where
       by : (v : ℤ) → (v ≤ℤ negsuc 0 → ⊥) → (v ≡ pos 0 → ⊥) → (pos 1 ≤ℤ v → ⊥) → ⊥
@@ -83,19 +83,19 @@ module _ (d : Design) (q : Sequent) (db : List Row) (env : List ℤ) (asked : Is
   instance_sound n e known (Some c) h g ls ms bs i off holds =
       let j = ap (λ (x : ℕ). instance_of x known (Some c) ls ms) (sym e) ∙ i in
       let p = may (length ls == length c.vars)
-          (and_then (used_up (only (fact_at (length env) ls c.rel))) (all_shown known (map (fact_at (length env) ls) c.guards) ms)) bs j in
+      (and_then (used_up (only (fact_at (length env) ls c.rel))) (all_shown known (map (fact_at (length env) ls) c.guards) ms)) bs j in
       let parts = goes_on (used_up (only (fact_at (length env) ls c.rel)))
-          (all_shown known (map (fact_at (length env) ls) c.guards) ms) bs p.1 in
+      (all_shown known (map (fact_at (length env) ls) c.guards) ms) bs p.1 in
       let guards = sym (facts_at_true ls db env c.guards)
-          ∙ are_shown db env known holds (map (fact_at (length env) ls) c.guards) ms parts.0 parts.1 in
+      ∙ are_shown db env known holds (map (fact_at (length env) ls) c.guards) ms parts.0 parts.1 in
       let clause = at_slice_get (ClauseTrue db env) q.hyps h c hyps g in
       let conclusion = clause (lin_values env ls)
-          (length-map ls (lin_value env) ∙ (Decides-eqb (length ls) (length c.vars)).0 p.0) guards in
+      (length-map ls (lin_value env) ∙ (Decides-eqb (length ls) (length c.vars)).0 p.0) guards in
       let added = fact_at_true ls db env c.rel ∙ conclusion in
       let given = not_wide (fact_at (length env) ls c.rel).wide (Gives (((fact_at (length env) ls c.rel).rel ∷ []) ∷ [])) bs
-          (all_used (only (fact_at (length env) ls c.rel)) parts.0 bs parts.2) in
+      (all_used (only (fact_at (length env) ls c.rel)) parts.0 bs parts.2) in
       one_branch known ((fact_at (length env) ls c.rel).rel ∷ []) bs given off
-          (with_one known (fact_at (length env) ls c.rel).rel holds added)
+      (with_one known (fact_at (length env) ls c.rel).rel holds added)
 
   sure_facts : (rs : List Rel) → map (λ f. f.rel) (map sure rs) ≡ rs
   sure_facts [] = refl
@@ -107,13 +107,13 @@ module _ (d : Design) (q : Sequent) (db : List Row) (env : List ℤ) (asked : Is
       instance_sound q.vars (sym asked.vars) known (slice_get q.hyps h) h refl ls ms bs i off holds
   sound known (Axiom x ms) bs h off holds =
       let p = may (axiom_of d q x).may (and_then (used_up (Gives ((axiom_of d q x).added ∷ [])))
-          (all_shown known (map sure (axiom_of d q x).facts) ms)) bs h in
+      (all_shown known (map sure (axiom_of d q x).facts) ms)) bs h in
       let parts = goes_on (used_up (Gives ((axiom_of d q x).added ∷ []))) (all_shown known (map sure (axiom_of d q x).facts) ms) bs p.1 in
       let facts = ap (all_true db env) (sym (sure_facts (axiom_of d q x).facts))
-          ∙ are_shown db env known holds (map sure (axiom_of d q x).facts) ms parts.0 parts.1 in
+      ∙ are_shown db env known holds (map sure (axiom_of d q x).facts) ms parts.0 parts.1 in
       let added = axiom_true d q db env asked x p.0 facts in
       one_branch known (axiom_of d q x).added bs (all_used (Gives ((axiom_of d q x).added ∷ [])) parts.0 bs parts.2) off
-          (all_both (rel_true db env) known (axiom_of d q x).added holds added)
+      (all_both (rel_true db env) known (axiom_of d q x).added holds added)
   sound known (Leaf m) bs h off holds =
       let parts = goes_on (used_up (Gives [])) (refuted known (m ∷ [])) bs h in
       are_refuted known (m ∷ []) parts.0 parts.1 (unknown_value db env) refl holds

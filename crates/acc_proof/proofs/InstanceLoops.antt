@@ -14,7 +14,7 @@ module _ (n : ℕ) (own : List Lin) (terms : List Term) (i : ℕ) (d : Term) (wi
   one_more : drop i terms ≡ (d.0, m) ∷ drop (i + 1) terms
   one_more =
       drop_more terms i d within ∙ (ap (λ (x : Term). x ∷ drop (i + 1) terms) (sym here)
-          ∙ ap (λ (z : ℤ). (d.0, z) ∷ drop (i + 1) terms) (sym number))
+      ∙ ap (λ (z : ℤ). (d.0, z) ∷ drop (i + 1) terms) (sym number))
 
   pub raw_step : raw_from n own (drop (i + 1) terms) new ≡ raw_from n own (drop i terms) g
   raw_step =
@@ -24,8 +24,8 @@ module _ (n : ℕ) (own : List Lin) (terms : List Term) (i : ℕ) (d : Term) (wi
       ≡ are_terms_wide n own (drop i terms) g
   wide_step f =
       ap (are_terms_wide n own (drop (i + 1) terms)) added
-          ∙ (ap (λ b. b || are_terms_wide n own (drop (i + 1) terms) (with_summands (term_at n own (d.0, m)) g)) (sym f)
-          ∙ sym (ap (λ (ts : List Term). are_terms_wide n own ts g) one_more))
+      ∙ (ap (λ b. b || are_terms_wide n own (drop (i + 1) terms) (with_summands (term_at n own (d.0, m)) g)) (sym f)
+      ∙ sym (ap (λ (ts : List Term). are_terms_wide n own ts g) one_more))
 
 abbrev item : List Coefficient → ℕ → Coefficient
 item ks i = get_or ks i (0, pos 0)
@@ -44,5 +44,5 @@ module _ (n : ℕ) (own : List Lin) (ks : List Coefficient) (i : ℕ) (within : 
       → are_parts_long n own (drop (i + 1) ks) new ≡ are_parts_long n own (drop i ks) s
   long_step f =
       ap (are_parts_long n own (drop (i + 1) ks)) added
-          ∙ (ap (λ b. b || are_parts_long n own (drop (i + 1) ks) (plus_part n own ((item ks i).0, c) (value_for n own (item ks i).0) s))
-          (sym f) ∙ sym (ap (λ (xs : List Coefficient). are_parts_long n own xs s) one_part))
+      ∙ (ap (λ b. b || are_parts_long n own (drop (i + 1) ks) (plus_part n own ((item ks i).0, c) (value_for n own (item ks i).0) s))
+      (sym f) ∙ sym (ap (λ (xs : List Coefficient). are_parts_long n own xs s) one_part))

@@ -57,9 +57,9 @@ module _ (own : List Lin) (db : List Row) (env : List ℤ) where
       behind o e h =
           let place : x ≡ n + (x - n) = omega (arith, h) in
           ap (λ (i : ℕ). slice_index_or both i (pos 0)) place
-              ∙ (get_or-append-add env (lin_values env own) (x - n) (pos 0)
-              ∙ (sym (unwrap_or-slice_get (lin_values env own) (x - n) (pos 0))
-              ∙ ap (λ (p : Option ℤ). unwrap_or p (pos 0)) (slice_get-map (lin_value env) own (x - n) ∙ ap (option_map (lin_value env)) e)))
+          ∙ (get_or-append-add env (lin_values env own) (x - n) (pos 0)
+          ∙ (sym (unwrap_or-slice_get (lin_values env own) (x - n) (pos 0))
+          ∙ ap (λ (p : Option ℤ). unwrap_or p (pos 0)) (slice_get-map (lin_value env) own (x - n) ∙ ap (option_map (lin_value env)) e)))
 
       past : (o : Option Lin) → slice_get own (x - n) ≡ o → n ≤ x → given x o ≡ var both x
       past None e h = get_or_past env x (pos 0) h ∙ sym (behind None e h)
@@ -156,12 +156,12 @@ module _ (own : List Lin) (db : List Row) (env : List ℤ) where
           ≡ product_value db both t
       by None e =
           let v = ap (λ z. t.1 *ℤ (if list_all (is_lin_zero env) (map (lin_at n own) t.0.under) then z else pos 0))
-              (atom_at_value t.0.atom e) in
+          (atom_at_value t.0.atom e) in
           let w = ap (λ z. t.1 *ℤ z) same in
           omega (arith, ints, v, w)
       by (Some l) e =
           parts_worth db env (map (lin_at n own) t.0.under) t.1 (lin_parts l)
-              ∙ (inside (list_all (is_lin_zero env) (map (lin_at n own) t.0.under)) l e ∙ ap (λ z. t.1 *ℤ z) same)
+          ∙ (inside (list_all (is_lin_zero env) (map (lin_at n own) t.0.under)) l e ∙ ap (λ z. t.1 *ℤ z) same)
 
   raw_value : (ts : List Term) (g : Form) → form_value db env (raw_from n own ts g) ≡ form_value db env g +ℤ terms_worth both ts
   raw_value [] g = omega (arith, ints)

@@ -79,7 +79,7 @@ module _ (d : Design) (q : Sequent) (nodes : List Node) (i : ℕ) (node : Node) 
   pub nested_after : AreNested (length new) (reverse after)
   nested_after =
       subst (AreNested (length new)) (sym opens_there)
-          (nested_all (length new) bs (reverse left) (nested_less branch.known (length new) (reverse left) long parts.1))
+      (nested_all (length new) bs (reverse left) (nested_less branch.known (length new) (reverse left) long parts.1))
 
   before : opened q.rels more (reverse open_) ≡ (q.rels ++ new) ∷ opened q.rels more (reverse left)
   before =
@@ -88,10 +88,10 @@ module _ (d : Design) (q : Sequent) (nodes : List Node) (i : ℕ) (node : Node) 
   later : opened q.rels new (reverse after) ≡ map (λ b. (q.rels ++ new) ++ b) bs ++ opened q.rels more (reverse left)
   later =
       ap (opened q.rels new) opens_there
-          ∙ (opened_all q.rels new bs (reverse left)
-          ∙ ap (λ ks. map (λ b. (q.rels ++ new) ++ b) bs ++ ks)
-          (ap (λ (l : List Rel). opened q.rels l (reverse left)) resumed
-          ∙ opened_same q.rels more branch.added branch.known (reverse left) parts.0 parts.1))
+      ∙ (opened_all q.rels new bs (reverse left)
+      ∙ ap (λ ks. map (λ b. (q.rels ++ new) ++ b) bs ++ ks)
+      (ap (λ (l : List Rel). opened q.rels l (reverse left)) resumed
+      ∙ opened_same q.rels more branch.added branch.known (reverse left) parts.0 parts.1))
 
   one_more : drop i nodes ≡ node ∷ drop (i + 1) nodes
   one_more = drop_more nodes i node within ∙ ap (λ (x : Node). x ∷ drop (i + 1) nodes) (sym here)
@@ -100,10 +100,10 @@ module _ (d : Design) (q : Sequent) (nodes : List Node) (i : ℕ) (node : Node) 
       ≡ walked d q i (drop i nodes) (opened q.rels more (reverse open_))
   walked_on =
       ap (walked d q (i + 1) (drop (i + 1) nodes)) later
-          ∙ (sym (ap (go_on i (λ x. walked d q (i + 1) (drop (i + 1) nodes)
-          (map (λ b. (q.rels ++ new) ++ b) x ++ opened q.rels more (reverse left)))) gives)
-          ∙ sym (ap (λ ns. walked d q i ns (opened q.rels more (reverse open_))) one_more
-          ∙ ap (walked d q i (node ∷ drop (i + 1) nodes)) before))
+      ∙ (sym (ap (go_on i (λ x. walked d q (i + 1) (drop (i + 1) nodes)
+      (map (λ b. (q.rels ++ new) ++ b) x ++ opened q.rels more (reverse left)))) gives)
+      ∙ sym (ap (λ ns. walked d q i ns (opened q.rels more (reverse open_))) one_more
+      ∙ ap (walked d q i (node ∷ drop (i + 1) nodes)) before))
 
 -- the end of the walk
 pub ended : (d : Design) (q : Sequent) (i : ℕ) (more : List Rel) (open_ : List Pending) (b : Bool) → b ≡ (length open_ == 0)

@@ -92,7 +92,7 @@ front db t n k = by (list_any (is_at t k) db) refl
     under r e =
         let same = row_place t k r (is_equal (compared t k r) e) in
         both_true (r.table == t) (starts_with int_eq r.key.parts (take n k)) ((Decides-eqb r.table t).1 (sym same.0))
-            ((ints_decide (take n k) (take (length (take n k)) r.key.parts)).1 (sym (take_own n k) ∙ ap (take (length (take n k))) same.1))
+        ((ints_decide (take n k) (take (length (take n k)) r.key.parts)).1 (sym (take_own n k) ∙ ap (take (length (take n k))) same.1))
 
     by : (b : Bool) → list_any (is_at t k) db ≡ b → (if b then pos 1 else pos 0) ≤ℤ count_of db t (take n k)
     by true e =
@@ -116,7 +116,7 @@ whole_sum v t k [] order long = refl
 whole_sum v t k (r ∷ db) order long =
     let same = same_place r.table t r.key.parts k (λ e. long.0 (sym e)) in
     ap (λ b. (if b then v r else pos 0) +ℤ row_sum (where_passes (is_under t k) v) db) (sym same)
-        ∙ by (is_at t k r) refl (whole_sum v t k db order.1 long.1)
+    ∙ by (is_at t k r) refl (whole_sum v t k db order.1 long.1)
   where
     by : (b : Bool) → is_at t k r ≡ b → row_sum (where_passes (is_under t k) v) db ≡ given v (find (is_at t k) db)
         → (if b then v r else pos 0) +ℤ row_sum (where_passes (is_under t k) v) db ≡ given v (cond b (Some r) (find (is_at t k) db))

@@ -28,7 +28,7 @@ pub are_refuted : (rels : List Rel) (ms left : List Mults) → refuted rels ms �
 are_refuted rels [] left h = absurd (cc)
 are_refuted rels (m ∷ ms) left h =
     no_solution rels m.of (may (refutes_all rels m.of) (Gives ms) left
-        (not_wide (is_refuting_wide rels m.of) (if refutes_all rels m.of then Gives ms else Fails) left h)).0
+    (not_wide (is_refuting_wide rels m.of) (if refutes_all rels m.of then Gives ms else Fails) left h)).0
 
 module _ (db : List Row) (env : List ℤ) where
   abbrev pub value : Form → ℤ
@@ -55,7 +55,7 @@ module _ (db : List Row) (env : List ℤ) where
     pub is_excluded : (wide : Bool) (r : Rel) (ms left : List Mults) → excluded known wide r ms ≡ Gives left → rel_true db env r ≡ false
     is_excluded wide r ms left h =
         off_true (rel_true db env r) (λ e. are_refuted (known ++ r ∷ []) ms left (not_wide wide (refuted (known ++ r ∷ []) ms) left h)
-            (unknown_value db env) refl (all_both (rel_true db env) known (r ∷ []) holds (both_true (rel_true db env r) true e refl)))
+        (unknown_value db env) refl (all_both (rel_true db env) known (r ∷ []) holds (both_true (rel_true db env r) true e refl)))
 
     pub not_above : (f : Form) → rel_true db env (above f) ≡ false → value f ≤ℤ pos 0
     not_above f h =
@@ -89,4 +89,4 @@ module _ (db : List Row) (env : List ℤ) where
     are_shown (f ∷ fs) ms left h =
         let parts = goes_on (all_shown known fs) (fact_shown known f ms) left h in
         both_true (rel_true db env f.rel) (all_true (map (λ g. g.rel) fs))
-            (is_shown f.rel ms parts.0 (not_wide f.wide (shown known f.rel ms) parts.0 parts.1)) (are_shown fs parts.0 left parts.2)
+        (is_shown f.rel ms parts.0 (not_wide f.wide (shown known f.rel ms) parts.0 parts.1)) (are_shown fs parts.0 left parts.2)

@@ -176,7 +176,7 @@ axiom_of d q (schema.Front t k n) =
     demand (is_table d t && nat_le n (length k)) [] (at_most (less (has t k) (count t (take n k))) ∷ [])
 axiom_of d q (schema.Same u v) =
     demand (is_table_atom d u.atom && (alike u.atom v.atom && (is_plain u && is_plain v))) (differences (key_of u.atom) (key_of v.atom))
-        (is_zero (less u v) ∷ [])
+    (is_zero (less u v) ∷ [])
 axiom_of d q (schema.NoCol t k c) = demand (is_table d t) (at_most (alone (has t k)) ∷ []) (is_zero (alone (col t k c)) ∷ [])
 axiom_of d q (schema.NoSum t p c) = demand (is_table d t) (at_most (alone (count t p)) ∷ []) (is_zero (alone (sum t p c)) ∷ [])
 axiom_of d q (schema.OneCount t k) = demand (is_whole d t k) [] (is_zero (less (count t k) (has t k)) ∷ [])
@@ -187,4 +187,4 @@ axiom_of d q (schema.Shut u n side) = off (slice_get u.under n) side u
 axiom_of d q (schema.Empty u) = demand ((q.origin.rule == 8) && is_table_atom d u.atom) [] (is_zero (alone u) ∷ [])
 axiom_of d q (schema.Fresh t k) =
     demand ((q.origin.rule == 0) && (is_own_table (slice_get d.tables t) && (is_whole d t k && ends_in_own (own_number d q) k))) []
-        (is_zero (alone (has t k)) ∷ [])
+    (is_zero (alone (has t k)) ∷ [])

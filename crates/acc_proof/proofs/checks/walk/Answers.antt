@@ -22,13 +22,13 @@ loop-node-preserved c =
     let long : vec_len c.node_of.new.more ≡ length new = search rules in
     let after = c.open_all.new.stack.items in
     let nested =
-        nested_after d q nodes i node c.loop-node-test.true c.node-item.is more c.loop-node.open.items c.pop.new.self.items
-        c.in-Some.branch c.in-Some.ensures.items c.loop-node.invariant.nested new resumed c.in-Ok-Some.branches value after
-        c.len.result (c.len.ensures ∙ long) c.in_ok-open_all-in-Ok-Some.ensures in
+    nested_after d q nodes i node c.loop-node-test.true c.node-item.is more c.loop-node.open.items c.pop.new.self.items
+    c.in-Some.branch c.in-Some.ensures.items c.loop-node.invariant.nested new resumed c.in-Ok-Some.branches value after
+    c.len.result (c.len.ensures ∙ long) c.in_ok-open_all-in-Ok-Some.ensures in
     let step =
-        walked_on d q nodes i node c.loop-node-test.true c.node-item.is more c.loop-node.open.items c.pop.new.self.items
-        c.in-Some.branch c.in-Some.ensures.items c.loop-node.invariant.nested new resumed c.in-Ok-Some.branches value after
-        c.len.result (c.len.ensures ∙ long) c.in_ok-open_all-in-Ok-Some.ensures in
+    walked_on d q nodes i node c.loop-node-test.true c.node-item.is more c.loop-node.open.items c.pop.new.self.items
+    c.in-Some.branch c.in-Some.ensures.items c.loop-node.invariant.nested new resumed c.in-Ok-Some.branches value after
+    c.len.result (c.len.ensures ∙ long) c.in_ok-open_all-in-Ok-Some.ensures in
     record {
       number = omega arith;
       nested = nested;
@@ -40,7 +40,7 @@ returns-clause-value c =
     let past : length c.args.nodes.now ≤ c.loop-node.node-index = omega arith in
     let long : vec_len c.loop-node.open ≡ length c.loop-node.open.items = search rules in
     sym c.loop-node.invariant.same ∙ (ap (λ ns. walked c.args.design.now c.args.sequent.now c.loop-node.node-index ns
-        (opened c.args.sequent.now.rels c.loop-node.more.items (reverse c.loop-node.open.items)))
-        (drop_all c.loop-node.node-index c.args.nodes.now past)
-        ∙ ended c.args.design.now c.args.sequent.now c.loop-node.node-index c.loop-node.more.items c.loop-node.open.items c.is_empty.result
-        (c.is_empty.ensures ∙ ap (λ n. n == 0) long))
+    (opened c.args.sequent.now.rels c.loop-node.more.items (reverse c.loop-node.open.items)))
+    (drop_all c.loop-node.node-index c.args.nodes.now past)
+    ∙ ended c.args.design.now c.args.sequent.now c.loop-node.node-index c.loop-node.more.items c.loop-node.open.items c.is_empty.result
+    (c.is_empty.ensures ∙ ap (λ n. n == 0) long))
