@@ -16,3 +16,4 @@ pub mod CollectedWorths
 pub mod SumLaws
 pub mod PlainPlays
 pub mod LawfulRuns
+pub mod Leasts

@@ -1,5 +1,5 @@
 -- What the actions of a path do with the rows.
-use Rattle.std.specs.Prelude.{Bool, true, not, ◌&&◌, ◌||◌, if◌then◌else◌, List, [], ◌∷◌, ◌++◌, Option, Some, None, ℤ, ◌+ℤ◌}
+use Rattle.std.specs.Prelude.{ℕ, Bool, true, not, ◌&&◌, ◌||◌, if◌then◌else◌, List, [], ◌∷◌, ◌++◌, Option, Some, None, ℤ, ◌+ℤ◌}
 use Rattle.std.specs.List.{list_all, list_any}
 use Rattle.acc_base.specs.declared.tables.Row.{Row}
 use Rattle.acc_base.specs.declared.steps.Action.{Action}
@@ -9,6 +9,13 @@ use Rattle.acc_base.specs.declared.designs.Side.TheVariants.{Next, Undo}
 use Rattle.acc_base.specs.Numbers.{is_small}
 use Rattle.acc_base.specs.Tables.{column_of, is_at, put, drop_row, change_row, set_cell, cell}
 use Rattle.acc_base.specs.Linear.{lin_value, lin_values}
+
+-- the table of the row that an action changes
+abbrev pub acted_table : Action → ℕ
+acted_table (Put t k vs) = t
+acted_table (Del t k) = t
+acted_table (Set t k c v) = t
+acted_table (Add t k c v) = t
 
 -- the numbers of an action that have to be in range: its key's, and then its operands
 abbrev pub action_numbers : List ℤ → Action → List ℤ

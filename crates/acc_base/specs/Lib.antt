@@ -39,3 +39,4 @@ pub mod Annotated
 pub mod Invariant
 pub mod Compensation
 pub mod Guarded
+pub mod Leasts

@@ -1,9 +1,10 @@
 -- The tests of equality of unknowns and forms decide equality.
-use Rattle.std.specs.Prelude.{◌≡◌, Bool, ◌&&◌, ℤ, Decides}
+use Rattle.std.specs.Prelude.{◌≡◌, Bool, ◌&&◌, [], ℤ, Decides}
 use Rattle.std.specs.Ordering.{int_eq}
 use Rattle.std.specs.Cmp.Lexicographic.{pointwise, pointwise_decides}
 use Rattle.std.proofs.Common.{ap}
 use Rattle.std.proofs.lemmas.Bool.Decides.{Decides-and, Decides-like, Decides-int_eq}
+use Rattle.acc_base.specs.declared.forms.Atom.TheVariants.{One}
 use Rattle.acc_base.specs.declared.forms.Unknown.{Unknown}
 use Rattle.acc_base.specs.declared.forms.Form.{Form}
 use Rattle.acc_base.specs.Pairs.{pair_decides}
@@ -11,6 +12,13 @@ use Rattle.acc_base.specs.FormEquality.{lin_eq, lin_decides, atom_eq, atom_decid
 
 abbrev pub unknown_eq : Unknown → Unknown → Bool
 unknown_eq x y = pointwise lin_eq x.under y.under && atom_eq x.atom y.atom
+
+-- the number 1 without condition
+abbrev pub bare_one : Unknown
+bare_one = record { under = []; atom = One }
+
+abbrev pub is_bare_one : Unknown → Bool
+is_bare_one x = unknown_eq x bare_one
 
 pub unknown_decides : (x y : Unknown) → Decides (unknown_eq x y) (x ≡ y)
 unknown_decides x y =

@@ -8,6 +8,7 @@ pub mod designs;
 pub mod forms;
 pub mod laws;
 pub mod machines;
+pub mod names;
 pub mod numbers;
 pub mod rules;
 pub mod sequences;

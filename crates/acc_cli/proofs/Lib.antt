@@ -3,3 +3,4 @@ pub mod RowsLemmas
 pub mod SaidLemmas
 pub mod StatusLemmas
 pub mod OneMeaning
+pub mod OneAnswer

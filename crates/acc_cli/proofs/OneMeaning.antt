@@ -22,7 +22,8 @@ use Rattle.acc_parse.specs.Faults.{Refuses, IsNameFaultAt, IsLimitAt}
 use Rattle.acc_parse.specs.declared.errors.ParseError.{ParseError}
 use Rattle.acc_parse.specs.declared.errors.ParseError.TheVariants as errors
 use Rattle.acc_print.specs.Designs.{printed}
-use Rattle.acc_form.specs.Faults.{form_faults, is_before, IsLeast}
+use Rattle.acc_form.specs.Faults.{form_faults, is_before}
+use Rattle.acc_base.specs.Leasts.{IsLeast}
 use Rattle.acc_form.specs.WellFormed.{IsWellFormed}
 use Rattle.acc_form.proofs.Placed.{faulty_of_least}
 use Rattle.acc_script.specs.CallLines.{SaysCall, most_calls}

@@ -1,5 +1,6 @@
 -- What is answered to a command line, where memory lasts and each byte can be written.
-use Rattle.std.specs.Prelude.{◌≡◌, ℕ, List, [], ◌∷◌, length, ◌⊎◌, Option, Some, None, codes}
+use Rattle.std.specs.Prelude.{◌≡◌, ◌≢◌, ℕ, List, [], ◌∷◌, length, ◌⊎◌, Option, Some, None, codes}
+use Rattle.acc_io.specs.Causes.{Rose}
 use Rattle.acc_io.specs.Counted.{after_files}
 use Rattle.acc_io.specs.Shelves.{Told}
 use Rattle.acc_io.specs.declared.counts.Counts.{Counts}
@@ -52,3 +53,10 @@ MeansForm held counts counts' words (Some command) reply =
 
 abbrev pub Meant : (List ℕ → Told) → Counts → Counts → List (List ℕ) → Reply → Type 0
 Meant held counts counts' words = MeansForm held counts counts' words (command_of words)
+
+-- On a shelf that tells what stands at each name, a command line means one answer where no read fails: two answers to it, each
+-- after reads of which none failed, are the same.
+abbrev pub LinesMeanOne : Type 0
+LinesMeanOne = (held : List ℕ → Told) (counts one other : Counts) (words : List (List ℕ)) (a b : Reply)
+    → ((name : List ℕ) → held name ≢ None) → ¬ Rose counts.faults one.faults → ¬ Rose counts.faults other.faults
+    → Meant held counts one words a → Meant held counts other words b → a ≡ b

@@ -5,7 +5,7 @@ use Rattle.acc_parse.specs.Texts.{IsDesignText}
 use Rattle.acc_form.specs.WellFormed.{IsWellFormed}
 use Rattle.acc_cli.specs.declared.designs.ReadDesign.{ReadDesign}
 use Rattle.acc_cli.specs.declared.designs.ReadDesign.TheVariants.{Read, Refused}
-use Rattle.acc_cli.specs.Outcome.{said_of}
+use Rattle.acc_cli.specs.Responses.{said_of}
 use Rattle.acc_cli.specs.Refusals.{RefusesDesign}
 
 -- the text is that of the design, which is well-formed

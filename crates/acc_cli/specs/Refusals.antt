@@ -9,7 +9,8 @@ use Rattle.acc_parse.specs.declared.errors.ParseError.{ParseError}
 use Rattle.acc_parse.specs.declared.errors.ParseError.TheVariants as errors
 use Rattle.acc_parse.specs.Texts.{IsDesignText}
 use Rattle.acc_parse.specs.Faults.{Refuses}
-use Rattle.acc_form.specs.Faults.{form_faults, is_before, IsLeast}
+use Rattle.acc_form.specs.Faults.{form_faults, is_before}
+use Rattle.acc_base.specs.Leasts.{IsLeast}
 use Rattle.acc_form.specs.Judged.{IsJudgedOn}
 use Rattle.acc_cli.specs.declared.status.Ending.TheVariants.{Refused}
 use Rattle.acc_cli.specs.Text.{Said, Says}

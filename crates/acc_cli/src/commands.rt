@@ -7,45 +7,26 @@ ghost use Rattle.acc_cli.specs.Words.{file_count};
 ghost use Rattle.acc_cli.specs.Meant.{Means};
 ghost use Rattle.acc_cli.specs.Text.{Says};
 ghost use Rattle.acc_cli.specs.declared.status.Ending.TheVariants.{Done, Script};
-ghost use Rattle.acc_cli.specs.Outcome.{said_of};
+ghost use Rattle.acc_cli.specs.Responses.{said_of};
 ghost use Rattle.acc_play.specs.Stages.{AllFit};
 ghost use Rattle.acc_cli.specs.PlayFiles.{PlaysFiles, SaysOfScript, SaysOfOrder};
 ghost use Rattle.acc_cli.specs.PrintFiles.{PrintsFile};
 
 use crate::designs::{ReadDesign, read_design};
 use crate::notes;
+use crate::responses::{Response, one_line};
 use crate::status::Ending;
 use crate::words::Command;
 use acc_base::designs::Design;
-use acc_base::machines::{Call, Event};
+use acc_base::machines::Call;
 use acc_base::sequences::Seq;
 use acc_play::{Transcript, play};
 use acc_print::{PrintError, print};
 use acc_script::{ScriptError, calls, order};
 use std::alloc::{AllocError, Global};
 
-/// How a command ends, the text to print, and the events of its machine.
-#[derive(Drop)]
-pub struct Outcome {
-    pub ending: Ending,
-    pub text: Vec<u8>,
-    pub history: Seq<Event>,
-}
-
-/// An answer of one line.
-pub fn one_line(alloc: Global, ending: Ending, text: &str) -> Result<Outcome, AllocError>
-    ensures { IfOk result (λ a. Says ending (line text.now) (said_of a)) }
-{
-    let text = format!(in alloc; "{text}\n")?.into_bytes();
-    Ok(Outcome {
-        ending,
-        text,
-        history: Seq::new(alloc),
-    })
-}
-
 /// What is answered to a text of which a line is refused; the label says which text.
-fn line_refusal(alloc: Global, label: &str, at: u64) -> Result<Outcome, AllocError>
+fn line_refusal(alloc: Global, label: &str, at: u64) -> Result<Response, AllocError>
     ensures { IfOk result (λ a. Says Script (line (label.now ++ decimal at)) (said_of a)) }
 {
     let text = format!(in alloc; "{label}{at}")?;
@@ -53,11 +34,11 @@ fn line_refusal(alloc: Global, label: &str, at: u64) -> Result<Outcome, AllocErr
 }
 
 /// The answer of a play.
-fn played(transcript: Transcript) -> Outcome
+fn played(transcript: Transcript) -> Response
     ensures { said_of result ≡ record { ending = Done; text = transcript.text.items; history = transcript.history } }
 {
     let Transcript { text, history } = transcript;
-    Outcome {
+    Response {
         ending: Ending::Done,
         text,
         history,
@@ -65,7 +46,7 @@ fn played(transcript: Transcript) -> Outcome
 }
 
 /// Plays the calls in the order that the file gives.
-fn play_order(alloc: Global, d: &Design, asked: &[Call], file: &[u8]) -> Result<Outcome, AllocError>
+fn play_order(alloc: Global, d: &Design, asked: &[Call], file: &[u8]) -> Result<Response, AllocError>
     requires runnable { IsRunnable d.now }
     requires fit { AllFit d.now asked.now }
     ensures { IfOk result (λ a. SaysOfOrder d.now asked.now file.now (said_of a)) }
@@ -78,7 +59,7 @@ fn play_order(alloc: Global, d: &Design, asked: &[Call], file: &[u8]) -> Result<
 }
 
 /// Plays the calls of a script.
-fn play_script(alloc: Global, d: &Design, script: &[u8], file: &[u8]) -> Result<Outcome, AllocError>
+fn play_script(alloc: Global, d: &Design, script: &[u8], file: &[u8]) -> Result<Response, AllocError>
     requires runnable { IsRunnable d.now }
     ensures { IfOk result (λ a. SaysOfScript d.now script.now file.now (said_of a)) }
 {
@@ -96,7 +77,7 @@ fn play_files(
     design: &[u8],
     script: &[u8],
     file: &[u8],
-) -> Result<Outcome, AllocError>
+) -> Result<Response, AllocError>
     ensures { IfOk result (λ a. PlaysFiles design.now script.now file.now (said_of a)) }
 {
     match read_design(alloc, design)? {
@@ -106,12 +87,12 @@ fn play_files(
 }
 
 /// Prints a design in its one spelling.
-fn print_file(alloc: Global, design: &[u8]) -> Result<Outcome, AllocError>
+fn print_file(alloc: Global, design: &[u8]) -> Result<Response, AllocError>
     ensures { IfOk result (λ a. PrintsFile design.now (said_of a)) }
 {
     match read_design(alloc, design)? {
         ReadDesign::Read(d) => match print(alloc, &d) {
-            Ok(text) => Ok(Outcome {
+            Ok(text) => Ok(Response {
                 ending: Ending::Done,
                 text,
                 history: Seq::new(alloc),
@@ -123,10 +104,10 @@ fn print_file(alloc: Global, design: &[u8]) -> Result<Outcome, AllocError>
 }
 
 /// An answer of a text alone.
-fn note(alloc: Global, text: Vec<u8>) -> Outcome
+fn note(alloc: Global, text: Vec<u8>) -> Response
     ensures { Says Done text.items (said_of result) }
 {
-    Outcome {
+    Response {
         ending: Ending::Done,
         text,
         history: Seq::new(alloc),
@@ -135,7 +116,7 @@ fn note(alloc: Global, text: Vec<u8>) -> Outcome
 
 /// The answer of a command to its files.
 #[tactic(auto, unfolding(crate::specs::Words::file_count, crate::specs::Meant::Means))]
-pub fn run(alloc: Global, command: Command, files: &[Vec<u8>]) -> Result<Outcome, AllocError>
+pub fn run(alloc: Global, command: Command, files: &[Vec<u8>]) -> Result<Response, AllocError>
     requires { length files.now ≡ file_count command }
     ensures { IfOk result (λ a. Means command (map (λ v. v.items) files.now) (said_of a)) }
 {

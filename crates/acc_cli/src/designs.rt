@@ -1,10 +1,10 @@
 //! Reading a design, and what is said of one that is refused.
 ghost use Rattle.std.specs.Prelude.{IfOk};
-ghost use Rattle.acc_cli.specs.Outcome.{said_of};
+ghost use Rattle.acc_cli.specs.Responses.{said_of};
 ghost use Rattle.acc_cli.specs.Refusals.{SaysError, SaysRule};
 ghost use Rattle.acc_cli.specs.ReadDesigns.{Reads};
 
-use crate::commands::{Outcome, one_line};
+use crate::responses::{Response, one_line};
 use crate::status::Ending;
 use acc_base::designs::Design;
 use acc_form::{FormError, well_formed};
@@ -15,11 +15,11 @@ use std::alloc::{AllocError, Global};
 #[derive(Drop)]
 pub enum ReadDesign {
     Read(Design),
-    Refused(Outcome),
+    Refused(Response),
 }
 
 /// What is answered to a text that is no design's.
-fn text_refusal(alloc: Global, error: ParseError) -> Result<Outcome, AllocError>
+fn text_refusal(alloc: Global, error: ParseError) -> Result<Response, AllocError>
     ensures { IfOk result (λ a. SaysError error (said_of a)) }
 {
     let text = match error {
@@ -32,7 +32,7 @@ fn text_refusal(alloc: Global, error: ParseError) -> Result<Outcome, AllocError>
 }
 
 /// What is answered to a design that breaks a form rule.
-fn form_refusal(alloc: Global, rule: u32, line: u64) -> Result<Outcome, AllocError>
+fn form_refusal(alloc: Global, rule: u32, line: u64) -> Result<Response, AllocError>
     ensures { IfOk result (λ a. SaysRule rule line (said_of a)) }
 {
     let text = format!(in alloc; "refused form {rule} {line}")?;

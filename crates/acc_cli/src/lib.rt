@@ -6,11 +6,11 @@ mod designs;
 mod files;
 pub mod laws;
 mod notes;
+mod responses;
 mod status;
 mod top;
 mod words;
 
-pub use commands::Outcome;
 pub use status::{Ending, Status};
 pub use top::{Played, acc};
 pub use words::Command;

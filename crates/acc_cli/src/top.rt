@@ -5,7 +5,7 @@ ghost use Rattle.acc_cli.specs.Files.{AllGiven, SaysRefused};
 ghost use Rattle.acc_cli.specs.declared.status.Ending.TheVariants.{Done};
 ghost use Rattle.acc_cli.specs.declared.status.Status.TheVariants.{Ran};
 ghost use Rattle.acc_base.specs.Lines.{line};
-ghost use Rattle.acc_cli.specs.Outcome.{reply_of};
+ghost use Rattle.acc_cli.specs.Responses.{reply_of};
 ghost use Rattle.acc_cli.specs.Meant.{Meant};
 ghost use Rattle.acc_cli.specs.Answered.{Answered};
 ghost use Rattle.acc_cli.specs.Rows.{HasCauses};
@@ -88,7 +88,7 @@ fn decide<H: Shelf>(alloc: Global, words: &[String], shelf: &mut H) -> Result<An
 }
 
 // Answers a command line.
-fn play<H: Shelf, K: Sink>(alloc: Global, words: &[String], shelf: &mut H, out: &mut K) -> Ended
+fn answer<H: Shelf, K: Sink>(alloc: Global, words: &[String], shelf: &mut H, out: &mut K) -> Ended
     ensures held { H.held shelf.new ≡ H.held shelf.old }
     ensures faults { (H.counts shelf.old).faults ≤ (H.counts shelf.new).faults }
     ensures absences { (H.counts shelf.old).absences ≤ (H.counts shelf.new).absences }
@@ -118,7 +118,7 @@ fn play<H: Shelf, K: Sink>(alloc: Global, words: &[String], shelf: &mut H, out: 
     }
 }
 
-/// Answers a command line: reads the files that it names, plays them, prints the text whole, and tells the status and the history.
+/// Answers a command line: reads the files that it names, answers the command, prints the text whole, and tells the status and the history.
 ///
 /// The text is made before its first byte is written. Want of memory (status 9) may come at any time, and then nothing was printed.
 pub fn acc<H: Shelf, K: Sink>(alloc: Global, words: &[String], shelf: &mut H, out: &mut K) -> Played
@@ -137,7 +137,7 @@ pub fn acc<H: Shelf, K: Sink>(alloc: Global, words: &[String], shelf: &mut H, ou
     ensures absences { (H.counts shelf.old).absences ≤ (H.counts shelf.new).absences }
     ensures sink_faults { K.faults out.old ≤ K.faults out.new }
 {
-    let ended = play(alloc, words, shelf, out);
+    let ended = answer(alloc, words, shelf, out);
     Played {
         status: ended.status.code(),
         history: ended.history,

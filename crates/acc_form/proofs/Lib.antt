@@ -1,5 +1,5 @@
 pub mod Numbered
-pub mod Leasts
+pub mod Orders
 pub mod Clean
 pub mod FormedSteps
 pub mod FormedPoints

@@ -7,12 +7,14 @@ use Rattle.acc_form.specs.declared.walks.Walk.{Walk}
 use Rattle.acc_form.specs.Marks.{Mark, Broken, End}
 use Rattle.acc_form.specs.Ranges.{design_in}
 use Rattle.acc_form.specs.Statements.{design_marks}
-use Rattle.acc_form.specs.Faults.{next_line, placed, form_faults, is_before, IsLeast}
+use Rattle.acc_form.specs.Faults.{next_line, placed, form_faults, is_before}
+use Rattle.acc_base.specs.Leasts.{IsLeast, better}
 use Rattle.acc_form.specs.WellFormed.{IsWellFormed}
-use Rattle.acc_form.specs.Walks.{better, noted, after}
+use Rattle.acc_form.specs.Walks.{noted, after}
 use Rattle.acc_form.proofs.Clean.{Clean}
 use Rattle.acc_form.proofs.FormedDesigns.{design_opens, design_shuts}
-use Rattle.acc_form.proofs.Leasts.{least_of, none_of, before_is_order}
+use Rattle.acc_base.proofs.Leasts.{least_of, none_of}
+use Rattle.acc_form.proofs.Orders.{before_is_order}
 
 -- the first fault
 first_after : (w : Walk) (ms : List Mark) → (after w ms).first ≡ fold (better is_before) w.first (placed w.line ms)

@@ -1,5 +1,7 @@
 -- The faults of a design: which rules are broken on which lines of its print; which fault comes first; what is well-formed.
-use Rattle.std.specs.Prelude.{ℕ, ◌+◌, ◌-◌, ◌^◌, Bool, ◌&&◌, ◌||◌, ◌==◌, List, [], ◌∷◌, nat_lt, IsTrue, Contains, All, if◌then◌else◌}
+use Rattle.std.specs.Prelude.{ℕ, ◌+◌, ◌-◌, ◌^◌, Bool, ◌&&◌, ◌||◌, ◌==◌, List, [], ◌∷◌, nat_lt, if◌then◌else◌}
+use Rattle.acc_base.specs.declared.rules.TheConstants.{RANGES}
+use Rattle.acc_base.specs.Leasts.{IsLeast}
 use Rattle.acc_base.specs.declared.designs.Design.{Design}
 use Rattle.acc_form.specs.declared.rules.FormError.{FormError}
 use Rattle.acc_form.specs.declared.rules.FormError.TheVariants.{Bad, Memory}
@@ -20,16 +22,11 @@ placed line (End ∷ ms) = placed (next_line line) ms
 -- the faults of a design, as rules and lines, in the order of the lines from 1: where a number is out of range, that alone,
 -- on no line
 unfoldable pub form_faults : Design → List (ℕ × ℕ)
-form_faults d = if design_in d then placed 1 (design_marks d) else ((1, 0) ∷ [])
+form_faults d = if design_in d then placed 1 (design_marks d) else ((RANGES, 0) ∷ [])
 
 -- a fault comes before another by its rule, and at one rule by its line
 unfoldable pub is_before : ℕ × ℕ → ℕ × ℕ → Bool
 is_before f g = nat_lt f.0 g.0 || ((f.0 == g.0) && nat_lt f.1 g.1)
-
--- one of the items, and none is less
-pub record IsLeast {X : Type 0} (is_less : X → X → Bool) (xs : List X) (x : X) : Type 0 where
-  pub there : Contains xs x
-  pub least : All (λ y. ¬ IsTrue (is_less y x)) xs
 
 -- the lowest rule that is broken, and the first line that breaks it; want of memory is never answered
 abbrev pub IsFirstFault : Design → FormError → Type 0

@@ -3,6 +3,7 @@ use Rattle.std.specs.Prelude.{◌≡◌, ◌⊎◌, ℕ, zero, suc, ◌+◌, Boo
 use Rattle.std.specs.Prelude.{length, map, take, drop, Contains, if◌then◌else◌, codes}
 use Rattle.std.specs.List.{flat_map, list_all}
 use Rattle.std.specs.Fmt.{decimal}
+use Rattle.acc_base.specs.declared.rules.TheConstants.{LAST_PATHS, LIMITS, NAMES, NUMBERS}
 use Rattle.acc_base.specs.declared.bounds.TheConstants.{MOST_CLAUSES, MOST_LOCALS, MOST_PATHS, MOST_POINTS, MOST_TYPES}
 use Rattle.acc_base.specs.Lines.{line}
 use Rattle.acc_base.specs.declared.forms.Lin.{Lin}
@@ -84,7 +85,7 @@ judged_target t side is_bare p = judge (line (target_text t.points p.target)) (t
 -- what is asked of `path` with its guard, one of at most 16 and of so many
 abbrev pub guard_marks : ℕ → ℕ → Path → List Mark
 guard_marks count i p =
-    asked 4 (not (i == MOST_PATHS) && guard_small p.guard) ++ (asked 7 (nat_lt (i + 1) count || (length p.guard == 0)) ++ ending)
+    asked LIMITS (not (i == MOST_PATHS) && guard_small p.guard) ++ (asked LAST_PATHS (nat_lt (i + 1) count || (length p.guard == 0)) ++ ending)
 
 -- `path` with its guard, its actions, its end
 abbrev pub judged_path : List Table → TxType → Side → Bool → ℕ → ℕ → Path → List Judged
@@ -112,7 +113,7 @@ judged_variant tables t l = if is_zero l then [] else judge (variant_lines (with
 -- what is asked of `point` with its name, one of at most 32
 abbrev pub point_name_marks : TxType → ℕ → Point → List Mark
 point_name_marks t i p =
-    asked 4 (not (i == MOST_POINTS) && is_short p.name) ++ (asked 6 (not (names_point (take i t.points) p.name)) ++ ending)
+    asked LIMITS (not (i == MOST_POINTS) && is_short p.name) ++ (asked NAMES (not (names_point (take i t.points) p.name)) ++ ending)
 
 -- `point` with its name; the variant; what holds; the two steps
 abbrev pub judged_point : List Table → TxType → ℕ → Point → List Judged
@@ -127,14 +128,14 @@ judged_point tables t i p =
 -- what is asked of `type` with its name and parameters, one of at most 64 and with at most 48 parameters
 abbrev pub type_name_marks : List TxType → ℕ → TxType → List Mark
 type_name_marks types i t =
-    asked 4 (not (i == MOST_TYPES) && is_short t.name && nat_le t.params MOST_LOCALS && list_all is_short (take t.params t.locals)) ++ (
-    asked 6 (not (names_type (take i types) t.name) && are_distinct (take t.params t.locals)) ++ ending)
+    asked LIMITS (not (i == MOST_TYPES) && is_short t.name && nat_le t.params MOST_LOCALS && list_all is_short (take t.params t.locals)) ++ (
+    asked NAMES (not (names_type (take i types) t.name) && are_distinct (take t.params t.locals)) ++ ending)
 
 -- `type` with its name and parameters; `limit`
 abbrev pub judged_head : List TxType → ℕ → TxType → List Judged
 judged_head types i t =
     judge (line (codes "type " ++ (t.name ++ flat_map spaced (take t.params t.locals)))) (type_name_marks types i t) ++
-    judge (line (codes "limit " ++ decimal t.limit)) (asked 5 (is_limit t.limit) ++ ending)
+    judge (line (codes "limit " ++ decimal t.limit)) (asked NUMBERS (is_limit t.limit) ++ ending)
 
 -- `returns`, where something is returned
 abbrev pub judged_returns : TxType → List Judged

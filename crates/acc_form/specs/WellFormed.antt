@@ -2,7 +2,7 @@
 use Rattle.std.specs.Prelude.{◌≡◌, ℕ, ◌+◌, ◌<◌, ◌≤◌, Bool, false, not, ◌||◌, ◌==◌, List, [], length, take, drop, slice_index_or, IsTrue}
 use Rattle.std.specs.Prelude.{All}
 use Rattle.std.specs.List.{list_all, list_any}
-use Rattle.acc_base.specs.declared.bounds.TheConstants.{MOST_ACTIONS, MOST_CLAUSES, MOST_LOCALS, MOST_PATHS, MOST_POINTS, MOST_READS}
+use Rattle.acc_base.specs.declared.bounds.TheConstants.{MOST_ACTIONS, MOST_CLAUSES, MOST_ENTRIES, MOST_HINTS, MOST_LOCALS, MOST_PATHS, MOST_POINTS, MOST_READS}
 use Rattle.acc_base.specs.declared.bounds.TheConstants.{MOST_TABLES, MOST_TYPES}
 use Rattle.acc_base.specs.declared.forms.Clause.{Clause}
 use Rattle.acc_base.specs.declared.tables.Table.{Table}
@@ -115,7 +115,7 @@ pub record IsWellFormed (d : Design) : Type 0 where
   pub always : AreClausesFormed d.tables [] 128 d.always
   pub few_types : length d.types ≤ MOST_TYPES
   pub types : EachNumbered (IsTypeFormed d.tables d.types) d.types
-  pub few_entries : length d.entries ≤ 1024
+  pub few_entries : length d.entries ≤ MOST_ENTRIES
   pub entries : EachNumbered (IsEntryFormed d.types d.entries) d.entries
-  pub few_hints : length d.hints ≤ 1024
+  pub few_hints : length d.hints ≤ MOST_HINTS
   pub hints : All IsHintFormed d.hints

@@ -2,7 +2,8 @@
 ghost use Rattle.std.specs.Prelude.{◌≡◌, ◌≤◌, ◌↔◌, [], length, IsOk, IfErr, MatchOption};
 ghost use Rattle.acc_form.specs.Marks.{numbered};
 ghost use Rattle.acc_form.specs.Statements.{table_marks, type_marks, entry_marks, hint_marks, design_marks};
-ghost use Rattle.acc_form.specs.Faults.{form_faults, is_before, IsLeast, IsFirstFault};
+ghost use Rattle.acc_form.specs.Faults.{form_faults, is_before, IsFirstFault};
+ghost use Rattle.acc_base.specs.Leasts.{IsLeast};
 ghost use Rattle.acc_form.specs.WellFormed.{IsWellFormed};
 ghost use Rattle.acc_form.specs.Walks.{after};
 ghost use Rattle.acc_form.specs.Judged.{IsFaultInPrint};
@@ -15,7 +16,7 @@ use crate::rules::FormError;
 use crate::sizes::{lin_small, table_small};
 use crate::types::meet_type;
 use crate::walks::Walk;
-use acc_base::bounds::MOST_TABLES;
+use acc_base::bounds::{MOST_ENTRIES, MOST_HINTS, MOST_TABLES};
 use acc_base::designs::{Design, Entry, Hint, TxType};
 use acc_base::rules::{ENTRIES, LIMITS, NAMES, PAIRS, RANGES, STARTS};
 use acc_base::tables::Table;
@@ -54,7 +55,7 @@ fn meet_entry(walk: &mut Walk, types: &[TxType], entries: &[Entry], i: usize, en
     requires { i ≤ length entries.now }
     ensures { walk.new ≡ after walk.old (entry_marks types.now entries.now i entry.now) }
 {
-    walk.ask(LIMITS, i != 1024);
+    walk.ask(LIMITS, i != MOST_ENTRIES);
     walk.ask(STARTS, leaves_starts(entry));
     walk.ask(ENTRIES, !stands_among(&entries[..i], entry));
     walk.ask(PAIRS, pairs_stay(types, entry));
@@ -73,7 +74,7 @@ fn meet_entries(walk: &mut Walk, types: &[TxType], entries: &[Entry])
 fn meet_hint(walk: &mut Walk, i: usize, hint: &Hint)
     ensures { walk.new ≡ after walk.old (hint_marks i hint.now) }
 {
-    walk.ask(LIMITS, i != 1024 && lin_small(&hint.lin));
+    walk.ask(LIMITS, i != MOST_HINTS && lin_small(&hint.lin));
     walk.end();
 }
 

@@ -1,6 +1,5 @@
 //! Where paths end, and what the reads of a step may do.
 ghost use Rattle.std.specs.Prelude.{◌≡◌};
-ghost use Rattle.acc_base.specs.Reads.{assigned};
 ghost use Rattle.acc_form.specs.Ends.{refuses_by_number, divides, may_end, refuses_plainly, assigns_local, may_read, is_undone};
 
 use acc_base::bounds::LARGEST_REFUSAL;
@@ -52,29 +51,11 @@ pub fn refuses_plainly(actions: &[Action], target: Target) -> bool
     }
 }
 
-/// The local that a read assigns.
-pub fn assigned(read: &Read) -> u32
-    ensures { result ≡ assigned read.now }
-{
-    match read {
-        Read::Let(x, _) => *x,
-        Read::Col(x, _, _, _) => *x,
-        Read::Has(x, _, _) => *x,
-        Read::Count(x, _, _) => *x,
-        Read::Sum(x, _, _, _) => *x,
-        Read::Least(x, _, _) => *x,
-        Read::Greatest(x, _, _) => *x,
-        Read::Take(x) => *x,
-        Read::Mul(x, _, _) => *x,
-        Read::Div(x, _, _) => *x,
-    }
-}
-
 /// Whether a read assigns a local that is no parameter.
 pub fn assigns_local(ty: &TxType, read: &Read) -> bool
     ensures { result ≡ assigns_local ty.now read.now }
 {
-    let local = assigned(read);
+    let local = read.assigned();
     ty.params <= local && (local as usize) < ty.locals.len()
 }
 

@@ -4,7 +4,6 @@ ghost use Rattle.std.specs.List.{list_all, list_any};
 ghost use Rattle.acc_form.specs.Entries.{leaves_starts, same_point, same_side, same_entry, read_keeps, undo_keeps, undos_keep};
 ghost use Rattle.acc_form.specs.Entries.{pair_stays, pairs_stay};
 
-use crate::ends::assigned;
 use acc_base::designs::{At, Entry, Point, Side, TxType};
 use acc_base::steps::Read;
 
@@ -52,7 +51,7 @@ pub fn stands_among(entries: &[Entry], entry: &Entry) -> bool
 fn all_reads_keep(x: u32, reads: &[Read]) -> bool
     ensures { result ≡ list_all (read_keeps x) reads.now }
 {
-    reads.iter().all(|r| assigned(r) != x)
+    reads.iter().all(|r| r.assigned() != x)
 }
 
 fn all_undos_keep(x: u32, points: &[Point]) -> bool

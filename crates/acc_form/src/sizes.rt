@@ -11,6 +11,7 @@ use acc_base::bounds::{
 };
 use acc_base::designs::Point;
 use acc_base::forms::{Atom, Clause, Lin, LinRel, Rel, Unknown};
+use acc_base::numbers::is_small;
 use acc_base::sequences::Text;
 use acc_base::steps::{Action, Read, Target};
 use acc_base::tables::Table;
@@ -27,12 +28,6 @@ pub fn all_short(names: &[Text]) -> bool
     ensures { result ≡ list_all is_short names.now }
 {
     names.iter().all(|n| is_short(n))
-}
-
-fn is_small(n: i64) -> bool
-    ensures { result ≡ is_small n }
-{
-    n.unsigned_abs() <= LARGEST_NUMBER
 }
 
 fn is_small_wide(n: i128) -> bool

@@ -2,7 +2,8 @@
 ghost use Rattle.std.specs.Prelude.{◌≡◌, [], ◌∷◌};
 ghost use Rattle.acc_form.specs.Marks.{Broken, End, asked};
 ghost use Rattle.acc_form.specs.Faults.{is_before, next_line};
-ghost use Rattle.acc_form.specs.Walks.{better, noted, after};
+ghost use Rattle.acc_form.specs.Walks.{noted, after};
+ghost use Rattle.acc_base.specs.Leasts.{better};
 
 /// The line at hand, and what was met so far.
 #[derive(Drop)]

@@ -1,5 +1,5 @@
 pub mod Counted
-pub mod Leasts
+pub mod Orders
 pub mod Placed
 pub mod Ended
 pub mod WordEndings

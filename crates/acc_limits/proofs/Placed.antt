@@ -11,7 +11,8 @@ use Rattle.acc_limits.specs.Statements.{design_marks}
 use Rattle.acc_limits.specs.Faults.{placed, limits_on, limit_faults}
 use Rattle.acc_limits.proofs.WordEndings.{endings}
 use Rattle.acc_limits.proofs.Endings.{design_endings}
-use Rattle.acc_limits.specs.Walks.{better, noted, after}
+use Rattle.acc_limits.specs.Walks.{noted, after}
+use Rattle.acc_base.specs.Leasts.{better}
 
 -- a statement's end counts where there is a number behind the statement's
 noted_end : (w : Walk) → w.statement + 1 < 2 ^ 64 → noted w End ≡ record w { statement = w.statement + 1 }

@@ -1,5 +1,5 @@
 -- The faults of a design: which statements pass which limits; the first fault, and the lowest limit on some statements.
-use Rattle.std.specs.Prelude.{ℕ, ◌+◌, Bool, ◌&&◌, List, [], ◌∷◌, nat_lt, nat_le, IsTrue, Contains, All, map, filter}
+use Rattle.std.specs.Prelude.{ℕ, ◌+◌, Bool, ◌&&◌, List, [], ◌∷◌, nat_lt, nat_le, map, filter}
 use Rattle.acc_syntax.specs.declared.trees.DesignTree.{DesignTree}
 use Rattle.acc_limits.specs.declared.limits.Limit.{Limit}
 use Rattle.acc_limits.specs.Marks.{Mark, Past, End}
@@ -18,8 +18,3 @@ limit_faults d = placed 0 (design_marks d)
 -- the limits that are passed by the statements from one number up to before another
 abbrev pub limits_on : ℕ → ℕ → List (ℕ × Limit) → List Limit
 limits_on from to faults = map (λ f. f.1) (filter (λ f. nat_le from f.0 && nat_lt f.0 to) faults)
-
--- one of the items, and none is less
-pub record IsLeast {X : Type 0} (is_less : X → X → Bool) (xs : List X) (x : X) : Type 0 where
-  pub there : Contains xs x
-  pub least : All (λ y. ¬ IsTrue (is_less y x)) xs

@@ -1,14 +1,10 @@
 -- What a walk over a design keeps of the marks that it met.
 -- Only the code that meets limits speaks of this, here and in acc_meaning; Statements and Faults say what they are.
-use Rattle.std.specs.Prelude.{◌+◌, ◌-◌, ◌^◌, Bool, ◌&&◌, List, Option, Some, None, if◌then◌else◌, nat_lt, nat_le, fold}
+use Rattle.std.specs.Prelude.{◌+◌, ◌-◌, ◌^◌, Bool, ◌&&◌, List, if◌then◌else◌, nat_lt, nat_le, fold}
+use Rattle.acc_base.specs.Leasts.{better}
 use Rattle.acc_limits.specs.declared.walks.Walk.{Walk}
 use Rattle.acc_limits.specs.Numbers.{is_lower, is_before}
 use Rattle.acc_limits.specs.Marks.{Mark, Past, End}
-
--- the lesser one of what was best so far, if there was something, and another
-abbrev pub better : {X : Type 0} → (X → X → Bool) → Option X → X → Option X
-better is_less None y = Some y
-better is_less (Some x) y = if is_less y x then Some y else Some x
 
 -- the walk that has met the mark too; the last number of a statement is 2^64 - 1
 unfoldable pub noted : Walk → Mark → Walk

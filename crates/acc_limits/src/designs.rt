@@ -4,7 +4,8 @@ ghost use Rattle.acc_statements.specs.Counts.{statements_of};
 ghost use Rattle.acc_limits.specs.Numbers.{is_lower, is_before};
 ghost use Rattle.acc_limits.specs.Marks.{counted};
 ghost use Rattle.acc_limits.specs.Statements.{table_marks, clause_statement_marks, type_marks, entry_marks, hint_marks, design_marks};
-ghost use Rattle.acc_limits.specs.Faults.{limit_faults, limits_on, IsLeast};
+ghost use Rattle.acc_limits.specs.Faults.{limit_faults, limits_on};
+ghost use Rattle.acc_base.specs.Leasts.{IsLeast};
 ghost use Rattle.acc_limits.specs.Walks.{after};
 
 use crate::limits::Limit;

@@ -2,7 +2,8 @@
 ghost use Rattle.std.specs.Prelude.{◌≡◌, [], ◌∷◌, IsTrue, ◌↔◌};
 ghost use Rattle.acc_limits.specs.Numbers.{is_lower, is_before};
 ghost use Rattle.acc_limits.specs.Marks.{Past, End, past};
-ghost use Rattle.acc_limits.specs.Walks.{better, noted, after};
+ghost use Rattle.acc_limits.specs.Walks.{noted, after};
+ghost use Rattle.acc_base.specs.Leasts.{better};
 
 use crate::limits::Limit;
 

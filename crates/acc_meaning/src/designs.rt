@@ -3,7 +3,7 @@ ghost use Rattle.std.specs.Prelude.{◌≡◌, ◌<◌, ◌^◌, ◌∷◌, ◌+
 ghost use Rattle.std.specs.List.{flat_map};
 ghost use Rattle.acc_limits.specs.Walks.{after};
 ghost use Rattle.acc_limits.specs.Numbers.{is_before};
-ghost use Rattle.acc_limits.specs.Faults.{IsLeast};
+ghost use Rattle.acc_base.specs.Leasts.{IsLeast};
 ghost use Rattle.acc_statements.specs.Counts.{statements_of};
 ghost use Rattle.acc_meaning.specs.Forms.{clause_of};
 ghost use Rattle.acc_meaning.specs.Types.{type_of};

@@ -8,7 +8,8 @@ use Rattle.acc_statements.proofs.OneLine.{no_earlier}
 use Rattle.acc_limits.specs.declared.limits.Limit.{Limit}
 use Rattle.acc_limits.specs.declared.limits.Limit.TheVariants as limit
 use Rattle.acc_limits.specs.Numbers.{number_of, is_lower, is_before}
-use Rattle.acc_limits.specs.Faults.{limits_on, limit_faults, IsLeast}
+use Rattle.acc_limits.specs.Faults.{limits_on, limit_faults}
+use Rattle.acc_base.specs.Leasts.{IsLeast}
 use Rattle.acc_meaning.specs.Sizes.{size_faults}
 use Rattle.acc_meaning.proofs.LoneLimit.{sizes_alone}
 use Rattle.acc_parse.specs.Texts.{past_limits}

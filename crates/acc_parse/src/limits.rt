@@ -2,7 +2,7 @@
 ghost use Rattle.std.specs.Prelude.{◌≡◌, ◌<◌, ◌^◌, [], IfOk, IfNone, IfSome};
 ghost use Rattle.acc_statements.specs.Counts.{statements_of};
 ghost use Rattle.acc_limits.specs.Numbers.{is_before};
-ghost use Rattle.acc_limits.specs.Faults.{IsLeast};
+ghost use Rattle.acc_base.specs.Leasts.{IsLeast};
 ghost use Rattle.acc_meaning.specs.Sizes.{size_faults};
 ghost use Rattle.acc_parse.specs.Texts.{IsGrammatical, past_limits};
 ghost use Rattle.acc_parse.specs.Faults.{IsFirstIn, PassesAt};

@@ -4,16 +4,10 @@ ghost use Rattle.std.specs.List.{list_all};
 ghost use Rattle.acc_base.specs.Numbers.{is_small};
 ghost use Rattle.acc_base.specs.Machine.{ask_fits, call_fits};
 
-use acc_base::bounds::{LARGEST_NUMBER, LATEST_ASK, LONGEST_TAPE};
+use acc_base::bounds::{LATEST_ASK, LONGEST_TAPE};
 use acc_base::designs::Design;
 use acc_base::machines::Call;
-
-/// Whether a number is within 2^45 of 0.
-fn is_small(n: i64) -> bool
-    ensures { result ≡ is_small n }
-{
-    n.unsigned_abs() <= LARGEST_NUMBER
-}
+use acc_base::numbers::is_small;
 
 /// Whether each number is within 2^45 of 0.
 fn all_small(numbers: &[i64]) -> bool

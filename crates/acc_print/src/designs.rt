@@ -1,8 +1,6 @@
 //! Whole designs.
-ghost use Rattle.std.specs.Prelude.{◌≡◌, ◌++◌, OnOk, IfOk, slice_get, codes};
+ghost use Rattle.std.specs.Prelude.{◌≡◌, ◌++◌, OnOk, IfOk, codes};
 ghost use Rattle.std.specs.List.{flat_map};
-ghost use Rattle.acc_base.specs.Effects.{point_of};
-ghost use Rattle.acc_base.specs.Lines.{type_name, point_name, at_text};
 ghost use Rattle.acc_print.specs.Lists.{listed};
 ghost use Rattle.acc_print.specs.Types.{type_lines};
 ghost use Rattle.acc_print.specs.Designs.{table_line, side_text, scope_at, pair_text, entry_line, hint_line, printed};
@@ -13,6 +11,7 @@ use crate::sums::push_number;
 use crate::types::push_type;
 use crate::values::push_lin;
 use acc_base::designs::{At, Design, Entry, Hint, Side, TxType};
+use acc_base::names::push_at;
 use acc_base::tables::Table;
 use std::alloc::{AllocError, Global};
 
@@ -56,37 +55,6 @@ fn push_types(out: &mut Vec<u8>, tables: &[Table], types: &[TxType]) -> Result<(
         push_type(out, tables, ty)?;
     }
     Ok(())
-}
-
-/// The name of a type, and none where it isn't in the design.
-fn type_name(d: &Design, ty: u32) -> &[u8]
-    ensures { result.now ≡ type_name (slice_get d.now.types ty) }
-{
-    match d.types.as_slice().get(ty as usize) {
-        Some(x) => x.name.as_slice(),
-        None => b"",
-    }
-}
-
-/// The name of a point of a type, and none where it isn't in the design.
-fn point_name(d: &Design, at: At) -> &[u8]
-    ensures { result.now ≡ point_name (point_of d.now at.ty at.point) }
-{
-    match d.types.as_slice().get(at.ty as usize) {
-        Some(x) => match x.points.as_slice().get(at.point as usize) {
-            Some(p) => p.name.as_slice(),
-            None => b"",
-        },
-        None => b"",
-    }
-}
-
-fn push_at(out: &mut Vec<u8>, d: &Design, at: At) -> Result<(), AllocError>
-    ensures { OnOk result (out.new.items ≡ out.old.items ++ at_text d.now at) }
-{
-    out.extend_from_slice(type_name(d, at.ty))?;
-    out.extend_from_slice(b".")?;
-    out.extend_from_slice(point_name(d, at))
 }
 
 /// What can be named within the type of a point.

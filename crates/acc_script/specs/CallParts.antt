@@ -3,6 +3,7 @@
 use Rattle.std.specs.Prelude.{◌≡◌, ◌≢◌, ℕ, ◌<◌, ◌≤◌, ◌^◌, true, List, ◌∷◌, ◌++◌, length, map, position, slice_get, Option, Some, ℤ}
 use Rattle.std.specs.List.{list_all}
 use Rattle.std.specs.Fmt.{signed_decimal}
+use Rattle.acc_base.specs.declared.bounds.TheConstants.{LONGEST_TAPE}
 use Rattle.acc_base.specs.declared.designs.Design.{Design}
 use Rattle.acc_base.specs.declared.designs.TxType.{TxType}
 use Rattle.acc_base.specs.Machine.{ask_fits}
@@ -33,7 +34,7 @@ BeginsNoNumber words = (v : ℤ) (left : List (List ℕ)) → IsSmall v → word
 -- the values fit on a tape
 pub record IsTape (tape : List ℤ) : Type 0 where
   pub small : list_all is_small tape ≡ true
-  pub few : length tape ≤ 4096
+  pub few : length tape ≤ LONGEST_TAPE
 
 -- words begin with the spelling of a tape's numbers, and no further number follows
 pub record TakesNumbers (words : List (List ℕ)) (tape : List ℤ) (left : List (List ℕ)) : Type 0 where

@@ -1,14 +1,14 @@
 //! The lines that are printed of a play. Each public call appends a line to `out`, or, where memory is wanting, nothing.
-ghost use Rattle.std.specs.Prelude.{◌≡◌, ◌++◌, codes, OnOk, OnErr, slice_get};
+ghost use Rattle.std.specs.Prelude.{◌≡◌, ◌++◌, codes, OnOk, OnErr};
 ghost use Rattle.std.specs.List.{flat_map};
 ghost use Rattle.std.specs.Fmt.{decimal};
-ghost use Rattle.acc_base.specs.Effects.{point_of};
 ghost use Rattle.acc_base.specs.Items.{item_at};
 ghost use Rattle.acc_base.specs.Plays.{Turns};
-ghost use Rattle.acc_base.specs.Lines.{line, told_line, at_text, cause_text, holder_text, turn_text, spaced, outcome_text, type_name, point_name};
+ghost use Rattle.acc_base.specs.Lines.{line, told_line, cause_text, holder_text, turn_text, spaced, outcome_text};
 
-use acc_base::designs::{At, Design};
+use acc_base::designs::Design;
 use acc_base::machines::{Cause, Outcome, Reply, Turn};
+use acc_base::names::push_at;
 use itoa::Buffer;
 use std::alloc::AllocError;
 
@@ -44,37 +44,6 @@ fn push_place(out: &mut Vec<u8>, place: u64, said: &[u8]) -> Result<(), AllocErr
     push_number(&mut text, place)?;
     text.extend_from_slice(said)?;
     push_line(out, text)
-}
-
-/// The name of a type, and none where it isn't in the design.
-fn type_name(d: &Design, ty: u32) -> &[u8]
-    ensures { result.now ≡ type_name (slice_get d.now.types ty) }
-{
-    match d.types.as_slice().get(ty as usize) {
-        Some(x) => x.name.as_slice(),
-        None => b"",
-    }
-}
-
-/// The name of a point of a type, and none where it isn't in the design.
-fn point_name(d: &Design, at: At) -> &[u8]
-    ensures { result.now ≡ point_name (point_of d.now at.ty at.point) }
-{
-    match d.types.as_slice().get(at.ty as usize) {
-        Some(x) => match x.points.as_slice().get(at.point as usize) {
-            Some(p) => p.name.as_slice(),
-            None => b"",
-        },
-        None => b"",
-    }
-}
-
-fn push_at(out: &mut Vec<u8>, d: &Design, at: At) -> Result<(), AllocError>
-    ensures { OnOk result (out.new.items ≡ out.old.items ++ at_text d.now at) }
-{
-    out.extend_from_slice(type_name(d, at.ty))?;
-    out.extend_from_slice(b".")?;
-    out.extend_from_slice(point_name(d, at))
 }
 
 fn push_cause(out: &mut Vec<u8>, cause: Cause) -> Result<(), AllocError>

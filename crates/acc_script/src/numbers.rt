@@ -71,7 +71,7 @@ fn magnitude(word: &[u8]) -> Option<u64>
 
 /// The number of steps, up to 65,536, that a word spells, if there is one.
 pub fn steps(word: &[u8]) -> Option<u32>
-    ensures { MatchOption result ((n : ℕ) → n ≤ 65536 → word.now ≢ decimal n) (λ n. (n ≤ 65536) × (word.now ≡ decimal n)) }
+    ensures { MatchOption result ((n : ℕ) → n ≤ LATEST_ASK → word.now ≢ decimal n) (λ n. (n ≤ LATEST_ASK) × (word.now ≡ decimal n)) }
 {
     let n = bounded(word, LATEST)?;
     Some(n as u32)

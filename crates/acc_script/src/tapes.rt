@@ -8,11 +8,9 @@ ghost use Rattle.acc_script.specs.CallParts.{BeginsNoNumber, TakesNumbers, Takes
 use crate::cuts::Words;
 use crate::errors::LineError;
 use crate::numbers::{integer, steps};
+use acc_base::bounds::{LATEST_ASK, LONGEST_TAPE};
 use acc_base::sequences::Seq;
 use std::alloc::Global;
-
-/// How many numbers a tape may have: 2^12.
-const MOST_ON_TAPE: usize = 1 << 12;
 
 /// The value of the next word, where it spells a number within 2^45 of 0; else the word stays.
 fn next_number(words: &mut Words) -> Option<i64>
@@ -32,7 +30,7 @@ fn numbers(alloc: Global, words: &mut Words) -> Result<Seq<i64>, LineError>
 {
     let mut tape = Seq::new(alloc);
     while let Some(value) = next_number(words) {
-        if tape.len() == MOST_ON_TAPE {
+        if tape.len() == LONGEST_TAPE {
             return Err(LineError::Refused);
         }
         tape.push(value)?;
@@ -71,8 +69,8 @@ pub fn ask(words: &mut Words) -> Result<Option<u32>, LineError>
 
 /// The number of steps that the last word says.
 fn last_steps(words: &mut Words) -> Result<u32, LineError>
-    ensures ok { IfOk result (λ n. (n ≤ 65536) × (words.old ≡ decimal n ∷ [])) }
-    ensures refused { result ≡ Err LineError.Refused → (n : ℕ) → n ≤ 65536 → words.old ≢ decimal n ∷ [] }
+    ensures ok { IfOk result (λ n. (n ≤ LATEST_ASK) × (words.old ≡ decimal n ∷ [])) }
+    ensures refused { result ≡ Err LineError.Refused → (n : ℕ) → n ≤ LATEST_ASK → words.old ≢ decimal n ∷ [] }
 {
     let Some(word) = words.next() else {
         return Err(LineError::Refused);

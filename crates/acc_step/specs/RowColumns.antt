@@ -3,20 +3,12 @@ use Rattle.std.specs.Prelude.{◌≤◌, ℕ, Bool, true, false, List, [], ◌�
 use Rattle.std.specs.Ordering.{is_eq}
 use Rattle.acc_base.specs.declared.designs.Side.{Side}
 use Rattle.acc_base.specs.declared.steps.Action.{Action}
-use Rattle.acc_base.specs.declared.steps.Action.TheVariants.{Put, Del, Set, Add}
 use Rattle.acc_base.specs.Tables.{Place, place_cmp}
 use Rattle.acc_step.specs.declared.changes.RowKey.{RowKey}
 use Rattle.acc_step.specs.declared.changes.RowChange.{RowChange}
 use Rattle.acc_step.specs.declared.changes.RowChange.TheVariants.{Put as Puts, Drop as Drops, Set as Sets, Add as Adds}
 use Rattle.acc_step.specs.Overlay.{may_store, sum_in}
 use Rattle.acc_step.specs.Changing.{place_at, change_if_small}
-
--- the table that an action is of
-abbrev pub acted_table : Action → ℕ
-acted_table (Put t k vs) = t
-acted_table (Del t k) = t
-acted_table (Set t k c v) = t
-acted_table (Add t k c v) = t
 
 -- the key of the row that a change is of
 abbrev pub key_of : RowChange → RowKey

@@ -7,6 +7,7 @@ ghost use Rattle.acc_step.specs.Changing.{change_if_small};
 
 use crate::values::{key_in_range, linear_in_range, linears_in_range};
 use crate::variables::Variables;
+use acc_base::bounds::{MOST_COLUMNS, MOST_KEY_PARTS};
 use acc_base::forms::Lin;
 use acc_base::steps::Action;
 use acc_store::Inline;
@@ -15,13 +16,13 @@ use acc_store::Inline;
 #[derive(Drop)]
 pub struct RowKey {
     pub table: u32,
-    pub parts: Inline<i64, 6>,
+    pub parts: Inline<i64, MOST_KEY_PARTS>,
 }
 
 /// A change of a row: of its columns, or of one of them.
 #[derive(Drop)]
 pub enum RowChange {
-    Put(RowKey, Inline<i64, 12>),
+    Put(RowKey, Inline<i64, MOST_COLUMNS>),
     Drop(RowKey),
     Set(RowKey, u32, i64),
     Add(RowKey, u32, i64),

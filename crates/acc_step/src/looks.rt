@@ -11,6 +11,7 @@ use crate::paths::path_taken;
 use crate::ranges::are_in_range;
 use crate::reads::take_reads;
 use crate::variables::Variables;
+use acc_base::bounds::MOST_LOCALS;
 use acc_base::designs::{Design, Side};
 use acc_base::machines::Frame;
 use acc_base::steps::{Step, Target};
@@ -38,8 +39,8 @@ fn led_to(target: Target) -> Outlook
 }
 
 /// Lays the items at the first places.
-fn lay(items: &[i64], places: &mut [i64; 48])
-    requires few { length items.now ≤ 48 }
+fn lay(items: &[i64], places: &mut [i64; MOST_LOCALS])
+    requires few { length items.now ≤ MOST_LOCALS }
     ensures first { take (length items.now) places.new ≡ items.now }
     ensures others { drop (length items.now) places.new ≡ drop (length items.now) places.old }
 {
@@ -47,7 +48,7 @@ fn lay(items: &[i64], places: &mut [i64; 48])
 }
 
 /// What a step of a frame would do.
-fn look_on<S: Store>(f: &Frame, side: Side, step: &Step, s: &S, after: &mut [i64; 48]) -> Outlook
+fn look_on<S: Store>(f: &Frame, side: Side, step: &Step, s: &S, after: &mut [i64; MOST_LOCALS]) -> Outlook
     requires can { CanStep side step.now }
     requires fits { IsSmallFrame f.now }
     requires order { IsInOrder (S.rows s.now) }
@@ -78,7 +79,7 @@ fn look_on<S: Store>(f: &Frame, side: Side, step: &Step, s: &S, after: &mut [i64
 ///
 /// The first places of `after` take the locals after the reads, where their numbers are in range. There is one look-up of the store
 /// for a read or an `add`, and an `add` walks the actions before it, of which there are at most 15.
-pub fn look<S: Store>(d: &Design, f: &Frame, side: Side, s: &S, after: &mut [i64; 48]) -> Outlook
+pub fn look<S: Store>(d: &Design, f: &Frame, side: Side, s: &S, after: &mut [i64; MOST_LOCALS]) -> Outlook
     requires runnable { IsRunnable d.now }
     requires fits { IsSmallFrame f.now }
     requires order { IsInOrder (S.rows s.now) }

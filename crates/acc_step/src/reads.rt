@@ -2,7 +2,7 @@
 ghost use Rattle.std.specs.Prelude.{◌≡◌, ◌<◌, ◌^◌, [], length, All, Some, None, pos, ◌*ℤ◌, ◌<ℤ◌, IfNone, IfSome};
 ghost use Rattle.std.specs.Int.{int_div_euclid};
 ghost use Rattle.acc_base.specs.Linear.{var, lin_value, lin_values};
-ghost use Rattle.acc_base.specs.Reads.{assigned, at_after, unread, after_reads};
+ghost use Rattle.acc_base.specs.Reads.{at_after, unread, after_reads};
 ghost use Rattle.acc_base.specs.Tables.{column_of, has_row, count_of, sum_of, least_of, greatest_of};
 ghost use Rattle.acc_base.specs.Runnable.{IsKey, CanRead, IsSmallFrame};
 ghost use Rattle.acc_step.specs.InRange.{value_read};
@@ -181,24 +181,6 @@ fn read_one<S: Store>(
     }
 }
 
-/// The local that a read assigns.
-fn assigned_by(read: &Read) -> u32
-    ensures { result ≡ assigned read.now }
-{
-    match read {
-        Read::Let(x, _) => *x,
-        Read::Col(x, _, _, _) => *x,
-        Read::Has(x, _, _) => *x,
-        Read::Count(x, _, _) => *x,
-        Read::Sum(x, _, _, _) => *x,
-        Read::Least(x, _, _) => *x,
-        Read::Greatest(x, _, _) => *x,
-        Read::Take(x) => *x,
-        Read::Mul(x, _, _) => *x,
-        Read::Div(x, _, _) => *x,
-    }
-}
-
 /// The place on the tape after a read.
 fn place_after(tape: &[i64], at: u32, read: &Read) -> u32
     requires few { length tape.now < 2 ^ 32 }
@@ -237,7 +219,7 @@ pub fn take_reads<S: Store>(
     let mut at = f.pos;
     for read in reads {
         let value = read_one(s, read, variables, tape, at)?;
-        variables.assign(assigned_by(read), value);
+        variables.assign(read.assigned(), value);
         at = place_after(tape, at, read);
     }
     Some(at)

@@ -9,7 +9,7 @@ ghost use Rattle.acc_step.specs.Variables.{values_of};
 
 use crate::variables::Variables;
 use crate::wide_sums::{WideSum, shortened, with_more};
-use acc_base::bounds::LARGEST_NUMBER;
+use acc_base::bounds::{LARGEST_NUMBER, MOST_KEY_PARTS};
 use acc_base::forms::Lin;
 use acc_store::Inline;
 
@@ -120,7 +120,7 @@ pub fn linears_in_range<const N: usize>(ls: &[Lin], variables: &Variables) -> Op
 }
 
 /// The parts of a key, if they are in range.
-pub fn key_in_range(key: &[Lin], variables: &Variables) -> Option<Inline<i64, 6>>
+pub fn key_in_range(key: &[Lin], variables: &Variables) -> Option<Inline<i64, MOST_KEY_PARTS>>
     requires key { IsKey key.now }
     ensures { result ≡ if_all_small (lin_values (values_of variables.now) key.now) }
 {

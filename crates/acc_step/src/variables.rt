@@ -4,13 +4,14 @@ ghost use Rattle.acc_base.specs.Numbers.{IsSmall};
 ghost use Rattle.acc_base.specs.Linear.{var};
 ghost use Rattle.acc_base.specs.Runnable.{IsSmallFrame};
 
+use acc_base::bounds::MOST_LOCALS;
 use acc_base::machines::Frame;
 use acc_store::Inline;
 
 /// The locals of a transaction and its number, which `self` stands for, all in range.
 #[derive(Drop)]
 pub struct Variables {
-    pub locals: Inline<i64, 48>,
+    pub locals: Inline<i64, MOST_LOCALS>,
     pub number: u64,
     ghost small: { All IsSmall locals },
     ghost small_number: { number ≤ 2 ^ 45 },

@@ -5,18 +5,19 @@ ghost use Rattle.acc_base.specs.Runnable.{CanAct};
 ghost use Rattle.acc_store.specs.Bounds.{AreWithin};
 ghost use Rattle.acc_step.specs.Overlay.{columns_at, sum_in};
 ghost use Rattle.acc_step.specs.Changing.{change_if_small};
-ghost use Rattle.acc_step.specs.RowColumns.{acted_table as table_acted, key_of, columns_made, columns_moved, columns_acted, columns_through, AreNear};
+ghost use Rattle.acc_step.specs.RowColumns.{key_of, columns_made, columns_moved, columns_acted, columns_through, AreNear};
 
 use crate::changes::{RowChange, RowKey, evaluated};
 use crate::lookups::is_place;
 use crate::values::widened;
 use crate::variables::Variables;
 use crate::writers::{near_sum, value_at};
+use acc_base::bounds::MOST_COLUMNS;
 use acc_base::steps::Action;
 use acc_store::{Inline, Store};
 
 /// The columns with one of them set, where there is such a one.
-fn with_cell(cols: Inline<i128, 12>, col: u32, value: i128) -> Inline<i128, 12>
+fn with_cell(cols: Inline<i128, MOST_COLUMNS>, col: u32, value: i128) -> Inline<i128, MOST_COLUMNS>
     ensures { result ≡ slice_set cols col value }
 {
     let mut cols = cols;
@@ -25,7 +26,7 @@ fn with_cell(cols: Inline<i128, 12>, col: u32, value: i128) -> Inline<i128, 12>
 }
 
 /// The columns with a number added to one of them, where there is such a one.
-fn with_sum(cols: Inline<i128, 12>, col: u32, more: i64) -> Inline<i128, 12>
+fn with_sum(cols: Inline<i128, MOST_COLUMNS>, col: u32, more: i64) -> Inline<i128, MOST_COLUMNS>
     requires near { All (λ v. unsigned_abs v ≤ 2 ^ 121) cols }
     ensures { result ≡ slice_set cols col (sum_in col more cols) }
 {
@@ -34,7 +35,7 @@ fn with_sum(cols: Inline<i128, 12>, col: u32, more: i64) -> Inline<i128, 12>
 }
 
 /// Numbers as columns.
-fn widened_columns(values: &[i64]) -> Inline<i128, 12>
+fn widened_columns(values: &[i64]) -> Inline<i128, MOST_COLUMNS>
     requires few { length values.now ≤ 12 }
     ensures { result ≡ values.now }
 {
@@ -58,7 +59,7 @@ fn changed_key(change: &RowChange) -> &RowKey
 }
 
 /// The columns of a row after a change of it.
-fn columns_changed(cols: Option<Inline<i128, 12>>, change: &RowChange) -> Option<Inline<i128, 12>>
+fn columns_changed(cols: Option<Inline<i128, MOST_COLUMNS>>, change: &RowChange) -> Option<Inline<i128, MOST_COLUMNS>>
     requires near { AreNear (2 ^ 121) cols }
     ensures { result ≡ columns_made change.now cols }
 {
@@ -72,11 +73,11 @@ fn columns_changed(cols: Option<Inline<i128, 12>>, change: &RowChange) -> Option
 
 /// The columns at a key after a change.
 fn columns_with_change(
-    cols: Option<Inline<i128, 12>>,
+    cols: Option<Inline<i128, MOST_COLUMNS>>,
     change: &RowChange,
     table: u32,
     key: &[i64],
-) -> Option<Inline<i128, 12>>
+) -> Option<Inline<i128, MOST_COLUMNS>>
     requires near { AreNear (2 ^ 121) cols }
     ensures { result ≡ columns_moved (table, key.now) change.now cols }
 {
@@ -88,31 +89,19 @@ fn columns_with_change(
     }
 }
 
-/// The table that an action is of.
-fn acted_table(action: &Action) -> u32
-    ensures { result ≡ table_acted action.now }
-{
-    match action {
-        Action::Put(table, _, _) => *table,
-        Action::Del(table, _) => *table,
-        Action::Set(table, _, _, _) => *table,
-        Action::Add(table, _, _, _) => *table,
-    }
-}
-
 /// The columns at a key after an action whose numbers are in range.
 fn columns_with_action(
-    cols: Option<Inline<i128, 12>>,
+    cols: Option<Inline<i128, MOST_COLUMNS>>,
     action: &Action,
     table: u32,
     key: &[i64],
     variables: &Variables,
-) -> Option<Inline<i128, 12>>
+) -> Option<Inline<i128, MOST_COLUMNS>>
     requires can { CanAct action.now }
     requires near { AreNear (2 ^ 121) cols }
     ensures { result ≡ columns_acted (table, key.now) (change_if_small (values_of variables.now) action.now) cols }
 {
-    if acted_table(action) != table {
+    if action.table() != table {
         return cols;
     }
     match evaluated(action, variables) {
@@ -122,7 +111,7 @@ fn columns_with_action(
 }
 
 /// The columns of the row at a key in a store, if there is one.
-fn columns_stored<S: Store>(s: &S, table: u32, key: &[i64]) -> Option<Inline<i128, 12>>
+fn columns_stored<S: Store>(s: &S, table: u32, key: &[i64]) -> Option<Inline<i128, MOST_COLUMNS>>
     ensures { result ≡ columns_at (table, key.now) (S.rows s.now) }
 {
     match s.columns(table, key) {
@@ -138,7 +127,7 @@ pub fn columns_past<S: Store>(
     table: u32,
     key: &[i64],
     variables: &Variables,
-) -> Option<Inline<i128, 12>>
+) -> Option<Inline<i128, MOST_COLUMNS>>
     requires can { All CanAct actions.now }
     requires few { length actions.now ≤ 16 }
     requires within { AreWithin (2 ^ 120) (S.rows s.now) }

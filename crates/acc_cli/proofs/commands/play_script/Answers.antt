@@ -4,7 +4,7 @@ use Rattle.std.specs.Fmt.{decimal}
 use Rattle.std.proofs.lemmas.Result.{IfOk-weaker}
 use Rattle.acc_base.specs.Lines.{line}
 use Rattle.acc_cli.specs.declared.status.Ending.TheVariants.{Script}
-use Rattle.acc_cli.specs.Outcome.{said_of}
+use Rattle.acc_cli.specs.Responses.{said_of}
 use Rattle.acc_cli.specs.Text.{Says}
 use Rattle.acc_cli.specs.PlayFiles.{SaysOfScript}
 use Rattle.acc_cli.proofs.SaidLemmas.{calls_fit}

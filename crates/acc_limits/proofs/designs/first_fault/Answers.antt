@@ -3,8 +3,10 @@ use Rattle.std.proofs.lemmas.List.Elements.{All-contains}
 use Rattle.acc_limits.specs.declared.limits.Limit.{Limit}
 use Rattle.acc_limits.specs.Numbers.{is_before}
 use Rattle.acc_statements.specs.Counts.{statements_of}
-use Rattle.acc_limits.specs.Faults.{limit_faults, IsLeast}
-use Rattle.acc_limits.proofs.Leasts.{before_is_order, least_of, none_of, some_weaker}
+use Rattle.acc_limits.specs.Faults.{limit_faults}
+use Rattle.acc_base.specs.Leasts.{IsLeast}
+use Rattle.acc_base.proofs.Leasts.{least_of, none_of, some_weaker}
+use Rattle.acc_limits.proofs.Orders.{before_is_order}
 use Rattle.acc_limits.proofs.Ended.{faults_within}
 use Rattle.acc_limits.proofs.Placed.{first_of_design}
 use Rattle.acc_limits.proofs.designs.first_fault.Goals as goal

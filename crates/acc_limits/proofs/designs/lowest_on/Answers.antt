@@ -1,7 +1,9 @@
 use Rattle.std.proofs.Common.{◌≡◌, [], IfSome, IfNone, sym, subst}
 use Rattle.acc_limits.specs.Numbers.{is_lower}
-use Rattle.acc_limits.specs.Faults.{limit_faults, limits_on, IsLeast}
-use Rattle.acc_limits.proofs.Leasts.{lower_is_order, least_of, none_of}
+use Rattle.acc_limits.specs.Faults.{limit_faults, limits_on}
+use Rattle.acc_base.specs.Leasts.{IsLeast}
+use Rattle.acc_base.proofs.Leasts.{least_of, none_of}
+use Rattle.acc_limits.proofs.Orders.{lower_is_order}
 use Rattle.acc_limits.proofs.Placed.{lowest_of_design}
 use Rattle.acc_limits.proofs.designs.lowest_on.Goals as goal
 

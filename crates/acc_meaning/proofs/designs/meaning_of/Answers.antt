@@ -5,9 +5,10 @@ use Rattle.acc_statements.specs.Counts.{statements_of}
 use Rattle.acc_limits.specs.declared.limits.Limit.{Limit}
 use Rattle.acc_limits.specs.declared.walks.Walk.{Walk}
 use Rattle.acc_limits.specs.Numbers.{is_before}
-use Rattle.acc_limits.specs.Faults.{IsLeast}
-use Rattle.acc_limits.specs.Walks.{better, after}
-use Rattle.acc_limits.proofs.Leasts.{before_is_order, least_of, none_of, some_weaker}
+use Rattle.acc_base.specs.Leasts.{IsLeast, better}
+use Rattle.acc_limits.specs.Walks.{after}
+use Rattle.acc_base.proofs.Leasts.{least_of, none_of, some_weaker}
+use Rattle.acc_limits.proofs.Orders.{before_is_order}
 use Rattle.acc_limits.proofs.Placed.{start, first_after}
 use Rattle.acc_meaning.specs.Sizes.{design_sizes, size_faults}
 use Rattle.acc_meaning.proofs.Endings.{design_endings}

@@ -2,10 +2,7 @@
 use Rattle.std.proofs.Common.{◌≡◌, ℕ, ◌<◌, zero, suc, length, get_or, ◌∙◌, Bool, true, false, List, [], ◌∷◌, Option, Some, None, IsTrue, Contains, IfSome, IfNone, if◌then◌else◌, fold, refl, sym, arith}
 use Rattle.std.proofs.lemmas.List.Elements.{All-nil, All-cons, All-head, All-tail, Contains-append_right}
 use Rattle.std.proofs.lemmas.Bool.{false≢true}
-use Rattle.std.proofs.lemmas.Bool.Decides.{nat_tests}
-use Rattle.acc_limits.specs.Numbers.{is_lower, is_before}
-use Rattle.acc_limits.specs.Faults.{IsLeast}
-use Rattle.acc_limits.specs.Walks.{better}
+use Rattle.acc_base.specs.Leasts.{IsLeast, better}
 
 -- what a test has to meet, so that one of the items is the least
 pub record IsOrder {X : Type 0} (is_less : X → X → Bool) : Type 0 where
@@ -70,20 +67,3 @@ stays_some is_less x (y ∷ ys) Q =
 pub none_of : {X : Type 0} (is_less : X → X → Bool) (xs : List X) → IfNone (fold (better is_less) None xs) (xs ≡ [])
 none_of is_less [] = refl
 none_of is_less (x ∷ xs) = stays_some is_less x xs (x ∷ xs ≡ [])
-
--- a limit's number decides
-pub lower_is_order : IsOrder is_lower
-unfolding is_lower
-lower_is_order = record {
-  irreflexive = λ k. grind (arith, nat_tests);
-  transitive = λ k l m e f. grind (arith, nat_tests);
-  rising = λ k l m e f. grind (arith, nat_tests);
-}
-
-pub before_is_order : IsOrder is_before
-unfolding is_before is_lower
-before_is_order = record {
-  irreflexive = λ f. grind (arith, nat_tests);
-  transitive = λ f g h a b. grind (arith, nat_tests);
-  rising = λ f g h a b. grind (arith, nat_tests);
-}

@@ -1,0 +1,39 @@
+//! The names of types and points.
+ghost use Rattle.std.specs.Prelude.{◌≡◌, ◌++◌, OnOk, slice_get};
+ghost use Rattle.acc_base.specs.Effects.{point_of};
+ghost use Rattle.acc_base.specs.Lines.{type_name, point_name, at_text};
+
+use crate::designs::{At, Design};
+use std::alloc::AllocError;
+
+/// The name of a type, and none where it isn't in the design.
+pub fn type_name(d: &Design, ty: u32) -> &[u8]
+    ensures { result.now ≡ type_name (slice_get d.now.types ty) }
+{
+    match d.types.as_slice().get(ty as usize) {
+        Some(x) => x.name.as_slice(),
+        None => b"",
+    }
+}
+
+/// The name of a point of a type, and none where it isn't in the design.
+pub fn point_name(d: &Design, at: At) -> &[u8]
+    ensures { result.now ≡ point_name (point_of d.now at.ty at.point) }
+{
+    match d.types.as_slice().get(at.ty as usize) {
+        Some(x) => match x.points.as_slice().get(at.point as usize) {
+            Some(p) => p.name.as_slice(),
+            None => b"",
+        },
+        None => b"",
+    }
+}
+
+/// Writes a point, as `TYPE.POINT`, behind a text. Where memory is wanting, the text may have a front of it.
+pub fn push_at(out: &mut Vec<u8>, d: &Design, at: At) -> Result<(), AllocError>
+    ensures { OnOk result (out.new.items ≡ out.old.items ++ at_text d.now at) }
+{
+    out.extend_from_slice(type_name(d, at.ty))?;
+    out.extend_from_slice(b".")?;
+    out.extend_from_slice(point_name(d, at))
+}

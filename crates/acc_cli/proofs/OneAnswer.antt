@@ -1,0 +1,158 @@
+-- A command line means one answer, on a shelf that tells what stands at each name, where no read fails.
+use Rattle.std.proofs.Common.{◌≡◌, ◌≢◌, ℕ, ◌<◌, ◌≤◌, ◌+◌, ◌-◌, ◌^◌, zero, suc, List, [], ◌∷◌, ◌++◌, length, Option, None, Some, IfSome, IsSomeAnd, refl, sym, ap, subst, ◌∙◌, inl, inr, arith}
+use Rattle.std.specs.Prelude.{min}
+use Rattle.acc_io.specs.Causes.{one_more, Rose}
+use Rattle.acc_io.specs.Counted.{after_files, after_refusal}
+use Rattle.acc_io.specs.Shelves.{Told, IsFile, IsAbsent, IsLong, IsRefused}
+use Rattle.acc_io.specs.declared.counts.Counts.{Counts}
+use Rattle.acc_io.specs.declared.shelf.ShelfError.{ShelfError}
+use Rattle.acc_io.specs.declared.shelf.ShelfError.TheVariants.{Failed, Absent, Long, Memory}
+use Rattle.acc_cli.specs.declared.words.Command.{Command}
+use Rattle.acc_cli.specs.declared.status.Ending.{Ending}
+use Rattle.acc_cli.specs.declared.status.Status.TheVariants.{Ran}
+use Rattle.acc_cli.specs.Text.{Said, Reply}
+use Rattle.acc_cli.specs.Words.{command_of, files_of}
+use Rattle.acc_cli.specs.Files.{AreFiles, IsFirstRefused, SaysRefused}
+use Rattle.acc_cli.specs.Meant.{Means, RefusesFile, Runs, MeansForm, Meant}
+use Rattle.acc_cli.proofs.OneMeaning.{one_meaning}
+
+-- ---- what stands at a name is told in one way
+
+-- a refusal that speaks of what stands at the name
+Speaks : ShelfError → Type 0
+Speaks Failed = ⊥
+Speaks Absent = Unit {0}
+Speaks (Long n) = Unit {0}
+Speaks Memory = ⊥
+
+one_file : (told : Told) (f g : List ℕ) → told ≢ None → IsFile told f → IsFile told g → f ≡ g
+one_file None f g tells h k = absurd (tells refl)
+one_file (Some file) f g tells h k = let e : Some f ≡ Some g = sym h.1 ∙ k.1 in cc
+
+file_or_refused : (told : Told) (f : List ℕ) (e : ShelfError) → told ≢ None → Speaks e → IsFile told f → IsRefused told e → ⊥
+file_or_refused told f Failed tells speaks h k = speaks
+file_or_refused None f Absent tells speaks h k = tells refl
+file_or_refused (Some file) f Absent tells speaks h k = let e : Some f ≡ None = sym h.1 ∙ k in cc
+file_or_refused None f (Long n) tells speaks h k = tells refl
+file_or_refused (Some None) f (Long n) tells speaks h k = k.1
+file_or_refused (Some (Some bytes)) f (Long n) tells speaks h k =
+    let same : bytes ≡ f = (let e : Some bytes ≡ Some f = h.1 in cc) in
+    absurd (omega (arith, h.0, k.0, k.1, ap length same))
+file_or_refused told f Memory tells speaks h k = speaks
+
+one_refusal : (told : Told) (e f : ShelfError) → told ≢ None → Speaks e → Speaks f → IsRefused told e → IsRefused told f → e ≡ f
+one_refusal told Failed f tells s t h k = absurd s
+one_refusal told Memory f tells s t h k = absurd s
+one_refusal told Absent Failed tells s t h k = absurd t
+one_refusal told Absent Memory tells s t h k = absurd t
+one_refusal told Absent Absent tells s t h k = refl
+one_refusal None Absent (Long n) tells s t h k = absurd (tells refl)
+one_refusal (Some None) Absent (Long n) tells s t h k = absurd k.1
+one_refusal (Some (Some bytes)) Absent (Long n) tells s t h k = cc
+one_refusal told (Long n) Failed tells s t h k = absurd t
+one_refusal told (Long n) Memory tells s t h k = absurd t
+one_refusal None (Long n) Absent tells s t h k = absurd (tells refl)
+one_refusal (Some None) (Long n) Absent tells s t h k = absurd h.1
+one_refusal (Some (Some bytes)) (Long n) Absent tells s t h k = cc
+one_refusal None (Long n) (Long m) tells s t h k = absurd (tells refl)
+one_refusal (Some None) (Long n) (Long m) tells s t h k = absurd h.1
+one_refusal (Some (Some bytes)) (Long n) (Long m) tells s t h k = ap (λ l. Long l) (sym h.1 ∙ k.1)
+
+-- ---- the files of names, and the first that is refused
+
+module _ (held : List ℕ → Told) (tells : (name : List ℕ) → held name ≢ None) where
+  pub one_files : (names files other : List (List ℕ)) → AreFiles held names files → AreFiles held names other → files ≡ other
+  one_files [] [] [] h k = refl
+  one_files [] [] (g ∷ gs) h k = absurd k
+  one_files [] (f ∷ fs) other h k = absurd h
+  one_files (n ∷ ns) [] other h k = absurd h
+  one_files (n ∷ ns) (f ∷ fs) [] h k = absurd k
+  one_files (n ∷ ns) (f ∷ fs) (g ∷ gs) h k =
+      λ i. (one_file (held n) f g (tells n) h.0 k.0 i ∷ one_files ns fs gs h.1 k.1 i)
+
+  -- names that all have files have none that is refused
+  pub given_or_refused : (before after files earlier : List (List ℕ)) (name : List ℕ) (e : ShelfError) → Speaks e
+      → AreFiles held (before ++ name ∷ after) files → AreFiles held before earlier → IsRefused (held name) e → ⊥
+  given_or_refused [] after [] earlier name e s all h k = all
+  given_or_refused [] after (f ∷ fs) earlier name e s all h k = file_or_refused (held name) f e (tells name) s all.0 k
+  given_or_refused (n ∷ ns) after [] earlier name e s all h k = all
+  given_or_refused (n ∷ ns) after (f ∷ fs) [] name e s all h k = h
+  given_or_refused (n ∷ ns) after (f ∷ fs) (g ∷ gs) name e s all h k = given_or_refused ns after fs gs name e s all.1 h.1 k
+
+  pub one_first : (before other after rest files earlier : List (List ℕ)) (name label : List ℕ) (e f : ShelfError) → Speaks e → Speaks f
+      → before ++ name ∷ after ≡ other ++ label ∷ rest → AreFiles held before files → AreFiles held other earlier
+      → IsRefused (held name) e → IsRefused (held label) f → (name ≡ label) × (e ≡ f)
+  one_first [] [] after rest files earlier name label e f s t same h k r q =
+      let name_is : name ≡ label = cc in
+      (name_is, one_refusal (held label) e f (tells label) s t (subst (λ n. IsRefused (held n) e) name_is r) q)
+  one_first [] (o ∷ os) after rest files [] name label e f s t same h k r q = absurd k
+  one_first [] (o ∷ os) after rest files (g ∷ gs) name label e f s t same h k r q =
+      let name_is : name ≡ o = cc in
+      absurd (file_or_refused (held o) g e (tells o) s k.0 (subst (λ n. IsRefused (held n) e) name_is r))
+  one_first (n ∷ ns) [] after rest [] earlier name label e f s t same h k r q = absurd h
+  one_first (n ∷ ns) [] after rest (g ∷ gs) earlier name label e f s t same h k r q =
+      let name_is : n ≡ label = cc in
+      absurd (file_or_refused (held label) g f (tells label) t (subst (λ m. IsFile (held m) g) name_is h.0) q)
+  one_first (n ∷ ns) (o ∷ os) after rest [] earlier name label e f s t same h k r q = absurd h
+  one_first (n ∷ ns) (o ∷ os) after rest (g ∷ gs) [] name label e f s t same h k r q = absurd k
+  one_first (n ∷ ns) (o ∷ os) after rest (g ∷ gs) (i ∷ is) name label e f s t same h k r q =
+      one_first ns os after rest gs is name label e f s t cc h.1 k.1 r q
+
+-- ---- where no read fails, the refusal speaks
+
+same_faults : (n : ℕ) (counts : Counts) → (after_files n counts).faults ≡ counts.faults
+same_faults zero counts = refl
+same_faults (suc n) counts = same_faults n counts
+
+speaks : (n : ℕ) (counts now : Counts) (e : ShelfError) (text name : List ℕ) → ¬ Rose counts.faults now.faults
+    → now ≡ after_refusal (after_files n counts) e → SaysRefused name e text → Speaks e
+speaks n counts now Failed text name none is said =
+    let rose : now.faults ≡ one_more counts.faults = ap (λ c. c.faults) is ∙ ap one_more (same_faults n counts) in
+    none (omega (arith, rose))
+speaks n counts now Absent text name none is said = tt
+speaks n counts now (Long m) text name none is said = tt
+speaks n counts now Memory text name none is said = said
+
+one_text : (name label : List ℕ) (e f : ShelfError) (t u : List ℕ) → name ≡ label → e ≡ f → Speaks e → SaysRefused name e t → SaysRefused label f u → t ≡ u
+one_text name label Failed f t u same is s h k = absurd s
+one_text name label Memory f t u same is s h k = absurd s
+one_text name label Absent f t u same is s h k = h ∙ sym (subst (λ x. SaysRefused x Absent u) (sym same) (subst (λ x. SaysRefused label x u) (sym is) k))
+one_text name label (Long n) f t u same is s h k = h ∙ sym (subst (λ x. SaysRefused x (Long n) u) (sym same) (subst (λ x. SaysRefused label x u) (sym is) k))
+
+-- ---- answers
+
+module _ (held : List ℕ → Told) (tells : (name : List ℕ) → held name ≢ None) (counts one other : Counts)
+    (first : ¬ Rose counts.faults one.faults) (second : ¬ Rose counts.faults other.faults) where
+  both_refuse : (names : List (List ℕ)) (a b : Reply) → RefusesFile held counts one names a → RefusesFile held counts other names b → a ≡ b
+  both_refuse names a b (status, history, name, e, h, said) (status', history', label, f, k, told) =
+      let s = speaks (length h.before) counts one e a.text name first h.counted said in
+      let t = speaks (length k.before) counts other f b.text label second k.counted told in
+      let same = one_first held tells h.before k.before h.after k.after h.files k.files name label e f s t (sym h.place ∙ k.place) h.read k.read h.refused k.refused in
+      let text = one_text name label e f a.text b.text same.0 same.1 s said told in
+      λ i. record { status = (status ∙ sym status') i; text = text i; history = (history ∙ sym history') i }
+
+  given_and_refused : (names files : List (List ℕ)) (now : Counts) (b : Reply) → ¬ Rose counts.faults now.faults → AreFiles held names files → RefusesFile held counts now names b → ⊥
+  given_and_refused names files now b none given (status, history, label, f, k, told) =
+      let t = speaks (length k.before) counts now f b.text label none k.counted told in
+      given_or_refused held tells k.before k.after files k.files label f t (subst (λ ns. AreFiles held ns files) k.place given) k.read k.refused
+
+  both_run : (command : Command) (names : List (List ℕ)) (a b : Reply) → Runs held counts one command names a → Runs held counts other command names b → a ≡ b
+  both_run command names a b (files, ending, given, counted, status, means) (files', ending', given', counted', status', means') =
+      let same : files' ≡ files = one_files held tells names files' files given' given in
+      let said = one_meaning command files (record { ending = ending; text = a.text; history = a.history }) (record { ending = ending'; text = b.text; history = b.history })
+          means (subst (λ fs. Means command fs (record { ending = ending'; text = b.text; history = b.history })) same means') in
+      let ended : a.status ≡ b.status = status ∙ ap (λ (s : Said). Ran s.ending) said ∙ sym status' in
+      λ i. record { status = ended i; text = (said i).text; history = (said i).history }
+
+  pub of_form : (form : Option Command) (words : List (List ℕ)) (a b : Reply) → MeansForm held counts one words form a → MeansForm held counts other words form b → a ≡ b
+  of_form None words a b h k = λ i. record { status = (h.0 ∙ sym k.0) i; text = (h.2 ∙ sym k.2) i; history = (h.3 ∙ sym k.3) i }
+  of_form (Some command) words a b (inl h) (inl k) = both_refuse (files_of command words) a b h k
+  of_form (Some command) words a b (inl h) (inr k) = absurd (given_and_refused (files_of command words) k.0 one a first k.2 h)
+  of_form (Some command) words a b (inr h) (inl k) = absurd (given_and_refused (files_of command words) h.0 other b second h.2 k)
+  of_form (Some command) words a b (inr h) (inr k) = both_run command (files_of command words) a b h k
+
+pub one_answer : (held : List ℕ → Told) (counts one other : Counts) (words : List (List ℕ)) (a b : Reply)
+    → ((name : List ℕ) → held name ≢ None) → ¬ Rose counts.faults one.faults → ¬ Rose counts.faults other.faults
+    → Meant held counts one words a → Meant held counts other words b → a ≡ b
+one_answer held counts one other words a b tells first second h k =
+    of_form held tells counts one other first second (command_of words) words a b h k
