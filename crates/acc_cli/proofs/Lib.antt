@@ -1,5 +1,5 @@
 pub mod FilesLemmas
-pub mod RowsLemmas
+pub mod CauseLemmas
 pub mod SaidLemmas
 pub mod StatusLemmas
 pub mod OneMeaning

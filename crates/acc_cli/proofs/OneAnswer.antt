@@ -104,14 +104,14 @@ same_faults : (n : ℕ) (counts : Counts) → (after_files n counts).faults ≡ 
 same_faults zero counts = refl
 same_faults (suc n) counts = same_faults n counts
 
-speaks : (n : ℕ) (counts now : Counts) (e : ShelfError) (text name : List ℕ) → ¬ Rose counts.faults now.faults
+must_speak : (n : ℕ) (counts now : Counts) (e : ShelfError) (text name : List ℕ) → ¬ Rose counts.faults now.faults
     → now ≡ after_refusal (after_files n counts) e → SaysRefused name e text → Speaks e
-speaks n counts now Failed text name none is said =
+must_speak n counts now Failed text name none is said =
     let rose : now.faults ≡ one_more counts.faults = ap (λ c. c.faults) is ∙ ap one_more (same_faults n counts) in
     none (omega (arith, rose))
-speaks n counts now Absent text name none is said = tt
-speaks n counts now (Long m) text name none is said = tt
-speaks n counts now Memory text name none is said = said
+must_speak n counts now Absent text name none is said = tt
+must_speak n counts now (Long m) text name none is said = tt
+must_speak n counts now Memory text name none is said = said
 
 one_text : (name label : List ℕ) (e f : ShelfError) (t u : List ℕ) → name ≡ label → e ≡ f → Speaks e → SaysRefused name e t → SaysRefused label f u → t ≡ u
 one_text name label Failed f t u same is s h k = absurd s
@@ -125,15 +125,15 @@ module _ (held : List ℕ → Told) (tells : (name : List ℕ) → held name ≢
     (first : ¬ Rose counts.faults one.faults) (second : ¬ Rose counts.faults other.faults) where
   both_refuse : (names : List (List ℕ)) (a b : Reply) → RefusesFile held counts one names a → RefusesFile held counts other names b → a ≡ b
   both_refuse names a b (status, history, name, e, h, said) (status', history', label, f, k, told) =
-      let s = speaks (length h.before) counts one e a.text name first h.counted said in
-      let t = speaks (length k.before) counts other f b.text label second k.counted told in
+      let s = must_speak (length h.before) counts one e a.text name first h.counted said in
+      let t = must_speak (length k.before) counts other f b.text label second k.counted told in
       let same = one_first held tells h.before k.before h.after k.after h.files k.files name label e f s t (sym h.place ∙ k.place) h.read k.read h.refused k.refused in
       let text = one_text name label e f a.text b.text same.0 same.1 s said told in
       λ i. record { status = (status ∙ sym status') i; text = text i; history = (history ∙ sym history') i }
 
   given_and_refused : (names files : List (List ℕ)) (now : Counts) (b : Reply) → ¬ Rose counts.faults now.faults → AreFiles held names files → RefusesFile held counts now names b → ⊥
   given_and_refused names files now b none given (status, history, label, f, k, told) =
-      let t = speaks (length k.before) counts now f b.text label none k.counted told in
+      let t = must_speak (length k.before) counts now f b.text label none k.counted told in
       given_or_refused held tells k.before k.after files k.files label f t (subst (λ ns. AreFiles held ns files) k.place given) k.read k.refused
 
   both_run : (command : Command) (names : List (List ℕ)) (a b : Reply) → Runs held counts one command names a → Runs held counts other command names b → a ≡ b

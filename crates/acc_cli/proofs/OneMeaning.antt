@@ -35,7 +35,7 @@ use Rattle.acc_play.proofs.OneTold.{tells_once}
 use Rattle.acc_cli.specs.declared.words.Command.{Command}
 use Rattle.acc_cli.specs.declared.words.Command.TheVariants as command
 use Rattle.acc_cli.specs.declared.status.Ending.{Ending}
-use Rattle.acc_cli.specs.declared.status.Ending.TheVariants.{Done, Refused, Script}
+use Rattle.acc_cli.specs.declared.status.Ending.TheVariants.{Done, DesignRefused, ScriptRefused}
 use Rattle.acc_cli.specs.Text.{Said, Says}
 use Rattle.acc_cli.specs.Notes.{help_text, version_text}
 use Rattle.acc_cli.specs.Refusals.{SaysError, RefusesForm, RefusesDesign}
@@ -108,20 +108,20 @@ name_or_limit text m n w h k = none_some h.statement (sym k.named ∙ ap first_f
 
 one_error : (text : List ℕ) (e f : ParseError) (a b : Said) → Refuses text e → Refuses text f → SaysError e a → SaysError f b → a ≡ b
 one_error text (errors.Syntax m) (errors.Syntax n) a b h k s r =
-    said_same Refused _ _ a b (ap (λ (at : ℕ). line (codes "refused syntax " ++ decimal at)) (one_wrong text m n h k)) s r
+    said_same DesignRefused _ _ a b (ap (λ (at : ℕ). line (codes "refused syntax " ++ decimal at)) (one_wrong text m n h k)) s r
 one_error text (errors.Syntax m) (errors.Name n) a b h k s r = absurd (h.none k.of)
 one_error text (errors.Syntax m) (errors.Limit n w) a b h k s r = absurd (h.none k.of)
 one_error text (errors.Syntax m) errors.Memory a b h k s r = absurd r
 one_error text (errors.Name m) (errors.Syntax n) a b h k s r = absurd (k.none h.of)
 one_error text (errors.Name m) (errors.Name n) a b h k s r =
-    said_same Refused _ _ a b (ap (λ (at : ℕ). line (codes "refused name " ++ decimal at)) (one_name_line text m n h k)) s r
+    said_same DesignRefused _ _ a b (ap (λ (at : ℕ). line (codes "refused name " ++ decimal at)) (one_name_line text m n h k)) s r
 one_error text (errors.Name m) (errors.Limit n w) a b h k s r = absurd (name_or_limit text m n w h k)
 one_error text (errors.Name m) errors.Memory a b h k s r = absurd r
 one_error text (errors.Limit m v) (errors.Syntax n) a b h k s r = absurd (k.none h.of)
 one_error text (errors.Limit m v) (errors.Name n) a b h k s r = absurd (name_or_limit text n m v k h)
 one_error text (errors.Limit m v) (errors.Limit n w) a b h k s r =
     let same = one_limit text m n v w h k in
-    said_same Refused _ _ a b (λ i. line (codes "refused limit " ++ (decimal (same.0 i) ++ (codes " " ++ decimal (same.1 i))))) s r
+    said_same DesignRefused _ _ a b (λ i. line (codes "refused limit " ++ (decimal (same.0 i) ++ (codes " " ++ decimal (same.1 i))))) s r
 one_error text (errors.Limit m v) errors.Memory a b h k s r = absurd r
 one_error text errors.Memory f a b h k s r = absurd s
 
@@ -150,7 +150,7 @@ one_form : (text : List ℕ) (a b : Said) → RefusesForm text a → RefusesForm
 one_form text a b h k =
     let same : h.d ≡ k.d = one_design text h.d k.d h.is_text k.is_text in
     let first = one_least (form_faults k.d) h.rule h.at k.rule k.at (subst (λ (d : Design). IsLeast is_before (form_faults d) (h.rule, h.at)) same h.first) k.first in
-    said_same Refused _ _ a b (λ i. line (codes "refused form " ++ (decimal (first.0 i) ++ (codes " " ++ decimal (first.1 i))))) h.says k.says
+    said_same DesignRefused _ _ a b (λ i. line (codes "refused form " ++ (decimal (first.0 i) ++ (codes " " ++ decimal (first.1 i))))) h.says k.says
 
 one_refusal : (text : List ℕ) (a b : Said) → RefusesDesign text a → RefusesDesign text b → a ≡ b
 one_refusal text a b (inl h) (inl k) = one_error text h.error k.error a b h.refused k.refused h.says k.says
@@ -173,7 +173,7 @@ one_play d calls order a b h k =
 one_of_order : (d : Design) (calls : List Call) (order : List ℕ) (a b : Said) → length calls < 2 ^ 64 → SaysOfOrder d calls order a → SaysOfOrder d calls order b → a ≡ b
 one_of_order d calls order a b few (inl h) (inl k) =
     let same = one_refused_line (SaysPlaces (length calls)) (says_one_line (length calls) few) most_numbers order h.at k.at h.first k.first in
-    said_same Script _ _ a b (ap (λ (at : ℕ). line (codes "refused order " ++ decimal at)) same) h.says k.says
+    said_same ScriptRefused _ _ a b (ap (λ (at : ℕ). line (codes "refused order " ++ decimal at)) same) h.says k.says
 one_of_order d calls order a b few (inl h) (inr k) = absurd (h.none k.numbers k.is_order)
 one_of_order d calls order a b few (inr h) (inl k) = absurd (k.none h.numbers h.is_order)
 one_of_order d calls order a b few (inr h) (inr k) =
@@ -183,7 +183,7 @@ one_of_order d calls order a b few (inr h) (inr k) =
 one_of_script : (d : Design) (script order : List ℕ) (a b : Said) → SaysOfScript d script order a → SaysOfScript d script order b → a ≡ b
 one_of_script d script order a b (inl h) (inl k) =
     let same = one_refused_line (SaysCall d) (says_one_call d) most_calls script h.at k.at h.first k.first in
-    said_same Script _ _ a b (ap (λ (at : ℕ). line (codes "refused script " ++ decimal at)) same) h.says k.says
+    said_same ScriptRefused _ _ a b (ap (λ (at : ℕ). line (codes "refused script " ++ decimal at)) same) h.says k.says
 one_of_script d script order a b (inl h) (inr k) = absurd (h.none k.calls k.is_script)
 one_of_script d script order a b (inr h) (inl k) = absurd (k.none h.calls h.is_script)
 one_of_script d script order a b (inr h) (inr k) =

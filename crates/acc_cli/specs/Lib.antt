@@ -10,4 +10,4 @@ pub mod PrintFiles
 pub mod Responses
 pub mod Meant
 pub mod Answered
-pub mod Rows
+pub mod Causes

@@ -10,7 +10,7 @@ use Rattle.acc_play.specs.Tells.{Tells}
 use Rattle.acc_cli.specs.Refusals.{RefusesDesign}
 use Rattle.acc_script.specs.CallLines.{IsScript, RefusesLine}
 use Rattle.acc_script.specs.OrderLines.{IsOrder, RefusesOrderLine}
-use Rattle.acc_cli.specs.declared.status.Ending.TheVariants.{Done, Script}
+use Rattle.acc_cli.specs.declared.status.Ending.TheVariants.{Done, ScriptRefused}
 use Rattle.acc_cli.specs.Text.{Said, Says}
 
 -- the play of these calls in this order is told
@@ -22,7 +22,7 @@ pub record RefusesOrder (calls : List Call) (order : List ℕ) (said : Said) : T
   pub none : (numbers : List ℕ) → ¬ IsOrder (length calls) order numbers
   pub at : ℕ
   pub first : RefusesOrderLine (length calls) order at
-  pub says : Says Script (line (codes "refused order " ++ decimal at)) said
+  pub says : Says ScriptRefused (line (codes "refused order " ++ decimal at)) said
 
 -- the order has these numbers, and the calls are played in it
 pub record PlaysOrder (d : Design) (calls : List Call) (order : List ℕ) (said : Said) : Type 0 where
@@ -38,7 +38,7 @@ pub record RefusesScript (d : Design) (script : List ℕ) (said : Said) : Type 0
   pub none : (calls : List Call) → ¬ IsScript d script calls
   pub at : ℕ
   pub first : RefusesLine d script at
-  pub says : Says Script (line (codes "refused script " ++ decimal at)) said
+  pub says : Says ScriptRefused (line (codes "refused script " ++ decimal at)) said
 
 -- the script has these calls, and then the order decides
 pub record PlaysScript (d : Design) (script order : List ℕ) (said : Said) : Type 0 where

@@ -12,14 +12,14 @@ use Rattle.acc_parse.specs.Faults.{Refuses}
 use Rattle.acc_form.specs.Faults.{form_faults, is_before}
 use Rattle.acc_base.specs.Leasts.{IsLeast}
 use Rattle.acc_form.specs.Judged.{IsJudgedOn}
-use Rattle.acc_cli.specs.declared.status.Ending.TheVariants.{Refused}
+use Rattle.acc_cli.specs.declared.status.Ending.TheVariants.{DesignRefused}
 use Rattle.acc_cli.specs.Text.{Said, Says}
 
 -- what is said of a text that is no design's
 abbrev pub SaysError : ParseError → Said → Type 0
-SaysError (errors.Syntax at) said = Says Refused (line (codes "refused syntax " ++ decimal at)) said
-SaysError (errors.Name at) said = Says Refused (line (codes "refused name " ++ decimal at)) said
-SaysError (errors.Limit at which) said = Says Refused (line (codes "refused limit " ++ (decimal at ++ (codes " " ++ decimal which)))) said
+SaysError (errors.Syntax at) said = Says DesignRefused (line (codes "refused syntax " ++ decimal at)) said
+SaysError (errors.Name at) said = Says DesignRefused (line (codes "refused name " ++ decimal at)) said
+SaysError (errors.Limit at which) said = Says DesignRefused (line (codes "refused limit " ++ (decimal at ++ (codes " " ++ decimal which)))) said
 SaysError errors.Memory said = ⊥
 
 -- the text isn't of the grammar, or has a fault of names, or passes a limit
@@ -30,7 +30,7 @@ pub record RefusesText (design : List ℕ) (said : Said) : Type 0 where
 
 -- what is said of a rule and the line that breaks it
 abbrev pub SaysRule : ℕ → ℕ → Said → Type 0
-SaysRule rule at said = Says Refused (line (codes "refused form " ++ (decimal rule ++ (codes " " ++ decimal at)))) said
+SaysRule rule at said = Says DesignRefused (line (codes "refused form " ++ (decimal rule ++ (codes " " ++ decimal at)))) said
 
 -- The text is that of this design, which breaks form rules: the lowest one, and the first line that breaks it. In the design's
 -- print a statement ends on that line, and it is the one that breaks the rule: its text is the whole of the line.

@@ -1,14 +1,14 @@
 -- The numbers of the statuses.
 use Rattle.std.specs.Prelude.{◌≡◌, ℕ}
-use Rattle.acc_cli.specs.declared.status.Ending.TheVariants.{Done, Refused, Script}
+use Rattle.acc_cli.specs.declared.status.Ending.TheVariants.{Done, DesignRefused, ScriptRefused}
 use Rattle.acc_cli.specs.declared.status.Status.{Status}
 use Rattle.acc_cli.specs.declared.status.Status.TheVariants.{Usage, File, Sink, Memory, Ran}
 
 abbrev pub code_of : Status → ℕ
 code_of (Ran Done) = 0
 code_of Usage = 1
-code_of (Ran Refused) = 2
-code_of (Ran Script) = 3
+code_of (Ran DesignRefused) = 2
+code_of (Ran ScriptRefused) = 3
 code_of File = 6
 code_of Sink = 7
 code_of Memory = 9

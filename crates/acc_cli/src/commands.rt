@@ -6,7 +6,7 @@ ghost use Rattle.acc_base.specs.Runnable.{IsRunnable};
 ghost use Rattle.acc_cli.specs.Words.{file_count};
 ghost use Rattle.acc_cli.specs.Meant.{Means};
 ghost use Rattle.acc_cli.specs.Text.{Says};
-ghost use Rattle.acc_cli.specs.declared.status.Ending.TheVariants.{Done, Script};
+ghost use Rattle.acc_cli.specs.declared.status.Ending.TheVariants.{Done, ScriptRefused};
 ghost use Rattle.acc_cli.specs.Responses.{said_of};
 ghost use Rattle.acc_play.specs.Stages.{AllFit};
 ghost use Rattle.acc_cli.specs.PlayFiles.{PlaysFiles, SaysOfScript, SaysOfOrder};
@@ -27,10 +27,10 @@ use std::alloc::{AllocError, Global};
 
 /// What is answered to a text of which a line is refused; the label says which text.
 fn line_refusal(alloc: Global, label: &str, at: u64) -> Result<Response, AllocError>
-    ensures { IfOk result (λ a. Says Script (line (label.now ++ decimal at)) (said_of a)) }
+    ensures { IfOk result (λ a. Says ScriptRefused (line (label.now ++ decimal at)) (said_of a)) }
 {
     let text = format!(in alloc; "{label}{at}")?;
-    one_line(alloc, Ending::Script, text.as_str())
+    one_line(alloc, Ending::ScriptRefused, text.as_str())
 }
 
 /// The answer of a play.

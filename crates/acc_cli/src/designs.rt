@@ -28,7 +28,7 @@ fn text_refusal(alloc: Global, error: ParseError) -> Result<Response, AllocError
         ParseError::Limit(line, which) => format!(in alloc; "refused limit {line} {which}")?,
         ParseError::Memory => return Err(AllocError),
     };
-    one_line(alloc, Ending::Refused, text.as_str())
+    one_line(alloc, Ending::DesignRefused, text.as_str())
 }
 
 /// What is answered to a design that breaks a form rule.
@@ -36,7 +36,7 @@ fn form_refusal(alloc: Global, rule: u32, line: u64) -> Result<Response, AllocEr
     ensures { IfOk result (λ a. SaysRule rule line (said_of a)) }
 {
     let text = format!(in alloc; "refused form {rule} {line}")?;
-    one_line(alloc, Ending::Refused, text.as_str())
+    one_line(alloc, Ending::DesignRefused, text.as_str())
 }
 
 /// Reads a design: its text, and then the form rules.

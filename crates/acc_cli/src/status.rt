@@ -7,9 +7,9 @@ ghost use Rattle.acc_cli.specs.Status.{code_of};
 pub enum Ending {
     Done,
     /// The design is refused.
-    Refused,
+    DesignRefused,
     /// The script or the order is refused.
-    Script,
+    ScriptRefused,
 }
 
 /// How the program ends.
@@ -35,8 +35,8 @@ impl Status {
         match self {
             Status::Ran(Ending::Done) => 0,
             Status::Usage => 1,
-            Status::Ran(Ending::Refused) => 2,
-            Status::Ran(Ending::Script) => 3,
+            Status::Ran(Ending::DesignRefused) => 2,
+            Status::Ran(Ending::ScriptRefused) => 3,
             Status::File => 6,
             Status::Sink => 7,
             Status::Memory => 9,

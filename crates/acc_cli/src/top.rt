@@ -8,7 +8,7 @@ ghost use Rattle.acc_base.specs.Lines.{line};
 ghost use Rattle.acc_cli.specs.Responses.{reply_of};
 ghost use Rattle.acc_cli.specs.Meant.{Meant};
 ghost use Rattle.acc_cli.specs.Answered.{Answered};
-ghost use Rattle.acc_cli.specs.Rows.{HasCauses};
+ghost use Rattle.acc_cli.specs.Causes.{HasCauses};
 ghost use Rattle.acc_cli.specs.Status.{IsCoded};
 
 use crate::status::{Ending, Status};

@@ -19,7 +19,7 @@ use crate::changes::{Change, PlainError, forward_change, undo_change};
 use crate::fittings::call_fits;
 use crate::takes::change_by;
 use crate::transactions::{TransactionRef, Transactions};
-use acc_base::designs::{At, Design, Side};
+use acc_base::designs::{Design, Side};
 use acc_base::machines::{Call, Cause, Event, Frame, Reply, Turn};
 use acc_base::sequences::{Seq, copied};
 use acc_store::{Store, StoreError, Write};
@@ -90,16 +90,6 @@ fn first_frame(alloc: Global, d: &Design, t: u64, call: &Call) -> Result<Frame, 
     })
 }
 
-/// The point at which a frame stands.
-fn standing_at(f: &Frame) -> At
-    ensures { result ≡ record { ty = f.now.ty; point = f.now.point } }
-{
-    At {
-        ty: f.ty,
-        point: f.point,
-    }
-}
-
 /// Why an event turns its transaction, if it does.
 fn cause_in(event: &Event) -> Option<Cause>
     ensures { result ≡ cause_in event.now }
@@ -119,8 +109,8 @@ fn said(cause: Option<Cause>, x: Option<TransactionRef>) -> Option<Turn>
         return Some(Turn::Turned(cause));
     }
     Some(match x {
-        TransactionRef::Forward(f) => Turn::Stepped(standing_at(f)),
-        TransactionRef::Undoing(f, _) => Turn::Back(standing_at(f)),
+        TransactionRef::Forward(f) => Turn::Stepped(f.at()),
+        TransactionRef::Undoing(f, _) => Turn::Back(f.at()),
         TransactionRef::Ended(_) => Turn::Ended,
     })
 }

@@ -1,5 +1,5 @@
 use Rattle.std.proofs.Common.{sym, ◌∙◌}
-use Rattle.acc_cli.proofs.RowsLemmas.{causes_of}
+use Rattle.acc_cli.proofs.CauseLemmas.{causes_of}
 use Rattle.acc_cli.proofs.StatusLemmas.{zero_is_done}
 use Rattle.acc_cli.proofs.top.acc.Goals as goal
 

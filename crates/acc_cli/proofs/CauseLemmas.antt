@@ -12,7 +12,7 @@ use Rattle.acc_cli.specs.Text.{Reply}
 use Rattle.acc_cli.specs.Words.{command_of, files_of}
 use Rattle.acc_cli.specs.Meant.{Runs, MeansForm, Meant}
 use Rattle.acc_cli.specs.Answered.{Answered}
-use Rattle.acc_cli.specs.Rows.{EndsSo, HasCauses}
+use Rattle.acc_cli.specs.Causes.{EndsSo, HasCauses}
 
 -- the files were given, and the command ended so
 ends_so : (held : List ℕ → Told) (counts counts' : Counts) (words : List (List ℕ)) (command : Command) (reply : Reply) (ending : Ending)
