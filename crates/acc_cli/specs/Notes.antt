@@ -15,4 +15,4 @@ help_text = flat_map line (
 
 -- the version of the program, and the line by which the toolchain names itself
 unfoldable pub version_text : List ℕ
-version_text = flat_map line (codes "acc 0.1.0" ∷ codes "rattle-kit-13b logic dac8208d650f15bf" ∷ [])
+version_text = flat_map line (codes "acc 0.1.0" ∷ codes "rattle-kit-13f logic dac8208d650f15bf" ∷ [])

@@ -19,7 +19,8 @@ use Rattle.acc_cli.specs.Text.{Said, Says}
 abbrev pub SaysError : ParseError → Said → Type 0
 SaysError (errors.Syntax at) said = Says DesignRefused (line (codes "refused syntax " ++ decimal at)) said
 SaysError (errors.Name at) said = Says DesignRefused (line (codes "refused name " ++ decimal at)) said
-SaysError (errors.Limit at which) said = Says DesignRefused (line (codes "refused limit " ++ (decimal at ++ (codes " " ++ decimal which)))) said
+SaysError (errors.Limit at which) said =
+    Says DesignRefused (line (codes "refused limit " ++ (decimal at ++ (codes " " ++ decimal which)))) said
 SaysError errors.Memory said = ⊥
 
 -- the text isn't of the grammar, or has a fault of names, or passes a limit

@@ -23,5 +23,5 @@ README.md tells what acc is for, and docs/DESIGN-LANGUAGE.md how a design is wri
 pub fn version_text(alloc: Global) -> Result<Vec<u8>, AllocError>
     ensures { IfOk result (λ text. text.items ≡ version_text) }
 {
-    b"acc 0.1.0\nrattle-kit-13b logic dac8208d650f15bf\n".to_vec(alloc)
+    b"acc 0.1.0\nrattle-kit-13f logic dac8208d650f15bf\n".to_vec(alloc)
 }

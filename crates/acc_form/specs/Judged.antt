@@ -85,7 +85,8 @@ judged_target t side is_bare p = judge (line (target_text t.points p.target)) (t
 -- what is asked of `path` with its guard, one of at most 16 and of so many
 abbrev pub guard_marks : ℕ → ℕ → Path → List Mark
 guard_marks count i p =
-    asked LIMITS (not (i == MOST_PATHS) && guard_small p.guard) ++ (asked LAST_PATHS (nat_lt (i + 1) count || (length p.guard == 0)) ++ ending)
+    asked LIMITS (not (i == MOST_PATHS) && guard_small p.guard) ++ (
+    asked LAST_PATHS (nat_lt (i + 1) count || (length p.guard == 0)) ++ ending)
 
 -- `path` with its guard, its actions, its end
 abbrev pub judged_path : List Table → TxType → Side → Bool → ℕ → ℕ → Path → List Judged
@@ -128,7 +129,8 @@ judged_point tables t i p =
 -- what is asked of `type` with its name and parameters, one of at most 64 and with at most 48 parameters
 abbrev pub type_name_marks : List TxType → ℕ → TxType → List Mark
 type_name_marks types i t =
-    asked LIMITS (not (i == MOST_TYPES) && is_short t.name && nat_le t.params MOST_LOCALS && list_all is_short (take t.params t.locals)) ++ (
+    asked LIMITS (not (i == MOST_TYPES) && is_short t.name && nat_le t.params MOST_LOCALS
+        && list_all is_short (take t.params t.locals)) ++ (
     asked NAMES (not (names_type (take i types) t.name) && are_distinct (take t.params t.locals)) ++ ending)
 
 -- `type` with its name and parameters; `limit`
