@@ -132,12 +132,6 @@ refuted rels ps h v one holds =
     (subst T (sym (second_so (not (list_any is_left s.terms)) (int_lt (pos 0) s.constant) positive)) tt) in
     absurd (omega (arith, ints, least, zero, above))
 
-law_of : (rels : List Rel) (ps : List Pair) (r : Result Bool FarkasError) → IfOk r (λ y. y ≡ refutes_all rels ps)
-    → IfOk r (λ y. IsTrue y → HaveNoSolution rels)
-law_of rels ps (Ok y) h = λ yes. refuted rels ps (sym h ∙ yes)
-law_of rels ps (Err e) h = tt
-
-pub law_holds : (rels both : List Rel) (ps : List Pair) (r : Result Bool FarkasError) → both ≡ rels
-    → IfOk r (λ y. y ≡ refutes_all both ps) → IfOk r (λ y. IsTrue y → HaveNoSolution rels)
-law_holds rels both ps r e h =
-    subst (λ (l : List Rel). IfOk r (λ y. IsTrue y → HaveNoSolution l)) e (law_of both ps r h)
+pub law_holds : (rels both : List Rel) (ps : List Pair) (told : Bool) → both ≡ rels → told ≡ refutes_all both ps → IsTrue told
+    → HaveNoSolution rels
+law_holds rels both ps told e h t = subst (λ (l : List Rel). HaveNoSolution l) e (refuted both ps (sym h ∙ t))

@@ -1,5 +1,6 @@
 //! Whether multipliers refute relations.
 ghost use Rattle.std.specs.Prelude.{◌≡◌, ◌++◌, slice_get, IsTrue, IfOk};
+ghost use Rattle.acc_base.specs.Sums.{TellsWide as SumTellsWide};
 ghost use Rattle.acc_farkas.specs.Sums.{rises, may_have, signs, refutes_all, is_refuting_wide};
 ghost use Rattle.acc_farkas.specs.Solutions.{HaveNoSolution};
 ghost use Rattle.acc_farkas.specs.Causes.{TellsWide};
@@ -8,6 +9,7 @@ use crate::errors::FarkasError;
 use crate::weights::{relation_at, weighted};
 use acc_base::forms::Rel;
 use acc_base::sequences::Seq;
+use acc_base::sums::FormSum;
 use std::alloc::Global;
 
 /// The multipliers of relations: each has the relation's place, and the places rise; another relation has 0.
@@ -54,14 +56,17 @@ fn signs(first: &[Rel], more: &[Rel], multipliers: &[(u32, i128)]) -> bool
 }
 
 /// Whether the multipliers refute the relations of two lists, the second behind the first.
+///
+/// `Wide` exactly where the places rise and are there, and a number of the sum is beyond 2^120 on either side of 0. `Memory`
+/// where memory ran out.
 pub fn refutes_both(
     alloc: Global,
     first: &[Rel],
     more: &[Rel],
     multipliers: &[(u32, i128)],
-) -> Result<bool, FarkasError>
+) -> Result<bool, FormSum>
     ensures value { IfOk result (λ yes. yes ≡ refutes_all (first.now ++ more.now) multipliers.now) }
-    ensures wide { TellsWide result (is_refuting_wide (first.now ++ more.now) multipliers.now) }
+    ensures wide { SumTellsWide result (is_refuting_wide (first.now ++ more.now) multipliers.now) }
 {
     if !rises(multipliers, first.len() as u128 + more.len() as u128) {
         return Ok(false);
@@ -85,5 +90,5 @@ pub fn refutes(
     ensures wide { TellsWide result (is_refuting_wide relations.now multipliers.now) }
     ensures law { IfOk result (λ yes. IsTrue yes → HaveNoSolution relations.now) }
 {
-    refutes_both(alloc, relations, &[], multipliers)
+    Ok(refutes_both(alloc, relations, &[], multipliers)?)
 }

@@ -1,16 +1,15 @@
 //! The weighted sum of relations.
 ghost use Rattle.std.specs.Prelude.{◌≡◌, ◌++◌, ◌||◌, ◌+ℤ◌, ◌*ℤ◌, slice_get, MatchOption, Some, None, IfOk, OnOk};
 ghost use Rattle.acc_base.specs.Bounded.{is_wide};
+ghost use Rattle.acc_base.specs.Sums.{TellsWide};
 ghost use Rattle.acc_farkas.specs.Sums.{plus_number, plus_term, plus_terms, plus_multiple, plus_relation, weighted, nothing, is_positive};
 ghost use Rattle.acc_farkas.specs.Sums.{is_number, is_number_wide, is_term_wide, are_terms_wide, is_multiple_wide, is_relation_wide};
 ghost use Rattle.acc_farkas.specs.Sums.{is_weighted_wide};
-ghost use Rattle.acc_farkas.specs.Causes.{TellsWide};
 
-use crate::errors::FarkasError;
 use acc_base::collecting::Sums;
 use acc_base::forms::{Atom, Form, Rel, Unknown};
 use acc_base::numbers::{bounded_product, bounded_sum};
-use acc_base::sums::add_multiple;
+use acc_base::sums::{FormSum, add_multiple};
 use std::alloc::Global;
 use std::marker::Model;
 
@@ -33,22 +32,22 @@ fn is_number(unknown: &Unknown) -> bool
     unknown.under.is_empty() && unknown.atom == Atom::One
 }
 
-fn product_of(m: i128, n: i128) -> Result<i128, FarkasError>
+fn product_of(m: i128, n: i128) -> Result<i128, FormSum>
     ensures value { IfOk result (λ p. p ≡ m *ℤ n) }
     ensures wide { TellsWide result (is_wide (m *ℤ n)) }
 {
-    bounded_product(m, n).ok_or(FarkasError::Wide)
+    bounded_product(m, n).ok_or(FormSum::Wide)
 }
 
-fn sum_of(a: i128, b: i128) -> Result<i128, FarkasError>
+fn sum_of(a: i128, b: i128) -> Result<i128, FormSum>
     ensures value { IfOk result (λ n. n ≡ a +ℤ b) }
     ensures wide { TellsWide result (is_wide (a +ℤ b)) }
 {
-    bounded_sum(a, b).ok_or(FarkasError::Wide)
+    bounded_sum(a, b).ok_or(FormSum::Wide)
 }
 
 /// The constant of a sum with a multiple of a number.
-fn with_number(constant: i128, by: i128, n: i128) -> Result<i128, FarkasError>
+fn with_number(constant: i128, by: i128, n: i128) -> Result<i128, FormSum>
     ensures value { IfOk result (λ c. c ≡ constant +ℤ by *ℤ n) }
     ensures wide { TellsWide result (is_wide (by *ℤ n) || is_wide (constant +ℤ by *ℤ n)) }
 {
@@ -83,7 +82,7 @@ impl<'a> Weighing<'a> {
     }
 
     /// Adds a multiple of a number.
-    fn add_number(&mut self, by: i128, n: i128) -> Result<(), FarkasError>
+    fn add_number(&mut self, by: i128, n: i128) -> Result<(), FormSum>
         ensures value { OnOk result (self.new ≡ plus_number by n self.old) }
         ensures wide { TellsWide result (is_number_wide by n self.old) }
     {
@@ -92,20 +91,19 @@ impl<'a> Weighing<'a> {
     }
 
     /// Adds a multiple of a term.
-    fn add_term(&mut self, by: i128, unknown: &'a Unknown, n: i128) -> Result<(), FarkasError>
+    fn add_term(&mut self, by: i128, unknown: &'a Unknown, n: i128) -> Result<(), FormSum>
         ensures value { OnOk result (self.new ≡ plus_term by (unknown.now, n) self.old) }
         ensures wide { TellsWide result (is_term_wide by (unknown.now, n) self.old) }
     {
         if is_number(unknown) {
             self.add_number(by, n)
         } else {
-            add_multiple(&mut self.terms, unknown, by, n)?;
-            Ok(())
+            add_multiple(&mut self.terms, unknown, by, n)
         }
     }
 
     /// Adds a multiple of terms.
-    fn add_terms(&mut self, by: i128, terms: &'a [(Unknown, i128)]) -> Result<(), FarkasError>
+    fn add_terms(&mut self, by: i128, terms: &'a [(Unknown, i128)]) -> Result<(), FormSum>
         ensures value { OnOk result (self.new ≡ plus_terms by terms.now self.old) }
         ensures wide { TellsWide result (are_terms_wide by terms.now self.old) }
     {
@@ -116,7 +114,7 @@ impl<'a> Weighing<'a> {
     }
 
     /// Adds a multiple of a form.
-    fn add_form(&mut self, by: i128, form: &'a Form) -> Result<(), FarkasError>
+    fn add_form(&mut self, by: i128, form: &'a Form) -> Result<(), FormSum>
         ensures value { OnOk result (self.new ≡ plus_multiple by form.now self.old) }
         ensures wide { TellsWide result (is_multiple_wide by form.now self.old) }
     {
@@ -131,7 +129,7 @@ impl<'a> Weighing<'a> {
         first: &'a [Rel],
         more: &'a [Rel],
         place: usize,
-    ) -> Result<(), FarkasError>
+    ) -> Result<(), FormSum>
         ensures value { OnOk result (self.new ≡ plus_relation by (slice_get (first.now ++ more.now) place) self.old) }
         ensures wide { TellsWide result (is_relation_wide by (slice_get (first.now ++ more.now) place) self.old) }
     {
@@ -155,7 +153,7 @@ pub fn weighted<'a>(
     first: &'a [Rel],
     more: &'a [Rel],
     multipliers: &[(u32, i128)],
-) -> Result<Weighing<'a>, FarkasError>
+) -> Result<Weighing<'a>, FormSum>
     ensures value { IfOk result (λ s. s ≡ weighted (first.now ++ more.now) multipliers.now nothing) }
     ensures wide { TellsWide result (is_weighted_wide (first.now ++ more.now) multipliers.now nothing) }
 {

@@ -22,8 +22,8 @@ use Rattle.acc_farkas.specs.declared.refuting.Mults.{Mults}
 use Rattle.acc_proof.specs.declared.nodes.Node.{Node}
 use Rattle.acc_proof.specs.declared.nodes.Node.TheVariants.{Split, Inst, Axiom, Leaf}
 use Rattle.acc_proof.specs.Outcomes.{Outcome, Gives, Fails, TooWide, and_then}
-use Rattle.acc_proof.specs.Facts.{one, at_most, is_zero, below, is_below_wide, above, is_above_wide, refuted, Fact, all_shown, used_up}
-use Rattle.acc_proof.specs.Instances.{fact_at}
+use Rattle.acc_proof.specs.Facts.{one, at_most, is_zero, below, is_below_wide, above, is_above_wide, refuted, all_shown, used_up}
+use Rattle.acc_instances.specs.Instances.{fact_at}
 use Rattle.acc_proof.specs.Axioms.{Demand, axiom_of}
 use Rattle.acc_proof.specs.Proofs.{Branches, only, instance_of, sure, use_axiom, leaf_of, node_of, Verdict, Proved, NotProved, WideAt}
 use Rattle.acc_proof.specs.Proofs.{walked, known_first, verdict}
@@ -32,7 +32,8 @@ use Rattle.acc_proof.proofs.Tests.{le_yes, both_true, off_true, all_both, goes_o
 use Rattle.acc_proof.proofs.Shows.{all_true, below_value, above_value, are_refuted, not_above, are_shown}
 use Rattle.acc_proof.proofs.Walks.{IsOff, AreOff, NodesSound, all_off}
 use Rattle.acc_proof.proofs.AxiomTruths.{axiom_true}
-use Rattle.acc_proof.proofs.InstanceValues.{both, fact_at_true, facts_at_true}
+use Rattle.acc_instances.specs.Instances.{Fact}
+use Rattle.acc_instances.proofs.InstanceValues.{both, fact_at_true, facts_at_true}
 
 all_used : {A : Type 0} (o : Outcome A) (ms : List Mults) (y : A) → used_up o ms ≡ Gives y → o ≡ Gives y
 all_used o [] y h = h

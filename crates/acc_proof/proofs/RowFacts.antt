@@ -17,8 +17,8 @@ use Rattle.acc_base.specs.Tables.{sum_of}
 use Rattle.acc_base.proofs.Places.{is_equal, same_place as row_place}
 use Rattle.acc_base.proofs.RowOrder.{ArePast, InOrder, past_same}
 use Rattle.acc_base.proofs.Lookups.{any_none, any_some}
-use Rattle.acc_wp.proofs.RowSums.{given, row_sum, where_passes, one, count_is, total_is}
-use Rattle.acc_wp.proofs.Meetings.{same_place}
+use Rattle.acc_instances.proofs.RowSums.{given, row_sum, where_passes, one, count_is, total_is}
+use Rattle.acc_instances.proofs.RowPlaces.{find_past, same_place}
 use Rattle.acc_proof.proofs.Tests.{both_true}
 
 module _ (db : List Row) where
@@ -105,10 +105,6 @@ front db t n k = by (list_any (is_at t k) db) refl
 -- the rows of a table have keys of one length
 abbrev pub HasLength : ℕ → ℕ → Row → Type 0
 HasLength t n r = t ≡ r.table → n ≡ length r.key.parts
-
-find_past : (p : Place) (db : List Row) → ArePast p db → find (is_at p.0 p.1) db ≡ None
-find_past p [] h = refl
-find_past p (r ∷ db) h = ap (λ o. cond (is_eq o) (Some r) (find (is_at p.0 p.1) db)) h.0 ∙ find_past p db h.1
 
 whole_sum : (v : Row → ℤ) (t : ℕ) (k : List ℤ) (db : List Row) → InOrder db → AllByRecursion (HasLength t (length k)) db
     → row_sum (where_passes (is_under t k) v) db ≡ given v (find (is_at t k) db)

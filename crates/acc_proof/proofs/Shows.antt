@@ -18,9 +18,10 @@ use Rattle.acc_farkas.specs.declared.refuting.Mults.{Mults}
 use Rattle.acc_farkas.specs.Sums.{refutes_all, is_refuting_wide}
 use Rattle.acc_farkas.specs.Solutions.{HaveNoSolution}
 use Rattle.acc_farkas.proofs.Worths.{refuted as no_solution}
-use Rattle.acc_wp.proofs.PartValues.{one_times, minus_times}
+use Rattle.acc_instances.specs.Instances.{Fact}
+use Rattle.acc_instances.proofs.PartValues.{one_times, minus_times}
 use Rattle.acc_proof.specs.Outcomes.{Outcome, Gives, Fails, TooWide, and_then}
-use Rattle.acc_proof.specs.Facts.{one, at_most, below, is_below_wide, above, is_above_wide, refuted, excluded, shown, Fact, fact_shown}
+use Rattle.acc_proof.specs.Facts.{one, at_most, below, is_below_wide, above, is_above_wide, refuted, excluded, shown, fact_shown}
 use Rattle.acc_proof.specs.Facts.{all_shown}
 use Rattle.acc_proof.proofs.Tests.{le_yes, both_true, off_true, all_both, goes_on, not_wide, may}
 

@@ -8,6 +8,7 @@ use Rattle.acc_base.specs.declared.forms.Form.{Form}
 use Rattle.acc_base.specs.declared.forms.Rel.{Rel}
 use Rattle.acc_base.specs.Sums.{Term, form_sum, is_sum_wide}
 use Rattle.acc_farkas.specs.declared.refuting.Mults.{Mults}
+use Rattle.acc_instances.specs.Instances.{Fact}
 use Rattle.acc_farkas.specs.Sums.{refutes_all, is_refuting_wide}
 use Rattle.acc_proof.specs.Outcomes.{Outcome, Gives, Fails, TooWide, and_then}
 
@@ -58,11 +59,6 @@ at_least_shown known f ms = excluded known (is_below_wide f) (below f) ms
 abbrev pub shown : List Rel → Rel → List Mults → Outcome (List Mults)
 shown known r ms =
     if r.equal then and_then (at_least_shown known r.form) (at_most_shown known r.form ms) else at_most_shown known r.form ms
-
--- a relation that is computed, and whether a number of it is too large
-pub record Fact : Type 0 where
-  pub rel : Rel
-  pub wide : Bool
 
 abbrev pub fact_shown : List Rel → Fact → List Mults → Outcome (List Mults)
 fact_shown known f ms = if f.wide then TooWide else shown known f.rel ms

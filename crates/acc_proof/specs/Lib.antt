@@ -1,9 +1,9 @@
+pub use Rattle.acc_instances.specs.Instances
 pub mod Outcomes
 pub mod Causes
 pub mod Facts
 pub mod Opened
 pub mod Needs
-pub mod Instances
 pub mod Axioms
 pub mod Proofs
 pub mod Laws

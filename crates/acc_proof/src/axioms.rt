@@ -1,15 +1,16 @@
 //! Axioms: what must be shown for one, and what it adds.
-ghost use Rattle.std.specs.Prelude.{◌≡◌, ◌∷◌, [], IfOk, slice_get};
-ghost use Rattle.acc_base.specs.FormEquality.{lin_eq};
-ghost use Rattle.acc_base.specs.PrivateRows.{is_own_table};
-ghost use Rattle.acc_proof.specs.Axioms.{axiom_of, is_table, is_whole, is_table_atom, alike, key_of, is_plain, own_number, variable};
-ghost use Rattle.acc_proof.specs.Axioms.{ends_in, ends_in_own, off};
-ghost use Rattle.acc_proof.specs.Needs.{Answers};
+ghost use Rattle.std.specs.Prelude.{◌≡◌, ◌∷◌, [], IfOk};
+ghost use Rattle.acc_proof.specs.Axioms.{axiom_of};
+ghost use Rattle.acc_proof.specs.Needs.{needs, Answers};
 ghost use Rattle.acc_proof.specs.declared.nodes.Schema.TheVariants as schema;
 
+use crate::conditions::{
+    alike, ends_in_own, is_plain, is_private, is_table, is_table_atom, is_whole, key_of,
+};
 use crate::nodes::Schema;
 use crate::terms::{
-    all_zero, at_most, differences, is_zero, less, less_atom, lin_above, lin_below, one_term, plain,
+    all_zero, at_most, differences, is_zero, less, less_atom, lin_above, lin_below, one_term,
+    plain, single,
 };
 use acc_base::designs::Design;
 use acc_base::forms::{Atom, Form, Lin, Rel, Unknown};
@@ -24,135 +25,7 @@ pub struct Need {
     pub added: Seq<Rel>,
 }
 
-// ---- what may be used
-
-/// Whether a number is that of a table.
-fn is_table(design: &Design, t: u32) -> bool
-    ensures { result ≡ is_table design.now t }
-{
-    (t as usize) < design.tables.len()
-}
-
-/// Whether a key has as many parts as its table's keys.
-fn is_whole(design: &Design, t: u32, k: &[Lin]) -> bool
-    ensures { result ≡ is_whole design.now t k.now }
-{
-    match design.tables.as_slice().get(t as usize) {
-        Some(table) => k.len() == table.width as usize,
-        None => false,
-    }
-}
-
-/// Whether a table is private.
-fn is_private(design: &Design, t: u32) -> bool
-    ensures { result ≡ is_own_table (slice_get design.now.tables t) }
-{
-    match design.tables.as_slice().get(t as usize) {
-        Some(table) => table.own,
-        None => false,
-    }
-}
-
-/// Whether an atom is one of a table.
-fn is_table_atom(design: &Design, atom: &Atom) -> bool
-    ensures { result ≡ is_table_atom design.now atom.now }
-{
-    match atom {
-        Atom::One => false,
-        Atom::Var(_) => false,
-        Atom::Has(t, _) => is_table(design, *t),
-        Atom::Col(t, _, _) => is_table(design, *t),
-        Atom::Count(t, _) => is_table(design, *t),
-        Atom::Sum(t, _, _) => is_table(design, *t),
-    }
-}
-
-/// The key or the prefix of an atom.
-fn key_of(atom: &Atom) -> &[Lin]
-    ensures { result.now ≡ key_of atom.now }
-{
-    match atom {
-        Atom::One => &[],
-        Atom::Var(_) => &[],
-        Atom::Has(_, k) => k.as_slice(),
-        Atom::Col(_, k, _) => k.as_slice(),
-        Atom::Count(_, p) => p.as_slice(),
-        Atom::Sum(_, p, _) => p.as_slice(),
-    }
-}
-
-/// Whether two atoms are of one kind, table and column, with keys of one length.
-fn alike(a: &Atom, b: &Atom) -> bool
-    ensures { result ≡ alike a.now b.now }
-{
-    match (a, b) {
-        (Atom::Has(t, k), Atom::Has(u, l)) => *t == *u && k.len() == l.len(),
-        (Atom::Col(t, k, c), Atom::Col(u, l, e)) => *t == *u && *c == *e && k.len() == l.len(),
-        (Atom::Count(t, k), Atom::Count(u, l)) => *t == *u && k.len() == l.len(),
-        (Atom::Sum(t, k, c), Atom::Sum(u, l, e)) => *t == *u && *c == *e && k.len() == l.len(),
-        _ => false,
-    }
-}
-
-/// Whether an unknown stands under nothing.
-fn is_plain(u: &Unknown) -> bool
-    ensures { result ≡ is_plain u.now }
-{
-    u.under.len() == 0
-}
-
-/// Whether a linear value is a variable.
-fn is_variable(l: &Lin, x: usize) -> bool
-    ensures { result ≡ lin_eq l.now (variable x) }
-{
-    match l.coeffs.as_slice() {
-        [(v, n)] => *v as usize == x && *n == 1 && l.constant == 0,
-        _ => false,
-    }
-}
-
-/// Whether a key ends in a variable.
-fn ends_in(x: usize, k: &[Lin]) -> bool
-    ensures { result ≡ ends_in (variable x) k.now }
-{
-    match k.last() {
-        Some(last) => is_variable(last, x),
-        None => false,
-    }
-}
-
-/// The variable that is the own number: that behind the locals of the type at the origin's point.
-fn own_number(design: &Design, sequent: &Sequent) -> Option<usize>
-    ensures { result ≡ own_number design.now sequent.now }
-{
-    match &sequent.origin.at {
-        Some(at) => match design.types.as_slice().get(at.ty as usize) {
-            Some(ty) => Some(ty.locals.len()),
-            None => None,
-        },
-        None => None,
-    }
-}
-
-/// Whether a key ends in the own number.
-fn ends_in_own(design: &Design, sequent: &Sequent, k: &[Lin]) -> bool
-    ensures { result ≡ ends_in_own (own_number design.now sequent.now) k.now }
-{
-    match own_number(design, sequent) {
-        Some(x) => ends_in(x, k),
-        None => false,
-    }
-}
-
 // ---- what is added
-
-fn list(alloc: Global, relation: Rel) -> Result<Seq<Rel>, AllocError>
-    ensures { IfOk result (λ s. s ≡ relation ∷ []) }
-{
-    let mut list = Seq::new(alloc);
-    list.push(relation)?;
-    Ok(list)
-}
 
 fn two(alloc: Global, a: Rel, b: Rel) -> Result<Seq<Rel>, AllocError>
     ensures { IfOk result (λ s. s ≡ a ∷ b ∷ []) }
@@ -194,6 +67,26 @@ fn alone(alloc: Global, u: Unknown) -> Result<Form, AllocError>
     one_term(alloc, u, 1, 0)
 }
 
+/// A relation that holds without a fact.
+fn holds(alloc: Global, added: Rel) -> Result<Need, AllocError>
+    ensures { IfOk result (λ n. n ≡ needs [] (added ∷ [])) }
+{
+    Ok(Need {
+        facts: Seq::new(alloc),
+        added: single(alloc, added)?,
+    })
+}
+
+/// A relation that holds where a fact does.
+fn follows(alloc: Global, fact: Rel, added: Rel) -> Result<Need, AllocError>
+    ensures { IfOk result (λ n. n ≡ needs (fact ∷ []) (added ∷ [])) }
+{
+    Ok(Need {
+        facts: single(alloc, fact)?,
+        added: single(alloc, added)?,
+    })
+}
+
 // ---- the axioms
 
 fn has_need(
@@ -230,11 +123,7 @@ fn count_need(
         return Ok(None);
     }
     let least = one_term(alloc, count(alloc, t, p)?, -1, 0)?;
-    let added = list(alloc, at_most(least))?;
-    Ok(Some(Need {
-        facts: Seq::new(alloc),
-        added,
-    }))
+    Ok(Some(holds(alloc, at_most(least))?))
 }
 
 fn same_need(
@@ -250,7 +139,7 @@ fn same_need(
         return Ok(None);
     }
     let facts = differences(alloc, key_of(&u.atom), key_of(&v.atom))?;
-    let added = list(alloc, is_zero(less(alloc, copied(u)?, copied(v)?)?))?;
+    let added = single(alloc, is_zero(less(alloc, copied(u)?, copied(v)?)?))?;
     Ok(Some(Need { facts, added }))
 }
 
@@ -267,9 +156,9 @@ fn no_col_need(
     if !is_table(d, t) {
         return Ok(None);
     }
-    let facts = list(alloc, at_most(alone(alloc, has(alloc, t, k)?)?))?;
-    let added = list(alloc, is_zero(alone(alloc, col(alloc, t, k, c)?)?))?;
-    Ok(Some(Need { facts, added }))
+    let none = at_most(alone(alloc, has(alloc, t, k)?)?);
+    let zero = is_zero(alone(alloc, col(alloc, t, k, c)?)?);
+    Ok(Some(follows(alloc, none, zero)?))
 }
 
 fn no_sum_need(
@@ -285,9 +174,9 @@ fn no_sum_need(
     if !is_table(d, t) {
         return Ok(None);
     }
-    let facts = list(alloc, at_most(alone(alloc, count(alloc, t, p)?)?))?;
-    let added = list(alloc, is_zero(alone(alloc, sum(alloc, t, p, c)?)?))?;
-    Ok(Some(Need { facts, added }))
+    let none = at_most(alone(alloc, count(alloc, t, p)?)?);
+    let zero = is_zero(alone(alloc, sum(alloc, t, p, c)?)?);
+    Ok(Some(follows(alloc, none, zero)?))
 }
 
 fn one_count_need(
@@ -302,14 +191,8 @@ fn one_count_need(
     if !is_whole(d, t, k.as_slice()) {
         return Ok(None);
     }
-    let added = list(
-        alloc,
-        is_zero(less(alloc, count(alloc, t, k)?, has(alloc, t, k)?)?),
-    )?;
-    Ok(Some(Need {
-        facts: Seq::new(alloc),
-        added,
-    }))
+    let same = less(alloc, count(alloc, t, k)?, has(alloc, t, k)?)?;
+    Ok(Some(holds(alloc, is_zero(same))?))
 }
 
 fn one_sum_need(
@@ -325,14 +208,8 @@ fn one_sum_need(
     if !is_whole(d, t, k.as_slice()) {
         return Ok(None);
     }
-    let added = list(
-        alloc,
-        is_zero(less(alloc, sum(alloc, t, k, c)?, col(alloc, t, k, c)?)?),
-    )?;
-    Ok(Some(Need {
-        facts: Seq::new(alloc),
-        added,
-    }))
+    let same = less(alloc, sum(alloc, t, k, c)?, col(alloc, t, k, c)?)?;
+    Ok(Some(holds(alloc, is_zero(same))?))
 }
 
 fn opened_need(
@@ -347,7 +224,7 @@ fn opened_need(
         return Ok(None);
     }
     let facts = all_zero(alloc, u.under.as_slice())?;
-    let added = list(alloc, is_zero(less_atom(alloc, copied(u)?, &u.atom)?))?;
+    let added = single(alloc, is_zero(less_atom(alloc, copied(u)?, &u.atom)?))?;
     Ok(Some(Need { facts, added }))
 }
 
@@ -362,11 +239,7 @@ fn empty_need(
     if !(q.origin.rule == 8 && is_table_atom(d, &u.atom)) {
         return Ok(None);
     }
-    let added = list(alloc, is_zero(alone(alloc, copied(u)?)?))?;
-    Ok(Some(Need {
-        facts: Seq::new(alloc),
-        added,
-    }))
+    Ok(Some(holds(alloc, is_zero(alone(alloc, copied(u)?)?))?))
 }
 
 /// The same linear values again.
@@ -395,11 +268,8 @@ fn front_need(
     }
     let front = copies(alloc, &k.as_slice()[..n as usize])?;
     let prefix = plain(alloc, Atom::Count(t, front));
-    let added = list(alloc, at_most(less(alloc, has(alloc, t, k)?, prefix)?))?;
-    Ok(Some(Need {
-        facts: Seq::new(alloc),
-        added,
-    }))
+    let fewer = less(alloc, has(alloc, t, k)?, prefix)?;
+    Ok(Some(holds(alloc, at_most(fewer))?))
 }
 
 fn shut_need(
@@ -420,9 +290,8 @@ fn shut_need(
         1 => lin_below(alloc, l)?,
         _ => return Ok(None),
     };
-    let facts = list(alloc, at_most(off))?;
-    let added = list(alloc, is_zero(alone(alloc, copied(u)?)?))?;
-    Ok(Some(Need { facts, added }))
+    let zero = is_zero(alone(alloc, copied(u)?)?);
+    Ok(Some(follows(alloc, at_most(off), zero)?))
 }
 
 fn fresh_need(
@@ -441,11 +310,7 @@ fn fresh_need(
     {
         return Ok(None);
     }
-    let added = list(alloc, is_zero(alone(alloc, has(alloc, t, k)?)?))?;
-    Ok(Some(Need {
-        facts: Seq::new(alloc),
-        added,
-    }))
+    Ok(Some(holds(alloc, is_zero(alone(alloc, has(alloc, t, k)?)?))?))
 }
 
 /// What an axiom needs, and none where it may not be used.

@@ -3,22 +3,24 @@ ghost use Rattle.std.specs.Prelude.{◌≡◌, ◌++◌, ◌∷◌, [], ℕ, map
 ghost use Rattle.acc_proof.specs.Outcomes.{Gives, Fails};
 ghost use Rattle.acc_proof.specs.Proofs.{split_of, leaf_of, instance_of, sure, use_axiom, node_of, walked, verdict, Proved, NotProved};
 ghost use Rattle.acc_proof.specs.Facts.{all_shown};
-ghost use Rattle.acc_proof.specs.Instances.{fact_at};
+ghost use Rattle.acc_instances.specs.Instances.{fact_at};
 ghost use Rattle.acc_proof.specs.Axioms.{axiom_of};
 ghost use Rattle.acc_proof.specs.Opened.{pending};
 ghost use Rattle.acc_proof.specs.Causes.{TellsTooWide, at_node, TellsNode};
 ghost use Rattle.acc_base.specs.TrueSequents.{SequentTrue};
 
 use crate::axioms::need_of;
-use crate::errors::{CheckError, ProofError};
+use crate::errors::ProofError;
 use crate::facts::{above, below, shown};
-use crate::instances::relation_at;
 use crate::nodes::{Node, Proof, Schema};
+use crate::terms::single;
 use acc_base::designs::Design;
 use acc_base::forms::{Clause, Form, Lin, Rel};
 use acc_base::sequences::{Seq, copied};
 use acc_base::sequents::Sequent;
+use acc_base::sums::FormSum;
 use acc_farkas::refuting::{Mults, refutes_both};
+use acc_instances::instances::relation_at;
 use std::alloc::{AllocError, Global};
 
 /// An open branch: how many of the relations that are known beside the sequent's it has, and what it adds.
@@ -54,15 +56,6 @@ fn open_all(
     Ok(())
 }
 
-/// A list of one relation.
-fn alone(alloc: Global, relation: Rel) -> Result<Seq<Rel>, AllocError>
-    ensures { IfOk result (λ s. s ≡ relation ∷ []) }
-{
-    let mut list = Seq::new(alloc);
-    list.push(relation)?;
-    Ok(list)
-}
-
 /// One branch.
 fn one_branch(alloc: Global, added: Seq<Rel>) -> Result<Seq<Seq<Rel>>, AllocError>
     ensures { IfOk result (λ s. s ≡ added ∷ []) }
@@ -89,7 +82,7 @@ fn three_branches(
 }
 
 /// The branches of a split.
-fn split_of(alloc: Global, form: &Form) -> Result<Option<Seq<Seq<Rel>>>, CheckError>
+fn split_of(alloc: Global, form: &Form) -> Result<Option<Seq<Seq<Rel>>>, FormSum>
     ensures value { IfOk result (λ o. MatchOption o (split_of form.now ≡ Fails) (λ bs. split_of form.now ≡ Gives bs)) }
     ensures wide { TellsTooWide result (split_of form.now) }
 {
@@ -101,9 +94,9 @@ fn split_of(alloc: Global, form: &Form) -> Result<Option<Seq<Seq<Rel>>>, CheckEr
     };
     Ok(Some(three_branches(
         alloc,
-        alone(alloc, low)?,
-        alone(alloc, zero)?,
-        alone(alloc, high)?,
+        single(alloc, low)?,
+        single(alloc, zero)?,
+        single(alloc, high)?,
     )?))
 }
 
@@ -113,7 +106,7 @@ fn leaf_of(
     first: &[Rel],
     more: &[Rel],
     multipliers: &Mults,
-) -> Result<Option<Seq<Seq<Rel>>>, CheckError>
+) -> Result<Option<Seq<Seq<Rel>>>, FormSum>
     ensures value { IfOk result (λ o. MatchOption o (leaf_of (first.now ++ more.now) multipliers.now ≡ Fails)
         (λ bs. leaf_of (first.now ++ more.now) multipliers.now ≡ Gives bs)) }
     ensures wide { TellsTooWide result (leaf_of (first.now ++ more.now) multipliers.now) }
@@ -132,7 +125,7 @@ fn all_shown<'a>(
     more: &mut Vec<Rel>,
     facts: &[Rel],
     multipliers: &'a [Mults],
-) -> Result<Option<&'a [Mults]>, CheckError>
+) -> Result<Option<&'a [Mults]>, FormSum>
     ensures value { IfOk result (λ o. MatchOption o (all_shown (first.now ++ more.old.items) (map sure facts.now) multipliers.now ≡ Fails)
         (λ rest. all_shown (first.now ++ more.old.items) (map sure facts.now) multipliers.now ≡ Gives rest.now)) }
     ensures wide { TellsTooWide result (all_shown (first.now ++ more.old.items) (map sure facts.now) multipliers.now) }
@@ -157,7 +150,7 @@ fn guards_shown<'a>(
     own: &[Lin],
     guards: &[Rel],
     multipliers: &'a [Mults],
-) -> Result<Option<&'a [Mults]>, CheckError>
+) -> Result<Option<&'a [Mults]>, FormSum>
     ensures value { IfOk result (λ o. MatchOption o (all_shown (first.now ++ more.old.items)
         (map (fact_at n own.now) guards.now) multipliers.now ≡ Fails)
         (λ rest. all_shown (first.now ++ more.old.items) (map (fact_at n own.now) guards.now) multipliers.now ≡ Gives rest.now)) }
@@ -184,7 +177,7 @@ fn instance_of(
     clause: &Clause,
     own: &[Lin],
     multipliers: &[Mults],
-) -> Result<Option<Seq<Seq<Rel>>>, CheckError>
+) -> Result<Option<Seq<Seq<Rel>>>, FormSum>
     ensures value { IfOk result (λ o. MatchOption o (instance_of n (first.now ++ more.old.items) (Some clause.now) own.now multipliers.now
         ≡ Fails) (λ bs. instance_of n (first.now ++ more.old.items) (Some clause.now) own.now multipliers.now ≡ Gives bs)) }
     ensures wide { TellsTooWide result (instance_of n (first.now ++ more.old.items) (Some clause.now) own.now multipliers.now) }
@@ -204,7 +197,7 @@ fn instance_of(
     )? {
         Some([]) => {
             let added = relation_at(alloc, n, own, &clause.rel)?;
-            Ok(Some(one_branch(alloc, alone(alloc, added)?)?))
+            Ok(Some(one_branch(alloc, single(alloc, added)?)?))
         }
         _ => Ok(None),
     }
@@ -218,7 +211,7 @@ fn use_axiom(
     more: &mut Vec<Rel>,
     schema: &Schema,
     multipliers: &[Mults],
-) -> Result<Option<Seq<Seq<Rel>>>, CheckError>
+) -> Result<Option<Seq<Seq<Rel>>>, FormSum>
     ensures value { IfOk result (λ o. MatchOption o (use_axiom (sequent.now.rels ++ more.old.items)
         (axiom_of design.now sequent.now schema.now) multipliers.now ≡ Fails)
         (λ bs. use_axiom (sequent.now.rels ++ more.old.items) (axiom_of design.now sequent.now schema.now) multipliers.now ≡ Gives bs)) }
@@ -248,7 +241,7 @@ fn node_of(
     sequent: &Sequent,
     more: &mut Vec<Rel>,
     node: &Node,
-) -> Result<Option<Seq<Seq<Rel>>>, CheckError>
+) -> Result<Option<Seq<Seq<Rel>>>, FormSum>
     ensures value { IfOk result (λ o. MatchOption o (node_of design.now sequent.now (sequent.now.rels ++ more.old.items) node.now ≡ Fails)
         (λ bs. node_of design.now sequent.now (sequent.now.rels ++ more.old.items) node.now ≡ Gives bs)) }
     ensures wide { TellsTooWide result (node_of design.now sequent.now (sequent.now.rels ++ more.old.items) node.now) }
@@ -282,12 +275,12 @@ fn node_of(
 }
 
 /// An error within a node, at that node.
-fn at_node(error: CheckError, node: u64) -> ProofError
+fn at_node(error: FormSum, node: u64) -> ProofError
     ensures { result ≡ at_node node error }
 {
     match error {
-        CheckError::Wide => ProofError::Wide(node),
-        CheckError::Memory => ProofError::Memory,
+        FormSum::Wide => ProofError::Wide(node),
+        FormSum::Memory => ProofError::Memory,
     }
 }
 

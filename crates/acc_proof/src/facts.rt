@@ -1,12 +1,13 @@
 //! Facts that are shown: what is known and the fact's contrary have no solution.
 ghost use Rattle.std.specs.Prelude.{◌≡◌, ◌++◌, ◌∷◌, [], MatchOption, IfOk, OnOk};
+ghost use Rattle.acc_base.specs.Sums.{TellsWide};
 ghost use Rattle.acc_proof.specs.Outcomes.{Gives, Fails};
 ghost use Rattle.acc_proof.specs.Facts.{below, is_below_wide, above, is_above_wide, refuted, excluded, shown};
-ghost use Rattle.acc_proof.specs.Causes.{TellsWide, TellsTooWide};
+ghost use Rattle.acc_proof.specs.Causes.{TellsTooWide};
 
-use crate::errors::CheckError;
 use acc_base::forms::{Form, Rel};
 use acc_base::sequences::Seq;
+use acc_base::sums::FormSum;
 use acc_farkas::refuting::{Mults, refutes_both};
 use std::alloc::Global;
 
@@ -21,7 +22,7 @@ fn one(alloc: Global) -> Form
 }
 
 /// That the form is below 0.
-pub fn below(alloc: Global, form: &Form) -> Result<Rel, CheckError>
+pub fn below(alloc: Global, form: &Form) -> Result<Rel, FormSum>
     ensures value { IfOk result (λ r. r ≡ below form.now) }
     ensures wide { TellsWide result (is_below_wide form.now) }
 {
@@ -30,7 +31,7 @@ pub fn below(alloc: Global, form: &Form) -> Result<Rel, CheckError>
 }
 
 /// That the form is above 0.
-pub fn above(alloc: Global, form: &Form) -> Result<Rel, CheckError>
+pub fn above(alloc: Global, form: &Form) -> Result<Rel, FormSum>
     ensures value { IfOk result (λ r. r ≡ above form.now) }
     ensures wide { TellsWide result (is_above_wide form.now) }
 {
@@ -44,7 +45,7 @@ pub fn refuted<'a>(
     first: &[Rel],
     more: &[Rel],
     multipliers: &'a [Mults],
-) -> Result<Option<&'a [Mults]>, CheckError>
+) -> Result<Option<&'a [Mults]>, FormSum>
     ensures value { IfOk result (λ o. MatchOption o (refuted (first.now ++ more.now) multipliers.now ≡ Fails)
         (λ rest. refuted (first.now ++ more.now) multipliers.now ≡ Gives rest.now)) }
     ensures wide { TellsTooWide result (refuted (first.now ++ more.now) multipliers.now) }
@@ -68,7 +69,7 @@ fn excluded<'a>(
     more: &mut Vec<Rel>,
     contrary: Rel,
     multipliers: &'a [Mults],
-) -> Result<Option<&'a [Mults]>, CheckError>
+) -> Result<Option<&'a [Mults]>, FormSum>
     ensures value { IfOk result (λ o. MatchOption o (refuted ((first.now ++ more.old.items) ++ contrary ∷ []) multipliers.now ≡ Fails)
         (λ rest. refuted ((first.now ++ more.old.items) ++ contrary ∷ []) multipliers.now ≡ Gives rest.now)) }
     ensures wide { TellsTooWide result (refuted ((first.now ++ more.old.items) ++ contrary ∷ []) multipliers.now) }
@@ -87,7 +88,7 @@ pub fn shown<'a>(
     more: &mut Vec<Rel>,
     fact: &Rel,
     multipliers: &'a [Mults],
-) -> Result<Option<&'a [Mults]>, CheckError>
+) -> Result<Option<&'a [Mults]>, FormSum>
     ensures value { IfOk result (λ o. MatchOption o (shown (first.now ++ more.old.items) fact.now multipliers.now ≡ Fails)
         (λ rest. shown (first.now ++ more.old.items) fact.now multipliers.now ≡ Gives rest.now)) }
     ensures wide { TellsTooWide result (shown (first.now ++ more.old.items) fact.now multipliers.now) }

@@ -3,9 +3,9 @@
 
 pub mod axioms;
 pub mod checks;
+mod conditions;
 pub mod errors;
 pub mod facts;
-pub mod instances;
 pub mod laws;
 pub mod nodes;
 pub mod terms;

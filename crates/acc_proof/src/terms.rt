@@ -32,6 +32,15 @@ pub fn is_zero(form: Form) -> Rel
     Rel { form, equal: true }
 }
 
+/// A list of one relation.
+pub fn single(alloc: Global, relation: Rel) -> Result<Seq<Rel>, AllocError>
+    ensures { IfOk result (λ s. s ≡ relation ∷ []) }
+{
+    let mut list = Seq::new(alloc);
+    list.push(relation)?;
+    Ok(list)
+}
+
 /// So often an unknown, and a constant.
 pub fn one_term(
     alloc: Global,

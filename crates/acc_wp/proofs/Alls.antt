@@ -1,6 +1,6 @@
 -- What holds of each item of a list.
-use Rattle.std.proofs.Common.{◌≡◌, Bool, true, false, cond, List, [], ◌∷◌, ◌++◌, subst, Some}
-use Rattle.std.specs.Prelude.{filter, find}
+use Rattle.std.proofs.Common.{◌≡◌, Bool, true, false, cond, List, [], ◌∷◌, ◌++◌}
+use Rattle.std.specs.Prelude.{filter}
 use Rattle.std.specs.List.{AllByRecursion}
 
 module _ {X : Type 0} (P : X → Type 0) where
@@ -15,11 +15,3 @@ module _ {X : Type 0} (P : X → Type 0) where
       by : (b : Bool) → AllByRecursion P (filter test xs) → AllByRecursion P (cond b (x ∷ filter test xs) (filter test xs))
       by true ih = (h.0, ih)
       by false ih = ih
-
-  pub found_holds : (test : X → Bool) (xs : List X) (x : X) → find test xs ≡ Some x → AllByRecursion P xs → P x
-  found_holds test [] x e h = cc
-  found_holds test (y ∷ xs) x e h = by (test y) e (λ g. found_holds test xs x g h.1)
-    where
-      by : (b : Bool) → cond b (Some y) (find test xs) ≡ Some x → (find test xs ≡ Some x → P x) → P x
-      by true g ih = let s : y ≡ x = cc in subst P s h.0
-      by false g ih = ih g

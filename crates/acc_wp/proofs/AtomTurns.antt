@@ -22,12 +22,14 @@ use Rattle.acc_base.specs.Truth.{atom_value, is_lin_zero}
 use Rattle.acc_base.proofs.Places.{one_place}
 use Rattle.acc_base.proofs.Lookups.{found_at, any_none, any_some}
 use Rattle.acc_wp.specs.Unders.{differences}
-use Rattle.acc_wp.specs.Changes.{Part, table_of, key_of, place_of as atom_place, presence_change, column_change, change}
-use Rattle.acc_wp.proofs.RowSums.{given, row_sum, where_passes, one, count_is, total_is}
+use Rattle.acc_instances.specs.Summands.{Part}
+use Rattle.acc_wp.specs.Changes.{table_of, key_of, place_of as atom_place, presence_change, column_change, change}
+use Rattle.acc_instances.proofs.RowSums.{given, row_sum, where_passes, one, count_is, total_is}
 use Rattle.acc_wp.proofs.RowTurns.{put_row, becomes, stands, action_place, with_set, with_added, find_after, row_sum_after}
-use Rattle.acc_wp.proofs.PartValues.{parts_value}
+use Rattle.acc_instances.proofs.PartValues.{parts_value}
 use Rattle.acc_wp.proofs.Growths.{IsReady, growth, presence_growth, column_growth}
-use Rattle.acc_wp.proofs.Meetings.{same_place, meets_where_zero}
+use Rattle.acc_instances.proofs.RowPlaces.{same_place}
+use Rattle.acc_wp.proofs.Meetings.{meets_where_zero}
 
 -- ---- a row at a place, under a prefix
 

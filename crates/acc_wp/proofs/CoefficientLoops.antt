@@ -3,7 +3,8 @@ use Rattle.std.proofs.Common.{◌≡◌, Bool, true, false, List, [], ◌∷◌,
 use Rattle.std.specs.List.{list_any}
 use Rattle.std.proofs.lemmas.List.Folds.{list_any-append}
 use Rattle.acc_base.specs.declared.forms.Lin.{Lin}
-use Rattle.acc_wp.specs.Differences.{Coefficient, with_coefficient, enlarged, with_coefficients, all_enlarged, negated, coefficients, is_long}
+use Rattle.acc_instances.specs.Coefficients.{Coefficient, with_coefficient, enlarged, with_coefficients, is_long}
+use Rattle.acc_wp.specs.Differences.{all_enlarged, negated, coefficients}
 
 pub with_coefficients-append : (sums xs ys : List Coefficient) → with_coefficients sums (xs ++ ys) ≡ with_coefficients (with_coefficients sums xs) ys
 with_coefficients-append sums [] ys = refl

@@ -15,8 +15,9 @@ use Rattle.acc_base.specs.Tables.{IsInOrder}
 use Rattle.acc_base.specs.UnknownEquality.{unknown_eq}
 use Rattle.acc_base.specs.Sums.{Term, with_term, with_terms, multiple, is_left}
 use Rattle.acc_wp.specs.Unders.{differences, is_false, lengthened}
-use Rattle.acc_wp.specs.Changes.{Part, table_of, key_of, place_of, variable_parts, lin_parts, value_parts, minus, presence_change, column_change, presence_of, column_of, change}
-use Rattle.acc_wp.specs.Gains.{part_summand, changed_summands, term_summands, summands, is_number, with_summand, with_summands, gained}
+use Rattle.acc_instances.specs.Summands.{Part, variable_parts, lin_parts, part_summand, is_number, with_summand, with_summands}
+use Rattle.acc_wp.specs.Changes.{table_of, key_of, place_of, value_parts, minus, presence_change, column_change, presence_of, column_of, change}
+use Rattle.acc_wp.specs.Gains.{changed_summands, term_summands, summands, gained}
 use Rattle.acc_wp.specs.Preconditions.{before_action}
 use Rattle.acc_base.specs.Shapes.{IsFullKey, IsPrefix, IsColumn, AtomFits, ActionFits}
 use Rattle.acc_wp.proofs.AtomTurns.{IsLong}

@@ -5,7 +5,8 @@ use Rattle.std.proofs.lemmas.List.{drop_more}
 use Rattle.acc_base.specs.declared.forms.Form.{Form}
 use Rattle.acc_base.specs.declared.steps.Action.{Action}
 use Rattle.acc_base.specs.Sums.{Term}
-use Rattle.acc_wp.specs.Gains.{term_summands, summands, with_summand, with_summands, is_summand_wide, are_summands_wide, is_term_long}
+use Rattle.acc_instances.specs.Summands.{with_summand, with_summands, is_summand_wide, are_summands_wide}
+use Rattle.acc_wp.specs.Gains.{term_summands, summands, is_term_long}
 
 with_summands-append : (xs ys : List Term) (g : Form) → with_summands (xs ++ ys) g ≡ with_summands ys (with_summands xs g)
 with_summands-append [] ys g = refl

@@ -11,8 +11,9 @@ use Rattle.acc_base.specs.declared.steps.Action.TheVariants.{Put, Del, Set, Add}
 use Rattle.acc_base.specs.Tables.{cell, set_cell}
 use Rattle.acc_base.specs.Linear.{lin_value}
 use Rattle.acc_base.specs.Truth.{atom_value}
-use Rattle.acc_wp.specs.Changes.{presence_change, column_change, lin_parts, value_parts, minus}
-use Rattle.acc_wp.proofs.RowSums.{given, one}
+use Rattle.acc_instances.specs.Summands.{lin_parts}
+use Rattle.acc_wp.specs.Changes.{presence_change, column_change, value_parts, minus}
+use Rattle.acc_instances.proofs.RowSums.{given, one}
 use Rattle.acc_wp.proofs.RowTurns.{becomes, stands, with_set, with_added}
 use Rattle.acc_wp.proofs.PartValues.{parts_value, parts-append, minus_value, lin_parts_value, value_parts_value, one_times}
 

@@ -1,6 +1,4 @@
-pub mod CoefficientSteps
 pub mod CoefficientLoops
-pub mod Exits
 pub mod RowSums
 pub mod RowTurns
 pub mod UnderLoops

@@ -17,7 +17,7 @@ use Rattle.acc_base.specs.Shapes.{IsFullKey, IsColumn, AreColumns, ActionFits, R
 use Rattle.acc_base.specs.RowsAfter.{IsThere}
 use Rattle.acc_wp.proofs.RowTurns.{put_row, with_set, with_added}
 use Rattle.acc_wp.proofs.Growths.{IsReady, HasColumn}
-use Rattle.acc_wp.proofs.Alls.{found_holds}
+use Rattle.acc_instances.proofs.RowPlaces.{found_holds}
 
 module _ (tables : List Table) (env : List ℤ) where
   set_fits : (c : ℕ) (x : Row → ℤ) (r : Row) → RowFits tables r → RowFits tables (record r { cols = slice_set r.cols c (x r) })

@@ -18,7 +18,8 @@ use Rattle.acc_base.proofs.Places.{place_total, one_place, is_equal}
 use Rattle.acc_base.proofs.RowOrder.{order_from}
 use Rattle.acc_base.proofs.Lookups.{find_put, find_dropped, find_kept}
 use Rattle.acc_wp.specs.Changes.{table_of, key_of}
-use Rattle.acc_wp.proofs.RowSums.{given, row_sum, row_sum-put, row_sum-drop, row_sum-change}
+use Rattle.acc_instances.proofs.RowSums.{given, row_sum}
+use Rattle.acc_wp.proofs.RowSums.{row_sum-put, row_sum-drop, row_sum-change}
 
 -- the row that an action puts
 abbrev pub put_row : List ℤ → ℕ → List Lin → List Lin → Row

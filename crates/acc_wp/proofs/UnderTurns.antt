@@ -10,12 +10,10 @@ use Rattle.acc_base.specs.FormEquality.{lin_eq, lin_decides}
 use Rattle.acc_base.specs.Numbers.{total}
 use Rattle.acc_base.specs.Linear.{term_value, lin_value}
 use Rattle.acc_base.specs.Truth.{is_lin_zero}
+use Rattle.acc_instances.proofs.SummandValues.{all_zero}
 use Rattle.acc_wp.specs.Unders.{is_constant, is_zero, is_false, with_under, lengthened}
 
 module _ (env : List ℤ) where
-  abbrev pub all_zero : List Lin → Bool
-  all_zero ls = list_all (is_lin_zero env) ls
-
   -- a constant's value
   constant_value : (l : Lin) → is_constant l ≡ true → lin_value env l ≡ l.constant
   constant_value l h = by l.coeffs h
@@ -43,7 +41,7 @@ module _ (env : List ℤ) where
       by false e = refl
 
   -- a list with a false one is never all 0
-  pub never_zero : (ls : List Lin) → list_any is_false ls ≡ true → all_zero ls ≡ false
+  pub never_zero : (ls : List Lin) → list_any is_false ls ≡ true → all_zero env ls ≡ false
   never_zero [] h = absurd (cc)
   never_zero (l ∷ ls) h = by (is_false l) refl h (never_zero ls)
     where
@@ -51,12 +49,12 @@ module _ (env : List ℤ) where
       off true c e = e
       off false c e = refl
 
-      by : (b : Bool) → is_false l ≡ b → (b || list_any is_false ls) ≡ true → (list_any is_false ls ≡ true → all_zero ls ≡ false) → (is_lin_zero env l && all_zero ls) ≡ false
-      by true e h ih = ap (λ x. x && all_zero ls) (false_is l e)
-      by false e h ih = off (is_lin_zero env l) (all_zero ls) (ih h)
+      by : (b : Bool) → is_false l ≡ b → (b || list_any is_false ls) ≡ true → (list_any is_false ls ≡ true → all_zero env ls ≡ false) → (is_lin_zero env l && all_zero env ls) ≡ false
+      by true e h ih = ap (λ x. x && all_zero env ls) (false_is l e)
+      by false e h ih = off (is_lin_zero env l) (all_zero env ls) (ih h)
 
   -- one that stands there is 0 where all are
-  among : (d : Lin) (ls : List Lin) → list_any (λ l. lin_eq l d) ls ≡ true → all_zero ls ≡ (all_zero ls && is_lin_zero env d)
+  among : (d : Lin) (ls : List Lin) → list_any (λ l. lin_eq l d) ls ≡ true → all_zero env ls ≡ (all_zero env ls && is_lin_zero env d)
   among d [] h = absurd (cc)
   among d (l ∷ ls) h = by (lin_eq l d) refl h (among d ls)
     where
@@ -69,45 +67,45 @@ module _ (env : List ℤ) where
       and_assoc true c x = refl
       and_assoc false c x = refl
 
-      by : (b : Bool) → lin_eq l d ≡ b → (b || list_any (λ y. lin_eq y d) ls) ≡ true → (list_any (λ y. lin_eq y d) ls ≡ true → all_zero ls ≡ (all_zero ls && is_lin_zero env d)) → (is_lin_zero env l && all_zero ls) ≡ ((is_lin_zero env l && all_zero ls) && is_lin_zero env d)
+      by : (b : Bool) → lin_eq l d ≡ b → (b || list_any (λ y. lin_eq y d) ls) ≡ true → (list_any (λ y. lin_eq y d) ls ≡ true → all_zero env ls ≡ (all_zero env ls && is_lin_zero env d)) → (is_lin_zero env l && all_zero env ls) ≡ ((is_lin_zero env l && all_zero env ls) && is_lin_zero env d)
       by true e h ih =
-          twice (is_lin_zero env l) (all_zero ls) ∙ ap (λ (y : Lin). (is_lin_zero env l && all_zero ls) && is_lin_zero env y) ((lin_decides l d).0 e)
+          twice (is_lin_zero env l) (all_zero env ls) ∙ ap (λ (y : Lin). (is_lin_zero env l && all_zero env ls) && is_lin_zero env y) ((lin_decides l d).0 e)
       by false e h ih =
-          ap (λ x. is_lin_zero env l && x) (ih h) ∙ and_assoc (is_lin_zero env l) (all_zero ls) (is_lin_zero env d)
+          ap (λ x. is_lin_zero env l && x) (ih h) ∙ and_assoc (is_lin_zero env l) (all_zero env ls) (is_lin_zero env d)
 
-  behind : (d : Lin) (ls : List Lin) → all_zero (ls ++ d ∷ []) ≡ (all_zero ls && is_lin_zero env d)
+  behind : (d : Lin) (ls : List Lin) → all_zero env (ls ++ d ∷ []) ≡ (all_zero env ls && is_lin_zero env d)
   behind d [] = by (is_lin_zero env d)
     where
       by : (b : Bool) → (b && true) ≡ b
       by true = refl
       by false = refl
   behind d (l ∷ ls) =
-      ap (λ x. is_lin_zero env l && x) (behind d ls) ∙ by (is_lin_zero env l) (all_zero ls) (is_lin_zero env d)
+      ap (λ x. is_lin_zero env l && x) (behind d ls) ∙ by (is_lin_zero env l) (all_zero env ls) (is_lin_zero env d)
     where
       by : (b c x : Bool) → (b && (c && x)) ≡ ((b && c) && x)
       by true c x = refl
       by false c x = refl
 
-  with_zero : (d : Lin) (ls : List Lin) → all_zero (with_under d ls) ≡ (all_zero ls && is_lin_zero env d)
+  with_zero : (d : Lin) (ls : List Lin) → all_zero env (with_under d ls) ≡ (all_zero env ls && is_lin_zero env d)
   with_zero d ls = by (is_zero d) refl (list_any (λ l. lin_eq l d) ls) refl
     where
       same : (b : Bool) → b ≡ (b && true)
       same true = refl
       same false = refl
 
-      by : (b : Bool) → is_zero d ≡ b → (c : Bool) → list_any (λ l. lin_eq l d) ls ≡ c → all_zero (if b || c then ls else (ls ++ d ∷ [])) ≡ (all_zero ls && is_lin_zero env d)
-      by true e c h = same (all_zero ls) ∙ ap (λ x. all_zero ls && x) (sym (zero_is d e))
+      by : (b : Bool) → is_zero d ≡ b → (c : Bool) → list_any (λ l. lin_eq l d) ls ≡ c → all_zero env (if b || c then ls else (ls ++ d ∷ [])) ≡ (all_zero env ls && is_lin_zero env d)
+      by true e c h = same (all_zero env ls) ∙ ap (λ x. all_zero env ls && x) (sym (zero_is d e))
       by false e true h = among d ls h
       by false e false h = behind d ls
 
-  pub lengthened_zero : (under ds : List Lin) → all_zero (lengthened under ds) ≡ (all_zero under && all_zero ds)
-  lengthened_zero under [] = by (all_zero under)
+  pub lengthened_zero : (under ds : List Lin) → all_zero env (lengthened under ds) ≡ (all_zero env under && all_zero env ds)
+  lengthened_zero under [] = by (all_zero env under)
     where
       by : (b : Bool) → b ≡ (b && true)
       by true = refl
       by false = refl
   lengthened_zero under (d ∷ ds) =
-      lengthened_zero (with_under d under) ds ∙ (ap (λ x. x && all_zero ds) (with_zero d under) ∙ by (all_zero under) (is_lin_zero env d) (all_zero ds))
+      lengthened_zero (with_under d under) ds ∙ (ap (λ x. x && all_zero env ds) (with_zero d under) ∙ by (all_zero env under) (is_lin_zero env d) (all_zero env ds))
     where
       by : (b c x : Bool) → ((b && c) && x) ≡ (b && (c && x))
       by true c x = refl

@@ -5,10 +5,7 @@ use Rattle.acc_base.specs.declared.forms.Atom.{Atom}
 use Rattle.acc_base.specs.declared.forms.Atom.TheVariants.{One, Var, Has, Col, Count, Sum}
 use Rattle.acc_base.specs.declared.steps.Action.{Action}
 use Rattle.acc_base.specs.declared.steps.Action.TheVariants as action
-
--- an atom with a coefficient
-abbrev pub Part : Type 0
-Part = Atom × ℤ
+use Rattle.acc_instances.specs.Summands.{Part, lin_parts}
 
 abbrev pub table_of : Action → ℕ
 table_of (action.Put t k vs) = t
@@ -30,13 +27,6 @@ place_of (Has t q) = q
 place_of (Col t q c) = q
 place_of (Count t q) = q
 place_of (Sum t q c) = q
-
-abbrev pub variable_parts : Lin → List Part
-variable_parts v = map (λ x. (Var x.0, x.1)) v.coeffs
-
--- a linear value: its variables in order, and then its constant
-abbrev pub lin_parts : Lin → List Part
-lin_parts v = variable_parts v ++ (One, v.constant) ∷ []
 
 -- a value that isn't given is 0
 abbrev pub value_parts : Option Lin → List Part

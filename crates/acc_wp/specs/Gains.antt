@@ -1,26 +1,16 @@
 -- What a form gains by an action, so that it is worth before the action what it was worth after it.
-use Rattle.std.specs.Prelude.{Bool, false, ◌&&◌, ◌||◌, if◌then◌else◌, List, [], ◌∷◌, ◌++◌, map, ℤ, ◌+ℤ◌, ◌*ℤ◌}
+use Rattle.std.specs.Prelude.{Bool, false, ◌||◌, if◌then◌else◌, List, [], ◌∷◌, ◌++◌, map, ℤ}
 use Rattle.std.specs.List.{list_any}
 use Rattle.acc_base.specs.declared.forms.Lin.{Lin}
 use Rattle.acc_base.specs.declared.forms.Atom.{Atom}
-use Rattle.acc_base.specs.declared.forms.Atom.TheVariants.{One}
-use Rattle.acc_base.specs.declared.forms.Unknown.{Unknown}
 use Rattle.acc_base.specs.declared.forms.Form.{Form}
 use Rattle.acc_base.specs.declared.steps.Action.{Action}
-use Rattle.acc_base.specs.Bounded.{is_wide}
-use Rattle.acc_base.specs.UnknownEquality.{unknown_eq}
 use Rattle.acc_base.specs.Sums.{Term}
+use Rattle.acc_instances.specs.Summands.{Part, part_summand, with_summands, are_summands_wide}
 use Rattle.acc_wp.specs.Unders.{differences, are_long, is_false, lengthened}
-use Rattle.acc_wp.specs.Changes.{Part, key_of, place_of, change}
+use Rattle.acc_wp.specs.Changes.{key_of, place_of, change}
 
 -- ---- the summands of a term
-
-abbrev pub unknown : List Lin → Atom → Unknown
-unknown under atom = record { under = under; atom = atom }
-
--- m times a part of a change under these linear values
-abbrev pub part_summand : List Lin → ℤ → Part → Term
-part_summand under m p = (unknown under p.0, m *ℤ p.1)
 
 -- all parts, which fall away where one of the linear values is a constant other than 0
 abbrev pub under_summands : List Lin → ℤ → List Part → List Term
@@ -43,36 +33,11 @@ summands a (t ∷ ts) = term_summands a t ++ summands a ts
 
 -- ---- the form that a form gains
 
--- the number 1 without condition
-abbrev pub is_number : Unknown → Bool
-is_number u = unknown_eq u (unknown [] One)
-
--- one more summand: a number is added to the constant, and any other one comes last among the terms
-abbrev pub with_summand : Term → Form → Form
-with_summand s g =
-    if is_number s.0 then record g { constant = g.constant +ℤ s.1 } else record g { terms = g.terms ++ s ∷ [] }
-
-abbrev pub with_summands : List Term → Form → Form
-with_summands [] g = g
-with_summands (s ∷ ss) g = with_summands ss (with_summand s g)
-
 -- the constant that a form begins with, and what its terms gain
 abbrev pub gained : Action → Form → Form
 gained a f = with_summands (summands a f.terms) (record { terms = []; constant = f.constant })
 
 -- ---- the numbers that this computes
-
--- the constant, where a summand is added to it
-abbrev pub is_constant_wide : Term → Form → Bool
-is_constant_wide s g = is_number s.0 && is_wide (g.constant +ℤ s.1)
-
--- a summand's product, and the constant
-abbrev pub is_summand_wide : Term → Form → Bool
-is_summand_wide s g = is_wide s.1 || is_constant_wide s g
-
-abbrev pub are_summands_wide : List Term → Form → Bool
-are_summands_wide [] g = false
-are_summands_wide (s ∷ ss) g = is_summand_wide s g || are_summands_wide ss (with_summand s g)
 
 -- the differences of keys, which are computed where there is a change
 abbrev pub is_change_long : List Lin → Atom → List Part → Bool

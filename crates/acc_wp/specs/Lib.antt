@@ -1,3 +1,5 @@
+pub use Rattle.acc_instances.specs.Coefficients
+pub use Rattle.acc_instances.specs.Summands
 pub mod Differences
 pub mod Unders
 pub mod Changes

@@ -1,10 +1,12 @@
 //! What an action adds to the value of an atom.
-ghost use Rattle.std.specs.Prelude.{◌≡◌, ◌++◌, IfOk, OnOk, option_copied};
-ghost use Rattle.acc_wp.specs.Changes.{table_of, key_of, place_of, variable_parts, lin_parts, value_parts, minus, presence_change, column_change, presence_of, column_of, change};
+ghost use Rattle.std.specs.Prelude.{◌≡◌, ◌++◌, IfOk, option_copied};
+ghost use Rattle.acc_wp.specs.Changes.{table_of, key_of, place_of, value_parts, minus, presence_change, column_change, presence_of};
+ghost use Rattle.acc_wp.specs.Changes.{column_of, change};
 
 use acc_base::forms::{Atom, Lin};
 use acc_base::sequences::{Seq, copied};
 use acc_base::steps::Action;
+use acc_instances::summands::add_lin;
 use std::alloc::{AllocError, Global};
 
 /// The table of an action.
@@ -36,25 +38,6 @@ pub fn place_of(atom: &Atom) -> &[Lin]
         Atom::Has(_, key) | Atom::Col(_, key, _) => key.as_slice(),
         Atom::Count(_, prefix) | Atom::Sum(_, prefix, _) => prefix.as_slice(),
     }
-}
-
-/// Adds the variables of a linear value with their coefficients.
-fn add_variables(parts: &mut Vec<(Atom, i64)>, value: &Lin) -> Result<(), AllocError>
-    ensures { OnOk result (parts.new.items ≡ parts.old.items ++ variable_parts value.now) }
-{
-    for (variable, n) in value.coeffs.as_slice() {
-        parts.push((Atom::Var(*variable), *n))?;
-    }
-    Ok(())
-}
-
-/// Adds a linear value.
-pub fn add_lin(parts: &mut Vec<(Atom, i64)>, value: &Lin) -> Result<(), AllocError>
-    ensures { OnOk result (parts.new.items ≡ parts.old.items ++ lin_parts value.now) }
-{
-    add_variables(parts, value)?;
-    parts.push((Atom::One, value.constant))?;
-    Ok(())
 }
 
 /// What an action adds to whether a row of its table is there, and to a count of rows.

@@ -1,11 +1,11 @@
 //! Weakest preconditions: the relation that is true before actions exactly where a relation is true after them.
 #![tactic(auto)]
 
-pub mod changes;
+mod changes;
 mod errors;
-pub mod gains;
+mod gains;
 pub mod laws;
-pub mod lins;
+mod lins;
 mod preconditions;
 mod unders;
 

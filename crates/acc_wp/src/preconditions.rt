@@ -2,6 +2,7 @@
 ghost use Rattle.std.specs.Prelude.{◌≡◌, IfOk};
 ghost use Rattle.acc_wp.specs.Preconditions.{before_action, before_actions, is_action_wide, are_actions_wide, wp_of, is_wp_wide};
 ghost use Rattle.acc_wp.specs.Laws.{IsWeakest};
+ghost use Rattle.acc_base.specs.Sums.{TellsWide as SumTellsWide};
 ghost use Rattle.acc_wp.specs.Causes.{TellsWide};
 
 use crate::errors::WpError;
@@ -9,22 +10,23 @@ use crate::gains::gained;
 use acc_base::forms::{Form, Rel};
 use acc_base::sequences::copied;
 use acc_base::steps::Action;
+use acc_base::sums::FormSum;
 use std::alloc::Global;
 
 /// The form that is worth before an action what the given one is worth after it.
-fn before_action(alloc: Global, action: &Action, mut form: Form) -> Result<Form, WpError>
+fn before_action(alloc: Global, action: &Action, mut form: Form) -> Result<Form, FormSum>
     ensures value { IfOk result (λ f. f ≡ before_action action.now form) }
-    ensures wide { TellsWide result (is_action_wide action.now form) }
+    ensures wide { SumTellsWide result (is_action_wide action.now form) }
 {
     let gained = gained(alloc, action, &form)?;
     form.constant = 0;
-    Ok(form.plus(alloc, &gained, 1)?)
+    form.plus(alloc, &gained, 1)
 }
 
 /// The form that is worth before actions what the given one is worth after them.
-fn before_actions(alloc: Global, actions: &[Action], form: &Form) -> Result<Form, WpError>
+fn before_actions(alloc: Global, actions: &[Action], form: &Form) -> Result<Form, FormSum>
     ensures value { IfOk result (λ f. f ≡ before_actions actions.now form.now) }
-    ensures wide { TellsWide result (are_actions_wide actions.now form.now) }
+    ensures wide { SumTellsWide result (are_actions_wide actions.now form.now) }
 {
     let mut before = copied(form)?;
     for action in actions.iter().rev() {

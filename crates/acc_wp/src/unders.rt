@@ -1,13 +1,13 @@
 //! What has to be 0 so that an action touches what an unknown counts.
 ghost use Rattle.std.specs.Prelude.{◌≡◌, IfOk, OnOk};
 ghost use Rattle.std.specs.List.{list_any};
+ghost use Rattle.acc_base.specs.Sums.{TellsWide};
 ghost use Rattle.acc_wp.specs.Unders.{differences, are_long, is_zero, is_false, with_under, lengthened};
-ghost use Rattle.acc_wp.specs.Causes.{TellsWide};
 
-use crate::errors::WpError;
 use crate::lins::lin_minus;
 use acc_base::forms::Lin;
 use acc_base::sequences::{Seq, copied};
+use acc_base::sums::FormSum;
 use std::alloc::{AllocError, Global};
 
 /// Whether a linear value is the constant 0.
@@ -47,7 +47,7 @@ pub fn lengthened(
     under: &Seq<Lin>,
     place: &[Lin],
     key: &[Lin],
-) -> Result<Seq<Lin>, WpError>
+) -> Result<Seq<Lin>, FormSum>
     ensures value { IfOk result (λ ls. ls ≡ lengthened under.now (differences place.now key.now)) }
     ensures wide { TellsWide result (are_long place.now key.now) }
 {

@@ -4,5 +4,5 @@ use Rattle.acc_farkas.proofs.refuting.refutes.Goals as goal
 
 pub returns-clause-law : goal.returns-clause-law
 returns-clause-law c =
-    law_holds c.args.relations.now (c.args.relations.now ++ []) c.args.multipliers.now c.refutes_both.result
-    (append-nil c.args.relations.now) c.refutes_both.ensures.value
+    law_holds c.args.relations.now (c.args.relations.now ++ []) c.args.multipliers.now c.in_ok-refutes_both.field-0
+    (append-nil c.args.relations.now) c.in_ok-refutes_both.ensures.value

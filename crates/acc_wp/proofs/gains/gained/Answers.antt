@@ -2,7 +2,7 @@ use Rattle.std.proofs.Common.{rules, sym, ◌∙◌}
 use Rattle.std.specs.Prelude.{FitsSigned}
 use Rattle.std.specs.Int.{w128}
 use Rattle.std.proofs.lemmas.Int.{to_z-of_z}
-use Rattle.acc_wp.proofs.Exits.{handed_on}
+use Rattle.acc_base.proofs.HandedOn.{handed_on}
 use Rattle.acc_wp.proofs.GainLoops.{gains_here, gains_step, gains_wide_step}
 use Rattle.acc_wp.proofs.gains.gained.Goals as goal
 

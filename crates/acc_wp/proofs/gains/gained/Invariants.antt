@@ -1,6 +1,7 @@
 use Rattle.std.proofs.Common.{◌≡◌, ◌||◌, drop}
 use Rattle.std.specs.List.{list_any}
-use Rattle.acc_wp.specs.Gains.{summands, with_summands, gained, is_term_long, are_summands_wide, is_gained_wide}
+use Rattle.acc_instances.specs.Summands.{with_summands, are_summands_wide}
+use Rattle.acc_wp.specs.Gains.{summands, gained, is_term_long, is_gained_wide}
 use Rattle.acc_wp.proofs.gains.gained.Given as goal
 
 abbrev pub invariant-loop-unknown : goal.invariant-loop-unknown

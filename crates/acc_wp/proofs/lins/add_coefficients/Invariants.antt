@@ -1,6 +1,7 @@
 use Rattle.std.proofs.Common.{◌≡◌, drop}
 use Rattle.std.specs.List.{list_any}
-use Rattle.acc_wp.specs.Differences.{with_coefficients, all_enlarged, is_long}
+use Rattle.acc_instances.specs.Coefficients.{with_coefficients, is_long}
+use Rattle.acc_wp.specs.Differences.{all_enlarged}
 use Rattle.acc_wp.proofs.lins.add_coefficients.Given as goal
 
 abbrev pub invariant-loop-variable : goal.invariant-loop-variable

@@ -1,5 +1,5 @@
 use Rattle.std.proofs.Common.{◌∙◌}
-use Rattle.acc_wp.proofs.Exits.{handed_on}
+use Rattle.acc_base.proofs.HandedOn.{handed_on}
 use Rattle.acc_wp.proofs.CoefficientLoops.{first_long, second_long, collected_is}
 use Rattle.acc_wp.proofs.lins.collected.Goals as goal
 

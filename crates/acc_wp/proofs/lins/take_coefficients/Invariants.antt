@@ -1,6 +1,7 @@
 use Rattle.std.proofs.Common.{◌≡◌, drop, map}
 use Rattle.std.specs.List.{list_any}
-use Rattle.acc_wp.specs.Differences.{with_coefficients, all_enlarged, negated, is_long}
+use Rattle.acc_instances.specs.Coefficients.{with_coefficients, is_long}
+use Rattle.acc_wp.specs.Differences.{all_enlarged, negated}
 use Rattle.acc_wp.proofs.lins.take_coefficients.Given as goal
 
 abbrev pub invariant-loop-variable : goal.invariant-loop-variable

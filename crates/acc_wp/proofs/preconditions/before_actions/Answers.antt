@@ -2,7 +2,7 @@ use Rattle.std.proofs.Common.{◌+◌, ◌<◌, rules, length, refl, sym, ◌∙
 use Rattle.std.proofs.lemmas.List.{length_push, length-reverse, get_or-reverse}
 use Rattle.std.proofs.lemmas.Iterator.Adapters.{YieldsList-from_rev_slice}
 use Rattle.std.proofs.lemmas.Iterator.Consumers.{YieldsList-turn}
-use Rattle.acc_wp.proofs.Exits.{handed_on}
+use Rattle.acc_base.proofs.HandedOn.{handed_on}
 use Rattle.acc_wp.proofs.ActionLoops.{before_step, wide_here, wide_step}
 use Rattle.acc_wp.proofs.preconditions.before_actions.Goals as goal
 
