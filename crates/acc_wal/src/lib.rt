@@ -10,6 +10,7 @@ mod loading;
 mod parts;
 mod reading;
 mod repair;
+mod staging;
 mod wal;
 mod writing;
 
