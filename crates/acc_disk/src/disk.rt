@@ -1,5 +1,5 @@
 // What a disk promises.
-ghost use Rattle.std.specs.Prelude.{◌≡◌, ◌≤◌, List, ℕ, Option, length, take, IfOk, IfSome, OnOk, OnErr};
+ghost use Rattle.std.specs.Prelude.{◌≡◌, ◌≤◌, ◌<◌, ◌^◌, List, ℕ, Option, length, take, IfOk, IfSome, OnOk, OnErr};
 ghost use Rattle.std.specs.Option.{option_map, ForSome};
 ghost use Rattle.acc_disk.specs.Faults.{CountsFault};
 ghost use Rattle.acc_disk.specs.Crashes.{overwritten, ReadsAt, Torn, PartlyCut, Becomes, Follows, LeavesNoMore, Only};
@@ -92,4 +92,7 @@ pub trait Disk {
     /// The moments from a time on are among those from an earlier time on.
     ghost earlier: { (disk : Self) (sooner time : ℕ) (image : List ℕ) → sooner ≤ time
         → left_since disk time image → left_since disk sooner image };
+
+    /// A file has fewer than 2^64 bytes.
+    ghost fits: { (disk : Self) → IfSome (told disk) (λ file. length file < 2 ^ 64) };
 }

@@ -129,6 +129,8 @@ impl<R: Files> Disk for FileDisk<'_, R> {
 
     ghost earlier = { λ _ _ _ _ _ _. tt };
 
+    ghost fits = { λ disk. tt };
+
     fn len(&mut self) -> Result<u64, Failed> {
         let outcome = match ready(self.rt, &self.path, &mut self.file) {
             Ok(file) => file.metadata(),

@@ -1,5 +1,5 @@
 // What was done to a file in memory, from which it tells what stood at each moment.
-ghost use Rattle.std.specs.Prelude.{◌≡◌, ◌≤◌, ◌+◌, [], length, vec_len, vec_capacity, IfOk, OnOk, OnErr};
+ghost use Rattle.std.specs.Prelude.{◌≡◌, ◌≤◌, ◌<◌, ◌^◌, ◌+◌, [], length, vec_len, vec_capacity, IfOk, OnOk, OnErr};
 ghost use Rattle.acc_disk.specs.Crashes.{overwritten};
 ghost use Rattle.acc_disk.specs.Standings.{settled, IsInOrder};
 ghost use Rattle.acc_disk.specs.Changes.{after_all};
@@ -28,6 +28,7 @@ pub(crate) struct History {
     pub(crate) start: Vec<u8>,
     pub(crate) bytes: Vec<u8>,
     pub(crate) past: Vec<Recorded>,
+    ghost short: { length bytes.items < 2 ^ 64 },
     ghost kept: { (after_all past.items (settled start.items)).bytes ≡ bytes.items },
     ghost in_order: { IsInOrder (after_all past.items (settled start.items)) },
 }
@@ -36,13 +37,15 @@ pub(crate) struct History {
 pub(crate) fn put(file: &mut Vec<u8>, at: usize, piece: &[u8])
     requires at { at ≤ vec_len file.old }
     requires room { at + length piece.now ≤ vec_capacity file.old }
-    ensures { file.new.items ≡ overwritten at piece.now file.old.items }
+    ensures whole { file.new.items ≡ overwritten at piece.now file.old.items }
+    ensures short { length file.new.items < 2 ^ 64 }
 {
     let (inside, outside) = piece.split_at(piece.len().min(file.len() - at));
     file[at..at + inside.len()].copy_from_slice(inside);
     if file.extend_from_slice(outside).is_err() {
         unreachable!();
     }
+    let _length = file.len();
 }
 
 impl History {

@@ -198,6 +198,8 @@ impl Disk for MemDisk {
 
     ghost only_now = { λ disk image left. left_only_now disk.history image left };
 
+    ghost fits = { λ disk. disk.history.short };
+
     ghost earlier = { λ disk sooner time image le left. left_earlier disk.history sooner time image le left };
 
     // The clauses of a disk, and what each answer says of the lists and the counts.

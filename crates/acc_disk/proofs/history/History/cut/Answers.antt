@@ -1,3 +1,4 @@
+use Rattle.std.proofs.lemmas.List.{length-take}
 use Rattle.std.proofs.Common.{◌≤◌, length, take, sym, ap, ◌∙◌, subst, refl, arith}
 use Rattle.acc_disk.specs.Standings.{settled, IsInOrder}
 use Rattle.acc_disk.specs.Changes.{after_all}
@@ -14,6 +15,7 @@ invariant_of-self-2 c =
     let stands = stands_after old.start.items old.past.items c.push.new.self.items last c.in_ok-push.ensures.items in
     let fits : c.args.to ≤ length (after_all old.past.items (settled old.start.items)).bytes = omega (arith, c.requires, ap length old.kept) in
     record {
+      short = omega (arith, old.short, ap length c.truncate.ensures.items, length-take c.args.to old.bytes.items);
       kept = ap (λ standing. standing.bytes) stands ∙ ap (take c.args.to) old.kept ∙ sym c.truncate.ensures.items;
       in_order = subst IsInOrder (sym stands) (cut_in_order (after_all old.past.items (settled old.start.items)) c.args.to old.in_order fits);
     }

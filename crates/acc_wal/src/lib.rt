@@ -1,0 +1,19 @@
+//! The journal: a base text and events, each batch of them on the disk before it counts.
+#![tactic(auto)]
+
+mod attaching;
+mod contents;
+mod creating;
+mod errors;
+pub mod laws;
+mod loading;
+mod parts;
+mod reading;
+mod repair;
+mod staging;
+mod wal;
+mod writing;
+
+pub use errors::WalError;
+pub use wal::Wal;
+pub use writing::event_len;
