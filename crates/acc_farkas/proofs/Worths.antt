@@ -80,7 +80,7 @@ module _ (v : Unknown → ℤ) (one : v number ≡ pos 1) where
       let all = times_sum by (term_worth v t) (worth v ts) in
       omega (arith, ints, h, first, all)
 
-  plus-worth : (by : ℤ) (g s : Form) → form_worth v (plus_multiple by g s) ≡ form_worth v s +ℤ by *ℤ form_worth v g
+  pub plus-worth : (by : ℤ) (g s : Form) → form_worth v (plus_multiple by g s) ≡ form_worth v s +ℤ by *ℤ form_worth v g
   plus-worth by g s =
       let a = terms-worth by g.terms s in
       let c = times_sum by (worth v g.terms) g.constant in

@@ -26,7 +26,7 @@ pub fn relation_at<'a>(first: &'a [Rel], more: &'a [Rel], place: usize) -> Optio
 }
 
 /// Whether an unknown is the number 1 without condition.
-fn is_number(unknown: &Unknown) -> bool
+pub fn is_number(unknown: &Unknown) -> bool
     ensures { result ≡ is_number unknown.now }
 {
     unknown.under.is_empty() && unknown.atom == Atom::One

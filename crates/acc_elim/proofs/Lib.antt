@@ -1,0 +1,4 @@
+pub mod Lefts
+pub mod Weights
+pub mod Accepted
+pub mod Shown

@@ -1,0 +1,6 @@
+//! Elimination: whether relations between unknowns hold at some point, with the multipliers that refute them, or with a point at
+//! which they hold.
+#![tactic(auto)]
+
+pub mod deciding;
+pub mod verdicts;

@@ -1,0 +1,57 @@
+//! The questions by name, and how verdicts are printed.
+use crate::made::{pairs, upper_bounds};
+use crate::spelled::{parted, relations};
+use acc_base::forms::Rel;
+use acc_elim::deciding::decide;
+use acc_elim::verdicts::{ElimError, Verdict};
+use std::alloc::{AllocError, Global};
+use std::fmt::Write;
+
+fn push_multipliers(out: &mut String, multipliers: &[(u32, i128)]) -> Result<(), AllocError> {
+    out.push_str("refuted")?;
+    for (place, by) in multipliers {
+        write!(out, " {place}:{by}")?;
+    }
+    Ok(())
+}
+
+fn push_point(out: &mut String, point: &[(i128, i128)]) -> Result<(), AllocError> {
+    out.push_str("solved")?;
+    for (numerator, denominator) in point {
+        write!(out, " {numerator}/{denominator}")?;
+    }
+    Ok(())
+}
+
+fn push_verdict(alloc: Global, out: &mut String, relations: &[Rel]) -> Result<(), AllocError> {
+    match decide(alloc, relations) {
+        Ok(Verdict::Refuted(multipliers)) => push_multipliers(out, multipliers.of.as_slice()),
+        Ok(Verdict::Solved(point)) => push_point(out, point.as_slice()),
+        Err(ElimError::Wide) => out.push_str("wide"),
+        Err(ElimError::Many) => out.push_str("many"),
+        Err(ElimError::Memory) => Err(AllocError),
+    }
+}
+
+/// The relations of the question.
+fn asked(alloc: Global, verb: &str, words: &str) -> Result<Vec<Rel>, AllocError> {
+    let (first, second) = parted(words, " ");
+    match verb {
+        "upper bounds" => upper_bounds(alloc, first.parse().unwrap_or(0)),
+        "pairs" => pairs(
+            alloc,
+            first.parse().unwrap_or(0),
+            second.parse().unwrap_or(0),
+        ),
+        _ => relations(alloc, words),
+    }
+}
+
+/// What the question of a line answers.
+pub fn answer(alloc: Global, line: &str) -> Result<String, AllocError> {
+    let mut out = String::new(alloc);
+    let (verb, words) = parted(line, ": ");
+    let relations = asked(alloc, verb, words)?;
+    push_verdict(alloc, &mut out, relations.as_slice())?;
+    Ok(out)
+}

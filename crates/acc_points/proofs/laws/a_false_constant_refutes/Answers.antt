@@ -1,0 +1,5 @@
+use Rattle.acc_points.proofs.Searched.{refutes}
+use Rattle.acc_points.proofs.laws.a_false_constant_refutes.Goals as goal
+
+pub returns : goal.returns
+returns c = refutes

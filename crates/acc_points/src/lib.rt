@@ -1,0 +1,8 @@
+//! Relations between unknowns, read into systems, and the point that the elimination of a system leaves.
+#![tactic(auto)]
+
+mod fractions;
+pub mod laws;
+mod points;
+mod readings;
+pub mod searching;

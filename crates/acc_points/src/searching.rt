@@ -1,0 +1,48 @@
+//! The search for a point at which relations between unknowns hold.
+ghost use Rattle.std.specs.Prelude.{◌≡◌, IfOk};
+ghost use Rattle.acc_systems.specs.Answers.{Answers};
+ghost use Rattle.acc_points.specs.Points.{zeros, point_of};
+ghost use Rattle.acc_points.specs.Searches.{searched};
+
+use crate::points::{place_all, place_all_by};
+use crate::readings::{rows_of, unknowns_of};
+use acc_base::forms::Rel;
+use acc_base::sequences::Seq;
+use acc_systems::stops::Stop;
+use acc_systems::systems::{Eliminated, eliminate_all};
+use std::alloc::{AllocError, Global};
+
+/// A point at which every unknown is 0.
+fn zeros(alloc: Global, unknowns: u32) -> Result<Vec<(i128, i128)>, AllocError>
+    ensures { IfOk result (λ v. v.items ≡ zeros unknowns) }
+{
+    Vec::from_elem(alloc, (0, 1), unknowns as usize)
+}
+
+/// The point that an elimination leaves.
+fn point_of(alloc: Global, unknowns: u32, left: Eliminated) -> Result<Seq<(i128, i128)>, Stop>
+    ensures { Answers result (point_of unknowns left) }
+{
+    let zeros = zeros(alloc, unknowns)?;
+    let point = place_all(zeros, left.bounds.as_slice())?;
+    place_all_by(point.into_vec(), left.aside.as_slice())
+}
+
+/// The point at which relations hold: a numerator and a denominator above 0 for each unknown, in the order of first appearance. Or
+/// what stops the elimination: `Refuted` with the false constant and its multipliers, `Wide` where a number lies beyond 2^120 on
+/// either side of 0, `Many` where a system has more than 4,096 relations, whichever it meets first; `Memory` where memory ran out.
+///
+/// Each term's unknown is compared with the unknowns that were found before it, and each relation of a system with those before it.
+/// The elimination may square the number of bounds with each unknown.
+pub fn searched(alloc: Global, rels: &[Rel]) -> Result<Seq<(i128, i128)>, Stop>
+    ensures { Answers result (searched rels.now) }
+{
+    let names = unknowns_of(alloc, rels)?;
+    if names.len() > u32::MAX as usize || rels.len() > u32::MAX as usize {
+        return Err(Stop::Memory);
+    }
+    let unknowns = names.len() as u32;
+    let rows = rows_of(alloc, names.as_slice(), rels)?;
+    let left = eliminate_all(alloc, unknowns, rows)?;
+    point_of(alloc, unknowns, left)
+}

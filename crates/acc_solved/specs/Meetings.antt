@@ -1,0 +1,45 @@
+-- What a point shows: the values of relations there, and that they are met.
+use Rattle.std.specs.Prelude.{◌≡◌, if◌then◌else◌, Bool, IsTrue, All, List, [], ◌∷◌, length, Ok, ℤ, pos, ◌+ℤ◌, ◌*ℤ◌, int_lt}
+use Rattle.acc_base.specs.declared.forms.Unknown.{Unknown}
+use Rattle.acc_base.specs.declared.forms.Rel.{Rel}
+use Rattle.acc_base.specs.Linear.{meets}
+use Rattle.acc_base.specs.Sums.{Term}
+use Rattle.acc_farkas.specs.Sums.{is_number}
+use Rattle.acc_points.specs.Fractions.{Fraction}
+use Rattle.acc_points.specs.Points.{Point, value}
+use Rattle.acc_points.specs.Readings.{unknowns_of, number_of}
+use Rattle.acc_points.specs.Searches.{searched}
+
+-- the value of an unknown at a point; the number 1 without condition is 1
+abbrev pub value_at : List Unknown → Point → Unknown → Fraction
+value_at names point u = if is_number u then (pos 1, pos 1) else value point (number_of names u)
+
+-- x + c * y for fractions, not in lowest terms
+abbrev pub plus_exactly : Fraction → ℤ → Fraction → Fraction
+plus_exactly x c y = (x.0 *ℤ y.1 +ℤ (c *ℤ y.0) *ℤ x.1, x.1 *ℤ y.1)
+
+abbrev pub sum_at : List Unknown → Point → Fraction → List Term → Fraction
+sum_at names point x [] = x
+sum_at names point x (t ∷ ts) = sum_at names point (plus_exactly x t.1 (value_at names point t.0)) ts
+
+-- a form's value at a point, over a denominator above 0
+abbrev pub form_at : List Unknown → Point → Rel → Fraction
+form_at names point r = sum_at names point (r.form.constant, pos 1) r.form.terms
+
+-- the value is 0 or at most 0, as the relation says
+abbrev pub is_met : List Unknown → Point → Rel → Bool
+is_met names point r = meets r.equal (form_at names point r).0
+
+abbrev pub is_above : Fraction → Bool
+is_above x = int_lt (pos 0) x.1
+
+-- a point has a value for each unknown of the relations, in the order of first appearance, each with a denominator above 0, and each
+-- relation is met there
+pub record Meets (rels : List Rel) (point : Point) : Type 0 where
+  pub long : length point ≡ length (unknowns_of rels)
+  pub above : All (λ x. IsTrue (is_above x)) point
+  pub met : All (λ r. IsTrue (is_met (unknowns_of rels) point r)) rels
+
+-- so does the point with which a search ends
+abbrev pub SearchedIsMet : Type 0
+SearchedIsMet = (rels : List Rel) (point : Point) → searched rels ≡ Ok point → Meets rels point

@@ -1,0 +1,4 @@
+//! What a point with which a search ends shows.
+#![tactic(auto)]
+
+pub mod laws;

@@ -1,0 +1,89 @@
+-- The first equation that has an unknown, and the numbers of the unknowns.
+use Rattle.std.proofs.Common.{◌≡◌, ℕ, zero, suc, ◌+◌, ◌-◌, ◌<◌, ◌≤◌, Bool, true, false, cond, List, [], ◌∷◌, ◌++◌, length, get_or, not, pos}
+use Rattle.std.proofs.Common.{Some, None, refl, ap, sym, ◌∙◌, arith, if◌then◌else◌, nat_lt}
+use Rattle.std.specs.Prelude.{position, option_map, filter, int_lt}
+use Rattle.std.specs.Ordering.{int_eq}
+use Rattle.std.specs.List.{position_or_len, remove}
+use Rattle.std.proofs.lemmas.Bool.Decides.{nat_tests}
+use Rattle.std.proofs.lemmas.List.Quantifiers.{position-Some}
+use Rattle.std.proofs.lemmas.List.Sums.{fails_before_first}
+use Rattle.acc_systems.specs.declared.rows.Row.{Row}
+use Rattle.acc_systems.specs.Sparse.{at}
+use Rattle.acc_systems.specs.Systems.{is_equation_with, taken, counted, is_without, is_lower, is_upper}
+
+module _ (u : ℕ) where
+  taken_cases : (r : Row) (rs : List Row) (b : Bool) → is_equation_with u r ≡ b
+      → taken u (r ∷ rs) ≡ (if b then Some (r, rs) else option_map (λ t. (t.0, r ∷ t.1)) (taken u rs))
+  taken_cases r rs b e = ap (λ x. if x then Some (r, rs) else option_map (λ t. (t.0, r ∷ t.1)) (taken u rs)) e
+
+  taken_at : (rows : List Row) (i : ℕ) (d : Row) → i < length rows → is_equation_with u (get_or rows i d) ≡ true
+      → ((k : ℕ) → k < i → is_equation_with u (get_or rows k d) ≡ false) → taken u rows ≡ Some (get_or rows i d, remove rows i)
+  taken_at [] i d l e f = absurd (omega (arith, l))
+  taken_at (r ∷ rs) zero d l e f = taken_cases r rs true e
+  taken_at (r ∷ rs) (suc i) d l e f =
+      taken_cases r rs false (f zero (omega arith))
+      ∙ ap (λ x. option_map (λ t. (t.0, r ∷ t.1)) x) (taken_at rs i d (omega (arith, l)) e (λ k h. f (suc k) (omega (arith, h))))
+
+  pub taken_found : (rows : List Row) (i : ℕ) (d : Row) (rest : List Row) → position (is_equation_with u) rows ≡ Some i
+      → d ≡ get_or rows i d → rest ≡ remove rows i → taken u rows ≡ Some (d, rest)
+  taken_found rows i d rest p here left =
+      let q = position-Some (is_equation_with u) rows i d p in
+      taken_at rows i d q.0 q.1 q.2 ∙ (λ k. Some (sym here k, sym left k))
+
+  taken_never : (rows : List Row) → ((k : ℕ) (d : Row) → k < length rows → is_equation_with u (get_or rows k d) ≡ false)
+      → taken u rows ≡ None
+  taken_never [] f = refl
+  taken_never (r ∷ rs) f =
+      taken_cases r rs false (f zero r (omega arith))
+      ∙ ap (λ x. option_map (λ t. (t.0, r ∷ t.1)) x) (taken_never rs (λ k d h. f (suc k) d (omega (arith, h))))
+
+  all_fail : (rows : List Row) (b : Bool) → nat_lt (position_or_len (is_equation_with u) rows) (length rows) ≡ b
+      → cond b (Some (position_or_len (is_equation_with u) rows)) None ≡ None → (k : ℕ) (d : Row) → k < length rows
+      → is_equation_with u (get_or rows k d) ≡ false
+  all_fail rows true e h k d l = absurd (cc)
+  all_fail rows false e h k d l =
+      let past : length rows ≤ position_or_len (is_equation_with u) rows = grind (arith, nat_tests) in
+      fails_before_first (is_equation_with u) rows k d (omega arith)
+
+  pub taken_none : (rows : List Row) → position (is_equation_with u) rows ≡ None → taken u rows ≡ None
+  taken_none rows p = taken_never rows (all_fail rows (nat_lt (position_or_len (is_equation_with u) rows) (length rows)) refl p)
+
+-- ---- the numbers of the unknowns
+
+counted_suc : (i m n : ℕ) → m ≡ suc n → counted i m ≡ i ∷ counted (suc i) n
+counted_suc i m n e = ap (counted i) e
+
+pub counted_more : (i n : ℕ) → i < n → counted i (n - i) ≡ i ∷ counted (i + 1) (n - (i + 1))
+counted_more i n l =
+    let e : n - i ≡ suc (n - (i + 1)) = omega (arith, l) in
+    let f : suc i ≡ i + 1 = omega arith in
+    counted_suc i (n - i) (n - (i + 1)) e ∙ ap (λ j. i ∷ counted j (n - (i + 1))) f
+
+pub counted_none : (i n : ℕ) → n ≤ i → counted i (n - i) ≡ []
+counted_none i n l = let e : n - i ≡ zero = omega (arith, l) in ap (counted i) e
+
+-- ---- relations that are parted by the sign of a coefficient
+
+module _ {X : Type 0} (p : X → Bool) (x : X) where
+  pub filter_put : (xs : List X) → p x ≡ true → filter p (xs ++ x ∷ []) ≡ filter p xs ++ x ∷ []
+  filter_put [] e = ap (λ b. if b then (x ∷ []) else []) e
+  filter_put (y ∷ ys) e = by (p y) (filter_put ys e)
+    where
+      by : (b : Bool) → filter p (ys ++ x ∷ []) ≡ filter p ys ++ x ∷ []
+          → (if b then (y ∷ filter p (ys ++ x ∷ [])) else filter p (ys ++ x ∷ []))
+          ≡ (if b then (y ∷ filter p ys) else filter p ys) ++ x ∷ []
+      by true h = ap (λ zs. y ∷ zs) h
+      by false h = h
+
+  pub filter_skip : (xs : List X) → p x ≡ false → filter p (xs ++ x ∷ []) ≡ filter p xs
+  filter_skip [] e = ap (λ b. if b then (x ∷ []) else []) e
+  filter_skip (y ∷ ys) e = ap (λ zs. if p y then (y ∷ zs) else zs) (filter_skip ys e)
+
+pub is_zero_without : (u : ℕ) (r : Row) → at u r.terms ≡ pos 0 → is_without u r ≡ true
+is_zero_without u r e = ap (λ z. not (not (int_eq z (pos 0)))) e
+
+pub is_zero_lower : (u : ℕ) (r : Row) → at u r.terms ≡ pos 0 → is_lower u r ≡ false
+is_zero_lower u r e = ap (λ z. int_lt z (pos 0)) e
+
+pub is_zero_upper : (u : ℕ) (r : Row) → at u r.terms ≡ pos 0 → is_upper u r ≡ false
+is_zero_upper u r e = ap (λ z. int_lt (pos 0) z) e

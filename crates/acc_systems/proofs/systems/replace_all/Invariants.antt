@@ -1,0 +1,12 @@
+use Rattle.std.proofs.Common.{◌≡◌, [], vec_len}
+use Rattle.std.specs.Prelude.{reverse}
+use Rattle.acc_systems.specs.Answers.{steps}
+use Rattle.acc_systems.specs.Systems.{replaced}
+use Rattle.acc_systems.proofs.systems.replace_all.Given as goal
+
+abbrev pub invariant-loop-row : goal.invariant-loop-row
+invariant-loop-row l = steps (replaced l.fn.unknown l.equation) l.kept.items (reverse l.rest.items)
+    ≡ steps (replaced l.fn.unknown l.equation) [] l.fn.rows.items
+
+abbrev pub decreases-loop-row : goal.decreases-loop-row
+decreases-loop-row l = vec_len l.rest

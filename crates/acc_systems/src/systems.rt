@@ -1,0 +1,314 @@
+//! Systems of relations: what is dropped, and what ends an elimination.
+ghost use Rattle.std.specs.Prelude.{◌≡◌, ◌<◌, [], length, position, IfSome, IfOk};
+ghost use Rattle.std.specs.List.{list_any};
+ghost use Rattle.acc_systems.specs.Answers.{Answers, Leaves, steps};
+ghost use Rattle.acc_systems.specs.Systems.{is_false, is_equation_with, repeats, is_constant, admitted, Takes, replaced, set_aside, whole};
+ghost use Rattle.acc_systems.specs.Systems.{counted, IsParted, crossed_once, crossed_with, or_else, crossed, unbounded, eliminated};
+
+use crate::rows::{Row, cleared, crossing};
+use crate::stops::Stop;
+use acc_base::sequences::Seq;
+use std::alloc::{AllocError, Global};
+
+/// The most relations of a system.
+pub const MOST: usize = 4096;
+
+/// Whether a relation without unknowns is false.
+fn is_false(row: &Row) -> bool
+    ensures { result ≡ is_false row.now }
+{
+    if row.equal {
+        row.constant != 0
+    } else {
+        row.constant > 0
+    }
+}
+
+/// Whether a relation has the form of another and is an equation as the other is.
+fn repeats(row: &Row, kept: &Row) -> bool
+    ensures { result ≡ repeats row.now kept.now }
+{
+    kept.constant == row.constant && kept.equal == row.equal && kept.terms == row.terms
+}
+
+/// Whether a relation has no unknown.
+fn is_constant(row: &Row) -> bool
+    ensures { result ≡ is_constant row.now }
+{
+    row.terms.is_empty()
+}
+
+/// Whether a relation repeats one of these.
+fn is_repetition(rows: &[Row], row: &Row) -> bool
+    ensures { result ≡ list_any (repeats row.now) rows.now }
+{
+    for kept in rows {
+        if repeats(row, kept) {
+            return true;
+        }
+    }
+    false
+}
+
+/// One more relation. The cost is that of comparing it with each of the system.
+pub fn admit(rows: &mut Vec<Row>, row: Row) -> Result<(), Stop>
+    ensures { Leaves result rows.new.items (admitted rows.old.items row) }
+{
+    if is_constant(&row) {
+        if is_false(&row) {
+            return Err(Stop::Refuted(row));
+        }
+        return Ok(());
+    }
+    if is_repetition(rows.as_slice(), &row) {
+        return Ok(());
+    }
+    if rows.len() >= MOST {
+        return Err(Stop::Many);
+    }
+    rows.push(row)?;
+    Ok(())
+}
+
+/// The place of the first equation that has the unknown.
+fn equation_place(rows: &[Row], unknown: u32) -> Option<usize>
+    ensures value { result ≡ position (is_equation_with unknown) rows.now }
+    ensures within { IfSome result (λ i. i < length rows.now) }
+{
+    rows.iter().position(|row| row.equal && row.has(unknown))
+}
+
+/// The first equation that has the unknown is taken out of the relations; where there is none, they stay.
+fn take_equation(rows: &mut Vec<Row>, unknown: u32) -> Option<Row>
+    ensures { Takes unknown rows.old.items rows.new.items result }
+{
+    match equation_place(rows.as_slice(), unknown) {
+        Some(place) => Some(rows.remove(place)),
+        None => None,
+    }
+}
+
+/// One more relation, without the unknown of the equation.
+fn replace(
+    alloc: Global,
+    unknown: u32,
+    equation: &Row,
+    kept: &mut Vec<Row>,
+    row: Row,
+) -> Result<(), Stop>
+    ensures { Leaves result kept.new.items (replaced unknown equation.now kept.old.items row) }
+{
+    let row = cleared(alloc, unknown, equation, row)?;
+    admit(kept, row)
+}
+
+/// The relations one after the other, each without the unknown of the equation. The cost is that of comparing each with each.
+fn replace_all(
+    alloc: Global,
+    unknown: u32,
+    equation: &Row,
+    rows: Vec<Row>,
+) -> Result<Seq<Row>, Stop>
+    ensures { Answers result (steps (replaced unknown equation.now) [] rows.items) }
+{
+    let mut kept = Vec::new(alloc);
+    let mut rest = rows;
+    rest.reverse();
+    while let Some(row) = rest.pop() {
+        replace(alloc, unknown, equation, &mut kept, row)?;
+    }
+    Ok(Seq::from_vec(kept))
+}
+
+/// A system, the equations set aside, each for its unknown, and the unknowns that are left.
+#[derive(Drop)]
+pub struct Reduced {
+    pub rows: Seq<Row>,
+    pub aside: Seq<(u32, Row)>,
+    pub left: Seq<u32>,
+}
+
+/// The system without the unknown where an equation has it; else the unknown is left.
+fn set_aside(alloc: Global, state: Reduced, unknown: u32) -> Result<Reduced, Stop>
+    ensures { Answers result (set_aside state unknown) }
+{
+    let Reduced {
+        rows,
+        mut aside,
+        mut left,
+    } = state;
+    let mut rows = rows.into_vec();
+    match take_equation(&mut rows, unknown) {
+        None => {
+            left.push(unknown)?;
+            Ok(Reduced {
+                rows: Seq::from_vec(rows),
+                aside,
+                left,
+            })
+        }
+        Some(equation) => {
+            let rows = replace_all(alloc, unknown, &equation, rows)?;
+            aside.push((unknown, equation))?;
+            Ok(Reduced { rows, aside, left })
+        }
+    }
+}
+
+/// The system without the unknowns that equations have, in their order.
+fn set_all_aside(alloc: Global, unknowns: u32, rows: Seq<Row>) -> Result<Reduced, Stop>
+    ensures { Answers result (steps set_aside (whole rows) (counted 0 unknowns)) }
+{
+    let mut state = Reduced {
+        rows,
+        aside: Seq::new(alloc),
+        left: Seq::new(alloc),
+    };
+    for unknown in 0..unknowns {
+        state = set_aside(alloc, state, unknown)?;
+    }
+    Ok(state)
+}
+
+/// A system, and the bounds of each unknown that was eliminated: the lower ones, or the upper ones where there are no lower ones.
+#[derive(Drop)]
+pub struct Bounded {
+    pub rows: Seq<Row>,
+    pub bounds: Seq<(u32, Seq<Row>)>,
+}
+
+/// The relations without an unknown, its lower bounds and its upper ones.
+#[derive(Drop)]
+struct Parted {
+    without: Seq<Row>,
+    lows: Seq<Row>,
+    ups: Seq<Row>,
+}
+
+/// Relations parted by the sign with which they have an unknown.
+fn part(alloc: Global, unknown: u32, rows: Seq<Row>) -> Result<Parted, AllocError>
+    ensures { IfOk result (IsParted unknown rows) }
+{
+    let mut without = Seq::new(alloc);
+    let mut lows = Seq::new(alloc);
+    let mut ups = Seq::new(alloc);
+    for row in rows.into_vec() {
+        let coefficient = row.coefficient(unknown);
+        if coefficient < 0 {
+            lows.push(row)?;
+        } else if coefficient > 0 {
+            ups.push(row)?;
+        } else {
+            without.push(row)?;
+        }
+    }
+    Ok(Parted { without, lows, ups })
+}
+
+/// One more relation, made of an upper and a lower bound.
+fn cross(alloc: Global, unknown: u32, up: &Row, kept: &mut Vec<Row>, low: &Row) -> Result<(), Stop>
+    ensures { Leaves result kept.new.items (crossed_once unknown up.now kept.old.items low.now) }
+{
+    let row = crossing(alloc, unknown, up, low)?;
+    admit(kept, row)
+}
+
+/// Relations made of an upper bound and each lower one.
+fn cross_lows(
+    alloc: Global,
+    unknown: u32,
+    lows: &[Row],
+    kept: &mut Vec<Row>,
+    up: &Row,
+) -> Result<(), Stop>
+    ensures { Leaves result kept.new.items (crossed_with unknown lows.now kept.old.items up.now) }
+{
+    for low in lows {
+        cross(alloc, unknown, up, kept, low)?;
+    }
+    Ok(())
+}
+
+/// Relations made of each upper bound and each lower one.
+fn cross_all(
+    alloc: Global,
+    unknown: u32,
+    lows: &[Row],
+    ups: &[Row],
+    mut kept: Vec<Row>,
+) -> Result<Seq<Row>, Stop>
+    ensures { Answers result (steps (crossed_with unknown lows.now) kept.items ups.now) }
+{
+    for up in ups {
+        cross_lows(alloc, unknown, lows, &mut kept, up)?;
+    }
+    Ok(Seq::from_vec(kept))
+}
+
+/// The lower bounds, or the upper ones where there are none.
+fn or_else(lows: Seq<Row>, ups: Seq<Row>) -> Seq<Row>
+    ensures { result ≡ or_else lows ups }
+{
+    if lows.is_empty() { ups } else { lows }
+}
+
+/// The system without the unknown.
+fn cross_out(alloc: Global, state: Bounded, unknown: u32) -> Result<Bounded, Stop>
+    ensures { Answers result (crossed state unknown) }
+{
+    let Bounded { rows, mut bounds } = state;
+    let Parted { without, lows, ups } = part(alloc, unknown, rows)?;
+    let rows = cross_all(
+        alloc,
+        unknown,
+        lows.as_slice(),
+        ups.as_slice(),
+        without.into_vec(),
+    )?;
+    bounds.push((unknown, or_else(lows, ups)))?;
+    Ok(Bounded { rows, bounds })
+}
+
+/// The system without the unknowns, one after the other.
+fn cross_each(alloc: Global, unknowns: &[u32], rows: Seq<Row>) -> Result<Bounded, Stop>
+    ensures { Answers result (steps crossed (unbounded rows) unknowns.now) }
+{
+    let mut state = Bounded {
+        rows,
+        bounds: Seq::new(alloc),
+    };
+    for unknown in unknowns {
+        state = cross_out(alloc, state, *unknown)?;
+    }
+    Ok(state)
+}
+
+/// The relations one after the other, as a system.
+fn admit_all(alloc: Global, rows: Vec<Row>) -> Result<Seq<Row>, Stop>
+    ensures { Answers result (steps admitted [] rows.items) }
+{
+    let mut kept = Vec::new(alloc);
+    let mut rest = rows;
+    rest.reverse();
+    while let Some(row) = rest.pop() {
+        admit(&mut kept, row)?;
+    }
+    Ok(Seq::from_vec(kept))
+}
+
+/// What an elimination leaves: the equations that were set aside, and the bounds of the other unknowns.
+#[derive(Drop)]
+pub struct Eliminated {
+    pub aside: Seq<(u32, Row)>,
+    pub bounds: Seq<(u32, Seq<Row>)>,
+}
+
+/// The elimination of all unknowns: first by equations, then by pairs of bounds.
+pub fn eliminate_all(alloc: Global, unknowns: u32, rows: Vec<Row>) -> Result<Eliminated, Stop>
+    ensures { Answers result (eliminated unknowns rows.items) }
+{
+    let system = admit_all(alloc, rows)?;
+    let Reduced { rows, aside, left } = set_all_aside(alloc, unknowns, system)?;
+    let Bounded { rows: _, bounds } = cross_each(alloc, left.as_slice(), rows)?;
+    Ok(Eliminated { aside, bounds })
+}
