@@ -14,9 +14,10 @@ use Rattle.acc_base.specs.declared.machines.Event.TheVariants.{Abort, Undo}
 use Rattle.acc_base.specs.declared.machines.Outcome.TheVariants.{Compensated}
 use Rattle.acc_base.specs.declared.machines.Transaction.{Transaction}
 use Rattle.acc_base.specs.declared.machines.Transaction.TheVariants.{Forward, Undoing, Ended}
-use Rattle.acc_base.specs.Machine.{World, transaction_at, frame_in, unfinished, limit_of, turned, changed, became, becomes, after_event}
+use Rattle.acc_base.specs.Machine.{World, transaction_at, frame_in, unfinished, limit_of, turned, undone, changed, became, becomes, after_event}
 use Rattle.acc_base.specs.Soundness.{variant_of, IsSound}
 use Rattle.acc_lift.specs.RunRules.{HasRunRules}
+use Rattle.acc_lift.specs.Laws.{IsBackward, crashed, undone_by}
 use Rattle.acc_base.specs.Lawful.{IsLawful, LeadLawfully}
 use Rattle.acc_base.specs.Invariant.{rest_of, IsSteady}
 use Rattle.acc_base.specs.Compensation.{HasFallen, UndoGoes, IsNext, crash, undo, Recovers}
@@ -178,6 +179,43 @@ module _ (d : Design) (sound : IsSound d) (well : HasRunRules d) where
       by : (o : IsOpen t w f) (b : Bool) → is_forward o.x ≡ b → Goes w (Undo t)
       by o true q = let k = forward_is o.x q in absurd (none t k.f (o.at ∙ ap Some k.is))
       by o false q = let k = undoing_is o.x (open_undoing o.x f o.frame q) in undo_step w steady t k.f k.c (o.at ∙ ap Some k.is)
+
+  -- ---- a crash and an undo turn lower what may still come
+
+  abbrev Falls : World → World → Type 0
+  Falls w after = sum_by (rest_of d) after.transactions + 1 ≤ sum_by (rest_of d) w.transactions
+
+  fallen : (w after : World) (e : Event) → after_event d w e ≡ Some after → Goes w e → Falls w after
+  fallen w after e h g = subst (Falls w) (same_Some g.next after (sym g.lawful.event ∙ h)) g.falls
+
+  crash_falls : (w after : World) → IsSteady d w → (t : ℕ) → after_event d w (Abort t Crash) ≡ Some after → Falls w after
+  crash_falls w after steady t h = by (transaction_at t w.transactions) refl
+    where
+      none : (o : Option Transaction) → transaction_at t w.transactions ≡ o → turned d w.rows Crash o ≡ None → ⊥
+      none o e k =
+          none-some after (sym (ap (becomes w (Abort t Crash) t) (ap (turned d w.rows Crash) e ∙ k)) ∙ h)
+
+      by : (o : Option Transaction) → transaction_at t w.transactions ≡ o → Falls w after
+      by None e = absurd (none None e refl)
+      by (Some (Forward f)) e = fallen w after (Abort t Crash) h (crash_goes w steady t f e)
+      by (Some (Undoing f c)) e = absurd (none (Some (Undoing f c)) e refl)
+      by (Some (Ended r)) e = absurd (none (Some (Ended r)) e refl)
+
+  undo_falls_by : (w after : World) → IsSteady d w → (t : ℕ) → after_event d w (Undo t) ≡ Some after → Falls w after
+  undo_falls_by w after steady t h = by (transaction_at t w.transactions) refl
+    where
+      none : (o : Option Transaction) → transaction_at t w.transactions ≡ o → undone d w.rows o ≡ None → ⊥
+      none o e k = none-some after (sym (ap (becomes w (Undo t) t) (ap (undone d w.rows) e ∙ k)) ∙ h)
+
+      by : (o : Option Transaction) → transaction_at t w.transactions ≡ o → Falls w after
+      by None e = absurd (none None e refl)
+      by (Some (Forward f)) e = absurd (none (Some (Forward f)) e refl)
+      by (Some (Undoing f c)) e = fallen w after (Undo t) h (undo_step w steady t f c e)
+      by (Some (Ended r)) e = absurd (none (Some (Ended r)) e refl)
+
+  pub rests_fall : (w after : World) (e : Event) → IsSteady d w → IsBackward e → after_event d w e ≡ Some after → Falls w after
+  rests_fall w after e steady (crashed t) h = crash_falls w after steady t h
+  rests_fall w after e steady (undone_by t) h = undo_falls_by w after steady t h
 
   -- ---- every recovery is lawful, and short
 

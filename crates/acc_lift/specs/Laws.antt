@@ -3,9 +3,11 @@ use Rattle.std.specs.Prelude.{◌≡◌, ℕ, ◌+◌, ◌≤◌, List, [], leng
 use Rattle.acc_base.specs.declared.designs.Design.{Design}
 use Rattle.acc_base.specs.declared.machines.Frame.{Frame}
 use Rattle.acc_base.specs.declared.machines.Cause.{Cause}
+use Rattle.acc_base.specs.declared.machines.Cause.TheVariants.{Crash}
 use Rattle.acc_base.specs.declared.machines.Event.{Event}
+use Rattle.acc_base.specs.declared.machines.Event.TheVariants.{Abort, Undo}
 use Rattle.acc_base.specs.declared.machines.Transaction.TheVariants.{Undoing}
-use Rattle.acc_base.specs.Machine.{World, start, transaction_at, unfinished}
+use Rattle.acc_base.specs.Machine.{World, start, transaction_at, unfinished, after_event}
 use Rattle.acc_form.specs.WellFormed.{IsWellFormed}
 use Rattle.acc_base.specs.Soundness.{IsSound, variant_of}
 use Rattle.acc_base.specs.Lawful.{IsLawful, LeadLawfully, AreLawful}
@@ -47,6 +49,17 @@ UndoEnds =
     (d : Design) (w after : World) (t : ℕ) (f : Frame) (c : Cause) (events : List Event) → IsSound d → IsWellFormed d → IsGood d w
     → transaction_at t w.transactions ≡ Some (Undoing f c) → LeadLawfully d w events after
     → count_by (is_undo_of t) events ≤ unsigned_abs (variant_of d f) + 1
+
+-- a crash or an undo turn
+pub data IsBackward : Event → Type 0 where
+  crashed : (t : ℕ) → IsBackward (Abort t Crash)
+  undone_by : (t : ℕ) → IsBackward (Undo t)
+
+-- it lowers the number of events that may still come without a further begin
+abbrev pub RestsFall : Type 0
+RestsFall =
+    (d : Design) (w after : World) (e : Event) → IsSound d → IsWellFormed d → IsGood d w → IsBackward e → after_event d w e ≡ Some after
+    → sum_by (rest_of d) after.transactions + 1 ≤ sum_by (rest_of d) w.transactions
 
 -- a good state has a recovery
 abbrev pub RecoveryComes : Type 0

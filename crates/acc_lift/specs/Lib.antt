@@ -1,2 +1,3 @@
 pub mod RunRules
 pub mod Laws
+pub mod Acceptance

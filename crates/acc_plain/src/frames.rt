@@ -59,6 +59,13 @@ impl Frames {
         self.as_slice().partition_point(|frame| frame.t < t)
     }
 
+    /// Makes room for so many more frames.
+    pub fn reserve(&mut self, more: usize) -> Result<(), AllocError>
+        ensures { self.new ≡ self.old }
+    {
+        self.slots.reserve(more)
+    }
+
     /// Puts a frame at the end.
     pub fn push(&mut self, frame: Frame) -> Result<(), AllocError>
         ensures ok { OnOk result (self.new ≡ self.old ++ frame ∷ []) }

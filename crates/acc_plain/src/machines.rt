@@ -200,6 +200,14 @@ impl<'a, S: Store> Machine<'a, S> {
         }
     }
 
+    /// Makes room for the frames of so many more unfinished transactions, so that to begin them moves no frame.
+    pub fn reserve(&mut self, more: usize) -> Result<(), PlainError>
+        ensures { self.new ≡ self.old }
+    {
+        self.transactions.reserve(more)?;
+        Ok(())
+    }
+
     /// The frames of the transactions that have begun and haven't ended, in order of number.
     pub fn unfinished(&self) -> &[Frame]
         ensures { result.now ≡ unfinished self.now.world }

@@ -114,6 +114,13 @@ impl Transactions {
         &self.frames.as_slice()[self.frames.place(t)]
     }
 
+    /// Makes room for the frames of so many more unfinished ones.
+    pub fn reserve(&mut self, more: usize) -> Result<(), AllocError>
+        ensures { self.new ≡ self.old }
+    {
+        self.frames.reserve(more)
+    }
+
     /// Puts a transaction that begins at the end.
     pub fn push(&mut self, frame: Frame) -> Result<(), AllocError>
         requires number { frame.t ≡ length self.old + 1 }
