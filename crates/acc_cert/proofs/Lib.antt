@@ -1,0 +1,4 @@
+mod Sizes
+mod Readings
+mod NodeSizes
+mod NodeReadings

@@ -1,0 +1,50 @@
+//! Reads and writes certificates, and asks whether a proof proves a sequent: a question a line of the input, with the answers.
+//!
+//! `design TEXT` and `sequent JSON` give the design and the sequent of the questions behind them. A sequent is
+//! `[[RULE,VARIABLES,TYPE],[HYPOTHESIS..],[[RELATION..],FORM]]`: TYPE is that of the origin's point, from 1 on, and 0 is none;
+//! a hypothesis is `[VARIABLES,[RELATION..],RELATION]`; a relation is `[FORM,0]` where the form is at most 0, and `[FORM,1]`
+//! where it is 0; and forms are spelled as in certificates.
+#![tactic(auto)]
+
+mod answers;
+mod sequents;
+mod texts;
+
+use std::alloc::{AllocError, Global};
+use std::io;
+
+/// What a question answers.
+fn answer(alloc: Global, design: &str, sequent: &str, question: &str) -> Result<String, AllocError> {
+    let (verb, rest) = question.split_once(' ').unwrap_or((question, ""));
+    match verb {
+        "read" => answers::read_again(alloc, &texts::bytes(alloc, rest)?),
+        "proves" => answers::proved(alloc, design, sequent, rest),
+        _ => String::from_str(alloc, "no question"),
+    }
+}
+
+/// Answers a question, and prints both; a line with '#' is a remark.
+fn play(rt: &impl Print, alloc: Global, design: &str, sequent: &str, line: &str) -> io::Result<()> {
+    if line.is_empty() || line.starts_with('#') || line.starts_with("design") || line.starts_with("sequent") {
+        return rt.println(line);
+    }
+    let said = answer(alloc, design, sequent, line)?;
+    println!(rt; "{line} -> {said}")
+}
+
+fn main(rt: HostRuntime) -> io::Result<()> {
+    let alloc = rt.alloc();
+    let mut design = String::new(alloc);
+    let mut sequent = String::new(alloc);
+    for line in rt.lines(alloc) {
+        let line = line?;
+        if let Some(text) = line.strip_prefix("design ") {
+            design = String::from_str(alloc, text)?;
+        }
+        if let Some(text) = line.strip_prefix("sequent ") {
+            sequent = String::from_str(alloc, text)?;
+        }
+        play(&rt, alloc, &design, &sequent, &line)?;
+    }
+    Ok(())
+}

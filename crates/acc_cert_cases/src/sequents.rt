@@ -1,0 +1,101 @@
+//! Sequents as they are spelled.
+use acc_base::designs::{At, Side};
+use acc_base::forms::{Clause, Form, Rel};
+use acc_base::sequences::{Seq, Text};
+use acc_base::sequents::{Origin, Sequent};
+use acc_cert_read::parts::Part;
+use serde_json::Value;
+use std::alloc::{AllocError, Global};
+
+/// A form, and 1 where it is 0, else 0.
+type Relation = (Form, u32);
+
+/// How many variables a hypothesis has of its own, its guards, and its relation.
+type Hypothesis = (u32, Seq<Relation>, Relation);
+
+/// The rule, the variables and the type; the hypotheses; and the relations with the goal.
+type Spelled = ((u32, u32, u32), Seq<Hypothesis>, (Seq<Relation>, Form));
+
+fn relation((form, equal): Relation) -> Rel {
+    Rel {
+        form,
+        equal: equal == 1,
+    }
+}
+
+fn relations(alloc: Global, spelled: Seq<Relation>) -> Result<Seq<Rel>, AllocError> {
+    let mut relations = Seq::new(alloc);
+    for one in spelled.into_vec() {
+        relations.push(relation(one))?;
+    }
+    Ok(relations)
+}
+
+/// So many names.
+fn names(alloc: Global, count: u32) -> Result<Seq<Text>, AllocError> {
+    let mut names = Seq::new(alloc);
+    for _ in 0..count {
+        names.push(Seq::new(alloc))?;
+    }
+    Ok(names)
+}
+
+fn clause(alloc: Global, (count, guards, rel): Hypothesis) -> Result<Clause, AllocError> {
+    let vars = names(alloc, count)?;
+    Ok(Clause {
+        vars,
+        guards: relations(alloc, guards)?,
+        rel: relation(rel),
+    })
+}
+
+fn clauses(alloc: Global, spelled: Seq<Hypothesis>) -> Result<Seq<Clause>, AllocError> {
+    let mut clauses = Seq::new(alloc);
+    for one in spelled.into_vec() {
+        clauses.push(clause(alloc, one)?)?;
+    }
+    Ok(clauses)
+}
+
+/// The first point of a type that is counted from 1 on; 0 is none.
+fn point(ty: u32) -> Option<At> {
+    let ty = ty.checked_sub(1)?;
+    Some(At { ty, point: 0 })
+}
+
+fn origin(rule: u32, ty: u32) -> Origin {
+    Origin {
+        rule,
+        held: None,
+        clause: 0,
+        at: point(ty),
+        side: Side::Next,
+        path: 0,
+        case: 0,
+    }
+}
+
+fn sequent(alloc: Global, spelled: Spelled) -> Result<Sequent, AllocError> {
+    let ((rule, vars, ty), hyps, (rels, goal)) = spelled;
+    let hyps = clauses(alloc, hyps)?;
+    Ok(Sequent {
+        origin: origin(rule, ty),
+        vars,
+        hyps,
+        rels: relations(alloc, rels)?,
+        goal,
+    })
+}
+
+fn spelled(alloc: Global, text: &str) -> Option<Spelled> {
+    let value = Value::from_str(alloc, text).ok()?;
+    Part::read(alloc, &value).ok()
+}
+
+/// The sequent of a text, if it is one.
+pub fn read(alloc: Global, text: &str) -> Result<Option<Sequent>, AllocError> {
+    match spelled(alloc, text) {
+        Some(spelled) => Ok(Some(sequent(alloc, spelled)?)),
+        None => Ok(None),
+    }
+}
