@@ -17,9 +17,9 @@ use Rattle.acc_base.specs.Numbers.{total}
 use Rattle.acc_base.specs.Sums.{Term}
 use Rattle.acc_base.specs.Tables.{IsInOrder, has_row, column_of, count_of, sum_of}
 use Rattle.acc_base.specs.Linear.{lin_value, lin_values, meets}
-use Rattle.acc_base.specs.Actions.{after_action}
+use Rattle.acc_base.specs.Actions.{after_action, acted_table}
 use Rattle.acc_base.specs.Truth.{atom_value, is_lin_zero, product_value, rel_true, ClauseTrue}
-use Rattle.acc_wp.specs.Changes.{table_of, change, presence_change, column_change, key_of}
+use Rattle.acc_wp.specs.Changes.{change, presence_change, column_change, key_of}
 use Rattle.acc_base.specs.Shapes.{ActionFits, RowFits}
 use Rattle.acc_base.specs.RowsAfter.{rows_after, AreThere}
 use Rattle.acc_wp.proofs.PartValues.{parts_value}
@@ -40,9 +40,9 @@ constant_values env [] = refl
 constant_values env (z ∷ zs) = λ i. constant_value env z i ∷ constant_values env zs i
 
 module _ (env : List ℤ) (a : Action) (db : List Row) (order : IsInOrder db) (ready : IsReady env a db) (u : ℕ)
-    (other : (table_of a == u) ≡ false) where
-  apart : table_of a ≡ u → ⊥
-  apart e = false≢true (sym other ∙ (Decides-eqb (table_of a) u).1 e)
+    (other : (acted_table a == u) ≡ false) where
+  apart : acted_table a ≡ u → ⊥
+  apart e = false≢true (sym other ∙ (Decides-eqb (acted_table a) u).1 e)
 
   no_gain : (A : Atom) → change a A ≡ [] → gain env a db order A ≡ pos 0
   no_gain A e = ap (λ ps. if place_meets env a db order A then parts_value db env ps else pos 0) e ∙ by (place_meets env a db order A)
@@ -89,14 +89,14 @@ neither false b h = (refl, h)
 module _ (tables : List Table) (env : List ℤ) where
   -- a fact of the rows that each action on another table leaves is left by all
   module _ (u : ℕ) (Same : List Row → List Row → Type 0) (none : (db : List Row) → Same db db)
-      (one : (a : Action) (db after : List Row) → IsInOrder db → IsReady env a db → (table_of a == u) ≡ false
+      (one : (a : Action) (db after : List Row) → IsInOrder db → IsReady env a db → (acted_table a == u) ≡ false
       → Same after (after_action env a db) → Same after db) where
     along :
         (acts : List Action) (db : List Row) → AllByRecursion (ActionFits tables) acts → AllByRecursion (RowFits tables) db → IsInOrder db
-        → AreThere env acts db → list_any (λ a. table_of a == u) acts ≡ false → Same (rows_after env acts db) db
+        → AreThere env acts db → list_any (λ a. acted_table a == u) acts ≡ false → Same (rows_after env acts db) db
     along [] db fits rows order there h = none db
     along (a ∷ rest) db fits rows order there h =
-        let g = neither (table_of a == u) (list_any (λ b. table_of b == u) rest) h in
+        let g = neither (acted_table a == u) (list_any (λ b. acted_table b == u) rest) h in
         one a db (rows_after env rest (after_action env a db)) order (is_ready tables env a db fits.0 rows there.0) g.0
         (along rest (after_action env a db) fits.1 (rows_fit tables env a db fits.0 rows) (stays_in_order tables env a db order) there.1
         g.1)

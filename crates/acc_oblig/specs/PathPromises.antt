@@ -19,7 +19,7 @@ use Rattle.acc_base.specs.declared.designs.Point.{Point}
 use Rattle.acc_base.specs.declared.designs.TxType.{TxType}
 use Rattle.acc_base.specs.declared.designs.Design.{Design}
 use Rattle.acc_base.specs.declared.sequents.Origin.{Origin}
-use Rattle.acc_wp.specs.Changes.{table_of}
+use Rattle.acc_base.specs.Actions.{acted_table}
 use Rattle.acc_oblig.specs.Relations.{form, times, is_none}
 use Rattle.acc_oblig.specs.Settings.{Setting, last_now}
 use Rattle.acc_oblig.specs.Drafts.{Draft, each, of_some, clause_drafts, setting_of, Place, each_path, each_number, path_drafts}
@@ -51,10 +51,10 @@ promise_drafts d = each_number 0 MOST_CLAUSES (λ k. each_path d (promise_at d k
 abbrev pub atom_names : List Action → Atom → Bool
 atom_names actions atom.One = false
 atom_names actions (atom.Var x) = false
-atom_names actions (atom.Has t k) = list_any (λ a. table_of a == t) actions
-atom_names actions (atom.Col t k c) = list_any (λ a. table_of a == t) actions
-atom_names actions (atom.Count t p) = list_any (λ a. table_of a == t) actions
-atom_names actions (atom.Sum t p c) = list_any (λ a. table_of a == t) actions
+atom_names actions (atom.Has t k) = list_any (λ a. acted_table a == t) actions
+atom_names actions (atom.Col t k c) = list_any (λ a. acted_table a == t) actions
+atom_names actions (atom.Count t p) = list_any (λ a. acted_table a == t) actions
+atom_names actions (atom.Sum t p c) = list_any (λ a. acted_table a == t) actions
 
 abbrev pub rel_names : List Action → Rel → Bool
 rel_names actions r = list_any (λ t. atom_names actions t.0.atom) r.form.terms

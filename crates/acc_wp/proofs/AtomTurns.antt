@@ -17,13 +17,13 @@ use Rattle.acc_base.specs.declared.steps.Action.TheVariants as action
 use Rattle.acc_base.specs.Equality.{ints_decide}
 use Rattle.acc_base.specs.Tables.{Place, place_of, place_cmp, IsInOrder, is_at, is_under, cell, cell_of, has_row, column_of}
 use Rattle.acc_base.specs.Linear.{lin_value, lin_values}
-use Rattle.acc_base.specs.Actions.{after_action}
+use Rattle.acc_base.specs.Actions.{after_action, acted_table}
 use Rattle.acc_base.specs.Truth.{atom_value, is_lin_zero}
 use Rattle.acc_base.proofs.Places.{one_place}
 use Rattle.acc_base.proofs.Lookups.{found_at, any_none, any_some}
 use Rattle.acc_wp.specs.Unders.{differences}
 use Rattle.acc_instances.specs.Summands.{Part}
-use Rattle.acc_wp.specs.Changes.{table_of, key_of, place_of as atom_place, presence_change, column_change, change}
+use Rattle.acc_wp.specs.Changes.{key_of, place_of as atom_place, presence_change, column_change, change}
 use Rattle.acc_instances.proofs.RowSums.{given, row_sum, where_passes, one, count_is, total_is}
 use Rattle.acc_wp.proofs.RowTurns.{put_row, becomes, stands, action_place, with_set, with_added, find_after, row_sum_after}
 use Rattle.acc_instances.proofs.PartValues.{parts_value}
@@ -83,7 +83,7 @@ module _ (env : List ℤ) (a : Action) (db : List Row) (order : IsInOrder db) wh
 
   -- the action's key begins with q, in table u
   abbrev pub touches : ℕ → List ℤ → Bool
-  touches u q = (table_of a == u) && starts_with int_eq key q
+  touches u q = (acted_table a == u) && starts_with int_eq key q
 
   -- what the rows under a prefix give together
   sum_turn : (u : ℕ) (q : List ℤ) (v : Row → ℤ) → row_sum (where_passes (is_under u q) v) after ≡ row_sum (where_passes (is_under u q) v) db +ℤ (if touches u q then growth env v a db else pos 0)
@@ -94,9 +94,9 @@ module _ (env : List ℤ) (a : Action) (db : List Row) (order : IsInOrder db) wh
       by false e g = let h = row_sum_after env (where_passes (is_under u q) v) a db order in omega (arith, ints, h, e, g)
 
   -- what the row at a place gives
-  row_turn : (u : ℕ) (q : List ℤ) (v : Row → ℤ) → (table_of a ≡ u → length q ≡ length key) → given v (find (is_at u q) after) ≡ given v (find (is_at u q) db) +ℤ (if touches u q then growth env v a db else pos 0)
+  row_turn : (u : ℕ) (q : List ℤ) (v : Row → ℤ) → (acted_table a ≡ u → length q ≡ length key) → given v (find (is_at u q) after) ≡ given v (find (is_at u q) db) +ℤ (if touches u q then growth env v a db else pos 0)
   row_turn u q v long =
-      ap (given v) (find_after env a (u, q) db order) ∙ (by (place_cmp (u, q) (action_place env a)) refl ∙ ap (λ b. given v (find (is_at u q) db) +ℤ (if b then growth env v a db else pos 0)) (same_place (table_of a) u key q long))
+      ap (given v) (find_after env a (u, q) db order) ∙ (by (place_cmp (u, q) (action_place env a)) refl ∙ ap (λ b. given v (find (is_at u q) db) +ℤ (if b then growth env v a db else pos 0)) (same_place (acted_table a) u key q long))
     where
       by : (o : Ordering) → place_cmp (u, q) (action_place env a) ≡ o → given v (if is_eq o then becomes env a now else find (is_at u q) db) ≡ given v (find (is_at u q) db) +ℤ (if is_eq o then growth env v a db else pos 0)
       by Less e = omega (arith, ints)
@@ -120,20 +120,20 @@ module _ (env : List ℤ) (a : Action) (db : List Row) (order : IsInOrder db) wh
   none false = refl
 
   -- what a change by table gives: nothing in another table, and the growth in the action's
-  module _ (u : ℕ) (q : List Lin) (fits : table_of a ≡ u → length q ≤ length (key_of a)) where
+  module _ (u : ℕ) (q : List Lin) (fits : acted_table a ≡ u → length q ≤ length (key_of a)) where
     abbrev zeros : Bool
     zeros = list_all (is_lin_zero env) (differences q (key_of a))
 
-    pub gained_by : (parts : List Part) (v : Row → ℤ) → (table_of a ≡ u → starts_with int_eq key (lin_values env q) ≡ true → parts_value db env parts ≡ growth env v a db) → (if zeros then parts_value db env (if table_of a == u then parts else []) else pos 0) ≡ (if touches u (lin_values env q) then growth env v a db else pos 0)
-    gained_by parts v worth = by (table_of a == u) refl
+    pub gained_by : (parts : List Part) (v : Row → ℤ) → (acted_table a ≡ u → starts_with int_eq key (lin_values env q) ≡ true → parts_value db env parts ≡ growth env v a db) → (if zeros then parts_value db env (if acted_table a == u then parts else []) else pos 0) ≡ (if touches u (lin_values env q) then growth env v a db else pos 0)
+    gained_by parts v worth = by (acted_table a == u) refl
       where
-        at : (s : Bool) → starts_with int_eq key (lin_values env q) ≡ s → table_of a ≡ u → (if s then parts_value db env parts else pos 0) ≡ (if s then growth env v a db else pos 0)
+        at : (s : Bool) → starts_with int_eq key (lin_values env q) ≡ s → acted_table a ≡ u → (if s then parts_value db env parts else pos 0) ≡ (if s then growth env v a db else pos 0)
         at true e t = worth t e
         at false e t = refl
 
-        by : (b : Bool) → (table_of a == u) ≡ b → (if zeros then parts_value db env (if b then parts else []) else pos 0) ≡ (if b && starts_with int_eq key (lin_values env q) then growth env v a db else pos 0)
+        by : (b : Bool) → (acted_table a == u) ≡ b → (if zeros then parts_value db env (if b then parts else []) else pos 0) ≡ (if b && starts_with int_eq key (lin_values env q) then growth env v a db else pos 0)
         by true e =
-            let t = (Decides-eqb (table_of a) u).0 e in
+            let t = (Decides-eqb (acted_table a) u).0 e in
             ap (λ b. if b then parts_value db env parts else pos 0) (meets_where_zero env q (key_of a) (fits t)) ∙ at (starts_with int_eq key (lin_values env q)) refl t
         by false e = none zeros
 
@@ -151,19 +151,19 @@ module _ (env : List ℤ) (a : Action) (db : List Row) (order : IsInOrder db) wh
   abbrev pub IsLong : Atom → Type 0
   IsLong One = Unit {0}
   IsLong (Var x) = Unit {0}
-  IsLong (Has u q) = table_of a ≡ u → length q ≡ length (key_of a)
-  IsLong (Col u q c) = table_of a ≡ u → length q ≡ length (key_of a)
-  IsLong (Count u q) = table_of a ≡ u → length q ≤ length (key_of a)
-  IsLong (Sum u q c) = table_of a ≡ u → length q ≤ length (key_of a)
+  IsLong (Has u q) = acted_table a ≡ u → length q ≡ length (key_of a)
+  IsLong (Col u q c) = acted_table a ≡ u → length q ≡ length (key_of a)
+  IsLong (Count u q) = acted_table a ≡ u → length q ≤ length (key_of a)
+  IsLong (Sum u q c) = acted_table a ≡ u → length q ≤ length (key_of a)
 
   at_most : (q : List Lin) → length q ≡ length (key_of a) → length q ≤ length (key_of a)
   at_most q e = omega arith
 
-  own_has : (u : ℕ) (q : List Lin) → table_of a ≡ u → lin_values env q ≡ key → has_row db u (lin_values env q) ≡ given one now
+  own_has : (u : ℕ) (q : List Lin) → acted_table a ≡ u → lin_values env q ≡ key → has_row db u (lin_values env q) ≡ given one now
   own_has u q t k =
       has_is db u (lin_values env q) ∙ (ap (λ (z : List ℤ). given one (find (is_at u z) db)) k ∙ ap (λ (z : ℕ). given one (find (is_at z key) db)) (sym t))
 
-  own_column : (u : ℕ) (q : List Lin) (c : ℕ) → table_of a ≡ u → lin_values env q ≡ key → column_of db u (lin_values env q) c ≡ given (cell c) now
+  own_column : (u : ℕ) (q : List Lin) (c : ℕ) → acted_table a ≡ u → lin_values env q ≡ key → column_of db u (lin_values env q) c ≡ given (cell c) now
   own_column u q c t k =
       column_is db u (lin_values env q) c ∙ (ap (λ (z : List ℤ). given (cell c) (find (is_at u z) db)) k ∙ ap (λ (z : ℕ). given (cell c) (find (is_at z key) db)) (sym t))
 

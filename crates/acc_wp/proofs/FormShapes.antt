@@ -16,7 +16,8 @@ use Rattle.acc_base.specs.UnknownEquality.{unknown_eq}
 use Rattle.acc_base.specs.Sums.{Term, with_term, with_terms, multiple, is_left}
 use Rattle.acc_wp.specs.Unders.{differences, is_false, lengthened}
 use Rattle.acc_instances.specs.Summands.{Part, variable_parts, lin_parts, part_summand, is_number, with_summand, with_summands}
-use Rattle.acc_wp.specs.Changes.{table_of, key_of, place_of, value_parts, minus, presence_change, column_change, presence_of, column_of, change}
+use Rattle.acc_base.specs.Actions.{acted_table}
+use Rattle.acc_wp.specs.Changes.{key_of, place_of, value_parts, minus, presence_change, column_change, presence_of, column_of, change}
 use Rattle.acc_wp.specs.Gains.{changed_summands, term_summands, summands, gained}
 use Rattle.acc_wp.specs.Preconditions.{before_action}
 use Rattle.acc_base.specs.Shapes.{IsFullKey, IsPrefix, IsColumn, AtomFits, ActionFits}
@@ -32,7 +33,7 @@ module _ (tables : List Table) where
 
   -- ---- keys and prefixes
 
-  pub action_key : (a : Action) → ActionFits tables a → IsFullKey (slice_get tables (table_of a)) (length (key_of a))
+  pub action_key : (a : Action) → ActionFits tables a → IsFullKey (slice_get tables (acted_table a)) (length (key_of a))
   action_key (action.Put t k vs) h = h.0
   action_key (action.Del t k) h = h
   action_key (action.Set t k c v) h = h.0
@@ -53,10 +54,10 @@ module _ (tables : List Table) where
     pub long_enough : (A : Atom) → AtomFits tables A → IsLong env a db order A
     long_enough One h = tt
     long_enough (Var x) h = tt
-    long_enough (Has u q) h = λ e. same_width (slice_get tables u) (length (key_of a)) (length q) (key_at (table_of a) u (length (key_of a)) e (action_key a fits)) h
-    long_enough (Col u q c) h = λ e. same_width (slice_get tables u) (length (key_of a)) (length q) (key_at (table_of a) u (length (key_of a)) e (action_key a fits)) h.0
-    long_enough (Count u q) h = λ e. in_width (slice_get tables u) (length (key_of a)) (length q) (key_at (table_of a) u (length (key_of a)) e (action_key a fits)) h
-    long_enough (Sum u q c) h = λ e. in_width (slice_get tables u) (length (key_of a)) (length q) (key_at (table_of a) u (length (key_of a)) e (action_key a fits)) h.0
+    long_enough (Has u q) h = λ e. same_width (slice_get tables u) (length (key_of a)) (length q) (key_at (acted_table a) u (length (key_of a)) e (action_key a fits)) h
+    long_enough (Col u q c) h = λ e. same_width (slice_get tables u) (length (key_of a)) (length q) (key_at (acted_table a) u (length (key_of a)) e (action_key a fits)) h.0
+    long_enough (Count u q) h = λ e. in_width (slice_get tables u) (length (key_of a)) (length q) (key_at (acted_table a) u (length (key_of a)) e (action_key a fits)) h
+    long_enough (Sum u q c) h = λ e. in_width (slice_get tables u) (length (key_of a)) (length q) (key_at (acted_table a) u (length (key_of a)) e (action_key a fits)) h.0
 
     pub all_long : (ts : List Term) → AllByRecursion TermFits ts → AllByRecursion (λ t. IsLong env a db order t.0.atom) ts
     all_long [] h = tt
@@ -95,23 +96,23 @@ module _ (tables : List Table) where
       by true = lin_fits v
       by false = tt
 
-  presence_of_fits : (a : Action) (u : ℕ) (q : List Lin) → (table_of a ≡ u → IsFullKey (slice_get tables u) (length q)) → AllByRecursion PartFits (presence_of a u q)
-  presence_of_fits a u q h = by (table_of a == u) refl
+  presence_of_fits : (a : Action) (u : ℕ) (q : List Lin) → (acted_table a ≡ u → IsFullKey (slice_get tables u) (length q)) → AllByRecursion PartFits (presence_of a u q)
+  presence_of_fits a u q h = by (acted_table a == u) refl
     where
-      by : (b : Bool) → (table_of a == u) ≡ b → AllByRecursion PartFits (if b then presence_change a (Has u q) else [])
-      by true e = presence_fits a (Has u q) (h ((Decides-eqb (table_of a) u).0 e))
+      by : (b : Bool) → (acted_table a == u) ≡ b → AllByRecursion PartFits (if b then presence_change a (Has u q) else [])
+      by true e = presence_fits a (Has u q) (h ((Decides-eqb (acted_table a) u).0 e))
       by false e = tt
 
-  column_of_fits : (a : Action) (u : ℕ) (q : List Lin) (c : ℕ) → (table_of a ≡ u → IsFullKey (slice_get tables u) (length q)) → IsColumn (slice_get tables u) c → AllByRecursion PartFits (column_of a u q c)
-  column_of_fits a u q c h g = by (table_of a == u) refl
+  column_of_fits : (a : Action) (u : ℕ) (q : List Lin) (c : ℕ) → (acted_table a ≡ u → IsFullKey (slice_get tables u) (length q)) → IsColumn (slice_get tables u) c → AllByRecursion PartFits (column_of a u q c)
+  column_of_fits a u q c h g = by (acted_table a == u) refl
     where
-      by : (b : Bool) → (table_of a == u) ≡ b → AllByRecursion PartFits (if b then column_change a c (Col u q c) else [])
-      by true e = column_fits a c (Col u q c) (h ((Decides-eqb (table_of a) u).0 e), g)
+      by : (b : Bool) → (acted_table a == u) ≡ b → AllByRecursion PartFits (if b then column_change a c (Col u q c) else [])
+      by true e = column_fits a c (Col u q c) (h ((Decides-eqb (acted_table a) u).0 e), g)
       by false e = tt
 
   module _ (a : Action) (fits : ActionFits tables a) where
-    own_key : (u : ℕ) → table_of a ≡ u → IsFullKey (slice_get tables u) (length (key_of a))
-    own_key u e = key_at (table_of a) u (length (key_of a)) e (action_key a fits)
+    own_key : (u : ℕ) → acted_table a ≡ u → IsFullKey (slice_get tables u) (length (key_of a))
+    own_key u e = key_at (acted_table a) u (length (key_of a)) e (action_key a fits)
 
     change_fits : (A : Atom) → AtomFits tables A → AllByRecursion PartFits (change a A)
     change_fits One h = tt

@@ -13,11 +13,11 @@ use Rattle.acc_base.specs.declared.steps.Action.{Action}
 use Rattle.acc_base.specs.declared.steps.Action.TheVariants.{Put, Del, Set, Add}
 use Rattle.acc_base.specs.Tables.{Place, place_of, place_cmp, IsInOrder, is_at, drop_row, change_row, set_cell, cell}
 use Rattle.acc_base.specs.Linear.{lin_value, lin_values}
-use Rattle.acc_base.specs.Actions.{after_action}
+use Rattle.acc_base.specs.Actions.{after_action, acted_table}
 use Rattle.acc_base.proofs.Places.{place_total, one_place, is_equal}
 use Rattle.acc_base.proofs.RowOrder.{order_from}
 use Rattle.acc_base.proofs.Lookups.{find_put, find_dropped, find_kept}
-use Rattle.acc_wp.specs.Changes.{table_of, key_of}
+use Rattle.acc_wp.specs.Changes.{key_of}
 use Rattle.acc_instances.proofs.RowSums.{given, row_sum}
 use Rattle.acc_wp.proofs.RowSums.{row_sum-put, row_sum-drop, row_sum-change}
 
@@ -41,7 +41,7 @@ becomes env (Add t k c v) o = option_map (with_added env c v) o
 
 -- the action's place
 abbrev pub action_place : List ℤ → Action → Place
-action_place env a = (table_of a, lin_values env (key_of a))
+action_place env a = (acted_table a, lin_values env (key_of a))
 
 -- ---- a changed row
 
@@ -89,7 +89,7 @@ find_after_drop p q db order = by (place_cmp p q) refl
 
 module _ (env : List ℤ) where
   abbrev pub stands : Action → List Row → Option Row
-  stands a db = find (is_at (table_of a) (lin_values env (key_of a))) db
+  stands a db = find (is_at (acted_table a) (lin_values env (key_of a))) db
 
   pub find_after : (a : Action) (p : Place) (db : List Row) → IsInOrder db → find (is_at p.0 p.1) (after_action env a db) ≡ (if is_eq (place_cmp p (action_place env a)) then becomes env a (stands a db) else find (is_at p.0 p.1) db)
   find_after (Put t k vs) p db order = find_put p (put_row env t k vs) db

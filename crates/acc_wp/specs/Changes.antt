@@ -5,13 +5,8 @@ use Rattle.acc_base.specs.declared.forms.Atom.{Atom}
 use Rattle.acc_base.specs.declared.forms.Atom.TheVariants.{One, Var, Has, Col, Count, Sum}
 use Rattle.acc_base.specs.declared.steps.Action.{Action}
 use Rattle.acc_base.specs.declared.steps.Action.TheVariants as action
+use Rattle.acc_base.specs.Actions.{acted_table}
 use Rattle.acc_instances.specs.Summands.{Part, lin_parts}
-
-abbrev pub table_of : Action → ℕ
-table_of (action.Put t k vs) = t
-table_of (action.Del t k) = t
-table_of (action.Set t k c v) = t
-table_of (action.Add t k c v) = t
 
 abbrev pub key_of : Action → List Lin
 key_of (action.Put t k vs) = k
@@ -52,10 +47,10 @@ column_change (action.Add t k d v) c old = if d == c then lin_parts v else []
 
 -- the same, where the table is the action's
 abbrev pub presence_of : Action → ℕ → List Lin → List Part
-presence_of a t key = if table_of a == t then presence_change a (Has t key) else []
+presence_of a t key = if acted_table a == t then presence_change a (Has t key) else []
 
 abbrev pub column_of : Action → ℕ → List Lin → ℕ → List Part
-column_of a t key c = if table_of a == t then column_change a c (Col t key c) else []
+column_of a t key c = if acted_table a == t then column_change a c (Col t key c) else []
 
 -- what is added to an atom: a count and a sum gain what the row with the action's key gains
 abbrev pub change : Action → Atom → List Part

@@ -1,6 +1,6 @@
 //! What an action adds to the value of an atom.
 ghost use Rattle.std.specs.Prelude.{◌≡◌, ◌++◌, IfOk, option_copied};
-ghost use Rattle.acc_wp.specs.Changes.{table_of, key_of, place_of, value_parts, minus, presence_change, column_change, presence_of};
+ghost use Rattle.acc_wp.specs.Changes.{key_of, place_of, value_parts, minus, presence_change, column_change, presence_of};
 ghost use Rattle.acc_wp.specs.Changes.{column_of, change};
 
 use acc_base::forms::{Atom, Lin};
@@ -8,16 +8,6 @@ use acc_base::sequences::{Seq, copied};
 use acc_base::steps::Action;
 use acc_instances::summands::add_lin;
 use std::alloc::{AllocError, Global};
-
-/// The table of an action.
-fn table_of(action: &Action) -> u32
-    ensures { result ≡ table_of action.now }
-{
-    match action {
-        Action::Put(table, _, _) | Action::Del(table, _) => *table,
-        Action::Set(table, _, _, _) | Action::Add(table, _, _, _) => *table,
-    }
-}
 
 /// The key of an action.
 pub fn key_of(action: &Action) -> &Seq<Lin>
@@ -111,7 +101,7 @@ fn presence_of(
 ) -> Result<Vec<(Atom, i64)>, AllocError>
     ensures { IfOk result (λ v. v.items ≡ presence_of action.now table key.now) }
 {
-    if table_of(action) != table {
+    if action.table() != table {
         return Ok(Vec::new(alloc));
     }
     presence_change(alloc, action, Atom::Has(table, copied(key)?))
@@ -127,7 +117,7 @@ fn column_of(
 ) -> Result<Vec<(Atom, i64)>, AllocError>
     ensures { IfOk result (λ v. v.items ≡ column_of action.now table key.now column) }
 {
-    if table_of(action) != table {
+    if action.table() != table {
         return Ok(Vec::new(alloc));
     }
     let old = Atom::Col(table, copied(key)?, column);
