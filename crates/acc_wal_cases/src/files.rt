@@ -1,0 +1,55 @@
+//! Journals on real files.
+use crate::answers::push_end;
+use crate::journals::fill;
+use acc_disk::{Disk, FileDisk};
+use acc_wal::{Wal, WalError};
+use std::alloc::{AllocError, Global};
+use std::fmt::Write;
+use std::rt::Files;
+
+/// Settles so many batches of so many steps in a journal that was made.
+fn filled<D: Disk + Drop>(
+    made: Result<Wal<D>, (WalError, D)>,
+    batches: u64,
+    steps: u32,
+) -> Result<(), WalError> {
+    match made {
+        Ok(mut wal) => fill(&mut wal, batches, steps),
+        Err((error, _)) => Err(error),
+    }
+}
+
+/// How many events a journal has that was attached.
+fn count<D: Disk + Drop>(attached: Result<Wal<D>, (WalError, D)>) -> Result<usize, WalError> {
+    match attached {
+        Ok(wal) => Ok(wal.durable().len()),
+        Err((error, _)) => Err(error),
+    }
+}
+
+/// Makes a journal, settles so many batches of so many steps, and pushes how that ended.
+pub fn push_filled<R: Files>(
+    rt: &R,
+    alloc: Global,
+    out: &mut String,
+    path: &str,
+    batches: u64,
+    steps: u32,
+) -> Result<(), AllocError> {
+    let disk = FileDisk::new(rt, String::from_str(alloc, path)?);
+    push_end(out, filled(Wal::create(alloc, disk, b"x"), batches, steps))
+}
+
+/// Attaches a journal, and pushes how many events it has.
+pub fn push_count<R: Files>(
+    rt: &R,
+    alloc: Global,
+    out: &mut String,
+    path: &str,
+) -> Result<(), AllocError> {
+    let disk = FileDisk::new(rt, String::from_str(alloc, path)?);
+    match count(Wal::attach(alloc, disk)) {
+        Ok(count) => write!(out, "{count} events"),
+        Err(error) => push_end(out, Err(error)),
+    }
+}

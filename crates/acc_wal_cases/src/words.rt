@@ -1,0 +1,45 @@
+//! What the words of a line spell.
+use std::alloc::{AllocError, Global};
+use std::fmt::Write;
+
+/// The number that a word spells; else one that no disk reaches.
+pub fn number(word: &str) -> u64 {
+    word.parse().unwrap_or(u64::MAX)
+}
+
+/// The numbers of a list with commas. A word that is no number gives one that no call has.
+pub fn numbers(alloc: Global, list: &str) -> Result<Vec<u64>, AllocError> {
+    list.split(',').map(number).collect(alloc)
+}
+
+fn digit(byte: u8) -> u8 {
+    match byte {
+        b'0'..=b'9' => byte - b'0',
+        b'a'..=b'f' => byte - b'a' + 10,
+        _ => 0,
+    }
+}
+
+fn byte(digits: &[u8]) -> u8 {
+    digits.iter().fold(
+        0u8,
+        |byte, next| byte.wrapping_mul(16).wrapping_add(digit(*next)),
+    )
+}
+
+/// The bytes that a word spells, two digits each, and none for '-'.
+pub fn bytes(alloc: Global, word: &str) -> Result<Vec<u8>, AllocError> {
+    let digits = if word == "-" { "" } else { word };
+    digits.as_bytes().chunks(2).map(byte).collect(alloc)
+}
+
+/// Pushes bytes, two digits each, and '-' for none.
+pub fn push_bytes(out: &mut String, bytes: &[u8]) -> Result<(), AllocError> {
+    if bytes.is_empty() {
+        return out.push_str("-");
+    }
+    for byte in bytes {
+        write!(out, "{byte:02x}")?;
+    }
+    Ok(())
+}
