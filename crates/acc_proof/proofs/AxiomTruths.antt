@@ -1,12 +1,10 @@
 -- What axioms add is true, where what must be shown for them is.
-use Rattle.std.proofs.Common.{◌≡◌, ℕ, zero, suc, ◌≤◌, Bool, true, false, List, [], ◌∷◌, ◌++◌, length, map, take, refl, ap, sym, ◌∙◌}
-use Rattle.std.proofs.Common.{subst, arith, ℤ, pos, negsuc, ◌+ℤ◌, ◌-ℤ◌, neg_ℤ, if◌then◌else◌, Option, Some, None, ◌==◌, not}
-use Rattle.std.specs.Prelude.{◌≤ℤ◌, ◌&&◌, ◌||◌, All, IsTrue, IsFalse, int_le, nat_le, slice_get, find, ⊤, ◌-◌}
-use Rattle.std.specs.List.{list_all, list_any, AllByRecursion}
-use Rattle.std.specs.Ordering.{int_eq}
+use Rattle.std.proofs.Common.{◌≡◌, ℕ, zero, suc, Bool, true, false, List, [], ◌∷◌, length, map, take, refl, ap, sym, ◌∙◌}
+use Rattle.std.proofs.Common.{subst, arith, ℤ, pos, negsuc, if◌then◌else◌, Option, Some, None, ◌==◌}
+use Rattle.std.specs.Prelude.{◌≤ℤ◌, ◌&&◌, slice_get, find, ◌-◌}
+use Rattle.std.specs.List.{list_all, AllByRecursion}
 use Rattle.std.specs.Cmp.{first_so, second_so}
 use Rattle.std.proofs.lemmas.Int.{ints}
-use Rattle.std.proofs.lemmas.Bool.{eqb-true}
 use Rattle.std.proofs.lemmas.Bool.Decides.{Decides-int_eq, Decides-eqb}
 use Rattle.std.specs.Option.{option_map}
 use Rattle.std.proofs.lemmas.Option.{slice_get-map}
@@ -24,23 +22,23 @@ use Rattle.acc_base.specs.declared.designs.At.{At}
 use Rattle.acc_base.specs.declared.designs.Design.{Design}
 use Rattle.acc_base.specs.declared.designs.TxType.{TxType}
 use Rattle.acc_base.specs.declared.sequents.Sequent.{Sequent}
-use Rattle.acc_base.specs.FormEquality.{lin_eq, lin_decides}
+use Rattle.acc_base.specs.FormEquality.{lin_decides}
 use Rattle.acc_base.specs.Linear.{var, lin_value, lin_values}
 use Rattle.acc_base.specs.Tables.{Place, is_at, has_row, column_of, count_of, sum_of}
-use Rattle.acc_base.specs.Truth.{atom_value, is_lin_zero, unknown_value, form_value, rel_true}
+use Rattle.acc_base.specs.Truth.{atom_value, is_lin_zero, form_value, rel_true}
 use Rattle.acc_base.specs.Shapes.{IsFullKey, RowFits}
 use Rattle.acc_base.specs.Machine.{locals_in}
 use Rattle.acc_base.specs.PrivateRows.{is_own_table, last_is, IsPrivateOf, HasNoPrivate}
 use Rattle.acc_base.specs.TrueSequents.{NoneOwned, IsAskedOf}
-use Rattle.acc_base.proofs.RowOrder.{InOrder, order_from}
+use Rattle.acc_base.proofs.RowOrder.{order_from}
 use Rattle.acc_base.proofs.Lookups.{any_none, found_at}
 use Rattle.acc_instances.proofs.RowPlaces.{found_holds}
 use Rattle.acc_instances.proofs.PartValues.{one_times}
 use Rattle.acc_proof.specs.declared.nodes.Schema.{Schema}
 use Rattle.acc_proof.specs.declared.nodes.Schema.TheVariants as schema
 use Rattle.acc_proof.specs.Facts.{at_most, is_zero}
-use Rattle.acc_proof.specs.Axioms.{Demand, axiom_of, has, col, count, sum, plain, form, plus, minus, less, alone, less_atom, lin_form}
-use Rattle.acc_proof.specs.Axioms.{lin_above, lin_below, lin_difference, differences, is_table, is_width, is_whole, is_table_atom}
+use Rattle.acc_proof.specs.Axioms.{axiom_of, has, col, count, sum, plain, form, plus, minus, less, alone, less_atom, lin_form}
+use Rattle.acc_proof.specs.Axioms.{lin_above, lin_below, lin_difference, differences, is_width, is_whole, is_table_atom}
 use Rattle.acc_proof.specs.Axioms.{alike, key_of, is_plain, own_number, own_at, locals_of, variable, is_value, ends_in, ends_in_own}
 use Rattle.acc_proof.specs.Axioms.{off}
 use Rattle.acc_proof.proofs.Tests.{le_yes, le_from, both_true, and_true, off_true}

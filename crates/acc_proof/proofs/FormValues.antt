@@ -1,7 +1,6 @@
 -- What the forms of axioms are worth.
-use Rattle.std.proofs.Common.{◌≡◌, ℕ, Bool, true, false, List, [], ◌∷◌, ◌++◌, map, refl, ap, sym, ◌∙◌, arith, ℤ, pos, negsuc, ◌+ℤ◌}
+use Rattle.std.proofs.Common.{◌≡◌, ℕ, List, [], ◌∷◌, ◌++◌, map, refl, ap, ◌∙◌, arith, ℤ, pos, ◌+ℤ◌}
 use Rattle.std.proofs.Common.{◌-ℤ◌, ◌*ℤ◌, neg_ℤ}
-use Rattle.std.specs.Prelude.{◌≤ℤ◌}
 use Rattle.std.proofs.lemmas.Int.{ints}
 use lib.IntN.{zero-*ℤ}
 use Rattle.acc_base.specs.declared.tables.Row.{Row}
@@ -13,7 +12,7 @@ use Rattle.acc_base.specs.Truth.{unknown_value, product_value, form_value}
 use Rattle.acc_base.specs.Sums.{Term}
 use Rattle.acc_base.proofs.Products.{sum_times}
 use Rattle.acc_instances.proofs.PartValues.{one_times, minus_times}
-use Rattle.acc_proof.specs.Axioms.{form, plus, minus, less, alone, variable_term, minus_variable, lin_form, lin_above, lin_below}
+use Rattle.acc_proof.specs.Axioms.{form, plus, minus, less, variable_term, minus_variable, lin_form, lin_above, lin_below}
 use Rattle.acc_proof.specs.Axioms.{lin_difference}
 
 module _ (db : List Row) (env : List ℤ) where

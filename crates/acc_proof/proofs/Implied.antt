@@ -1,8 +1,7 @@
 -- A sequent that has a proof is true.
 use Rattle.std.proofs.Common.{◌≡◌, ℕ, zero, suc, Bool, true, false, List, [], ◌∷◌, ◌++◌, length, map, refl, ap, sym, ◌∙◌, subst, arith}
-use Rattle.std.proofs.Common.{ℤ, pos, negsuc, ◌+ℤ◌, neg_ℤ, if◌then◌else◌, Option, Some, None, ◌==◌}
-use Rattle.std.specs.Prelude.{All, ◌≤ℤ◌, ◌||◌, ◌&&◌, slice_get}
-use Rattle.std.specs.List.{list_all}
+use Rattle.std.proofs.Common.{ℤ, pos, negsuc, if◌then◌else◌, Option, Some, None, ◌==◌}
+use Rattle.std.specs.Prelude.{All, ◌≤ℤ◌, ◌||◌, slice_get}
 use Rattle.std.proofs.lemmas.Int.{ints}
 use Rattle.std.proofs.lemmas.Bool.Decides.{Decides-eqb, Decides-int_eq}
 use Rattle.std.proofs.lemmas.List.{length-map}
@@ -21,19 +20,18 @@ use Rattle.acc_base.specs.Sums.{form_sum}
 use Rattle.acc_farkas.specs.declared.refuting.Mults.{Mults}
 use Rattle.acc_proof.specs.declared.nodes.Node.{Node}
 use Rattle.acc_proof.specs.declared.nodes.Node.TheVariants.{Split, Inst, Axiom, Leaf}
-use Rattle.acc_proof.specs.Outcomes.{Outcome, Gives, Fails, TooWide, and_then}
-use Rattle.acc_proof.specs.Facts.{one, at_most, is_zero, below, is_below_wide, above, is_above_wide, refuted, all_shown, used_up}
+use Rattle.acc_proof.specs.Outcomes.{Outcome, Gives, and_then}
+use Rattle.acc_proof.specs.Facts.{one, is_zero, below, is_below_wide, above, is_above_wide, refuted, all_shown, used_up}
 use Rattle.acc_instances.specs.Instances.{fact_at}
-use Rattle.acc_proof.specs.Axioms.{Demand, axiom_of}
-use Rattle.acc_proof.specs.Proofs.{Branches, only, instance_of, sure, use_axiom, leaf_of, node_of, Verdict, Proved, NotProved, WideAt}
+use Rattle.acc_proof.specs.Axioms.{axiom_of}
+use Rattle.acc_proof.specs.Proofs.{Branches, only, instance_of, sure, node_of, Proved, WideAt}
 use Rattle.acc_proof.specs.Proofs.{walked, known_first, verdict}
 use Rattle.acc_proof.specs.Laws.{ProofsImply}
 use Rattle.acc_proof.proofs.Tests.{le_yes, both_true, off_true, all_both, goes_on, not_wide, may}
 use Rattle.acc_proof.proofs.Shows.{all_true, below_value, above_value, are_refuted, not_above, are_shown}
 use Rattle.acc_proof.proofs.Walks.{IsOff, AreOff, NodesSound, all_off}
 use Rattle.acc_proof.proofs.AxiomTruths.{axiom_true}
-use Rattle.acc_instances.specs.Instances.{Fact}
-use Rattle.acc_instances.proofs.InstanceValues.{both, fact_at_true, facts_at_true}
+use Rattle.acc_instances.proofs.InstanceValues.{fact_at_true, facts_at_true}
 
 all_used : {A : Type 0} (o : Outcome A) (ms : List Mults) (y : A) → used_up o ms ≡ Gives y → o ≡ Gives y
 all_used o [] y h = h

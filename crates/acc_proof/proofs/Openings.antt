@@ -2,7 +2,7 @@
 use Rattle.std.proofs.Common.{◌≡◌, ℕ, zero, suc, ◌+◌, ◌≤◌, ◌<◌, Bool, true, false, List, [], ◌∷◌, ◌++◌, length, map, take, drop}
 use Rattle.std.proofs.Common.{reverse, get_or, refl, ap, sym, ◌∙◌, subst, arith, if◌then◌else◌, append_assoc, ◌==◌, Result, Ok, Err}
 use Rattle.std.specs.Prelude.{IfOk, IsTrue}
-use Rattle.std.proofs.lemmas.List.{drop_more, drop_all, take-append-le, length-append, length-take-le, length-reverse, reverse-append}
+use Rattle.std.proofs.lemmas.List.{drop_more, take-append-le, length-append, length-take-le, length-reverse, reverse-append}
 use Rattle.std.proofs.Math.Seq.{take-length}
 use Rattle.std.proofs.lemmas.Bool.Decides.{Decides-eqb}
 use Rattle.acc_base.specs.declared.forms.Rel.{Rel}
@@ -13,7 +13,7 @@ use Rattle.acc_proof.specs.declared.nodes.Node.{Node}
 use Rattle.acc_proof.specs.declared.checks.Pending.{Pending}
 use Rattle.acc_proof.specs.declared.errors.ProofError.{ProofError}
 use Rattle.acc_proof.specs.Outcomes.{Gives}
-use Rattle.acc_proof.specs.Proofs.{Branches, node_of, Verdict, Proved, NotProved, go_on, walked, verdict}
+use Rattle.acc_proof.specs.Proofs.{Branches, node_of, Proved, NotProved, go_on, walked, verdict}
 use Rattle.acc_proof.specs.Opened.{opened, AreNested, pending}
 use Rattle.acc_proof.proofs.Implied.{proofs_imply}
 

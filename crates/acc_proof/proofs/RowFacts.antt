@@ -1,21 +1,19 @@
 -- Facts about what rows give: each axiom's in words of rows.
-use Rattle.std.proofs.Common.{◌≡◌, ℕ, zero, suc, ◌+◌, ◌≤◌, ◌<◌, Bool, true, false, cond, List, [], ◌∷◌, length, map, take, refl, ap}
-use Rattle.std.proofs.Common.{sym, ◌∙◌, subst, arith, ℤ, pos, ◌+ℤ◌, if◌then◌else◌, Option, Some, None, ◌==◌, ◌||◌}
-use Rattle.std.specs.Prelude.{◌≤ℤ◌, ◌&&◌, find, filter, count_by}
+use Rattle.std.proofs.Common.{◌≡◌, ℕ, zero, suc, ◌+◌, ◌≤◌, Bool, true, false, cond, List, [], ◌∷◌, length, map, take, refl, ap}
+use Rattle.std.proofs.Common.{sym, ◌∙◌, arith, ℤ, pos, ◌+ℤ◌, if◌then◌else◌, Option, Some, None, ◌==◌, ◌||◌}
+use Rattle.std.specs.Prelude.{◌≤ℤ◌, find, filter, count_by}
 use Rattle.std.specs.List.{list_any, starts_with, AllByRecursion}
-use Rattle.std.specs.declared.cmp.Ordering.{Ordering}
-use Rattle.std.specs.declared.cmp.Ordering.TheVariants.{Less, Equal, Greater}
-use Rattle.std.specs.Ordering.{int_eq, is_eq}
+use Rattle.std.specs.Ordering.{int_eq}
 use Rattle.std.proofs.lemmas.Int.{ints}
 use Rattle.std.proofs.lemmas.List.Sums.{sum_by-cons}
 use Rattle.std.proofs.lemmas.Bool.Decides.{Decides-eqb}
 use Rattle.acc_base.specs.declared.tables.Row.{Row}
 use Rattle.acc_base.specs.Numbers.{total}
 use Rattle.acc_base.specs.Equality.{ints_decide}
-use Rattle.acc_base.specs.Tables.{Place, place_of, place_cmp, compared, is_at, is_under, cell, cell_of, has_row, column_of, count_of}
+use Rattle.acc_base.specs.Tables.{place_of, compared, is_at, is_under, cell, cell_of, has_row, column_of, count_of}
 use Rattle.acc_base.specs.Tables.{sum_of}
 use Rattle.acc_base.proofs.Places.{is_equal, same_place as row_place}
-use Rattle.acc_base.proofs.RowOrder.{ArePast, InOrder, past_same}
+use Rattle.acc_base.proofs.RowOrder.{InOrder, past_same}
 use Rattle.acc_base.proofs.Lookups.{any_none, any_some}
 use Rattle.acc_instances.proofs.RowSums.{given, row_sum, where_passes, one, count_is, total_is}
 use Rattle.acc_instances.proofs.RowPlaces.{find_past, same_place}

@@ -1,18 +1,17 @@
 -- What is shown is true wherever what is known is.
-use Rattle.std.proofs.Common.{◌≡◌, ℕ, Bool, true, false, List, [], ◌∷◌, ◌++◌, map, refl, ap, sym, ◌∙◌, arith, ℤ, pos, negsuc, ◌+ℤ◌}
-use Rattle.std.proofs.Common.{◌*ℤ◌, neg_ℤ, if◌then◌else◌, subst}
-use Rattle.std.specs.Prelude.{int_le, ◌&&◌, ◌≤ℤ◌, ◌<ℤ◌}
+use Rattle.std.proofs.Common.{◌≡◌, Bool, true, false, List, [], ◌∷◌, ◌++◌, map, refl, arith, ℤ, pos, negsuc, ◌+ℤ◌}
+use Rattle.std.proofs.Common.{neg_ℤ, if◌then◌else◌}
+use Rattle.std.specs.Prelude.{◌≤ℤ◌}
 use Rattle.std.specs.List.{list_all}
-use Rattle.std.specs.Ordering.{int_eq}
 use Rattle.std.proofs.lemmas.Int.{ints}
 use Rattle.std.proofs.lemmas.Bool.Decides.{Decides-int_eq}
-use borrow.Author.Differences.{le-true, le-false}
+use borrow.Author.Differences.{le-false}
 use Rattle.acc_base.specs.declared.tables.Row.{Row}
 use Rattle.acc_base.specs.declared.forms.Form.{Form}
 use Rattle.acc_base.specs.declared.forms.Rel.{Rel}
 use Rattle.acc_base.specs.Linear.{meets}
 use Rattle.acc_base.specs.Truth.{unknown_value, form_value, rel_true}
-use Rattle.acc_base.specs.Sums.{form_sum, is_sum_wide}
+use Rattle.acc_base.specs.Sums.{form_sum}
 use Rattle.acc_base.proofs.SumLaws.{form_sum-value}
 use Rattle.acc_farkas.specs.declared.refuting.Mults.{Mults}
 use Rattle.acc_farkas.specs.Sums.{refutes_all, is_refuting_wide}
@@ -20,8 +19,8 @@ use Rattle.acc_farkas.specs.Solutions.{HaveNoSolution}
 use Rattle.acc_farkas.proofs.Worths.{refuted as no_solution}
 use Rattle.acc_instances.specs.Instances.{Fact}
 use Rattle.acc_instances.proofs.PartValues.{one_times, minus_times}
-use Rattle.acc_proof.specs.Outcomes.{Outcome, Gives, Fails, TooWide, and_then}
-use Rattle.acc_proof.specs.Facts.{one, at_most, below, is_below_wide, above, is_above_wide, refuted, excluded, shown, fact_shown}
+use Rattle.acc_proof.specs.Outcomes.{Gives, Fails, and_then}
+use Rattle.acc_proof.specs.Facts.{one, below, is_below_wide, above, is_above_wide, refuted, excluded, shown, fact_shown}
 use Rattle.acc_proof.specs.Facts.{all_shown}
 use Rattle.acc_proof.proofs.Tests.{le_yes, both_true, off_true, all_both, goes_on, not_wide, may}
 

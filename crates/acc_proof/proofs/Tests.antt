@@ -1,11 +1,11 @@
 -- Tests of relations, and parts of a check that go on.
-use Rattle.std.proofs.Common.{◌≡◌, ℕ, Bool, true, false, List, [], ◌∷◌, ◌++◌, refl, ap, sym, ◌∙◌, arith, ℤ, pos, if◌then◌else◌, subst}
-use Rattle.std.specs.Prelude.{int_le, ◌&&◌, ◌≤ℤ◌, ◌<ℤ◌}
+use Rattle.std.proofs.Common.{◌≡◌, Bool, true, false, List, ◌++◌, refl, ap, sym, ◌∙◌, arith, ℤ, if◌then◌else◌, subst}
+use Rattle.std.specs.Prelude.{int_le, ◌&&◌, ◌≤ℤ◌}
 use Rattle.std.specs.List.{list_all}
 use Rattle.std.specs.Cmp.{first_so, second_so}
 use Rattle.std.proofs.lemmas.Int.{ints}
 use Rattle.std.proofs.lemmas.List.Folds.{list_all-append}
-use borrow.Author.Differences.{le-true, le-false}
+use borrow.Author.Differences.{le-false}
 use lib.Signed.{le_z_yes}
 use lib.Dec.{T}
 use Rattle.acc_proof.specs.Outcomes.{Outcome, Gives, Fails, TooWide, and_then}

@@ -1,5 +1,5 @@
 -- Where all nodes pass, no open branch can be true.
-use Rattle.std.proofs.Common.{◌≡◌, ℕ, ◌+◌, Bool, true, false, List, [], ◌∷◌, ◌++◌, map, refl, ap, sym, ◌∙◌, if◌then◌else◌}
+use Rattle.std.proofs.Common.{◌≡◌, ℕ, ◌+◌, true, List, [], ◌∷◌, ◌++◌, map, refl}
 use Rattle.std.specs.Prelude.{⊤, ℤ}
 use Rattle.acc_base.specs.declared.tables.Row.{Row}
 use Rattle.acc_base.specs.declared.forms.Rel.{Rel}
@@ -7,7 +7,7 @@ use Rattle.acc_base.specs.declared.designs.Design.{Design}
 use Rattle.acc_base.specs.declared.sequents.Sequent.{Sequent}
 use Rattle.acc_proof.specs.declared.nodes.Node.{Node}
 use Rattle.acc_proof.specs.Outcomes.{Outcome, Gives, Fails, TooWide}
-use Rattle.acc_proof.specs.Proofs.{Branches, node_of, Verdict, Proved, NotProved, WideAt, go_on, walked}
+use Rattle.acc_proof.specs.Proofs.{Branches, node_of, Verdict, Proved, go_on, walked}
 use Rattle.acc_proof.proofs.Shows.{all_true}
 
 module _ (d : Design) (q : Sequent) (db : List Row) (env : List ℤ) where

@@ -1,12 +1,8 @@
 -- Facts that are shown: what is known and the fact's contrary have no solution.
-use Rattle.std.specs.Prelude.{Bool, true, false, if◌then◌else◌, List, [], ◌∷◌, ◌++◌, map, ℤ, pos, negsuc, ◌+ℤ◌, ◌-ℤ◌, neg_ℤ}
-use Rattle.acc_base.specs.declared.forms.Lin.{Lin}
-use Rattle.acc_base.specs.declared.forms.Atom.{Atom}
-use Rattle.acc_base.specs.declared.forms.Atom.TheVariants.{Var}
-use Rattle.acc_base.specs.declared.forms.Unknown.{Unknown}
+use Rattle.std.specs.Prelude.{Bool, true, false, if◌then◌else◌, List, [], ◌∷◌, ◌++◌, pos, negsuc}
 use Rattle.acc_base.specs.declared.forms.Form.{Form}
 use Rattle.acc_base.specs.declared.forms.Rel.{Rel}
-use Rattle.acc_base.specs.Sums.{Term, form_sum, is_sum_wide}
+use Rattle.acc_base.specs.Sums.{form_sum, is_sum_wide}
 use Rattle.acc_farkas.specs.declared.refuting.Mults.{Mults}
 use Rattle.acc_instances.specs.Instances.{Fact}
 use Rattle.acc_farkas.specs.Sums.{refutes_all, is_refuting_wide}

@@ -1,5 +1,5 @@
 -- When a list of nodes is a proof of a sequent.
-use Rattle.std.specs.Prelude.{ℕ, ◌+◌, Bool, false, ◌||◌, ◌==◌, if◌then◌else◌, List, [], ◌∷◌, ◌++◌, length, map, Option, Some, None}
+use Rattle.std.specs.Prelude.{ℕ, ◌+◌, false, ◌||◌, ◌==◌, if◌then◌else◌, List, [], ◌∷◌, ◌++◌, length, map, Option, Some, None}
 use Rattle.std.specs.Prelude.{slice_get}
 use Rattle.acc_base.specs.declared.forms.Lin.{Lin}
 use Rattle.acc_base.specs.declared.forms.Form.{Form}
@@ -12,7 +12,7 @@ use Rattle.acc_proof.specs.declared.nodes.Node.{Node}
 use Rattle.acc_proof.specs.declared.nodes.Node.TheVariants.{Split, Inst, Axiom, Leaf}
 use Rattle.acc_instances.specs.Instances.{Fact, fact_at}
 use Rattle.acc_proof.specs.Outcomes.{Outcome, Gives, Fails, TooWide, and_then}
-use Rattle.acc_proof.specs.Facts.{is_zero, below, is_below_wide, above, is_above_wide, refuted, fact_shown, all_shown, used_up}
+use Rattle.acc_proof.specs.Facts.{is_zero, below, is_below_wide, above, is_above_wide, refuted, all_shown, used_up}
 use Rattle.acc_proof.specs.Axioms.{Demand, axiom_of}
 
 -- what each branch behind a node adds to what is known

@@ -1,5 +1,6 @@
 //! Axioms: what must be shown for one, and what it adds.
 ghost use Rattle.std.specs.Prelude.{◌≡◌, ◌∷◌, [], IfOk};
+ghost use Rattle.acc_proof.specs.Facts.{at_most, is_zero};
 ghost use Rattle.acc_proof.specs.Axioms.{axiom_of};
 ghost use Rattle.acc_proof.specs.Needs.{needs, Answers};
 ghost use Rattle.acc_proof.specs.declared.nodes.Schema.TheVariants as schema;
@@ -87,6 +88,52 @@ fn follows(alloc: Global, fact: Rel, added: Rel) -> Result<Need, AllocError>
     })
 }
 
+/// An unknown is 0.
+fn zero(alloc: Global, u: Unknown) -> Result<Need, AllocError>
+    ensures { IfOk result (λ n. n ≡ needs [] (is_zero (Rattle.acc_proof.specs.Axioms.alone u) ∷ [])) }
+{
+    holds(alloc, is_zero(alone(alloc, u)?))
+}
+
+/// An unknown is 0 where a fact holds.
+fn zero_where(alloc: Global, fact: Rel, u: Unknown) -> Result<Need, AllocError>
+    ensures { IfOk result (λ n. n ≡ needs (fact ∷ []) (is_zero (Rattle.acc_proof.specs.Axioms.alone u) ∷ [])) }
+{
+    let zero = is_zero(alone(alloc, u)?);
+    follows(alloc, fact, zero)
+}
+
+/// An unknown is 0 where another is at most 0.
+fn zero_without(alloc: Global, other: Unknown, u: Unknown) -> Result<Need, AllocError>
+    ensures { IfOk result (λ n. n ≡ needs (at_most (Rattle.acc_proof.specs.Axioms.alone other) ∷ [])
+        (is_zero (Rattle.acc_proof.specs.Axioms.alone u) ∷ [])) }
+{
+    let none = at_most(alone(alloc, other)?);
+    zero_where(alloc, none, u)
+}
+
+/// Two unknowns are equal.
+fn equal(alloc: Global, u: Unknown, v: Unknown) -> Result<Need, AllocError>
+    ensures { IfOk result (λ n. n ≡ needs [] (is_zero (Rattle.acc_proof.specs.Axioms.less u v) ∷ [])) }
+{
+    holds(alloc, is_zero(less(alloc, u, v)?))
+}
+
+/// That two unknowns are equal.
+fn equal_copies(alloc: Global, u: &Unknown, v: &Unknown) -> Result<Seq<Rel>, AllocError>
+    ensures { IfOk result (λ s. s ≡ is_zero (Rattle.acc_proof.specs.Axioms.less u.now v.now) ∷ []) }
+{
+    let u = copied(u)?;
+    single(alloc, is_zero(less(alloc, u, copied(v)?)?))
+}
+
+/// An unknown is at most another.
+fn at_most_other(alloc: Global, u: Unknown, v: Unknown) -> Result<Need, AllocError>
+    ensures { IfOk result (λ n. n ≡ needs [] (at_most (Rattle.acc_proof.specs.Axioms.less u v) ∷ [])) }
+{
+    holds(alloc, at_most(less(alloc, u, v)?))
+}
+
 // ---- the axioms
 
 fn has_need(
@@ -139,7 +186,7 @@ fn same_need(
         return Ok(None);
     }
     let facts = differences(alloc, key_of(&u.atom), key_of(&v.atom))?;
-    let added = single(alloc, is_zero(less(alloc, copied(u)?, copied(v)?)?))?;
+    let added = equal_copies(alloc, u, v)?;
     Ok(Some(Need { facts, added }))
 }
 
@@ -156,9 +203,9 @@ fn no_col_need(
     if !is_table(d, t) {
         return Ok(None);
     }
-    let none = at_most(alone(alloc, has(alloc, t, k)?)?);
-    let zero = is_zero(alone(alloc, col(alloc, t, k, c)?)?);
-    Ok(Some(follows(alloc, none, zero)?))
+    let row = has(alloc, t, k)?;
+    let column = col(alloc, t, k, c)?;
+    Ok(Some(zero_without(alloc, row, column)?))
 }
 
 fn no_sum_need(
@@ -174,9 +221,9 @@ fn no_sum_need(
     if !is_table(d, t) {
         return Ok(None);
     }
-    let none = at_most(alone(alloc, count(alloc, t, p)?)?);
-    let zero = is_zero(alone(alloc, sum(alloc, t, p, c)?)?);
-    Ok(Some(follows(alloc, none, zero)?))
+    let rows = count(alloc, t, p)?;
+    let total = sum(alloc, t, p, c)?;
+    Ok(Some(zero_without(alloc, rows, total)?))
 }
 
 fn one_count_need(
@@ -191,8 +238,9 @@ fn one_count_need(
     if !is_whole(d, t, k.as_slice()) {
         return Ok(None);
     }
-    let same = less(alloc, count(alloc, t, k)?, has(alloc, t, k)?)?;
-    Ok(Some(holds(alloc, is_zero(same))?))
+    let rows = count(alloc, t, k)?;
+    let row = has(alloc, t, k)?;
+    Ok(Some(equal(alloc, rows, row)?))
 }
 
 fn one_sum_need(
@@ -208,8 +256,9 @@ fn one_sum_need(
     if !is_whole(d, t, k.as_slice()) {
         return Ok(None);
     }
-    let same = less(alloc, sum(alloc, t, k, c)?, col(alloc, t, k, c)?)?;
-    Ok(Some(holds(alloc, is_zero(same))?))
+    let total = sum(alloc, t, k, c)?;
+    let column = col(alloc, t, k, c)?;
+    Ok(Some(equal(alloc, total, column)?))
 }
 
 fn opened_need(
@@ -239,7 +288,7 @@ fn empty_need(
     if !(q.origin.rule == 8 && is_table_atom(d, &u.atom)) {
         return Ok(None);
     }
-    Ok(Some(holds(alloc, is_zero(alone(alloc, copied(u)?)?))?))
+    Ok(Some(zero(alloc, copied(u)?)?))
 }
 
 /// The same linear values again.
@@ -268,8 +317,8 @@ fn front_need(
     }
     let front = copies(alloc, &k.as_slice()[..n as usize])?;
     let prefix = plain(alloc, Atom::Count(t, front));
-    let fewer = less(alloc, has(alloc, t, k)?, prefix)?;
-    Ok(Some(holds(alloc, at_most(fewer))?))
+    let row = has(alloc, t, k)?;
+    Ok(Some(at_most_other(alloc, row, prefix)?))
 }
 
 fn shut_need(
@@ -290,8 +339,7 @@ fn shut_need(
         1 => lin_below(alloc, l)?,
         _ => return Ok(None),
     };
-    let zero = is_zero(alone(alloc, copied(u)?)?);
-    Ok(Some(follows(alloc, at_most(off), zero)?))
+    Ok(Some(zero_where(alloc, at_most(off), copied(u)?)?))
 }
 
 fn fresh_need(
@@ -310,7 +358,7 @@ fn fresh_need(
     {
         return Ok(None);
     }
-    Ok(Some(holds(alloc, is_zero(alone(alloc, has(alloc, t, k)?)?))?))
+    Ok(Some(zero(alloc, has(alloc, t, k)?)?))
 }
 
 /// What an axiom needs, and none where it may not be used.

@@ -13,7 +13,7 @@ use crate::axioms::need_of;
 use crate::errors::ProofError;
 use crate::facts::{above, below, shown};
 use crate::nodes::{Node, Proof, Schema};
-use crate::terms::single;
+use crate::terms::{is_zero, single};
 use acc_base::designs::Design;
 use acc_base::forms::{Clause, Form, Lin, Rel};
 use acc_base::sequences::{Seq, copied};
@@ -65,19 +65,21 @@ fn one_branch(alloc: Global, added: Seq<Rel>) -> Result<Seq<Seq<Rel>>, AllocErro
     Ok(list)
 }
 
-/// Three branches.
-fn three_branches(
-    alloc: Global,
-    a: Seq<Rel>,
-    b: Seq<Rel>,
-    c: Seq<Rel>,
-) -> Result<Seq<Seq<Rel>>, AllocError>
-    ensures { IfOk result (λ s. s ≡ a ∷ b ∷ c ∷ []) }
+/// Adds a branch of one relation.
+fn add_branch(alloc: Global, list: &mut Seq<Seq<Rel>>, relation: Rel) -> Result<(), AllocError>
+    ensures { OnOk result (list.new ≡ list.old ++ (relation ∷ []) ∷ []) }
+{
+    list.push(single(alloc, relation)?)
+}
+
+/// Three branches, of one relation each.
+fn three_branches(alloc: Global, a: Rel, b: Rel, c: Rel) -> Result<Seq<Seq<Rel>>, AllocError>
+    ensures { IfOk result (λ s. s ≡ (a ∷ []) ∷ (b ∷ []) ∷ (c ∷ []) ∷ []) }
 {
     let mut list = Seq::new(alloc);
-    list.push(a)?;
-    list.push(b)?;
-    list.push(c)?;
+    add_branch(alloc, &mut list, a)?;
+    add_branch(alloc, &mut list, b)?;
+    add_branch(alloc, &mut list, c)?;
     Ok(list)
 }
 
@@ -88,16 +90,8 @@ fn split_of(alloc: Global, form: &Form) -> Result<Option<Seq<Seq<Rel>>>, FormSum
 {
     let low = below(alloc, form)?;
     let high = above(alloc, form)?;
-    let zero = Rel {
-        form: copied(form)?,
-        equal: true,
-    };
-    Ok(Some(three_branches(
-        alloc,
-        single(alloc, low)?,
-        single(alloc, zero)?,
-        single(alloc, high)?,
-    )?))
+    let zero = is_zero(copied(form)?);
+    Ok(Some(three_branches(alloc, low, zero, high)?))
 }
 
 /// No branch, where the multipliers refute what is known.
@@ -284,6 +278,16 @@ fn at_node(error: FormSum, node: u64) -> ProofError
     }
 }
 
+/// The branch that a proof begins with, where a relation is known beside those of the sequent.
+fn first_open(alloc: Global, goal: Rel) -> Result<Vec<Pending>, AllocError>
+    ensures { IfOk result (λ v. v.items ≡ pending 0 (goal ∷ []) ∷ []) }
+{
+    let added = single(alloc, goal)?;
+    let mut open = Vec::new(alloc);
+    open.push(Pending { known: 0, added })?;
+    Ok(open)
+}
+
 /// Whether the nodes end all branches, where the goal isn't met.
 fn walk(
     alloc: Global,
@@ -297,10 +301,7 @@ fn walk(
     ensures wide { TellsNode result (walked design.now sequent.now 0 nodes.now ((sequent.now.rels ++ goal ∷ []) ∷ [])) }
 {
     let mut more = Vec::new(alloc);
-    let mut added = Seq::new(alloc);
-    added.push(goal)?;
-    let mut open = Vec::new(alloc);
-    open.push(Pending { known: 0, added })?;
+    let mut open = first_open(alloc, goal)?;
     let mut number = 0u64;
     for node in nodes {
         let Some(branch) = open.pop() else {

@@ -2,7 +2,7 @@ use Rattle.std.proofs.Common.{rules, arith, ap, sym, ◌∙◌, ◌≤◌, ◌++
 use Rattle.std.proofs.lemmas.List.{drop_all}
 use Rattle.acc_base.specs.declared.forms.Rel.{Rel}
 use Rattle.acc_proof.specs.Proofs.{node_of, walked}
-use Rattle.acc_proof.specs.Opened.{opened, AreNested}
+use Rattle.acc_proof.specs.Opened.{opened}
 use Rattle.acc_proof.proofs.Openings.{nested_after, walked_on, ended}
 use Rattle.acc_proof.proofs.checks.walk.Goals as goal
 
