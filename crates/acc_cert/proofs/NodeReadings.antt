@@ -1,6 +1,6 @@
 -- The same of nodes, proofs and certificates.
 use Rattle.std.proofs.Common.{◌≡◌, ℕ, ◌+◌, Bool, true, List, [], ◌∷◌, refl, ap, ◌∙◌, ℤ}
-use Rattle.std.specs.Prelude.{◌&&◌, codes}
+use Rattle.std.specs.Prelude.{◌&&◌, codes, if◌then◌else◌}
 use Rattle.std.specs.Cmp.{first_so, second_so}
 use Rattle.std.specs.List.{list_all}
 use Rattle.serde_json.specs.Data.{Data, string}
@@ -12,10 +12,10 @@ use Rattle.acc_proof.specs.declared.nodes.Node.{Node}
 use Rattle.acc_proof.specs.declared.nodes.Node.TheVariants as node
 use Rattle.acc_proof.specs.declared.nodes.Proof.{Proof}
 use Rattle.acc_proof.specs.declared.nodes.Cert.{Cert}
-use Rattle.acc_cert_read.specs.Parts.{Part, Good, gives, two, list_of}
+use Rattle.acc_cert_read.specs.Parts.{Part, Good, Off, and_then, under, gives, two, list_of}
 use Rattle.acc_cert_read.specs.Spellings.{is_wide}
 use Rattle.acc_cert_read.specs.Forms.{index_of, wide_of, lins_of, unknown_of, form_of}
-use Rattle.acc_cert_read.specs.Nodes.{mults_of, is_axiom, schema_of, axiom_of, node_of, proof_of}
+use Rattle.acc_cert_read.specs.Nodes.{mults_of, is_axiom, schema_of, schema_at, shown_by, axiom_of, node_of, proof_of}
 use Rattle.acc_cert_read.specs.Certificates.{cert_of}
 use Rattle.acc_cert.specs.Spelled.{array_of, each, pair, index, signed, lins, unknown, form}
 use Rattle.acc_cert.specs.SpelledNodes.{mults, axiom_number, arguments, node_data, proof, cert}
@@ -64,22 +64,41 @@ numbered (schema.Shut u n side) = refl
 numbered (schema.Empty u) = refl
 numbered (schema.Fresh t k) = refl
 
+abbrev axiom_data : ℕ → Data → List Mults → Data
+axiom_data n args ms = array_of (string (codes "axiom") ∷ index n ∷ args ∷ each mults ms ∷ [])
+
+numbered_as : (n : ℕ) (args : Data) (x : Schema) (ms : List Mults) → is_axiom n ≡ true → bounds.index n ≡ true → schema_of n args ≡ Good x
+    → axiom_of (axiom_data n args ms) ≡ shown_by x (axiom_data n args ms)
+numbered_as n args x ms known low is =
+    let number : index_of (index n) ≡ Good n = index_read n low in
+    let at_two : schema_at n (axiom_data n args ms) ≡ Good x = by n (is_axiom n) known (schema_of n args) is in
+    by_parts (axiom_data n args ms) (index_of (index n)) number (λ m. schema_at m (axiom_data n args ms)) at_two
+  where
+    by : (m : ℕ) (b : Bool) → b ≡ true → (o : Part Schema) → o ≡ Good x → (if b then under 2 o else Off (1 ∷ [])) ≡ Good x
+    by m b holds o good = rw (holds, good) refl
+
+    by_parts : (d : Data) (i : Part ℕ) → i ≡ Good n → (f : ℕ → Part Schema) → f n ≡ Good x → and_then (under 1 i) (λ m. and_then (f m) (λ y. shown_by y d)) ≡ shown_by x d
+    by_parts d i first f second = rw (first, second) refl
+
+shown_read : (n : ℕ) (args : Data) (x : Schema) (ms : List Mults) → list_all bounds.mults ms ≡ true → shown_by x (axiom_data n args ms) ≡ Good (node.Axiom x ms)
+shown_read n args x ms all = by (list_of mults_of (each mults ms)) (list_read ms all)
+  where
+    by : (o : Part (List Mults)) → o ≡ Good ms → and_then (under 3 o) (λ ys. Good (node.Axiom x ys)) ≡ Good (node.Axiom x ms)
+    by o good = rw good refl
+
 axiom_read : (n : ℕ) (args : Data) (x : Schema) (ms : List Mults) → is_axiom n ≡ true → bounds.index n ≡ true → schema_of n args ≡ Good x → list_all bounds.mults ms ≡ true
     → axiom_of (array_of (string (codes "axiom") ∷ index n ∷ args ∷ each mults ms ∷ [])) ≡ Good (node.Axiom x ms)
-axiom_read n args x ms known low is all = by (list_of mults_of) (each mults ms) (list_read ms all)
-  where
-    by : (f : Data → Part (List Mults)) (e : Data) → f e ≡ Good ms → _
-    by f e last = rw (low, known, is, last) refl
+axiom_read n args x ms known low is all = numbered_as n args x ms known low is ∙ shown_read n args x ms all
 
 node_read : (n : Node) → bounds.node_in n ≡ true → node_of (node_data n) ≡ Good n
-node_read (node.Split f) h = ap (gives node.Split) (one_behind form_of (form f) f (form_read f h) _)
+node_read (node.Split f) h = ap (gives node.Split) (one_behind form_of (form f) f (form_read f h) (string (codes "split")))
 node_read (node.Inst i ls ms) h =
     let rest : (bounds.lins ls && list_all bounds.mults ms) ≡ true = second_so (bounds.index i) (bounds.lins ls && list_all bounds.mults ms) h in
-    ap (gives (λ p. node.Inst p.0 p.1 p.2)) (three_behind index_of (index i) i (index_read i (first_so (bounds.index i) (bounds.lins ls && list_all bounds.mults ms) h)) lins_of (lins ls) ls (lins_read ls (first_so (bounds.lins ls) (list_all bounds.mults ms) rest)) (list_of mults_of) (each mults ms) ms (list_read ms (second_so (bounds.lins ls) (list_all bounds.mults ms) rest)) _)
+    ap (gives (λ p. node.Inst p.0 p.1 p.2)) (three_behind index_of (index i) i (index_read i (first_so (bounds.index i) (bounds.lins ls && list_all bounds.mults ms) h)) lins_of (lins ls) ls (lins_read ls (first_so (bounds.lins ls) (list_all bounds.mults ms) rest)) (list_of mults_of) (each mults ms) ms (list_read ms (second_so (bounds.lins ls) (list_all bounds.mults ms) rest)) (string (codes "inst")))
 node_read (node.Axiom x ms) h =
     let number = numbered x in
     axiom_read (axiom_number x) (arguments x) x ms (first_so (is_axiom (axiom_number x)) (bounds.index (axiom_number x)) number) (second_so (is_axiom (axiom_number x)) (bounds.index (axiom_number x)) number) (schema_read x (first_so (bounds.schema_in x) (list_all bounds.mults ms) h)) (second_so (bounds.schema_in x) (list_all bounds.mults ms) h)
-node_read (node.Leaf m) h = ap (gives node.Leaf) (one_behind mults_of (mults m) m (mults_read m h) _)
+node_read (node.Leaf m) h = ap (gives node.Leaf) (one_behind mults_of (mults m) m (mults_read m h) (string (codes "leaf")))
 
 proof_read : (p : Proof) → bounds.proof p ≡ true → proof_of (proof p) ≡ Good p
 proof_read p h = ap (gives (λ ns. record { nodes = ns })) (each_read node_data node_of bounds.node_in node_read p.nodes h)

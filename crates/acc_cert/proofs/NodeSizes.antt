@@ -1,5 +1,6 @@
 -- The same of nodes, proofs and certificates.
 use Rattle.std.proofs.Common.{◌≡◌, ℕ, ◌≤◌, List, [], ◌∷◌, arith, ℤ}
+use Rattle.std.specs.Prelude.{codes}
 use Rattle.acc_base.specs.declared.forms.Lin.{Lin}
 use Rattle.acc_farkas.specs.declared.refuting.Mults.{Mults}
 use Rattle.acc_proof.specs.declared.nodes.Schema.{Schema}
@@ -10,12 +11,10 @@ use Rattle.acc_proof.specs.declared.nodes.Proof.{Proof}
 use Rattle.acc_proof.specs.declared.nodes.Cert.{Cert}
 use Rattle.acc_cert.specs.Spelled.{pair, index, signed}
 use Rattle.acc_cert.specs.SpelledNodes.{mults, axiom_number, key, key_and_number, arguments, node_data, proof, cert}
-use Rattle.acc_cert.proofs.Sizes.{IsPlain, none, more, whole, number_plain, text_plain, each_plain, lins_plain, unknown_plain, form_plain}
+use Rattle.acc_cert.proofs.Sizes.{IsPlain, none, more, whole, number_plain, text_plain, pair_plain, each_plain, lins_plain, unknown_plain, form_plain}
 
 mults_plain : (m : Mults) → IsPlain 2 (mults m)
-mults_plain m =
-    let multiplier = λ (p : ℕ × ℤ). whole (more (number_plain p.0) (omega arith) (more (text_plain _) (omega arith) none)) in
-    each_plain (pair index signed) 1 multiplier m.of
+mults_plain m = each_plain (pair index signed) 1 pair_plain m.of
 
 key_plain : (t : ℕ) (k : List Lin) → IsPlain 7 (key t k)
 key_plain t k = whole (more (number_plain t) (omega arith) (more (lins_plain k) (omega arith) none))
@@ -40,12 +39,12 @@ arguments_plain (schema.Empty u) = whole (more (unknown_plain u) (omega arith) n
 arguments_plain (schema.Fresh t k) = key_plain t k
 
 node_plain : (n : Node) → IsPlain 10 (node_data n)
-node_plain (node.Split f) = whole (more (text_plain _) (omega arith) (more (form_plain f) (omega arith) none))
+node_plain (node.Split f) = whole (more (text_plain (codes "split")) (omega arith) (more (form_plain f) (omega arith) none))
 node_plain (node.Inst h ls ms) =
-    whole (more (text_plain _) (omega arith) (more (number_plain h) (omega arith) (more (lins_plain ls) (omega arith) (more (each_plain mults 2 mults_plain ms) (omega arith) none))))
+    whole (more (text_plain (codes "inst")) (omega arith) (more (number_plain h) (omega arith) (more (lins_plain ls) (omega arith) (more (each_plain mults 2 mults_plain ms) (omega arith) none))))
 node_plain (node.Axiom x ms) =
-    whole (more (text_plain _) (omega arith) (more (number_plain (axiom_number x)) (omega arith) (more (arguments_plain x) (omega arith) (more (each_plain mults 2 mults_plain ms) (omega arith) none))))
-node_plain (node.Leaf m) = whole (more (text_plain _) (omega arith) (more (mults_plain m) (omega arith) none))
+    whole (more (text_plain (codes "axiom")) (omega arith) (more (number_plain (axiom_number x)) (omega arith) (more (arguments_plain x) (omega arith) (more (each_plain mults 2 mults_plain ms) (omega arith) none))))
+node_plain (node.Leaf m) = whole (more (text_plain (codes "leaf")) (omega arith) (more (mults_plain m) (omega arith) none))
 
 proof_plain : (p : Proof) → IsPlain 11 (proof p)
 proof_plain p = each_plain node_data 10 node_plain p.nodes

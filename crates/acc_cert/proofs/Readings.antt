@@ -1,10 +1,10 @@
 -- What is written is read back: numbers, linear values, unknowns and forms.
 use Rattle.std.proofs.Common.{◌≡◌, ℕ, ◌+◌, Bool, true, List, [], ◌∷◌, map, refl, ap, ◌∙◌, ℤ}
 use Rattle.std.specs.Cmp.{first_so, second_so}
-use Rattle.std.specs.Prelude.{◌&&◌}
+use Rattle.std.specs.Prelude.{◌&&◌, codes}
 use Rattle.std.specs.List.{list_all}
 use Rattle.std.specs.Int.{w64, w128}
-use Rattle.serde_json.specs.Data.{Data}
+use Rattle.serde_json.specs.Data.{Data, string}
 use Rattle.serde_json.specs.View.{items_of}
 use Rattle.acc_base.specs.declared.forms.Lin.{Lin}
 use Rattle.acc_base.specs.declared.forms.Atom.{Atom}
@@ -100,11 +100,11 @@ module _ (t : ℕ) (ls : List Lin) where
 
 pub atom_read : (a : Atom) → bounds.atom_in a ≡ true → atom_of (atom_data a) ≡ Good a
 atom_read atom.One h = refl
-atom_read (atom.Var x) h = ap (gives atom.Var) (one_behind index_of (index x) x (index_read x h) _)
-atom_read (atom.Has t k) h = ap (gives (λ p. atom.Has p.0 p.1)) (key_behind t k h _)
-atom_read (atom.Col t k c) h = ap (gives (λ p. atom.Col p.0 p.1 p.2)) (key_number_behind t k c h _)
-atom_read (atom.Count t k) h = ap (gives (λ p. atom.Count p.0 p.1)) (key_behind t k h _)
-atom_read (atom.Sum t k c) h = ap (gives (λ p. atom.Sum p.0 p.1 p.2)) (key_number_behind t k c h _)
+atom_read (atom.Var x) h = ap (gives atom.Var) (one_behind index_of (index x) x (index_read x h) (string (codes "var")))
+atom_read (atom.Has t k) h = ap (gives (λ p. atom.Has p.0 p.1)) (key_behind t k h (string (codes "has")))
+atom_read (atom.Col t k c) h = ap (gives (λ p. atom.Col p.0 p.1 p.2)) (key_number_behind t k c h (string (codes "col")))
+atom_read (atom.Count t k) h = ap (gives (λ p. atom.Count p.0 p.1)) (key_behind t k h (string (codes "count")))
+atom_read (atom.Sum t k c) h = ap (gives (λ p. atom.Sum p.0 p.1 p.2)) (key_number_behind t k c h (string (codes "sum")))
 
 pub unknown_read : (u : Unknown) → bounds.unknown u ≡ true → unknown_of (unknown u) ≡ Good u
 unknown_read u h =

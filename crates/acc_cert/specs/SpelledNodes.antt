@@ -52,13 +52,13 @@ arguments (schema.Fresh t k) = key t k
 
 -- ---- nodes
 
-abbrev pub axiom : Schema → List Mults → Data
-axiom x ms = array_of (string (codes "axiom") ∷ index (axiom_number x) ∷ arguments x ∷ each mults ms ∷ [])
+abbrev pub axiom_node : Schema → List Mults → Data
+axiom_node x ms = array_of (string (codes "axiom") ∷ index (axiom_number x) ∷ arguments x ∷ each mults ms ∷ [])
 
 abbrev pub node_data : Node → Data
 node_data (node.Split f) = array_of (string (codes "split") ∷ form f ∷ [])
 node_data (node.Inst h ls ms) = array_of (string (codes "inst") ∷ index h ∷ lins ls ∷ each mults ms ∷ [])
-node_data (node.Axiom x ms) = axiom x ms
+node_data (node.Axiom x ms) = axiom_node x ms
 node_data (node.Leaf m) = array_of (string (codes "leaf") ∷ mults m ∷ [])
 
 abbrev pub proof : Proof → Data

@@ -1,7 +1,7 @@
 //! Nodes, proofs and certificates as they are written.
 ghost use Rattle.std.specs.Prelude.{◌≡◌, IfOk};
 ghost use Rattle.serde_json.specs.View.{view};
-ghost use Rattle.acc_cert.specs.SpelledNodes.{axiom_number, key, key_and_number, arguments, axiom};
+ghost use Rattle.acc_cert.specs.SpelledNodes.{axiom_number, key, key_and_number, arguments, axiom_node};
 
 use crate::spelled::{Spelled, array, text};
 use acc_base::forms::Lin;
@@ -42,22 +42,22 @@ fn axiom_number(schema: &Schema) -> u32
 }
 
 /// A table and a key, or the front of one.
-fn key(alloc: Global, table: u32, key: &Seq<Lin>) -> Result<Value, AllocError>
-    ensures { IfOk result (λ v. view v ≡ key table key.now) }
+fn key(alloc: Global, table: u32, parts: &Seq<Lin>) -> Result<Value, AllocError>
+    ensures { IfOk result (λ v. view v ≡ key table parts.now) }
 {
-    array(alloc, [table.value(alloc)?, key.value(alloc)?])
+    array(alloc, [table.value(alloc)?, parts.value(alloc)?])
 }
 
 /// A table, a key or the front of one, and a number.
 fn key_and_number(
     alloc: Global,
     table: u32,
-    key: &Seq<Lin>,
+    parts: &Seq<Lin>,
     number: u32,
 ) -> Result<Value, AllocError>
-    ensures { IfOk result (λ v. view v ≡ key_and_number table key.now number) }
+    ensures { IfOk result (λ v. view v ≡ key_and_number table parts.now number) }
 {
-    array(alloc, [table.value(alloc)?, key.value(alloc)?, number.value(alloc)?])
+    array(alloc, [table.value(alloc)?, parts.value(alloc)?, number.value(alloc)?])
 }
 
 /// The arguments of an axiom.
@@ -82,7 +82,7 @@ fn arguments(alloc: Global, schema: &Schema) -> Result<Value, AllocError>
 
 /// An axiom with what shows its facts, as a node.
 fn axiom(alloc: Global, schema: &Schema, shown: &Seq<Mults>) -> Result<Value, AllocError>
-    ensures { IfOk result (λ v. view v ≡ axiom schema.now shown.now) }
+    ensures { IfOk result (λ v. view v ≡ axiom_node schema.now shown.now) }
 {
     let number = axiom_number(schema).value(alloc)?;
     let arguments = arguments(alloc, schema)?;

@@ -19,7 +19,7 @@ fn written(alloc: Global, cert: &Cert, bytes: &[u8]) -> Result<String, AllocErro
     let Ok(again) = write(alloc, cert) else {
         return Err(AllocError);
     };
-    if again == bytes {
+    if again.as_slice() == bytes {
         return said(alloc, "the same again");
     }
     said(alloc, std::str::from_utf8(&again).unwrap_or("no text"))

@@ -1,2 +1,2 @@
 pub mod Numerals
-mod Texts
+pub mod Texts

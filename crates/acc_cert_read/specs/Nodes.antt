@@ -48,9 +48,12 @@ schema_at n d = if is_axiom n then field 2 (schema_of n) d else Off (1 ∷ [])
 
 -- ---- nodes
 
+-- an axiom with the multipliers that show its facts
+abbrev pub shown_by : Schema → Data → Part Node
+shown_by x d = and_then (field 3 (list_of mults_of) d) (λ ms. ends 4 (node.Axiom x ms) d)
+
 abbrev pub axiom_of : Data → Part Node
-axiom_of d =
-    and_then (field 1 index_of d) (λ n. and_then (schema_at n d) (λ x. and_then (field 3 (list_of mults_of) d) (λ ms. ends 4 (node.Axiom x ms) d)))
+axiom_of d = and_then (field 1 index_of d) (λ n. and_then (schema_at n d) (λ x. shown_by x d))
 
 -- what stands behind the word
 abbrev pub node_rest : Option NodeWord → Data → Part Node

@@ -3,7 +3,7 @@ ghost use Rattle.std.specs.Prelude.{◌≡◌, IfOk};
 ghost use Rattle.serde_json.specs.View.{view};
 ghost use Rattle.acc_cert_read.specs.Parts.{Good};
 ghost use Rattle.acc_cert_read.specs.Causes.{TellsOff};
-ghost use Rattle.acc_cert_read.specs.Nodes.{schema_of, further_schema_of, schema_at, axiom_of, node_rest};
+ghost use Rattle.acc_cert_read.specs.Nodes.{schema_of, further_schema_of, schema_at, shown_by, axiom_of, node_rest};
 
 use crate::errors::{CertError, off, under};
 use crate::parts::{Part, ends, field, item, one, three, two};
@@ -104,6 +104,15 @@ fn schema_at(alloc: Global, number: u32, node: &Value) -> Result<Schema, CertErr
     }
 }
 
+/// An axiom with the multipliers that a node has for its facts.
+fn shown(alloc: Global, schema: Schema, node: &Value) -> Result<Node, CertError>
+    ensures value { IfOk result (λ x. shown_by schema (view node.now) ≡ Good x) }
+    ensures off { TellsOff result (shown_by schema (view node.now)) }
+{
+    let multipliers = field(alloc, node, 3)?;
+    ends(alloc, node, 4, Node::Axiom(schema, multipliers))
+}
+
 /// An axiom, as a node.
 fn axiom(alloc: Global, node: &Value) -> Result<Node, CertError>
     ensures value { IfOk result (λ x. axiom_of (view node.now) ≡ Good x) }
@@ -111,8 +120,7 @@ fn axiom(alloc: Global, node: &Value) -> Result<Node, CertError>
 {
     let number = field(alloc, node, 1)?;
     let schema = schema_at(alloc, number, node)?;
-    let multipliers = field(alloc, node, 3)?;
-    ends(alloc, node, 4, Node::Axiom(schema, multipliers))
+    shown(alloc, schema, node)
 }
 
 /// What stands behind the word of a node.
