@@ -1,0 +1,13 @@
+pub mod Keeping
+pub mod Lowers
+pub mod Places
+pub mod FirstBlockers
+pub mod Stops
+pub mod Standing
+pub mod Stucks
+pub mod LawfulTurns
+pub mod Heldings
+pub mod ForwardTurns
+pub mod Going
+pub mod Taking
+pub mod Replaying

@@ -1,0 +1,9 @@
+pub mod Kept
+pub mod Begun
+pub mod Blocked
+pub mod Lowest
+pub mod HeldUp
+pub mod Holders
+pub mod Turns
+pub mod Takes
+pub mod Replays

@@ -1,0 +1,51 @@
+//! Histories that are done again.
+ghost use Rattle.std.specs.Prelude.{◌≡◌, [], IfOk, IfErr, OnOk};
+ghost use Rattle.acc_base.specs.Machine.{start};
+ghost use Rattle.acc_base.specs.Lawful.{LeadLawfully};
+ghost use Rattle.acc_machine.specs.Replays.{StopsBy, IsRefusedSo};
+
+use crate::errors::{ReplayError, StateError, TakeError};
+use crate::states::State;
+use acc_base::machines::Event;
+use acc_lift::Accepted;
+use acc_store::Store;
+use std::alloc::Global;
+
+/// Takes events one after the other, up to the first that isn't lawful.
+fn take_all<S: Store>(state: &mut State<S>, events: &[Event]) -> Result<(), ReplayError>
+    ensures all { OnOk result (LeadLawfully state.old.design state.old.world events.now state.new.world) }
+    ensures stops { IfErr result (StopsBy state.old.design state.old.world events.now state.new.world) }
+    ensures design { state.new.design ≡ state.old.design }
+{
+    for at in 0..events.len() {
+        match state.take(&events[at]) {
+            Ok(()) => {}
+            Err(TakeError::Unlawful) => return Err(ReplayError::Unlawful(at as u64)),
+            Err(TakeError::Memory) => return Err(ReplayError::Memory),
+        }
+    }
+    Ok(())
+}
+
+/// The state after a history, over an empty store. After a refusal the store is handed back with the rows after some first of
+/// the events: where one isn't lawful, after those before the first such.
+pub fn replay<'a, S: Store>(
+    alloc: Global,
+    accepted: &'a Accepted,
+    store: S,
+    events: &[Event],
+) -> Result<State<'a, S>, (ReplayError, S)>
+    requires empty { S.rows store ≡ [] }
+    ensures design { IfOk result (λ s. s.design ≡ accepted.now) }
+    ensures state { IfOk result (λ s. LeadLawfully accepted.now start events.now s.world) }
+    ensures refused { IfErr result (λ e. IsRefusedSo accepted.now events.now e.0 (S.rows e.1)) }
+{
+    let mut state = match State::new(alloc, accepted, store) {
+        Ok(state) => state,
+        Err((StateError::Memory, store)) => return Err((ReplayError::Memory, store)),
+    };
+    match take_all(&mut state, events) {
+        Ok(()) => Ok(state),
+        Err(error) => Err((error, state.into_parts().0)),
+    }
+}
