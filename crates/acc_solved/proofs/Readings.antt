@@ -36,6 +36,7 @@ use Rattle.acc_solved.proofs.Mixes.{other}
 use Rattle.acc_solved.proofs.Admits.{MetBy, Met}
 use Rattle.acc_solved.proofs.Asides.{MeetsAt}
 use Rattle.acc_solved.proofs.Wholes.{Readable, point_meets}
+use Rattle.acc_solved.proofs.LowestTerms.{Lowest, anything, point_lowest, all_lowest}
 
 module _ (names : List Unknown) where
   -- ---- the unknowns of a row are among the names, and no coefficient is 0
@@ -214,19 +215,36 @@ all_places : (P : Fraction → Type 0) (xs : Point) → ((i : ℕ) → i < lengt
 all_places P [] h = All-nil P
 all_places P (x ∷ xs) h = All-cons P x xs (h 0 (omega arith)) (all_places P xs (λ i l. h (suc i) (omega (arith, l))))
 
-searched_meets : (rels : List Rel) → Holds (searched rels) (Meets rels)
-searched_meets rels =
-    holds_chain (rows_from (unknowns_of rels) 0 rels) _ (AllRead (unknowns_of rels) rels) _
-    (all_read (unknowns_of rels) rels 0 (unknowns_stand rels)) (λ rows read.
-    holds_weaker (chain (eliminated (length (unknowns_of rels)) rows) (point_of (length (unknowns_of rels))))
-    (λ p. MeetsAt (length (unknowns_of rels)) p rows) _ (λ p m. record {
-      long = m.long;
-      above = all_places (λ x. IsTrue (is_above x)) p (λ i l. above_test (value p i).1 (m.worths i).1);
-      met = all_met (unknowns_of rels) m.f m.D m.above p m.worths rels (read.1 m.f m.D m.met);
-    }) (point_meets (length (unknowns_of rels)) rows read.0))
-  where
-    above_test : (k : ℤ) → pos 0 <ℤ k → IsTrue (int_lt (pos 0) k)
-    above_test k h = grind (arith, ints)
+both_hold : {A : Type 0} (o : Outcome A) (P Q : A → Type 0) → Holds o P → Holds o Q → Holds o (λ x. P x × Q x)
+both_hold (Ok x) P Q p q = (p, q)
+both_hold (Err e) P Q p q = tt
+
+module _ (rels : List Rel) where
+  abbrev count : ℕ
+  count = length (unknowns_of rels)
+
+  above_test : (k : ℤ) → pos 0 <ℤ k → IsTrue (int_lt (pos 0) k)
+  above_test k h = grind (arith, ints)
+
+  meets : (rows : List Row) → AllRead (unknowns_of rels) rels rows → (p : Point) → MeetsAt count p rows → All Lowest p → Meets rels p
+  meets rows read p m low =
+      let above = all_places (λ x. IsTrue (is_above x)) p (λ i l. above_test (value p i).1 (m.worths i).1) in
+      record {
+        long = m.long;
+        above = above;
+        lowest = all_lowest p above low;
+        met = all_met (unknowns_of rels) m.f m.D m.above p m.worths rels (read.1 m.f m.D m.met);
+      }
+
+  searched_meets : Holds (searched rels) (Meets rels)
+  searched_meets =
+      holds_chain (rows_from (unknowns_of rels) 0 rels) _ (AllRead (unknowns_of rels) rels) _
+      (all_read (unknowns_of rels) rels 0 (unknowns_stand rels)) (λ rows read.
+      holds_weaker (chain (eliminated count rows) (point_of count)) (λ p. MeetsAt count p rows × All Lowest p) _
+      (λ p m. meets rows read p m.0 m.1)
+      (both_hold (chain (eliminated count rows) (point_of count)) (λ p. MeetsAt count p rows) (All Lowest) (point_meets count rows read.0)
+      (holds_chain (eliminated count rows) (point_of count) (λ _. Unit {0}) (All Lowest) (anything (eliminated count rows))
+      (λ s _. point_lowest count s))))
 
 pub searched_is_met : SearchedIsMet
 searched_is_met rels point e = held (searched rels) _ point e (searched_meets rels)

@@ -1,5 +1,6 @@
 -- What a point shows: the values of relations there, and that they are met.
-use Rattle.std.specs.Prelude.{◌≡◌, if◌then◌else◌, Bool, IsTrue, All, List, [], ◌∷◌, length, Ok, ℤ, pos, ◌+ℤ◌, ◌*ℤ◌, int_lt}
+use Rattle.std.specs.Prelude.{◌≡◌, if◌then◌else◌, Bool, IsTrue, All, List, [], ◌∷◌, length, Ok, ℤ, pos, ◌+ℤ◌, ◌*ℤ◌, int_lt, unsigned_abs}
+use Rattle.std.specs.Int.{IsGcd}
 use Rattle.acc_base.specs.declared.forms.Unknown.{Unknown}
 use Rattle.acc_base.specs.declared.forms.Rel.{Rel}
 use Rattle.acc_base.specs.Linear.{meets}
@@ -33,11 +34,16 @@ is_met names point r = meets r.equal (form_at names point r).0
 abbrev pub is_above : Fraction → Bool
 is_above x = int_lt (pos 0) x.1
 
--- a point has a value for each unknown of the relations, in the order of first appearance, each with a denominator above 0, and each
--- relation is met there
+-- in lowest terms: 1 is the greatest common divisor of the numerator and the denominator
+abbrev pub IsLowest : Fraction → Type 0
+IsLowest x = IsGcd (unsigned_abs x.0) (unsigned_abs x.1) 1
+
+-- a point has a value for each unknown of the relations, in the order of first appearance, each in lowest terms with a denominator
+-- above 0, and each relation is met there
 pub record Meets (rels : List Rel) (point : Point) : Type 0 where
   pub long : length point ≡ length (unknowns_of rels)
   pub above : All (λ x. IsTrue (is_above x)) point
+  pub lowest : All IsLowest point
   pub met : All (λ r. IsTrue (is_met (unknowns_of rels) point r)) rels
 
 -- so does the point with which a search ends

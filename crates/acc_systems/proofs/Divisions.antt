@@ -39,7 +39,7 @@ is_gcd zero a b p = absurd (omega (arith, p))
 is_gcd (suc f) a b p =
     gcd_by a b (divisor_within f b (a % b)) (b == 0) refl (λ e. let m = mod-lt a (is_above b e) in is_gcd f b (a % b) (omega (arith, m, p)))
 
-divides_both : (a b : ℕ) → IsGcd a b (divisor a b)
+pub divides_both : (a b : ℕ) → IsGcd a b (divisor a b)
 divides_both a b = is_gcd (suc b) a b (omega arith)
 
 abbrev pub Divides : ℕ → ℤ → Type 0
