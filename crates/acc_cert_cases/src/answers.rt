@@ -1,9 +1,8 @@
 //! The answers.
-use crate::{sequents, texts};
+use crate::{designs, sequents, texts};
 use acc_base::designs::Design;
 use acc_base::sequents::Sequent;
 use acc_cert::{CertError, read, write};
-use acc_parse::parse;
 use acc_proof::checks::proves;
 use acc_proof::errors::ProofError;
 use acc_proof::nodes::{Cert, Proof};
@@ -49,7 +48,7 @@ fn judged(alloc: Global, design: &Design, sequent: &Sequent, proof: &Proof) -> R
 
 /// The design and the sequent of texts.
 fn question(alloc: Global, design: &str, sequent: &str) -> Result<Option<(Design, Sequent)>, AllocError> {
-    let Ok(design) = parse(alloc, design.as_bytes()) else {
+    let Some(design) = designs::read(alloc, design)? else {
         return Ok(None);
     };
     match sequents::read(alloc, sequent)? {
