@@ -33,7 +33,12 @@ pub fn read_again(alloc: Global, bytes: &[u8]) -> Result<String, AllocError> {
     }
 }
 
-fn judged(alloc: Global, design: &Design, sequent: &Sequent, proof: &Proof) -> Result<String, AllocError> {
+fn judged(
+    alloc: Global,
+    design: &Design,
+    sequent: &Sequent,
+    proof: &Proof,
+) -> Result<String, AllocError> {
     match proves(alloc, design, sequent, proof) {
         Ok(true) => said(alloc, "a proof"),
         Ok(false) => said(alloc, "no proof"),
@@ -47,7 +52,11 @@ fn judged(alloc: Global, design: &Design, sequent: &Sequent, proof: &Proof) -> R
 }
 
 /// The design and the sequent of texts.
-fn question(alloc: Global, design: &str, sequent: &str) -> Result<Option<(Design, Sequent)>, AllocError> {
+fn question(
+    alloc: Global,
+    design: &str,
+    sequent: &str,
+) -> Result<Option<(Design, Sequent)>, AllocError> {
     let Some(design) = designs::read(alloc, design)? else {
         return Ok(None);
     };
@@ -58,7 +67,12 @@ fn question(alloc: Global, design: &str, sequent: &str) -> Result<Option<(Design
 }
 
 /// Whether the first proof of a certificate is one of the sequent.
-pub fn proved(alloc: Global, design: &str, sequent: &str, cert: &str) -> Result<String, AllocError> {
+pub fn proved(
+    alloc: Global,
+    design: &str,
+    sequent: &str,
+    cert: &str,
+) -> Result<String, AllocError> {
     let Some((design, sequent)) = question(alloc, design, sequent)? else {
         return said(alloc, "no design or no sequent");
     };

@@ -17,7 +17,12 @@ use std::alloc::{AllocError, Global};
 use std::io;
 
 /// What a question answers.
-fn answer(alloc: Global, design: &str, sequent: &str, question: &str) -> Result<String, AllocError> {
+fn answer(
+    alloc: Global,
+    design: &str,
+    sequent: &str,
+    question: &str,
+) -> Result<String, AllocError> {
     let (verb, rest) = question.split_once(' ').unwrap_or((question, ""));
     match verb {
         "read" => answers::read_again(alloc, &texts::bytes(alloc, rest)?),
@@ -28,7 +33,11 @@ fn answer(alloc: Global, design: &str, sequent: &str, question: &str) -> Result<
 
 /// Answers a question, and prints both; a line with '#' is a remark.
 fn play(rt: &impl Print, alloc: Global, design: &str, sequent: &str, line: &str) -> io::Result<()> {
-    if line.is_empty() || line.starts_with('#') || line.starts_with("design") || line.starts_with("sequent") {
+    if line.is_empty()
+        || line.starts_with('#')
+        || line.starts_with("design")
+        || line.starts_with("sequent")
+    {
         return rt.println(line);
     }
     let said = answer(alloc, design, sequent, line)?;
