@@ -1,11 +1,8 @@
 //! Nodes, proofs and certificates as they are written.
-ghost use Rattle.std.specs.Prelude.{◌≡◌, IfOk};
-ghost use Rattle.serde_json.specs.View.{view};
-ghost use Rattle.acc_cert.specs.SpelledNodes.{axiom_number, key, key_and_number, arguments, axiom_node};
+ghost use Rattle.std.specs.Prelude.{◌≡◌};
+ghost use Rattle.acc_cert.specs.SpelledNodes.{axiom_number};
 
-use crate::spelled::{Spelled, array, text};
-use acc_base::forms::Lin;
-use acc_base::sequences::Seq;
+use crate::spelled::{Spelled, four, one, three, two};
 use acc_farkas::refuting::Mults;
 use acc_proof::nodes::{Cert, Node, Proof, Schema};
 use serde_json::Value;
@@ -41,52 +38,28 @@ fn axiom_number(schema: &Schema) -> u32
     }
 }
 
-/// A table and a key, or the front of one.
-fn key(alloc: Global, table: u32, parts: &Seq<Lin>) -> Result<Value, AllocError>
-    ensures { IfOk result (λ v. view v ≡ key table parts.now) }
-{
-    array(alloc, [table.value(alloc)?, parts.value(alloc)?])
-}
+/// The arguments of an axiom, without its number.
+impl Spelled for Schema {
+    ghost use Rattle.acc_cert.specs.SpelledNodes.{arguments};
 
-/// A table, a key or the front of one, and a number.
-fn key_and_number(
-    alloc: Global,
-    table: u32,
-    parts: &Seq<Lin>,
-    number: u32,
-) -> Result<Value, AllocError>
-    ensures { IfOk result (λ v. view v ≡ key_and_number table parts.now number) }
-{
-    array(alloc, [table.value(alloc)?, parts.value(alloc)?, number.value(alloc)?])
-}
+    ghost spelled = { arguments };
 
-/// The arguments of an axiom.
-fn arguments(alloc: Global, schema: &Schema) -> Result<Value, AllocError>
-    ensures { IfOk result (λ v. view v ≡ arguments schema.now) }
-{
-    match schema {
-        Schema::Has(table, k) | Schema::Count(table, k) => key(alloc, *table, k),
-        Schema::OneCount(table, k) | Schema::Fresh(table, k) => key(alloc, *table, k),
-        Schema::Front(table, k, n) => key_and_number(alloc, *table, k, *n),
-        Schema::NoCol(table, k, column) => key_and_number(alloc, *table, k, *column),
-        Schema::NoSum(table, k, column) => key_and_number(alloc, *table, k, *column),
-        Schema::OneSum(table, k, column) => key_and_number(alloc, *table, k, *column),
-        Schema::Same(u, v) => array(alloc, [u.value(alloc)?, v.value(alloc)?]),
-        Schema::Opened(u) | Schema::Empty(u) => array(alloc, [u.value(alloc)?]),
-        Schema::Shut(u, place, side) => array(
-            alloc,
-            [u.value(alloc)?, place.value(alloc)?, side.value(alloc)?],
-        ),
+    fn value(&self, alloc: Global) -> Result<Value, AllocError> {
+        match self {
+            Schema::Has(table, key) => two(alloc, table, key),
+            Schema::Count(table, prefix) => two(alloc, table, prefix),
+            Schema::Front(table, key, front) => three(alloc, table, key, front),
+            Schema::Same(first, second) => two(alloc, first, second),
+            Schema::NoCol(table, key, column) => three(alloc, table, key, column),
+            Schema::NoSum(table, prefix, column) => three(alloc, table, prefix, column),
+            Schema::OneCount(table, key) => two(alloc, table, key),
+            Schema::OneSum(table, key, column) => three(alloc, table, key, column),
+            Schema::Opened(unknown) => one(alloc, unknown),
+            Schema::Shut(unknown, place, side) => three(alloc, unknown, place, side),
+            Schema::Empty(unknown) => one(alloc, unknown),
+            Schema::Fresh(table, key) => two(alloc, table, key),
+        }
     }
-}
-
-/// An axiom with what shows its facts, as a node.
-fn axiom(alloc: Global, schema: &Schema, shown: &Seq<Mults>) -> Result<Value, AllocError>
-    ensures { IfOk result (λ v. view v ≡ axiom_node schema.now shown.now) }
-{
-    let number = axiom_number(schema).value(alloc)?;
-    let arguments = arguments(alloc, schema)?;
-    array(alloc, [text(alloc, "axiom")?, number, arguments, shown.value(alloc)?])
 }
 
 impl Spelled for Node {
@@ -96,18 +69,10 @@ impl Spelled for Node {
 
     fn value(&self, alloc: Global) -> Result<Value, AllocError> {
         match self {
-            Node::Split(form) => array(alloc, [text(alloc, "split")?, form.value(alloc)?]),
-            Node::Inst(hypothesis, own, shown) => array(
-                alloc,
-                [
-                    text(alloc, "inst")?,
-                    hypothesis.value(alloc)?,
-                    own.value(alloc)?,
-                    shown.value(alloc)?,
-                ],
-            ),
-            Node::Axiom(schema, shown) => axiom(alloc, schema, shown),
-            Node::Leaf(multipliers) => array(alloc, [text(alloc, "leaf")?, multipliers.value(alloc)?]),
+            Node::Split(form) => two(alloc, &"split", form),
+            Node::Inst(hypothesis, own, shown) => four(alloc, &"inst", hypothesis, own, shown),
+            Node::Axiom(schema, shown) => four(alloc, &"axiom", &axiom_number(schema), schema, shown),
+            Node::Leaf(multipliers) => two(alloc, &"leaf", multipliers),
         }
     }
 }

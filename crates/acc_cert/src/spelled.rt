@@ -1,8 +1,8 @@
-//! Values as they are written: arrays, and numbers.
-ghost use Rattle.std.specs.Prelude.{◌≡◌, map, take, IfOk, codes};
-ghost use Rattle.serde_json.specs.Data.{array, string};
-ghost use Rattle.serde_json.specs.View.{view, items_view};
-ghost use Rattle.acc_cert.specs.Spelled.{signed};
+//! What is written as a JSON value: numbers, texts, lists, and arrays of so many items.
+ghost use Rattle.std.specs.Prelude.{◌≡◌, [], ◌∷◌, ◌++◌, map, IfOk, OnOk};
+ghost use Rattle.serde_json.specs.Data.{string};
+ghost use Rattle.serde_json.specs.View.{view};
+ghost use Rattle.acc_cert.specs.Spelled.{signed, array_of};
 
 use acc_base::sequences::Seq;
 use itoa::Buffer;
@@ -21,15 +21,68 @@ pub trait Spelled {
         ensures { IfOk result (λ v. view v ≡ spelled self.now) };
 }
 
-/// An array of these items.
-pub fn array<const N: usize>(alloc: Global, items: [Value; N]) -> Result<Value, AllocError>
-    ensures { IfOk result (λ v. view v ≡ array (items_view items.entry)) }
+fn push<A: Spelled>(alloc: Global, items: &mut Vec<Value>, a: &A) -> Result<(), AllocError>
+    ensures { OnOk result (map view items.new.items ≡ map view items.old.items ++ A.spelled a.now ∷ []) }
 {
-    Ok(Value::Array(Vec::from_array(alloc, items)?))
+    items.push(a.value(alloc)?)?;
+    Ok(())
+}
+
+/// An array of one item.
+pub fn one<A: Spelled>(alloc: Global, a: &A) -> Result<Value, AllocError>
+    ensures { IfOk result (λ v. view v ≡ array_of (A.spelled a.now ∷ [])) }
+{
+    let mut items = Vec::new(alloc);
+    push(alloc, &mut items, a)?;
+    Ok(Value::Array(items))
+}
+
+/// An array of two items.
+pub fn two<A: Spelled, B: Spelled>(alloc: Global, a: &A, b: &B) -> Result<Value, AllocError>
+    ensures { IfOk result (λ v. view v ≡ array_of (A.spelled a.now ∷ B.spelled b.now ∷ [])) }
+{
+    let mut items = Vec::new(alloc);
+    push(alloc, &mut items, a)?;
+    push(alloc, &mut items, b)?;
+    Ok(Value::Array(items))
+}
+
+/// An array of three items.
+pub fn three<A: Spelled, B: Spelled, C: Spelled>(
+    alloc: Global,
+    a: &A,
+    b: &B,
+    c: &C,
+) -> Result<Value, AllocError>
+    ensures { IfOk result (λ v. view v ≡ array_of (A.spelled a.now ∷ B.spelled b.now ∷ C.spelled c.now ∷ [])) }
+{
+    let mut items = Vec::new(alloc);
+    push(alloc, &mut items, a)?;
+    push(alloc, &mut items, b)?;
+    push(alloc, &mut items, c)?;
+    Ok(Value::Array(items))
+}
+
+/// An array of four items.
+pub fn four<A: Spelled, B: Spelled, C: Spelled, D: Spelled>(
+    alloc: Global,
+    a: &A,
+    b: &B,
+    c: &C,
+    d: &D,
+) -> Result<Value, AllocError>
+    ensures { IfOk result (λ v. view v ≡ array_of (A.spelled a.now ∷ B.spelled b.now ∷ C.spelled c.now ∷ D.spelled d.now ∷ [])) }
+{
+    let mut items = Vec::new(alloc);
+    push(alloc, &mut items, a)?;
+    push(alloc, &mut items, b)?;
+    push(alloc, &mut items, c)?;
+    push(alloc, &mut items, d)?;
+    Ok(Value::Array(items))
 }
 
 /// A text.
-pub fn text(alloc: Global, text: &str) -> Result<Value, AllocError>
+fn text(alloc: Global, text: &str) -> Result<Value, AllocError>
     ensures { IfOk result (λ v. view v ≡ string text.now) }
 {
     Ok(Value::String(String::from_str(alloc, text)?))
@@ -40,6 +93,16 @@ fn signed(alloc: Global, number: i128) -> Result<Value, AllocError>
     ensures { IfOk result (λ v. view v ≡ signed number) }
 {
     text(alloc, Buffer::new().format(number))
+}
+
+impl Spelled for &str {
+    ghost use Rattle.serde_json.specs.Data.{string};
+
+    ghost spelled = { λ s. string s.now };
+
+    fn value(&self, alloc: Global) -> Result<Value, AllocError> {
+        text(alloc, *self)
+    }
 }
 
 impl Spelled for u32 {
@@ -79,7 +142,7 @@ impl<A: Spelled, B: Spelled> Spelled for (A, B) {
 
     fn value(&self, alloc: Global) -> Result<Value, AllocError> {
         let (a, b) = self;
-        array(alloc, [a.value(alloc)?, b.value(alloc)?])
+        two(alloc, a, b)
     }
 }
 
@@ -91,7 +154,7 @@ impl<A: Spelled> Spelled for Seq<A> {
     fn value(&self, alloc: Global) -> Result<Value, AllocError> {
         let mut items = Vec::new(alloc);
         for item in self.as_slice() {
-            items.push(item.value(alloc)?)?;
+            push(alloc, &mut items, item)?;
         }
         Ok(Value::Array(items))
     }

@@ -1,8 +1,5 @@
 //! Linear values, unknowns and forms as they are written.
-ghost use Rattle.std.specs.Prelude.{◌≡◌, IfOk};
-ghost use Rattle.serde_json.specs.View.{view};
-
-use crate::spelled::{Spelled, array, text};
+use crate::spelled::{Spelled, four, one, three, two};
 use acc_base::forms::{Atom, Form, Lin, Unknown};
 use serde_json::Value;
 use std::alloc::{AllocError, Global};
@@ -13,7 +10,7 @@ impl Spelled for Lin {
     ghost spelled = { lin };
 
     fn value(&self, alloc: Global) -> Result<Value, AllocError> {
-        array(alloc, [self.coeffs.value(alloc)?, self.constant.value(alloc)?])
+        two(alloc, &self.coeffs, &self.constant)
     }
 }
 
@@ -24,18 +21,12 @@ impl Spelled for Atom {
 
     fn value(&self, alloc: Global) -> Result<Value, AllocError> {
         match self {
-            Atom::One => array(alloc, [text(alloc, "one")?]),
-            Atom::Var(x) => array(alloc, [text(alloc, "var")?, x.value(alloc)?]),
-            Atom::Has(table, key) => array(alloc, [text(alloc, "has")?, table.value(alloc)?, key.value(alloc)?]),
-            Atom::Col(table, key, column) => array(
-                alloc,
-                [text(alloc, "col")?, table.value(alloc)?, key.value(alloc)?, column.value(alloc)?],
-            ),
-            Atom::Count(table, prefix) => array(alloc, [text(alloc, "count")?, table.value(alloc)?, prefix.value(alloc)?]),
-            Atom::Sum(table, prefix, column) => array(
-                alloc,
-                [text(alloc, "sum")?, table.value(alloc)?, prefix.value(alloc)?, column.value(alloc)?],
-            ),
+            Atom::One => one(alloc, &"one"),
+            Atom::Var(x) => two(alloc, &"var", x),
+            Atom::Has(table, key) => three(alloc, &"has", table, key),
+            Atom::Col(table, key, column) => four(alloc, &"col", table, key, column),
+            Atom::Count(table, prefix) => three(alloc, &"count", table, prefix),
+            Atom::Sum(table, prefix, column) => four(alloc, &"sum", table, prefix, column),
         }
     }
 }
@@ -46,7 +37,7 @@ impl Spelled for Unknown {
     ghost spelled = { unknown };
 
     fn value(&self, alloc: Global) -> Result<Value, AllocError> {
-        array(alloc, [self.under.value(alloc)?, self.atom.value(alloc)?])
+        two(alloc, &self.under, &self.atom)
     }
 }
 
@@ -56,6 +47,6 @@ impl Spelled for Form {
     ghost spelled = { form };
 
     fn value(&self, alloc: Global) -> Result<Value, AllocError> {
-        array(alloc, [self.terms.value(alloc)?, self.constant.value(alloc)?])
+        two(alloc, &self.terms, &self.constant)
     }
 }

@@ -1,9 +1,8 @@
 //! The answers.
-use crate::{sequents, texts};
+use crate::{designs, sequents, texts};
 use acc_base::designs::Design;
 use acc_base::sequents::Sequent;
 use acc_cert::{CertError, read, write};
-use acc_parse::parse;
 use acc_proof::checks::proves;
 use acc_proof::errors::ProofError;
 use acc_proof::nodes::{Cert, Proof};
@@ -34,7 +33,12 @@ pub fn read_again(alloc: Global, bytes: &[u8]) -> Result<String, AllocError> {
     }
 }
 
-fn judged(alloc: Global, design: &Design, sequent: &Sequent, proof: &Proof) -> Result<String, AllocError> {
+fn judged(
+    alloc: Global,
+    design: &Design,
+    sequent: &Sequent,
+    proof: &Proof,
+) -> Result<String, AllocError> {
     match proves(alloc, design, sequent, proof) {
         Ok(true) => said(alloc, "a proof"),
         Ok(false) => said(alloc, "no proof"),
@@ -48,8 +52,12 @@ fn judged(alloc: Global, design: &Design, sequent: &Sequent, proof: &Proof) -> R
 }
 
 /// The design and the sequent of texts.
-fn question(alloc: Global, design: &str, sequent: &str) -> Result<Option<(Design, Sequent)>, AllocError> {
-    let Ok(design) = parse(alloc, design.as_bytes()) else {
+fn question(
+    alloc: Global,
+    design: &str,
+    sequent: &str,
+) -> Result<Option<(Design, Sequent)>, AllocError> {
+    let Some(design) = designs::read(alloc, design)? else {
         return Ok(None);
     };
     match sequents::read(alloc, sequent)? {
@@ -59,7 +67,12 @@ fn question(alloc: Global, design: &str, sequent: &str) -> Result<Option<(Design
 }
 
 /// Whether the first proof of a certificate is one of the sequent.
-pub fn proved(alloc: Global, design: &str, sequent: &str, cert: &str) -> Result<String, AllocError> {
+pub fn proved(
+    alloc: Global,
+    design: &str,
+    sequent: &str,
+    cert: &str,
+) -> Result<String, AllocError> {
     let Some((design, sequent)) = question(alloc, design, sequent)? else {
         return said(alloc, "no design or no sequent");
     };

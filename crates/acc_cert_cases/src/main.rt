@@ -1,12 +1,15 @@
 //! Reads and writes certificates, and asks whether a proof proves a sequent: a question a line of the input, with the answers.
 //!
-//! `design TEXT` and `sequent JSON` give the design and the sequent of the questions behind them. A sequent is
+//! `design JSON` and `sequent JSON` give the design and the sequent of the questions behind them. A design is
+//! `[[[PARTS,PRIVATE],..],[LOCALS,..]]`: of each table how many parts its keys have, and whether it is private, 1 or 0; of each
+//! type how many locals it has. A sequent is
 //! `[[RULE,VARIABLES,TYPE],[HYPOTHESIS..],[[RELATION..],FORM]]`: TYPE is that of the origin's point, from 1 on, and 0 is none;
 //! a hypothesis is `[VARIABLES,[RELATION..],RELATION]`; a relation is `[FORM,0]` where the form is at most 0, and `[FORM,1]`
 //! where it is 0; and forms are spelled as in certificates.
 #![tactic(auto)]
 
 mod answers;
+mod designs;
 mod sequents;
 mod texts;
 
@@ -14,7 +17,12 @@ use std::alloc::{AllocError, Global};
 use std::io;
 
 /// What a question answers.
-fn answer(alloc: Global, design: &str, sequent: &str, question: &str) -> Result<String, AllocError> {
+fn answer(
+    alloc: Global,
+    design: &str,
+    sequent: &str,
+    question: &str,
+) -> Result<String, AllocError> {
     let (verb, rest) = question.split_once(' ').unwrap_or((question, ""));
     match verb {
         "read" => answers::read_again(alloc, &texts::bytes(alloc, rest)?),
@@ -25,7 +33,11 @@ fn answer(alloc: Global, design: &str, sequent: &str, question: &str) -> Result<
 
 /// Answers a question, and prints both; a line with '#' is a remark.
 fn play(rt: &impl Print, alloc: Global, design: &str, sequent: &str, line: &str) -> io::Result<()> {
-    if line.is_empty() || line.starts_with('#') || line.starts_with("design") || line.starts_with("sequent") {
+    if line.is_empty()
+        || line.starts_with('#')
+        || line.starts_with("design")
+        || line.starts_with("sequent")
+    {
         return rt.println(line);
     }
     let said = answer(alloc, design, sequent, line)?;

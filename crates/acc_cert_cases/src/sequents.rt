@@ -1,7 +1,8 @@
 //! Sequents as they are spelled.
+use crate::designs::names;
 use acc_base::designs::{At, Side};
 use acc_base::forms::{Clause, Form, Rel};
-use acc_base::sequences::{Seq, Text};
+use acc_base::sequences::Seq;
 use acc_base::sequents::{Origin, Sequent};
 use acc_cert_read::parts::Part;
 use serde_json::Value;
@@ -29,15 +30,6 @@ fn relations(alloc: Global, spelled: Seq<Relation>) -> Result<Seq<Rel>, AllocErr
         relations.push(relation(one))?;
     }
     Ok(relations)
-}
-
-/// So many names.
-fn names(alloc: Global, count: u32) -> Result<Seq<Text>, AllocError> {
-    let mut names = Seq::new(alloc);
-    for _ in 0..count {
-        names.push(Seq::new(alloc))?;
-    }
-    Ok(names)
 }
 
 fn clause(alloc: Global, (count, guards, rel): Hypothesis) -> Result<Clause, AllocError> {

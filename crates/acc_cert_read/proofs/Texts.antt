@@ -1,10 +1,9 @@
 -- Bytes that are UTF-8, and others.
-use Rattle.std.proofs.Common.{◌≡◌, ℕ, Bool, true, false, List, [], refl, IsUtf8}
+use Rattle.std.proofs.Common.{◌≡◌, ℕ, true, false, List, [], refl, IsUtf8}
 use Rattle.std.specs.Prelude.{if◌then◌else◌}
 use Rattle.std.specs.Str.{is_utf8}
 use Rattle.serde_json.specs.Read.{read}
-use Rattle.acc_proof.specs.declared.nodes.Cert.{Cert}
-use Rattle.acc_cert_read.specs.Parts.{Part, Off, and_then, given}
+use Rattle.acc_cert_read.specs.Parts.{Off, and_then, given}
 use Rattle.acc_cert_read.specs.Certificates.{cert_in, cert_of}
 use Rattle.std.proofs.lemmas.Str.{IsUtf8-from_is_utf8, is_utf8-from_IsUtf8}
 

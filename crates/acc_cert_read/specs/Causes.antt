@@ -1,5 +1,5 @@
 -- Why something is no certificate.
-use Rattle.std.specs.Prelude.{◌≡◌, ℕ, List, ◌∷◌, Result, Ok, Err, ⊤}
+use Rattle.std.specs.Prelude.{◌≡◌, ℕ, ◌∷◌, Result, Ok, Err, ⊤}
 use Rattle.acc_cert_read.specs.declared.errors.CertError.{CertError}
 use Rattle.acc_cert_read.specs.declared.errors.CertError.TheVariants.{NotCert, Memory}
 use Rattle.acc_cert_read.specs.Parts.{Part, Off}

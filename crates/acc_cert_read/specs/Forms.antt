@@ -9,7 +9,7 @@ use Rattle.acc_base.specs.declared.forms.Unknown.{Unknown}
 use Rattle.acc_base.specs.declared.forms.Form.{Form}
 use Rattle.acc_cert_read.specs.declared.words.AtomWord.{AtomWord}
 use Rattle.acc_cert_read.specs.declared.words.AtomWord.TheVariants as word
-use Rattle.acc_cert_read.specs.Parts.{Part, Good, Off, under, and_then, gives, given, field, ends, one, two, three, list_of}
+use Rattle.acc_cert_read.specs.Parts.{Part, Off, and_then, gives, given, field, ends, one, two, three, list_of}
 use Rattle.acc_cert_read.specs.Spellings.{wide_number, narrow_number, index}
 use Rattle.acc_cert_read.specs.Words.{atom_word}
 

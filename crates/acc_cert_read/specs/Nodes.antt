@@ -36,11 +36,20 @@ is_axiom n = nat_le 1 n && nat_le n 12
 -- the axioms from 7 on
 abbrev pub further_schema_of : ℕ → Data → Part Schema
 further_schema_of n d =
-    if n == 7 then by_key schema.OneCount d else (if n == 8 then by_key_and_number schema.OneSum d else (if n == 9 then by_unknown schema.Opened d else (if n == 10 then gives (λ p. schema.Shut p.0 p.1 p.2) (three 0 unknown_of index_of index_of d) else (if n == 11 then by_unknown schema.Empty d else by_key schema.Fresh d))))
+    if n == 7 then by_key schema.OneCount d
+    else (if n == 8 then by_key_and_number schema.OneSum d
+    else (if n == 9 then by_unknown schema.Opened d
+    else (if n == 10 then gives (λ p. schema.Shut p.0 p.1 p.2) (three 0 unknown_of index_of index_of d)
+    else (if n == 11 then by_unknown schema.Empty d else by_key schema.Fresh d))))
 
 abbrev pub schema_of : ℕ → Data → Part Schema
 schema_of n d =
-    if n == 1 then by_key schema.Has d else (if n == 2 then by_key schema.Count d else (if n == 3 then by_key_and_number schema.Front d else (if n == 4 then gives (λ p. schema.Same p.0 p.1) (two 0 unknown_of unknown_of d) else (if n == 5 then by_key_and_number schema.NoCol d else (if n == 6 then by_key_and_number schema.NoSum d else further_schema_of n d)))))
+    if n == 1 then by_key schema.Has d
+    else (if n == 2 then by_key schema.Count d
+    else (if n == 3 then by_key_and_number schema.Front d
+    else (if n == 4 then gives (λ p. schema.Same p.0 p.1) (two 0 unknown_of unknown_of d)
+    else (if n == 5 then by_key_and_number schema.NoCol d
+    else (if n == 6 then by_key_and_number schema.NoSum d else further_schema_of n d)))))
 
 -- the number itself is off where there is no such axiom
 abbrev pub schema_at : ℕ → Data → Part Schema

@@ -70,11 +70,7 @@ pub fn one<A: Part>(alloc: Global, value: &Value, first: u8) -> Result<A, CertEr
 }
 
 /// Two items from this number on, and no others.
-pub fn two<A: Part, B: Part>(
-    alloc: Global,
-    value: &Value,
-    first: u8,
-) -> Result<(A, B), CertError>
+pub fn two<A: Part, B: Part>(alloc: Global, value: &Value, first: u8) -> Result<(A, B), CertError>
     ensures value { IfOk result (λ x. two first A.shape B.shape (view value.now) ≡ Good x) }
     ensures off { TellsOff result (two first A.shape B.shape (view value.now)) }
 {
