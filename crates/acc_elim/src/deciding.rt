@@ -103,7 +103,7 @@ fn ended(
 ///
 /// `Wide` where a number of the elimination is beyond 2^120 on either side of 0, and `Many` where a system has more than 4,096
 /// relations, whichever the elimination meets first; the numbers of the sum that shows a refutation come last. `Memory` where memory
-/// ran out; it says nothing of the relations.
+/// ran out, or where there are 2^32 relations or unknowns; it says nothing of the relations.
 ///
 /// Each relation of a system is compared with those before it. The elimination may square the number of bounds with each unknown.
 pub fn decide(alloc: Global, rels: &[Rel]) -> Result<Verdict, ElimError>

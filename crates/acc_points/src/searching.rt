@@ -30,7 +30,8 @@ fn point_of(alloc: Global, unknowns: u32, left: Eliminated) -> Result<Seq<(i128,
 
 /// The point at which relations hold: a numerator and a denominator above 0 for each unknown, in the order of first appearance. Or
 /// what stops the elimination: `Refuted` with the false constant and its multipliers, `Wide` where a number lies beyond 2^120 on
-/// either side of 0, `Many` where a system has more than 4,096 relations, whichever it meets first; `Memory` where memory ran out.
+/// either side of 0, `Many` where a system has more than 4,096 relations, whichever it meets first; `Memory` where memory ran out, or
+/// where there are 2^32 relations or unknowns, which have no numbers then.
 ///
 /// Each term's unknown is compared with the unknowns that were found before it, and each relation of a system with those before it.
 /// The elimination may square the number of bounds with each unknown.

@@ -1,7 +1,7 @@
 -- The fractions of a point are in lowest terms.
 use Rattle.std.proofs.Common.{◌≡◌, ℕ, zero, suc, ◌*◌, ◌/◌, ◌<◌, ◌≤◌, Bool, true, false, List, [], ◌∷◌, refl, sym, ap, ◌∙◌, subst, arith}
 use Rattle.std.proofs.Common.{ℤ, pos, negsuc, ◌-ℤ◌, ◌*ℤ◌, nat_lt, if◌then◌else◌, Ok, Err}
-use Rattle.std.specs.Prelude.{All, IsTrue, int_lt, unsigned_abs, reverse, slice_set}
+use Rattle.std.specs.Prelude.{All, IsTrue, int_lt, unsigned_abs, reverse}
 use Rattle.std.specs.Int.{IsGcd}
 use Prim.Native.Nat.{◌∣◌}
 use Rattle.std.proofs.Math.Nat.{mul-div_cancel', mul-dvd-mul_left}
