@@ -140,7 +140,7 @@ module _ (held : List ℕ → Told) (tells : (name : List ℕ) → held name ≢
   both_run command names a b (files, ending, given, counted, status, means) (files', ending', given', counted', status', means') =
       let same : files' ≡ files = one_files held tells names files' files given' given in
       let said = one_meaning command files (record { ending = ending; text = a.text; history = a.history }) (record { ending = ending'; text = b.text; history = b.history })
-          means (subst (λ fs. Means command fs (record { ending = ending'; text = b.text; history = b.history })) same means') in
+      means (subst (λ fs. Means command fs (record { ending = ending'; text = b.text; history = b.history })) same means') in
       let ended : a.status ≡ b.status = status ∙ ap (λ (s : Said). Ran s.ending) said ∙ sym status' in
       λ i. record { status = ended i; text = (said i).text; history = (said i).history }
 

@@ -46,7 +46,12 @@ fn played(transcript: Transcript) -> Response
 }
 
 /// Plays the calls in the order that the file gives.
-fn play_order(alloc: Global, d: &Design, asked: &[Call], file: &[u8]) -> Result<Response, AllocError>
+fn play_order(
+    alloc: Global,
+    d: &Design,
+    asked: &[Call],
+    file: &[u8],
+) -> Result<Response, AllocError>
     requires runnable { IsRunnable d.now }
     requires fit { AllFit d.now asked.now }
     ensures { IfOk result (λ a. SaysOfOrder d.now asked.now file.now (said_of a)) }
@@ -59,7 +64,12 @@ fn play_order(alloc: Global, d: &Design, asked: &[Call], file: &[u8]) -> Result<
 }
 
 /// Plays the calls of a script.
-fn play_script(alloc: Global, d: &Design, script: &[u8], file: &[u8]) -> Result<Response, AllocError>
+fn play_script(
+    alloc: Global,
+    d: &Design,
+    script: &[u8],
+    file: &[u8],
+) -> Result<Response, AllocError>
     requires runnable { IsRunnable d.now }
     ensures { IfOk result (λ a. SaysOfScript d.now script.now file.now (said_of a)) }
 {

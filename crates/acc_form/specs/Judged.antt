@@ -130,7 +130,7 @@ judged_point tables t i p =
 abbrev pub type_name_marks : List TxType → ℕ → TxType → List Mark
 type_name_marks types i t =
     asked LIMITS (not (i == MOST_TYPES) && is_short t.name && nat_le t.params MOST_LOCALS
-        && list_all is_short (take t.params t.locals)) ++ (
+    && list_all is_short (take t.params t.locals)) ++ (
     asked NAMES (not (names_type (take i types) t.name) && are_distinct (take t.params t.locals)) ++ ending)
 
 -- `type` with its name and parameters; `limit`

@@ -48,7 +48,13 @@ fn lay(items: &[i64], places: &mut [i64; MOST_LOCALS])
 }
 
 /// What a step of a frame would do.
-fn look_on<S: Store>(f: &Frame, side: Side, step: &Step, s: &S, after: &mut [i64; MOST_LOCALS]) -> Outlook
+fn look_on<S: Store>(
+    f: &Frame,
+    side: Side,
+    step: &Step,
+    s: &S,
+    after: &mut [i64; MOST_LOCALS],
+) -> Outlook
     requires can { CanStep side step.now }
     requires fits { IsSmallFrame f.now }
     requires order { IsInOrder (S.rows s.now) }
@@ -79,7 +85,13 @@ fn look_on<S: Store>(f: &Frame, side: Side, step: &Step, s: &S, after: &mut [i64
 ///
 /// The first places of `after` take the locals after the reads, where their numbers are in range. There is one look-up of the store
 /// for a read or an `add`, and an `add` walks the actions before it, of which there are at most 15.
-pub fn look<S: Store>(d: &Design, f: &Frame, side: Side, s: &S, after: &mut [i64; MOST_LOCALS]) -> Outlook
+pub fn look<S: Store>(
+    d: &Design,
+    f: &Frame,
+    side: Side,
+    s: &S,
+    after: &mut [i64; MOST_LOCALS],
+) -> Outlook
     requires runnable { IsRunnable d.now }
     requires fits { IsSmallFrame f.now }
     requires order { IsInOrder (S.rows s.now) }

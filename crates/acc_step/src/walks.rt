@@ -59,7 +59,10 @@ fn changed_key(change: &RowChange) -> &RowKey
 }
 
 /// The columns of a row after a change of it.
-fn columns_changed(cols: Option<Inline<i128, MOST_COLUMNS>>, change: &RowChange) -> Option<Inline<i128, MOST_COLUMNS>>
+fn columns_changed(
+    cols: Option<Inline<i128, MOST_COLUMNS>>,
+    change: &RowChange,
+) -> Option<Inline<i128, MOST_COLUMNS>>
     requires near { AreNear (2 ^ 121) cols }
     ensures { result ≡ columns_made change.now cols }
 {
