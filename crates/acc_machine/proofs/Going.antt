@@ -46,7 +46,8 @@ never_blocked d w w2 t u n h = by (next_event d w.rows (transaction_at t w.trans
     changed_by e (Some z) k =
         said_never e z.1 u n (ap (λ (p : Turn × World). p.0) (same_Some (said e z.1, became w e t z) (Blocked u n, w2) k))
 
-    by : (o : Option Event) → option_and_then (λ e. said_of w e t (changed d w.rows e (transaction_at t w.transactions))) o ≡ Some (Blocked u n, w2) → ⊥
+    by : (o : Option Event) → option_and_then (λ e. said_of w e t (changed d w.rows e (transaction_at t w.transactions))) o ≡ Some
+        (Blocked u n, w2) → ⊥
     by None k = none-some (Blocked u n, w2) k
     by (Some e) k = changed_by e (changed d w.rows e (transaction_at t w.transactions)) k
 
@@ -63,7 +64,8 @@ module _ (d : Design) (w : World) (t : ℕ) (kept : IsKept d w) (open_t : IsUnfi
       by (Some (Undoing f c)) e k = undo_has_turn d kept.accepted.sound (run_rules d kept.accepted.formed) w kept.good.steady t f c e h
       by (Some (Ended r)) e k = cc
 
-  pub kept_turn : {E : Type 0} (d2 : Design) (w2 : World) (r : Result (Option Turn) E) → d2 ≡ d → IfOk r (IsTurned d w w2 t) → OnErr r (w2 ≡ w) → IsKept d2 w2
+  pub kept_turn : {E : Type 0} (d2 : Design) (w2 : World) (r : Result (Option Turn) E) → d2 ≡ d → IfOk r (IsTurned d w w2 t)
+      → OnErr r (w2 ≡ w) → IsKept d2 w2
   kept_turn d2 w2 (Ok None) q ok err = absurd (has_turn ok.0)
   kept_turn d2 w2 (Ok (Some x)) q ok err = by (transaction_at t w.transactions) refl open_t
     where

@@ -17,8 +17,11 @@ module _ (d : Design) (w : World) (steady : IsSteady d w) where
   -- by the frame of that number
   pub held_at : (t : ℕ) (f : Frame) (r : Option (ℕ × ℕ)) → f.t ≡ t → IsForward w f → TellsHolder d w f r → TellsHeldAt d w t r
   held_at t f None n at h =
-      let here : transaction_at t w.transactions ≡ Some (Forward f) = subst (λ k. transaction_at k w.transactions ≡ Some (Forward f)) n at in
-      λ g e s. let same : f ≡ g = forward_same f g (same_Some (Forward f) (Forward g) (sym here ∙ e)) in subst (λ z. Rattle.acc_base.specs.Locks.IsUnblocked d w z) same (h (subst (λ z. Rattle.acc_base.specs.Machine.stop_of d w.rows z ≡ None) (sym same) s))
+      let here : transaction_at t w.transactions ≡ Some (Forward f) =
+      subst (λ k. transaction_at k w.transactions ≡ Some (Forward f)) n at in
+      λ g e s. let same : f ≡ g = forward_same f g (same_Some (Forward f) (Forward g) (sym here ∙ e)) in
+      subst (λ z. Rattle.acc_base.specs.Locks.IsUnblocked d w z) same
+      (h (subst (λ z. Rattle.acc_base.specs.Machine.stop_of d w.rows z ≡ None) (sym same) s))
     where
       forward_same : (a b : Frame) → Forward a ≡ Forward b → a ≡ b
       forward_same a b e = same_Some a b (ap frame_in e)
@@ -33,11 +36,15 @@ module _ (d : Design) (w : World) (steady : IsSteady d w) where
       other : (g : Frame) → transaction_at t w.transactions ≡ Some (Forward g) → IsForward w f
       other g e =
           let a = Rattle.acc_machine.proofs.Places.of_number d w steady l.0 f l.1 in
-          let b : frame_at f.t w ≡ Some g = frame_from f.t w g (Forward g) (subst (λ k. transaction_at k w.transactions ≡ Some (Forward g)) (sym n) e) refl in
+          let b : frame_at f.t w ≡ Some g =
+          frame_from f.t w g (Forward g) (subst (λ k. transaction_at k w.transactions ≡ Some (Forward g)) (sym n) e) refl in
           let same : g ≡ f = same_Some g f (sym b ∙ a.frame) in
           subst (λ k. transaction_at k w.transactions ≡ Some (Forward f)) (sym n) (e ∙ ap (λ z. Some (Forward z)) same)
 
   -- no frame has the number
-  pub held_nowhere : (t : ℕ) (fs : List Frame) (i : ℕ) → fs ≡ unfinished w → ((j : ℕ) (g : Frame) → j < i → slice_get fs j ≡ Some g → g.t ≢ t) → length fs ≤ i → TellsHeldAt d w t None
+  pub held_nowhere : (t : ℕ) (fs : List Frame) (i : ℕ) → fs ≡ unfinished w
+      → ((j : ℕ) (g : Frame) → j < i → slice_get fs j ≡ Some g → g.t ≢ t) → length fs ≤ i → TellsHeldAt d w t None
   held_nowhere t fs i q none l =
-      λ g e s. let a = number_listed d w steady t g (frame_from t w g (Forward g) e refl) in let at : slice_get fs a.j ≡ Some g = ap (λ xs. slice_get xs a.j) q ∙ a.is in let k = got_within fs a.j g at in absurd (none a.j g (omega arith) at (steady.each t (Forward g) e).number)
+      λ g e s. let a = number_listed d w steady t g (frame_from t w g (Forward g) e refl) in let at : slice_get fs a.j ≡ Some g =
+      ap (λ xs. slice_get xs a.j) q ∙ a.is in let k =
+      got_within fs a.j g at in absurd (none a.j g (omega arith) at (steady.each t (Forward g) e).number)

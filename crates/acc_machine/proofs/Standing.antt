@@ -8,7 +8,7 @@ use Rattle.acc_base.specs.declared.designs.Side.TheVariants.{Next}
 use Rattle.acc_base.specs.declared.machines.Frame.{Frame}
 use Rattle.acc_base.specs.declared.machines.Transaction.TheVariants.{Forward}
 use Rattle.acc_base.specs.Effects.{Effect, Goes, Refuses, OutOfRange, effect_of}
-use Rattle.acc_base.specs.Machine.{World, start, world, frame_in, unfinished}
+use Rattle.acc_base.specs.Machine.{World, start, frame_in, unfinished}
 use Rattle.acc_base.specs.Runnable.{IsSmallFrame}
 use Rattle.acc_base.specs.Tables.{IsInOrder}
 use Rattle.acc_store.specs.Bounds.{AreWithin}
@@ -37,9 +37,6 @@ module _ (d : Design) (w : World) (kept : IsKept d w) where
   reached = record { runnable = kept.accepted.runnable; run = lead_runs d w.events start w kept.good.lawful }
 
   -- ---- what is promised of it
-
-  pub run : world d w.events ≡ Some w
-  run = reached.run
 
   pub noted : IsAnnotated d w.events
   noted = annotated d kept.accepted.sound (run_rules d kept.accepted.formed) w.events (w, kept.good.lawful)
@@ -79,6 +76,10 @@ module _ (d : Design) (w : World) (kept : IsKept d w) where
   agrees OutOfRange = tt
 
   pub tells_holder : (f : Frame) (r : Option (ℕ × ℕ)) → TellsHeldUp d w.rows (unfinished w) f r → TellsHolder d w f r
-  tells_holder f None h = λ q. unblocked d w steady f (locals_of (effect_of d w.rows f Next)) (outlook_of (effect_of d w.rows f Next)) refl (agrees (effect_of d w.rows f Next)) (h q)
-  tells_holder f (Some x) h =
-      (h.0, lowest_blocker d w steady f (locals_of (effect_of d w.rows f Next)) (outlook_of (effect_of d w.rows f Next)) refl (agrees (effect_of d w.rows f Next)) x.0 x.1 h.1)
+  tells_holder f None h = λ q. unblocked d w steady f (locals_of (effect_of d w.rows f Next)) (outlook_of (effect_of d w.rows f Next))
+      refl (agrees (effect_of d w.rows f Next)) (h q)
+  tells_holder f (Some x) h = (
+    h.0,
+    lowest_blocker d w steady f (locals_of (effect_of d w.rows f Next)) (outlook_of (effect_of d w.rows f Next)) refl
+        (agrees (effect_of d w.rows f Next)) x.0 x.1 h.1,
+  )

@@ -18,7 +18,8 @@ use Rattle.acc_machine.proofs.Places.{number_listed, of_number}
 module _ (d : Design) (w : World) (steady : IsSteady d w) where
   -- the side tells whether it is forward
   pub forward_by : (f : Frame) → IsListed w f → f.side ≡ Next → IsForward w f
-  forward_by f l e = let n = of_number d w steady l.0 f l.1 in let o = opened f.t w f n.frame in by o.x o.at o.frame (steady.each f.t o.x o.at)
+  forward_by f l e = let n = of_number d w steady l.0 f l.1 in let o =
+      opened f.t w f n.frame in by o.x o.at o.frame (steady.each f.t o.x o.at)
     where
       by : (x : Transaction) → transaction_at f.t w.transactions ≡ Some x → frame_in x ≡ Some f → IsKept d w.rows f.t x → IsForward w f
       by (Forward g) at q k = at ∙ ap (λ z. Some (Forward z)) (same_Some g f q)
@@ -40,11 +41,14 @@ module _ (d : Design) (w : World) (steady : IsSteady d w) where
       each t (Undoing f c) at =
           let k = held t f (frame_from t w f (Undoing f c) at refl) in
           let s = steady.each t (Undoing f c) at in
-          let same : Undoing f c ≡ Forward f = same_Some (Undoing f c) (Forward f) (sym at ∙ subst (λ n. transaction_at n w.transactions ≡ Some (Forward f)) s.number k.0) in cc
+          let same : Undoing f c ≡ Forward f =
+          same_Some (Undoing f c) (Forward f) (sym at ∙ subst (λ n. transaction_at n w.transactions ≡ Some (Forward f)) s.number k.0)
+          in cc
       each t (Ended r) at = tt
 
   pub held_in : IsStuck d w → (j : ℕ) (g : Frame) → slice_get (unfinished w) j ≡ Some g → IsHeldBack d w g
-  held_in stuck j g h = let n = of_number d w steady j g h in let o = opened g.t w g n.frame in by o.x o.at o.frame (stuck.each g.t o.x o.at)
+  held_in stuck j g h = let n = of_number d w steady j g h in let o =
+      opened g.t w g n.frame in by o.x o.at o.frame (stuck.each g.t o.x o.at)
     where
       by : (x : Transaction) → transaction_at g.t w.transactions ≡ Some x → frame_in x ≡ Some g → IsHeldUp d w x → IsHeldBack d w g
       by (Forward f) at q k =
@@ -61,7 +65,8 @@ module _ (d : Design) (w : World) (steady : IsSteady d w) where
   not_held f h k = h k.1 k.2.0 k.2.1 k.2.2
 
 -- what holds of the frames before a place and of the one there holds of those before the next
-pub more : (Q : Frame → Type 0) (fs : List Frame) (i : ℕ) (g : Frame) → slice_get fs i ≡ Some g → ((j : ℕ) (f : Frame) → j < i → slice_get fs j ≡ Some f → Q f) → Q g → (j : ℕ) (f : Frame) → j < i + 1 → slice_get fs j ≡ Some f → Q f
+pub more : (Q : Frame → Type 0) (fs : List Frame) (i : ℕ) (g : Frame) → slice_get fs i ≡ Some g
+    → ((j : ℕ) (f : Frame) → j < i → slice_get fs j ≡ Some f → Q f) → Q g → (j : ℕ) (f : Frame) → j < i + 1 → slice_get fs j ≡ Some f → Q f
 more Q fs i g at before here j f l e = by (number_cases j i)
   where
     by : (j ≡ i) ⊎ (j ≢ i) → Q f
@@ -71,7 +76,8 @@ more Q fs i g at before here j f l e = by (number_cases j i)
 pub not_empty : (fs us : List Frame) (b : Bool) → b ≡ (length fs == 0) → b ≡ false → fs ≡ us → us ≢ []
 not_empty fs us b e n q z = let t : true ≡ false = sym (ap (λ xs. length xs == 0) (q ∙ z)) ∙ (sym e ∙ n) in cc
 
-pub all_so_far : (Q : Frame → Type 0) (fs us : List Frame) (i : ℕ) → ((j : ℕ) (f : Frame) → j < i → slice_get fs j ≡ Some f → Q f) → length fs ≤ i → fs ≡ us → (j : ℕ) (f : Frame) → slice_get us j ≡ Some f → Q f
+pub all_so_far : (Q : Frame → Type 0) (fs us : List Frame) (i : ℕ) → ((j : ℕ) (f : Frame) → j < i → slice_get fs j ≡ Some f → Q f)
+    → length fs ≤ i → fs ≡ us → (j : ℕ) (f : Frame) → slice_get us j ≡ Some f → Q f
 all_so_far Q fs us i before l q j f e =
     let at : slice_get fs j ≡ Some f = ap (λ xs. slice_get xs j) q ∙ e in
     let k = got_within fs j f at in

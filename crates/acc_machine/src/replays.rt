@@ -38,6 +38,7 @@ pub fn replay<'a, S: Store>(
     requires empty { S.rows store ≡ [] }
     ensures design { IfOk result (λ s. s.design ≡ accepted.now) }
     ensures state { IfOk result (λ s. LeadLawfully accepted.now start events.now s.world) }
+    ensures events { IfOk result (λ s. s.world.events ≡ events.now) }
     ensures refused { IfErr result (λ e. IsRefusedSo accepted.now events.now e.0 (S.rows e.1)) }
 {
     let mut state = match State::new(alloc, accepted, store) {

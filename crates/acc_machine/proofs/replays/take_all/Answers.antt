@@ -5,8 +5,10 @@ use Rattle.acc_machine.proofs.replays.take_all.Goals as goal
 
 pub loop-at-preserved : goal.loop-at-preserved
 loop-at-preserved g c =
-    let lawful = subst (λ d. IsLawful d c.loop-at.state.world c.index-events-at.result c.take.new.self.world) c.loop-at.invariant.design c.in-Ok.ensures.taken in
+    let lawful = subst (λ d. IsLawful d c.loop-at.state.world c.index-events-at.result c.take.new.self.world) c.loop-at.invariant.design
+    c.in-Ok.ensures.taken in
     record {
       design = c.take.ensures.design ∙ c.loop-at.invariant.design;
-      come = come_on c.args.state.now.design c.args.state.now.world c.loop-at.state.world c.args.events.now c.loop-at.at c.loop-at.invariant.come c.take.new.self.world c.index-events-at.result c.loop-at-test.true c.index-events-at.is lawful;
+      come = come_on c.args.state.now.design c.args.state.now.world c.loop-at.state.world c.args.events.now c.loop-at.at
+          c.loop-at.invariant.come c.take.new.self.world c.index-events-at.result c.loop-at-test.true c.index-events-at.is lawful;
     }

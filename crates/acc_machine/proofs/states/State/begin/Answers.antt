@@ -1,6 +1,5 @@
-use Rattle.std.proofs.Common.{◌≡◌, ◌<◌, length, ap, subst, ◌∙◌, sym}
+use Rattle.std.proofs.Common.{◌<◌, length, ap, subst, ◌∙◌, sym}
 use Rattle.acc_base.specs.declared.bounds.TheConstants.{MOST_EVENTS, MOST_UNFINISHED}
-use Rattle.acc_machine.specs.Begun.{HasRoom}
 use Rattle.acc_machine.proofs.Keeping.{kept_begin}
 use Rattle.acc_machine.proofs.states.State.begin.Goals as goal
 

@@ -13,20 +13,46 @@ invariant_of-self g c =
     let m : Running = c.self.inside.machine in
     let open_t = subst {A = Running} (λ (s : Running). IsUnfinished c.args.t s.world) (sym c.self.view_is) c.requires.unfinished in
     let free = subst {A = Running} (λ (s : Running). TellsHeldAt s.design s.world c.args.t None) (sym c.self.view_is) c.requires.free in
-    record { same = c.self.invariant.same ∙ sym c.turn.ensures.design; kept = kept_turn m.design m.world c.args.t c.self.invariant.kept open_t free c.turn.new.self.design c.turn.new.self.world c.turn.result c.turn.ensures.design c.turn.ensures.turn c.turn.ensures.err }
+    record {
+      same = c.self.invariant.same ∙ sym c.turn.ensures.design;
+      kept =
+          kept_turn m.design m.world c.args.t c.self.invariant.kept open_t free c.turn.new.self.design c.turn.new.self.world c.turn.result
+          c.turn.ensures.design c.turn.ensures.turn c.turn.ensures.err;
+    }
 
 pub returns-clause-turn : goal.returns-clause-turn
 returns-clause-turn g c =
     let m : Running = c.self.inside.machine in
     let open_t = subst {A = Running} (λ (s : Running). IsUnfinished c.args.t s.world) (sym c.self.view_is) c.requires.unfinished in
     let free = subst {A = Running} (λ (s : Running). TellsHeldAt s.design s.world c.args.t None) (sym c.self.view_is) c.requires.free in
-    let told : IfOk c.match-turn.result (IsTurn m.design m.world c.turn.new.self.world c.args.t) = elim c.match-turn.branch [ in-Ok-Some w ↦ subst (λ r. IfOk r (IsTurn m.design m.world c.turn.new.self.world c.args.t)) (sym w.result-is) (turned_so m.design m.world c.args.t c.self.invariant.kept open_t free c.turn.new.self.world w.in-Ok-Some.turn (subst (IsTurned m.design m.world c.turn.new.self.world c.args.t) w.in-Ok-Some.field-0-is w.in-Ok-Some.ensures.turn)) | in-Ok-None w ↦ subst (λ r. IfOk r (IsTurn m.design m.world c.turn.new.self.world c.args.t)) (sym w.result-is) (never_none m.design m.world c.args.t c.self.invariant.kept open_t free c.turn.new.self.world Ended (subst (IsTurned m.design m.world c.turn.new.self.world c.args.t) w.in-Ok-None.field-0-is w.in-Ok-None.ensures.turn)) | in-Err-Memory w ↦ subst (λ r. IfOk r (IsTurn m.design m.world c.turn.new.self.world c.args.t)) (sym w.result-is) tt ] in
-    subst {A = Running} (λ (s : Running). IfOk c.match-turn.result (IsTurn s.design s.world c.turn.new.self.world c.args.t)) c.self.view_is told
+    let told : IfOk c.match-turn.result (IsTurn m.design m.world c.turn.new.self.world c.args.t) =
+    elim c.match-turn.branch [
+      | in-Ok-Some w ↦ subst (λ r. IfOk r (IsTurn m.design m.world c.turn.new.self.world c.args.t))
+          (sym w.result-is) (turned_so m.design m.world c.args.t c.self.invariant.kept open_t free c.turn.new.self.world w.in-Ok-Some.turn
+          (subst (IsTurned m.design m.world c.turn.new.self.world c.args.t) w.in-Ok-Some.field-0-is w.in-Ok-Some.ensures.turn))
+      | in-Ok-None
+          w ↦ subst (λ r. IfOk r (IsTurn m.design m.world c.turn.new.self.world c.args.t)) (sym w.result-is)
+          (never_none m.design m.world c.args.t c.self.invariant.kept open_t free c.turn.new.self.world Ended
+          (subst (IsTurned m.design m.world c.turn.new.self.world c.args.t) w.in-Ok-None.field-0-is w.in-Ok-None.ensures.turn))
+      | in-Err-Memory w ↦ subst (λ r. IfOk r (IsTurn m.design m.world c.turn.new.self.world c.args.t)) (sym w.result-is) tt
+    ] in
+    subst {A = Running} (λ (s : Running). IfOk c.match-turn.result (IsTurn s.design s.world c.turn.new.self.world c.args.t))
+    c.self.view_is told
 
 pub returns-clause-adds : goal.returns-clause-adds
 returns-clause-adds g c =
     let m : Running = c.self.inside.machine in
     let open_t = subst {A = Running} (λ (s : Running). IsUnfinished c.args.t s.world) (sym c.self.view_is) c.requires.unfinished in
     let free = subst {A = Running} (λ (s : Running). TellsHeldAt s.design s.world c.args.t None) (sym c.self.view_is) c.requires.free in
-    let told : IfOk c.match-turn.result (AddsBy m.world c.turn.new.self.world c.args.t) = elim c.match-turn.branch [ in-Ok-Some w ↦ subst (λ r. IfOk r (AddsBy m.world c.turn.new.self.world c.args.t)) (sym w.result-is) (turned_adds m.design m.world c.args.t c.self.invariant.kept open_t free c.turn.new.self.world w.in-Ok-Some.turn (subst (IsTurned m.design m.world c.turn.new.self.world c.args.t) w.in-Ok-Some.field-0-is w.in-Ok-Some.ensures.turn)) | in-Ok-None w ↦ subst (λ r. IfOk r (AddsBy m.world c.turn.new.self.world c.args.t)) (sym w.result-is) (never_adds m.design m.world c.args.t c.self.invariant.kept open_t free c.turn.new.self.world Ended (subst (IsTurned m.design m.world c.turn.new.self.world c.args.t) w.in-Ok-None.field-0-is w.in-Ok-None.ensures.turn)) | in-Err-Memory w ↦ subst (λ r. IfOk r (AddsBy m.world c.turn.new.self.world c.args.t)) (sym w.result-is) tt ] in
+    let told : IfOk c.match-turn.result (AddsBy m.world c.turn.new.self.world c.args.t) =
+    elim c.match-turn.branch [
+      | in-Ok-Some w ↦ subst (λ r. IfOk r (AddsBy m.world c.turn.new.self.world c.args.t)) (sym w.result-is)
+          (turned_adds m.design m.world c.args.t c.self.invariant.kept open_t free c.turn.new.self.world w.in-Ok-Some.turn
+          (subst (IsTurned m.design m.world c.turn.new.self.world c.args.t) w.in-Ok-Some.field-0-is w.in-Ok-Some.ensures.turn))
+      | in-Ok-None
+          w ↦ subst (λ r. IfOk r (AddsBy m.world c.turn.new.self.world c.args.t)) (sym w.result-is)
+          (never_adds m.design m.world c.args.t c.self.invariant.kept open_t free c.turn.new.self.world Ended
+          (subst (IsTurned m.design m.world c.turn.new.self.world c.args.t) w.in-Ok-None.field-0-is w.in-Ok-None.ensures.turn))
+      | in-Err-Memory w ↦ subst (λ r. IfOk r (AddsBy m.world c.turn.new.self.world c.args.t)) (sym w.result-is) tt
+    ] in
     subst {A = Running} (λ (s : Running). IfOk c.match-turn.result (AddsBy s.world c.turn.new.self.world c.args.t)) c.self.view_is told

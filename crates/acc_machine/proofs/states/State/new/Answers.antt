@@ -6,5 +6,11 @@ use Rattle.acc_machine.proofs.states.State.new.Goals as goal
 pub invariant_of-result : goal.invariant_of-result
 invariant_of-result g c =
     let made : Running = c.reserve.new.self in
-    let same : made.design ≡ c.args.accepted.now = ap (λ (m : Running). m.design) c.reserve.ensures ∙ (c.new-machine.ensures.design ∙ c.design.ensures.design) in
-    record { same = sym same; kept = kept_start c.args.accepted.now made.design made.world c.design.ensures.accepted same (ap (λ (m : Running). m.world) c.reserve.ensures ∙ c.new-machine.ensures.start) }
+    let same : made.design ≡ c.args.accepted.now =
+    ap (λ (m : Running). m.design) c.reserve.ensures ∙ (c.new-machine.ensures.design ∙ c.design.ensures.design) in
+    record {
+      same = sym same;
+      kept =
+          kept_start c.args.accepted.now made.design made.world c.design.ensures.accepted same
+          (ap (λ (m : Running). m.world) c.reserve.ensures ∙ c.new-machine.ensures.start);
+    }

@@ -8,5 +8,11 @@ use Rattle.acc_machine.proofs.states.State.turn_back.Goals as goal
 pub invariant_of-self : goal.invariant_of-self
 invariant_of-self g c =
     let m : Running = c.self.inside.machine in
-    let comes = subst {A = Running} (λ (s : Running). CanCome s.design s.world (Abort c.args.t c.args.cause)) (sym c.self.view_is) c.requires.comes in
-    record { same = c.self.invariant.same ∙ sym c.take.ensures.design; kept = kept_coming m.design m.world c.take.new.self.design c.take.new.self.world (Abort c.args.t c.args.cause) c.take.result c.self.invariant.kept comes c.take.ensures.design c.take.ensures.ok c.take.ensures.err }
+    let comes = subst {A = Running} (λ (s : Running). CanCome s.design s.world (Abort c.args.t c.args.cause)) (sym c.self.view_is)
+    c.requires.comes in
+    record {
+      same = c.self.invariant.same ∙ sym c.take.ensures.design;
+      kept =
+          kept_coming m.design m.world c.take.new.self.design c.take.new.self.world (Abort c.args.t c.args.cause) c.take.result
+          c.self.invariant.kept comes c.take.ensures.design c.take.ensures.ok c.take.ensures.err;
+    }

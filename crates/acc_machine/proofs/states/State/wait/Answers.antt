@@ -10,12 +10,16 @@ returns-then-not-stuck-clause-turn g c =
 pub turn_back-requires : goal.turn_back-requires
 turn_back-requires g c =
     let s : Running = c.args.self.now in
-    record { comes = held_comes s.design s.world c.args.t (c.args.holder, c.args.entry) c.requires.held (c.stuck.ensures.stuck c.if-not-stuck.false) }
+    record {
+      comes = held_comes s.design s.world c.args.t (c.args.holder, c.args.entry) c.requires.held
+          (c.stuck.ensures.stuck c.if-not-stuck.false);
+    }
 
 pub returns-in-Ok-clause-turn : goal.returns-in-Ok-clause-turn
 returns-in-Ok-clause-turn g c =
     let s : Running = c.args.self.now in
-    victim_so s.design s.world c.args.t (c.args.holder, c.args.entry) c.requires.held c.turn_back.new.self.world (c.stuck.ensures.stuck c.if-not-stuck.false) c.in-Ok.ensures.ok
+    victim_so s.design s.world c.args.t (c.args.holder, c.args.entry) c.requires.held c.turn_back.new.self.world
+    (c.stuck.ensures.stuck c.if-not-stuck.false) c.in-Ok.ensures.ok
 
 pub returns-in-Ok-clause-adds : goal.returns-in-Ok-clause-adds
 returns-in-Ok-clause-adds g c =
