@@ -71,7 +71,13 @@ impl Spelled for Node {
         match self {
             Node::Split(form) => two(alloc, &"split", form),
             Node::Inst(hypothesis, own, shown) => four(alloc, &"inst", hypothesis, own, shown),
-            Node::Axiom(schema, shown) => four(alloc, &"axiom", &axiom_number(schema), schema, shown),
+            Node::Axiom(schema, shown) => four(
+                alloc,
+                &"axiom",
+                &axiom_number(schema),
+                schema,
+                shown,
+            ),
             Node::Leaf(multipliers) => two(alloc, &"leaf", multipliers),
         }
     }
