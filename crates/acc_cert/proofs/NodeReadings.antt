@@ -1,10 +1,9 @@
 -- The same of nodes, proofs and certificates.
-use Rattle.std.proofs.Common.{◌≡◌, ℕ, ◌+◌, Bool, true, List, [], ◌∷◌, refl, ap, ◌∙◌, ℤ}
+use Rattle.std.proofs.Common.{◌≡◌, ℕ, Bool, true, List, [], ◌∷◌, refl, ap, ◌∙◌, ℤ}
 use Rattle.std.specs.Prelude.{◌&&◌, codes, if◌then◌else◌}
 use Rattle.std.specs.Cmp.{first_so, second_so}
 use Rattle.std.specs.List.{list_all}
 use Rattle.serde_json.specs.Data.{Data, string}
-use Rattle.acc_base.specs.declared.forms.Unknown.{Unknown}
 use Rattle.acc_farkas.specs.declared.refuting.Mults.{Mults}
 use Rattle.acc_proof.specs.declared.nodes.Schema.{Schema}
 use Rattle.acc_proof.specs.declared.nodes.Schema.TheVariants as schema

@@ -1,5 +1,5 @@
 -- The same of nodes, proofs and certificates.
-use Rattle.std.proofs.Common.{◌≡◌, ℕ, ◌≤◌, List, [], ◌∷◌, arith, ℤ}
+use Rattle.std.proofs.Common.{ℕ, List, arith}
 use Rattle.std.specs.Prelude.{codes}
 use Rattle.acc_base.specs.declared.forms.Lin.{Lin}
 use Rattle.acc_farkas.specs.declared.refuting.Mults.{Mults}

@@ -10,7 +10,7 @@ use Rattle.acc_base.specs.declared.forms.Atom.{Atom}
 use Rattle.acc_base.specs.declared.forms.Atom.TheVariants as atom
 use Rattle.acc_base.specs.declared.forms.Unknown.{Unknown}
 use Rattle.acc_base.specs.declared.forms.Form.{Form}
-use Rattle.acc_cert.specs.Spelled.{array_of, each, pair, index, signed, lin, lins, atom_data, unknown, form}
+use Rattle.acc_cert.specs.Spelled.{each, pair, index, signed, lin, lins, atom_data, unknown, form}
 
 -- without a float, and nested at most so deep
 pub record IsPlain (k : ℕ) (d : Data) : Type 0 where

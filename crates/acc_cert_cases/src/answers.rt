@@ -67,20 +67,30 @@ fn question(
 }
 
 /// Whether the first proof of a certificate is one of the sequent.
+fn first_judged(
+    alloc: Global,
+    design: &Design,
+    sequent: &Sequent,
+    cert: &str,
+) -> Result<String, AllocError> {
+    let Ok(cert) = read(alloc, cert.as_bytes()) else {
+        return said(alloc, "no certificate");
+    };
+    match cert.proofs.as_slice().first() {
+        Some(proof) => judged(alloc, design, sequent, proof),
+        None => said(alloc, "no proofs"),
+    }
+}
+
+/// The same, where the design and the sequent are texts.
 pub fn proved(
     alloc: Global,
     design: &str,
     sequent: &str,
     cert: &str,
 ) -> Result<String, AllocError> {
-    let Some((design, sequent)) = question(alloc, design, sequent)? else {
-        return said(alloc, "no design or no sequent");
-    };
-    let Ok(cert) = read(alloc, cert.as_bytes()) else {
-        return said(alloc, "no certificate");
-    };
-    match cert.proofs.as_slice().first() {
-        Some(proof) => judged(alloc, &design, &sequent, proof),
-        None => said(alloc, "no proofs"),
+    match question(alloc, design, sequent)? {
+        Some((design, sequent)) => first_judged(alloc, &design, &sequent, cert),
+        None => said(alloc, "no design or no sequent"),
     }
 }
