@@ -13,9 +13,9 @@ use Rattle.acc_base.specs.declared.forms.Form.{Form}
 use Rattle.acc_base.specs.declared.forms.Rel.{Rel}
 use Rattle.acc_base.specs.Collecting.{worth, multiple}
 use Rattle.acc_base.specs.Sums.{Term, is_left}
-use Rattle.acc_base.specs.UnknownEquality.{unknown_decides}
+use Rattle.acc_base.specs.UnknownEquality.{unknown_decides, bare_one}
 use Rattle.acc_base.proofs.CollectedWorths.{worth-multiples}
-use Rattle.acc_farkas.specs.Sums.{Pair, number, rises, may_have, signs, weighted, nothing, is_positive, refutes_all, is_refuting_wide}
+use Rattle.acc_farkas.specs.Sums.{Pair, rises, may_have, signs, weighted, nothing, is_positive, refutes_all, is_refuting_wide}
 use Rattle.acc_systems.specs.declared.rows.Row.{Row}
 use Rattle.acc_systems.specs.Made.{Rises, IsProper, Signed, MayStand, OfEquation}
 use Rattle.acc_points.specs.Readings.{unknowns_of, number_of}
@@ -150,8 +150,8 @@ module _ (rels : List Rel) (r : Row) (s : Shows rels r) where
 -- ---- they are accepted
 
 module _ (rels : List Rel) (ms : List Pair) (h : Ready rels ms) where
-  one_is : (f : ℕ → ℤ) → numbered f (unknowns_of rels) number ≡ pos 1
-  one_is f = ap (λ b. if b then pos 1 else f (number_of (unknowns_of rels) number)) ((unknown_decides number number).1 refl)
+  one_is : (f : ℕ → ℤ) → numbered f (unknowns_of rels) bare_one ≡ pos 1
+  one_is f = ap (λ b. if b then pos 1 else f (number_of (unknowns_of rels) bare_one)) ((unknown_decides bare_one bare_one).1 refl)
 
   abbrev whole : Form
   whole = weighted rels ms nothing

@@ -8,9 +8,8 @@ use Rattle.std.proofs.lemmas.List.Elements.{All-nil, All-cons, All-head, All-tai
 use lib.IntN.{*ℤ-zero, zero-*ℤ}
 use Rattle.acc_base.specs.declared.forms.Unknown.{Unknown}
 use Rattle.acc_base.specs.Collecting.{worth}
-use Rattle.acc_base.specs.UnknownEquality.{unknown_eq, unknown_decides}
+use Rattle.acc_base.specs.UnknownEquality.{unknown_eq, unknown_decides, is_bare_one}
 use Rattle.acc_base.specs.Sums.{Term, with_term}
-use Rattle.acc_farkas.specs.Sums.{is_number}
 use Rattle.acc_points.specs.Readings.{number_of}
 use Rattle.acc_points.specs.FalseConstants.{numbered}
 use Rattle.acc_points.proofs.Names.{Stands, numbers_tell_apart}
@@ -53,7 +52,7 @@ distinct_with t (s ∷ ts) d = by (unknown_eq s.0 t.0) refl (distinct_with t ts 
 
 module _ (names : List Unknown) where
   abbrev Counts : Unknown → Type 0
-  Counts u = (is_number u ≡ false) × Stands u names
+  Counts u = (is_bare_one u ≡ false) × Stands u names
 
   abbrev pub Fine : Term → Type 0
   Fine t = Counts t.0
@@ -61,7 +60,7 @@ module _ (names : List Unknown) where
   pub fine_with : (t : Term) (ts : List Term) → Fine t → All Fine ts → All Fine (with_term t ts)
   fine_with t ts h all = all_with Counts t ts h all
 
-  value_is : (f : ℕ → ℤ) (u : Unknown) → is_number u ≡ false → numbered f names u ≡ f (number_of names u)
+  value_is : (f : ℕ → ℤ) (u : Unknown) → is_bare_one u ≡ false → numbered f names u ≡ f (number_of names u)
   value_is f u e = ap (λ b. if b then pos 1 else f (number_of names u)) e
 
   -- ---- terms that are worth the same at all worths

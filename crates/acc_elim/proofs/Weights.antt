@@ -11,7 +11,8 @@ use Rattle.acc_base.specs.declared.forms.Rel.{Rel}
 use Rattle.acc_base.specs.Collecting.{worth}
 use Rattle.acc_base.specs.Sums.{Term, with_term, multiple}
 use Rattle.acc_base.specs.Worths.{form_worth}
-use Rattle.acc_farkas.specs.Sums.{Pair, number, is_number, plus_number, plus_term, plus_terms, plus_relation, weighted}
+use Rattle.acc_base.specs.UnknownEquality.{bare_one, is_bare_one}
+use Rattle.acc_farkas.specs.Sums.{Pair, plus_number, plus_term, plus_terms, plus_relation, weighted}
 use Rattle.acc_farkas.proofs.Worths.{plus-worth}
 use Rattle.acc_points.proofs.Names.{Named}
 use Rattle.acc_elim.proofs.Lefts.{Fine, Distinct, distinct_with, fine_with}
@@ -27,7 +28,7 @@ worth_of v (Some r) = form_worth v r.form
 abbrev pub base : (Unknown → ℤ) → List Rel → ℕ → ℤ
 base v rels j = worth_of v (slice_get rels j)
 
-module _ (v : Unknown → ℤ) (one : v number ≡ pos 1) (rels : List Rel) where
+module _ (v : Unknown → ℤ) (one : v bare_one ≡ pos 1) (rels : List Rel) where
   relation_worth : (by : ℤ) (o : Option Rel) (s : Form) → form_worth v (plus_relation by o s) ≡ form_worth v s +ℤ by *ℤ worth_of v o
   relation_worth by None s = let none = *ℤ-zero by in omega (arith, ints, none)
   relation_worth by (Some r) s = plus-worth v one by r.form s
@@ -46,9 +47,9 @@ module _ (names : List Unknown) where
   Neat s = Distinct s.terms × All (Fine names) s.terms
 
   term_neat : (by : ℤ) (t : Term) (s : Form) → Named names t → Neat s → Neat (plus_term by t s)
-  term_neat by t s named neat = step (is_number t.0) refl
+  term_neat by t s named neat = step (is_bare_one t.0) refl
     where
-      step : (b : Bool) → is_number t.0 ≡ b
+      step : (b : Bool) → is_bare_one t.0 ≡ b
           → Neat (if b then plus_number by t.1 s else record s { terms = with_term (multiple by t) s.terms })
       step true e = neat
       step false e = (distinct_with (multiple by t) s.terms neat.0, fine_with names (multiple by t) s.terms (e, named e) neat.1)

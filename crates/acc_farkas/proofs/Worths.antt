@@ -13,7 +13,7 @@ use lib.Dec.{T}
 use Rattle.acc_base.specs.declared.forms.Unknown.{Unknown}
 use Rattle.acc_base.specs.declared.forms.Form.{Form}
 use Rattle.acc_base.specs.declared.forms.Rel.{Rel}
-use Rattle.acc_base.specs.UnknownEquality.{unknown_eq, unknown_decides}
+use Rattle.acc_base.specs.UnknownEquality.{unknown_eq, unknown_decides, bare_one, is_bare_one}
 use Rattle.acc_base.specs.Sums.{Term, with_term, multiple, is_left}
 use Rattle.acc_base.specs.Collecting.{term_worth, worth}
 use Rattle.acc_base.specs.Worths.{form_worth}
@@ -21,7 +21,7 @@ use Rattle.acc_base.specs.Linear.{meets}
 use Rattle.acc_base.proofs.Products.{times_sum, times_times}
 use Rattle.acc_base.proofs.CollectedWorths.{worth-with_term}
 use Rattle.acc_farkas.specs.declared.errors.FarkasError.{FarkasError}
-use Rattle.acc_farkas.specs.Sums.{Pair, number, is_number, plus_number, plus_term, plus_terms, plus_multiple, plus_relation, weighted}
+use Rattle.acc_farkas.specs.Sums.{Pair, plus_number, plus_term, plus_terms, plus_multiple, plus_relation, weighted}
 use Rattle.acc_farkas.specs.Sums.{nothing, may_have, signs, is_positive, rises, refutes_all}
 use Rattle.acc_farkas.specs.Solutions.{rel_holds, HaveNoSolution}
 
@@ -53,18 +53,18 @@ at_most m w true h k =
     omega (arith, ints, z)
 at_most m w false h k = nonpositive m w (le_z_yes (subst T (sym h) tt)) (le_z_yes (subst T (sym k) tt))
 
-module _ (v : Unknown → ℤ) (one : v number ≡ pos 1) where
-  number-worth : (by n : ℤ) (s : Form) → form_worth v (plus_number by n s) ≡ form_worth v s +ℤ by *ℤ n
-  number-worth by n s = omega (arith, ints)
+module _ (v : Unknown → ℤ) (one : v bare_one ≡ pos 1) where
+  bare_one-worth : (by n : ℤ) (s : Form) → form_worth v (plus_number by n s) ≡ form_worth v s +ℤ by *ℤ n
+  bare_one-worth by n s = omega (arith, ints)
 
   term-worth : (by : ℤ) (t : Term) (s : Form) → form_worth v (plus_term by t s) ≡ form_worth v s +ℤ by *ℤ term_worth v t
-  term-worth by t s = step (is_number t.0) refl
+  term-worth by t s = step (is_bare_one t.0) refl
     where
-      step : (b : Bool) → is_number t.0 ≡ b
+      step : (b : Bool) → is_bare_one t.0 ≡ b
           → form_worth v (if b then plus_number by t.1 s else record s { terms = with_term (multiple by t) s.terms })
           ≡ form_worth v s +ℤ by *ℤ term_worth v t
       step true e =
-          let same = ap (λ w. by *ℤ (t.1 *ℤ w)) (ap v ((unknown_decides t.0 number).0 e) ∙ one) in
+          let same = ap (λ w. by *ℤ (t.1 *ℤ w)) (ap v ((unknown_decides t.0 bare_one).0 e) ∙ one) in
           let all : by *ℤ (t.1 *ℤ v t.0) ≡ by *ℤ t.1 = same ∙ ap (λ w. by *ℤ w) (times_one t.1) in
           omega (arith, ints, all)
       step false e =

@@ -2,12 +2,10 @@
 use Rattle.std.specs.Prelude.{ℕ, ◌+◌, Bool, true, false, not, ◌&&◌, ◌||◌, if◌then◌else◌, List, [], ◌∷◌, length, Option, Some, None}
 use Rattle.std.specs.Prelude.{nat_le, nat_lt, slice_get, ℤ, pos, ◌+ℤ◌, ◌*ℤ◌, int_le, int_lt}
 use Rattle.std.specs.List.{list_all, list_any}
-use Rattle.acc_base.specs.declared.forms.Atom.TheVariants.{One}
-use Rattle.acc_base.specs.declared.forms.Unknown.{Unknown}
 use Rattle.acc_base.specs.declared.forms.Form.{Form}
 use Rattle.acc_base.specs.declared.forms.Rel.{Rel}
 use Rattle.acc_base.specs.Bounded.{is_wide}
-use Rattle.acc_base.specs.UnknownEquality.{unknown_eq}
+use Rattle.acc_base.specs.UnknownEquality.{is_bare_one}
 use Rattle.acc_base.specs.Sums.{Term, multiple, with_term, grown, is_left}
 
 -- the place of a relation, and its multiplier
@@ -22,13 +20,6 @@ rises from n (p ∷ ps) = nat_le from p.0 && (nat_lt p.0 n && rises (p.0 + 1) n 
 abbrev pub nothing : Form
 nothing = record { terms = []; constant = pos 0 }
 
--- the number 1 without condition
-abbrev pub number : Unknown
-number = record { under = []; atom = One }
-
-abbrev pub is_number : Unknown → Bool
-is_number u = unknown_eq u number
-
 -- ---- the weighted sum
 
 -- a multiple of a number is added to the constant
@@ -38,7 +29,7 @@ plus_number by n s = record s { constant = s.constant +ℤ by *ℤ n }
 -- a multiple of a term is added to that of its unknown; the number 1 without condition counts as 1
 abbrev pub plus_term : ℤ → Term → Form → Form
 plus_term by t s =
-    if is_number t.0 then plus_number by t.1 s else record s { terms = with_term (multiple by t) s.terms }
+    if is_bare_one t.0 then plus_number by t.1 s else record s { terms = with_term (multiple by t) s.terms }
 
 abbrev pub plus_terms : ℤ → List Term → Form → Form
 plus_terms by [] s = s
@@ -64,7 +55,7 @@ is_number_wide by n s = is_wide (by *ℤ n) || is_wide (s.constant +ℤ by *ℤ 
 
 abbrev pub is_term_wide : ℤ → Term → Form → Bool
 is_term_wide by t s =
-    if is_number t.0 then is_number_wide by t.1 s else (is_wide (by *ℤ t.1) || is_wide (grown (multiple by t) s.terms))
+    if is_bare_one t.0 then is_number_wide by t.1 s else (is_wide (by *ℤ t.1) || is_wide (grown (multiple by t) s.terms))
 
 abbrev pub are_terms_wide : ℤ → List Term → Form → Bool
 are_terms_wide by [] s = false

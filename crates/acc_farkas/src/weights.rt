@@ -3,11 +3,11 @@ ghost use Rattle.std.specs.Prelude.{◌≡◌, ◌++◌, ◌||◌, ◌+ℤ◌, �
 ghost use Rattle.acc_base.specs.Bounded.{is_wide};
 ghost use Rattle.acc_base.specs.Sums.{TellsWide};
 ghost use Rattle.acc_farkas.specs.Sums.{plus_number, plus_term, plus_terms, plus_multiple, plus_relation, weighted, nothing, is_positive};
-ghost use Rattle.acc_farkas.specs.Sums.{is_number, is_number_wide, is_term_wide, are_terms_wide, is_multiple_wide, is_relation_wide};
+ghost use Rattle.acc_farkas.specs.Sums.{is_number_wide, is_term_wide, are_terms_wide, is_multiple_wide, is_relation_wide};
 ghost use Rattle.acc_farkas.specs.Sums.{is_weighted_wide};
 
 use acc_base::collecting::Sums;
-use acc_base::forms::{Atom, Form, Rel, Unknown};
+use acc_base::forms::{Form, Rel, Unknown};
 use acc_base::numbers::{bounded_product, bounded_sum};
 use acc_base::sums::{FormSum, add_multiple};
 use std::alloc::Global;
@@ -23,13 +23,6 @@ pub fn relation_at<'a>(first: &'a [Rel], more: &'a [Rel], place: usize) -> Optio
     } else {
         more.get(place - first.len())
     }
-}
-
-/// Whether an unknown is the number 1 without condition.
-pub fn is_number(unknown: &Unknown) -> bool
-    ensures { result ≡ is_number unknown.now }
-{
-    unknown.under.is_empty() && unknown.atom == Atom::One
 }
 
 fn product_of(m: i128, n: i128) -> Result<i128, FormSum>
@@ -95,7 +88,7 @@ impl<'a> Weighing<'a> {
         ensures value { OnOk result (self.new ≡ plus_term by (unknown.now, n) self.old) }
         ensures wide { TellsWide result (is_term_wide by (unknown.now, n) self.old) }
     {
-        if is_number(unknown) {
+        if unknown.is_bare_one() {
             self.add_number(by, n)
         } else {
             add_multiple(&mut self.terms, unknown, by, n)

@@ -10,10 +10,10 @@ use Rattle.acc_base.specs.declared.forms.Unknown.{Unknown}
 use Rattle.acc_base.specs.declared.forms.Form.{Form}
 use Rattle.acc_base.specs.Numbers.{total}
 use Rattle.acc_base.specs.Truth.{atom_value, is_lin_zero, unknown_value, product_value, form_value}
-use Rattle.acc_base.specs.UnknownEquality.{unknown_decides}
+use Rattle.acc_base.specs.UnknownEquality.{unknown_decides, is_bare_one}
 use Rattle.acc_base.specs.Sums.{Term}
 use Rattle.acc_base.proofs.Products.{times_sum, times_times}
-use Rattle.acc_instances.specs.Summands.{Part, unknown, part_summand, is_number, with_summand, with_summands}
+use Rattle.acc_instances.specs.Summands.{Part, unknown, part_summand, with_summand, with_summands}
 use Rattle.acc_instances.proofs.PartValues.{part_value, parts_value, times_one}
 
 -- whether linear values are all 0
@@ -46,9 +46,9 @@ module _ (db : List Row) (env : List ℤ) where
 
   -- a summand is added to the constant or to the terms
   summand_value : (s : Term) (g : Form) → form_value db env (with_summand s g) ≡ form_value db env g +ℤ product_value db env s
-  summand_value s g = by (is_number s.0) refl
+  summand_value s g = by (is_bare_one s.0) refl
     where
-      by : (b : Bool) → is_number s.0 ≡ b → form_value db env (if b then record g { constant = g.constant +ℤ s.1 } else record g { terms = g.terms ++ s ∷ [] }) ≡ form_value db env g +ℤ product_value db env s
+      by : (b : Bool) → is_bare_one s.0 ≡ b → form_value db env (if b then record g { constant = g.constant +ℤ s.1 } else record g { terms = g.terms ++ s ∷ [] }) ≡ form_value db env g +ℤ product_value db env s
       by true e =
           let same = ap (λ (u : Unknown). s.1 *ℤ unknown_value db env u) ((unknown_decides s.0 (unknown [] One)).0 e) in
           let one = times_one s.1 in

@@ -6,7 +6,7 @@ use Rattle.acc_base.specs.declared.forms.Atom.TheVariants.{One, Var}
 use Rattle.acc_base.specs.declared.forms.Unknown.{Unknown}
 use Rattle.acc_base.specs.declared.forms.Form.{Form}
 use Rattle.acc_base.specs.Bounded.{is_wide}
-use Rattle.acc_base.specs.UnknownEquality.{unknown_eq}
+use Rattle.acc_base.specs.UnknownEquality.{is_bare_one}
 use Rattle.acc_base.specs.Sums.{Term}
 
 -- an atom with a coefficient
@@ -27,14 +27,10 @@ unknown under atom = record { under = under; atom = atom }
 abbrev pub part_summand : List Lin → ℤ → Part → Term
 part_summand under m p = (unknown under p.0, m *ℤ p.1)
 
--- the number 1 without condition
-abbrev pub is_number : Unknown → Bool
-is_number u = unknown_eq u (unknown [] One)
-
 -- one more summand: a number is added to the constant, and any other one comes last among the terms
 abbrev pub with_summand : Term → Form → Form
 with_summand s g =
-    if is_number s.0 then record g { constant = g.constant +ℤ s.1 } else record g { terms = g.terms ++ s ∷ [] }
+    if is_bare_one s.0 then record g { constant = g.constant +ℤ s.1 } else record g { terms = g.terms ++ s ∷ [] }
 
 abbrev pub with_summands : List Term → Form → Form
 with_summands [] g = g
@@ -44,7 +40,7 @@ with_summands (s ∷ ss) g = with_summands ss (with_summand s g)
 
 -- the constant, where a summand is added to it
 abbrev pub is_constant_wide : Term → Form → Bool
-is_constant_wide s g = is_number s.0 && is_wide (g.constant +ℤ s.1)
+is_constant_wide s g = is_bare_one s.0 && is_wide (g.constant +ℤ s.1)
 
 -- a summand's product, and the constant
 abbrev pub is_summand_wide : Term → Form → Bool

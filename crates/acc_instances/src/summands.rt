@@ -2,7 +2,7 @@
 ghost use Rattle.std.specs.Prelude.{◌≡◌, ◌++◌, ◌*ℤ◌, map, IfOk, OnOk};
 ghost use Rattle.acc_base.specs.Bounded.{is_wide};
 ghost use Rattle.acc_base.specs.Sums.{TellsWide};
-ghost use Rattle.acc_instances.specs.Summands.{variable_parts, lin_parts, part_summand, is_number, with_summand, with_summands};
+ghost use Rattle.acc_instances.specs.Summands.{variable_parts, lin_parts, part_summand, with_summand, with_summands};
 ghost use Rattle.acc_instances.specs.Summands.{is_constant_wide, is_summand_wide, are_summands_wide};
 
 use acc_base::forms::{Atom, Form, Lin, Unknown};
@@ -30,19 +30,12 @@ pub fn add_lin(parts: &mut Vec<(Atom, i64)>, value: &Lin) -> Result<(), AllocErr
     Ok(())
 }
 
-/// Whether an unknown is the number 1 without condition.
-fn is_number(unknown: &Unknown) -> bool
-    ensures { result ≡ is_number unknown.now }
-{
-    unknown.under.is_empty() && unknown.atom == Atom::One
-}
-
 /// Adds a summand: a number to the constant, and any other one behind the terms.
 pub fn add_summand(gained: &mut Form, unknown: Unknown, n: i128) -> Result<(), FormSum>
     ensures value { OnOk result (gained.new ≡ with_summand (unknown, n) gained.old) }
     ensures wide { TellsWide result (is_constant_wide (unknown, n) gained.old) }
 {
-    if is_number(&unknown) {
+    if unknown.is_bare_one() {
         gained.constant = bounded_sum(gained.constant, n).ok_or(FormSum::Wide)?;
     } else {
         gained.terms.push((unknown, n))?;

@@ -13,8 +13,7 @@ use Rattle.std.proofs.lemmas.List.Quantifiers.{position-Some}
 use Rattle.std.proofs.lemmas.List.Elements.{All-nil, All-cons, All-head, All-tail}
 use Rattle.acc_base.specs.declared.forms.Unknown.{Unknown}
 use Rattle.acc_base.specs.declared.forms.Rel.{Rel}
-use Rattle.acc_base.specs.UnknownEquality.{unknown_eq, unknown_decides}
-use Rattle.acc_farkas.specs.Sums.{is_number}
+use Rattle.acc_base.specs.UnknownEquality.{unknown_eq, unknown_decides, is_bare_one}
 use Rattle.acc_points.specs.Readings.{place_of, with_name, with_term, with_rel, unknowns_of, number_of}
 
 -- an unknown stands among others
@@ -75,14 +74,14 @@ name_old : (us : List Unknown) (u v : Unknown) → Stands v us → Stands v (wit
 name_old us u v s = name_old_by us u v (is_some (place_of us u)) s
 
 term_old : (us : List Unknown) (t : Unknown × ℤ) (v : Unknown) → Stands v us → Stands v (with_term us t)
-term_old us t v s = by (is_number t.0)
+term_old us t v s = by (is_bare_one t.0)
   where
     by : (b : Bool) → Stands v (if b then us else with_name us t.0)
     by true = s
     by false = name_old us t.0 v s
 
-term_new : (us : List Unknown) (t : Unknown × ℤ) → is_number t.0 ≡ false → Stands t.0 (with_term us t)
-term_new us t e = by (is_number t.0) e
+term_new : (us : List Unknown) (t : Unknown × ℤ) → is_bare_one t.0 ≡ false → Stands t.0 (with_term us t)
+term_new us t e = by (is_bare_one t.0) e
   where
     by : (b : Bool) → b ≡ false → Stands t.0 (if b then us else with_name us t.0)
     by true e = absurd (cc)
@@ -90,7 +89,7 @@ term_new us t e = by (is_number t.0) e
 
 -- an unknown that isn't the number 1 stands among others
 abbrev pub Named : List Unknown → Unknown × ℤ → Type 0
-Named us t = is_number t.0 ≡ false → Stands t.0 us
+Named us t = is_bare_one t.0 ≡ false → Stands t.0 us
 
 pub terms_old : (ts : List (Unknown × ℤ)) (us : List Unknown) (v : Unknown) → Stands v us → Stands v (fold with_term us ts)
 terms_old [] us v s = s
@@ -129,5 +128,5 @@ number_below us u s =
     let q = position-Some (λ v. unknown_eq v u) us p.0 u p.1 in
     subst (λ o. unwrap_or o 0 < length us) (sym p.1) q.0
 
-pub named_below : (us : List Unknown) (t : Unknown × ℤ) → Named us t → is_number t.0 ≡ false → number_of us t.0 < length us
+pub named_below : (us : List Unknown) (t : Unknown × ℤ) → Named us t → is_bare_one t.0 ≡ false → number_of us t.0 < length us
 named_below us t n e = number_below us t.0 (n e)

@@ -19,11 +19,11 @@ use Rattle.acc_systems.specs.Sparse.{Sparse, at, mixed}
 use Rattle.acc_systems.specs.Systems.{is_false, is_lower, eliminated}
 use Rattle.acc_points.specs.Fractions.{Fraction, reduced, fraction, numerator, plus_times, is_less}
 use Rattle.acc_points.specs.Points.{Point, value, summed, root, tightest, bounded_value, placed, placed_by, zeros, point_of}
-use Rattle.acc_farkas.specs.Sums.{is_number}
 use Rattle.acc_points.specs.Readings.{unknowns_of, number_of, read_number, read_term, row_of, rows_from}
 use Rattle.acc_base.specs.Collecting.{worth}
 use Rattle.acc_systems.specs.Made.{Proper, IsProper, Sums, Signed, MayStand, OfEquation, Ordered, Rises}
 use Rattle.acc_base.specs.Worths.{form_worth}
+use Rattle.acc_base.specs.UnknownEquality.{is_bare_one}
 use Rattle.acc_points.specs.FalseConstants.{numbered, FalseConstantRefutes}
 use Rattle.acc_systems.proofs.Worths.{Gives, gives_chain, gives_weaker, gives_both, kept_gives, mixed_gives}
 use Rattle.acc_systems.proofs.Orders.{mixed_rises, eliminated_ordered}
@@ -112,7 +112,7 @@ module _ (names : List Unknown) where
   pub read_rises : (ts : List (Unknown × ℤ)) (terms : Sparse) → Rises 0 terms → Gives (steps (read_term names) terms ts) (Rises 0)
   read_rises [] terms r = r
   read_rises (t ∷ ts) terms r =
-      gives_chain (read_term names terms t) _ (Rises 0) (Rises 0) (read_rises_by terms t (is_number t.0 || int_eq t.1 (pos 0)) r)
+      gives_chain (read_term names terms t) _ (Rises 0) (Rises 0) (read_rises_by terms t (is_bare_one t.0 || int_eq t.1 (pos 0)) r)
       (λ us h. read_rises ts us h)
 
   module _ (f : ℕ → ℤ) where
@@ -141,15 +141,15 @@ module _ (names : List Unknown) where
         omega (arith, ints, h, a, b)) (mixed_gives f (pos 1) (pos 1) terms ((number_of names t.0, t.1) ∷ []))
 
     pub read_worth : (ts : List (Unknown × ℤ)) (terms : Sparse) (w : ℤ) → worth f terms ≡ w
-        → Gives (steps (read_term names) terms ts) (λ zs. worth f zs ≡ w +ℤ total (map (λ t. t.1 *ℤ part (is_number t.0) t.0) ts))
+        → Gives (steps (read_term names) terms ts) (λ zs. worth f zs ≡ w +ℤ total (map (λ t. t.1 *ℤ part (is_bare_one t.0) t.0) ts))
     read_worth [] terms w e = omega (arith, ints, e)
     read_worth (t ∷ ts) terms w e =
-        gives_chain (read_term names terms t) _ (λ zs. worth f zs ≡ worth f terms +ℤ t.1 *ℤ part (is_number t.0) t.0)
-        (λ zs. worth f zs ≡ w +ℤ total (map (λ t. t.1 *ℤ part (is_number t.0) t.0) (t ∷ ts)))
-        (read_worth_by terms t (is_number t.0) (int_eq t.1 (pos 0)) refl) (λ us h.
+        gives_chain (read_term names terms t) _ (λ zs. worth f zs ≡ worth f terms +ℤ t.1 *ℤ part (is_bare_one t.0) t.0)
+        (λ zs. worth f zs ≡ w +ℤ total (map (λ t. t.1 *ℤ part (is_bare_one t.0) t.0) (t ∷ ts)))
+        (read_worth_by terms t (is_bare_one t.0) (int_eq t.1 (pos 0)) refl) (λ us h.
         gives_weaker (steps (read_term names) us ts) _
-        (λ zs. worth f zs ≡ w +ℤ total (map (λ t. t.1 *ℤ part (is_number t.0) t.0) (t ∷ ts))) (λ zs k. omega (arith, ints, k, e))
-        (read_worth ts us (worth f terms +ℤ t.1 *ℤ part (is_number t.0) t.0) h))
+        (λ zs. worth f zs ≡ w +ℤ total (map (λ t. t.1 *ℤ part (is_bare_one t.0) t.0) (t ∷ ts))) (λ zs k. omega (arith, ints, k, e))
+        (read_worth ts us (worth f terms +ℤ t.1 *ℤ part (is_bare_one t.0) t.0) h))
 
     number_by : (c : ℤ) (t : Unknown × ℤ) (one : Bool) → Gives (if one then plus c t.1 else Ok c) (λ m. m ≡ c +ℤ t.1 *ℤ unit one)
     number_by c t true =
@@ -158,29 +158,29 @@ module _ (names : List Unknown) where
     number_by c t false = let none = *ℤ-zero t.1 in omega (arith, ints, none)
 
     pub read_constant : (ts : List (Unknown × ℤ)) (c w : ℤ) → c ≡ w
-        → Gives (steps read_number c ts) (λ m. m ≡ w +ℤ total (map (λ t. t.1 *ℤ unit (is_number t.0)) ts))
+        → Gives (steps read_number c ts) (λ m. m ≡ w +ℤ total (map (λ t. t.1 *ℤ unit (is_bare_one t.0)) ts))
     read_constant [] c w e = omega (arith, ints, e)
     read_constant (t ∷ ts) c w e =
-        gives_chain (read_number c t) _ (λ m. m ≡ c +ℤ t.1 *ℤ unit (is_number t.0))
-        (λ m. m ≡ w +ℤ total (map (λ t. t.1 *ℤ unit (is_number t.0)) (t ∷ ts))) (number_by c t (is_number t.0)) (λ k h.
-        gives_weaker (steps read_number k ts) _ (λ m. m ≡ w +ℤ total (map (λ t. t.1 *ℤ unit (is_number t.0)) (t ∷ ts)))
-        (λ m g. omega (arith, ints, g, e)) (read_constant ts k (c +ℤ t.1 *ℤ unit (is_number t.0)) h))
+        gives_chain (read_number c t) _ (λ m. m ≡ c +ℤ t.1 *ℤ unit (is_bare_one t.0))
+        (λ m. m ≡ w +ℤ total (map (λ t. t.1 *ℤ unit (is_bare_one t.0)) (t ∷ ts))) (number_by c t (is_bare_one t.0)) (λ k h.
+        gives_weaker (steps read_number k ts) _ (λ m. m ≡ w +ℤ total (map (λ t. t.1 *ℤ unit (is_bare_one t.0)) (t ∷ ts)))
+        (λ m g. omega (arith, ints, g, e)) (read_constant ts k (c +ℤ t.1 *ℤ unit (is_bare_one t.0)) h))
 
     one_part : (u : Unknown) (n : ℤ) (one : Bool) → n *ℤ (if one then pos 1 else f (number_of names u)) ≡ n *ℤ part one u +ℤ n *ℤ unit one
     one_part u n true = let none = *ℤ-zero n in omega (arith, ints, none)
     one_part u n false = let none = *ℤ-zero n in omega (arith, ints, none)
 
     both_parts : (ts : List (Unknown × ℤ)) → total (map (λ t. t.1 *ℤ numbered f names t.0) ts)
-        ≡ total (map (λ t. t.1 *ℤ part (is_number t.0) t.0) ts) +ℤ total (map (λ t. t.1 *ℤ unit (is_number t.0)) ts)
+        ≡ total (map (λ t. t.1 *ℤ part (is_bare_one t.0) t.0) ts) +ℤ total (map (λ t. t.1 *ℤ unit (is_bare_one t.0)) ts)
     both_parts [] = refl
     both_parts (t ∷ ts) =
-        let here = one_part t.0 t.1 (is_number t.0) in
+        let here = one_part t.0 t.1 (is_bare_one t.0) in
         let rest = both_parts ts in
         omega (arith, ints, here, rest)
 
   -- the constant that is read
   pub constant_some : (r : Rel) → Gives (chain (kept r.form.constant) (λ first. steps read_number first r.form.terms))
-      (λ m. m ≡ r.form.constant +ℤ total (map (λ t. t.1 *ℤ unit (λ _. pos 0) (is_number t.0)) r.form.terms))
+      (λ m. m ≡ r.form.constant +ℤ total (map (λ t. t.1 *ℤ unit (λ _. pos 0) (is_bare_one t.0)) r.form.terms))
   constant_some r =
       gives_chain (kept r.form.constant) _ (λ n. n ≡ r.form.constant) _ (kept_gives r.form.constant)
       (λ first e. read_constant (λ _. pos 0) r.form.terms first r.form.constant e)
@@ -230,10 +230,10 @@ module _ (names : List Unknown) where
       → Gives (row_of names place r) (λ row. worth f row.terms +ℤ row.constant ≡ form_worth (numbered f names) r.form)
   row_worth f place r =
       gives_chain (chain (kept r.form.constant) (λ first. steps read_number first r.form.terms)) _
-      (λ m. m ≡ r.form.constant +ℤ total (map (λ t. t.1 *ℤ unit (λ _. pos 0) (is_number t.0)) r.form.terms))
+      (λ m. m ≡ r.form.constant +ℤ total (map (λ t. t.1 *ℤ unit (λ _. pos 0) (is_bare_one t.0)) r.form.terms))
       (λ row. worth f row.terms +ℤ row.constant ≡ form_worth (numbered f names) r.form) (constant_some r) (λ constant c.
       gives_chain (steps (read_term names) [] r.form.terms) _
-      (λ zs. worth f zs ≡ pos 0 +ℤ total (map (λ t. t.1 *ℤ part f (is_number t.0) t.0) r.form.terms))
+      (λ zs. worth f zs ≡ pos 0 +ℤ total (map (λ t. t.1 *ℤ part f (is_bare_one t.0) t.0) r.form.terms))
       (λ row. worth f row.terms +ℤ row.constant ≡ form_worth (numbered f names) r.form) (read_worth f r.form.terms [] (pos 0) refl)
       (λ terms h.
       let parts = both_parts f r.form.terms in

@@ -4,7 +4,7 @@ use Rattle.acc_base.specs.declared.forms.Unknown.{Unknown}
 use Rattle.acc_base.specs.declared.forms.Rel.{Rel}
 use Rattle.acc_base.specs.Collecting.{worth}
 use Rattle.acc_base.specs.Worths.{form_worth}
-use Rattle.acc_farkas.specs.Sums.{is_number}
+use Rattle.acc_base.specs.UnknownEquality.{is_bare_one}
 use Rattle.acc_systems.specs.declared.stops.Stop.TheVariants.{Refuted}
 use Rattle.acc_systems.specs.declared.rows.Row.{Row}
 use Rattle.acc_systems.specs.Systems.{is_false}
@@ -14,7 +14,7 @@ use Rattle.acc_points.specs.Searches.{searched}
 
 -- what an unknown is worth, where the number of each counts f; the number 1 without condition is worth 1
 abbrev pub numbered : (ℕ → ℤ) → List Unknown → Unknown → ℤ
-numbered f names u = if is_number u then pos 1 else f (number_of names u)
+numbered f names u = if is_bare_one u then pos 1 else f (number_of names u)
 
 -- base gives what each relation's form is worth, by its place
 abbrev pub IsBase : (Unknown → ℤ) → (ℕ → ℤ) → List Rel → Type 0

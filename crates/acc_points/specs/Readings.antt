@@ -6,8 +6,7 @@ use Rattle.std.specs.List.{fold}
 use Rattle.std.specs.Ordering.{int_eq}
 use Rattle.acc_base.specs.declared.forms.Unknown.{Unknown}
 use Rattle.acc_base.specs.declared.forms.Rel.{Rel}
-use Rattle.acc_base.specs.UnknownEquality.{unknown_eq}
-use Rattle.acc_farkas.specs.Sums.{is_number}
+use Rattle.acc_base.specs.UnknownEquality.{unknown_eq, is_bare_one}
 use Rattle.acc_systems.specs.declared.rows.Row.{Row}
 use Rattle.acc_systems.specs.Answers.{Outcome, chain, steps}
 use Rattle.acc_systems.specs.Numbers.{kept, sum}
@@ -24,7 +23,7 @@ abbrev pub with_name : List Unknown → Unknown → List Unknown
 with_name names u = if is_some (place_of names u) then names else names ++ u ∷ []
 
 abbrev pub with_term : List Unknown → Unknown × ℤ → List Unknown
-with_term names t = if is_number t.0 then names else with_name names t.0
+with_term names t = if is_bare_one t.0 then names else with_name names t.0
 
 abbrev pub with_rel : List Unknown → Rel → List Unknown
 with_rel names r = fold with_term names r.form.terms
@@ -40,12 +39,12 @@ number_of names u = unwrap_or (place_of names u) 0
 
 -- what is added to the constant for a term
 abbrev pub read_number : ℤ → Unknown × ℤ → Outcome ℤ
-read_number constant t = if is_number t.0 then sum constant t.1 else Ok constant
+read_number constant t = if is_bare_one t.0 then sum constant t.1 else Ok constant
 
 -- one more term, beside those so far
 abbrev pub read_term : List Unknown → Sparse → Unknown × ℤ → Outcome Sparse
 read_term names terms t =
-    if is_number t.0 || int_eq t.1 (pos 0) then Ok terms else mixed (pos 1) (pos 1) terms ((number_of names t.0, t.1) ∷ [])
+    if is_bare_one t.0 || int_eq t.1 (pos 0) then Ok terms else mixed (pos 1) (pos 1) terms ((number_of names t.0, t.1) ∷ [])
 
 -- the list with 1 at a place
 abbrev pub once : ℕ → Sparse

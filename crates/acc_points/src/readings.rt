@@ -8,7 +8,6 @@ ghost use Rattle.acc_points.specs.Readings.{row_of, once, row_alone, rows_from};
 
 use acc_base::forms::{Form, Rel, Unknown};
 use acc_base::sequences::{Seq, copied};
-use acc_farkas::weights::is_number;
 use acc_systems::numbers::{kept, sum_of};
 use acc_systems::rows::Row;
 use acc_systems::sparse::mixed;
@@ -40,7 +39,7 @@ fn add_name(names: &mut Vec<Unknown>, unknown: &Unknown) -> Result<(), AllocErro
 fn add_term(names: &mut Vec<Unknown>, term: &(Unknown, i128)) -> Result<(), AllocError>
     ensures { OnOk result (names.new.items ≡ with_term names.old.items term.now) }
 {
-    if is_number(&term.0) {
+    if term.0.is_bare_one() {
         return Ok(());
     }
     add_name(names, &term.0)
@@ -83,7 +82,7 @@ fn number_of(names: &[Unknown], unknown: &Unknown) -> u32
 fn read_number(constant: i128, term: &(Unknown, i128)) -> Result<i128, Stop>
     ensures { Answers result (read_number constant term.now) }
 {
-    if is_number(&term.0) {
+    if term.0.is_bare_one() {
         return sum_of(constant, term.1);
     }
     Ok(constant)
@@ -118,7 +117,7 @@ fn read_term(
     requires { length names.now < 2 ^ 32 }
     ensures { Answers result (read_term names.now terms term.now) }
 {
-    if is_number(&term.0) || term.1 == 0 {
+    if term.0.is_bare_one() || term.1 == 0 {
         return Ok(terms);
     }
     let number = number_of(names, &term.0);

@@ -15,13 +15,13 @@ use Rattle.acc_base.proofs.Products.{sum_times}
 use Rattle.acc_systems.specs.declared.rows.Row.{Row}
 use Rattle.acc_systems.specs.Answers.{Outcome, chain, steps}
 use Rattle.acc_base.specs.Collecting.{worth}
+use Rattle.acc_base.specs.UnknownEquality.{is_bare_one}
 use Rattle.acc_systems.specs.Made.{Ordered, IsProper}
 use Rattle.acc_systems.specs.Numbers.{kept}
 use Rattle.acc_systems.specs.Sparse.{Sparse, mixed}
 use Rattle.acc_systems.specs.Systems.{eliminated}
 use Rattle.acc_points.specs.Fractions.{Fraction}
 use Rattle.acc_points.specs.Points.{Point, value, point_of}
-use Rattle.acc_farkas.specs.Sums.{is_number}
 use Rattle.acc_points.specs.Readings.{unknowns_of, number_of, read_number, read_term, row_of, rows_from}
 use Rattle.acc_points.specs.Searches.{searched}
 use Rattle.acc_solved.specs.Meetings.{value_at, plus_exactly, sum_at, form_at, is_met, is_above, Meets, SearchedIsMet}
@@ -54,7 +54,7 @@ module _ (names : List Unknown) where
       (λ u m h. (h.0, subst (λ z. Other z) (sym (one_of m)) h.1)) (λ u m k h g i. (h.0, other (pos 1 *ℤ m +ℤ pos 1 *ℤ k) i)) terms
       ((number_of names t.0, t.1) ∷ []) all (All-cons Fine (number_of names t.0, t.1) [] (l, other t.1 e) (All-nil Fine))
 
-  term_fine : (terms : Sparse) (t : Unknown × ℤ) → Named names t → All Fine terms → (one b : Bool) → is_number t.0 ≡ one
+  term_fine : (terms : Sparse) (t : Unknown × ℤ) → Named names t → All Fine terms → (one b : Bool) → is_bare_one t.0 ≡ one
       → int_eq t.1 (pos 0) ≡ b → Gives (if one || b then Ok terms else mixed (pos 1) (pos 1) terms ((number_of names t.0, t.1) ∷ []))
       (All Fine)
   term_fine terms t named all true b is e = all
@@ -66,7 +66,7 @@ module _ (names : List Unknown) where
   terms_fine [] terms named all = all
   terms_fine (t ∷ ts) terms named all =
       gives_chain (read_term names terms t) _ (All Fine) (All Fine)
-      (term_fine terms t (All-head (Named names) t ts named) all (is_number t.0) (int_eq t.1 (pos 0)) refl refl)
+      (term_fine terms t (All-head (Named names) t ts named) all (is_bare_one t.0) (int_eq t.1 (pos 0)) refl refl)
       (λ more fine. terms_fine ts more (All-tail (Named names) t ts named) fine)
 
   -- ---- what a relation is worth over D
@@ -76,7 +76,7 @@ module _ (names : List Unknown) where
     scaled one u = if one then D else f (number_of names u)
 
     abbrev rel_worth : Rel → ℤ
-    rel_worth r = r.form.constant *ℤ D +ℤ total (map (λ t. t.1 *ℤ scaled (is_number t.0) t.0) r.form.terms)
+    rel_worth r = r.form.constant *ℤ D +ℤ total (map (λ t. t.1 *ℤ scaled (is_bare_one t.0) t.0) r.form.terms)
 
     scaled_parts : (u : Unknown) (n : ℤ) (one : Bool) → n *ℤ scaled one u ≡ n *ℤ part names f one u +ℤ (n *ℤ unit names f one) *ℤ D
     scaled_parts u n true =
@@ -86,13 +86,13 @@ module _ (names : List Unknown) where
         omega (arith, ints, none, along)
     scaled_parts u n false = let none = ap (λ z. z *ℤ D) (*ℤ-zero n) ∙ zero-*ℤ D in omega (arith, ints, none)
 
-    all_scaled : (ts : List (Unknown × ℤ)) → total (map (λ t. t.1 *ℤ scaled (is_number t.0) t.0) ts)
-        ≡ total (map (λ t. t.1 *ℤ part names f (is_number t.0) t.0) ts) +ℤ total (map (λ t. t.1 *ℤ unit names f (is_number t.0)) ts) *ℤ D
+    all_scaled : (ts : List (Unknown × ℤ)) → total (map (λ t. t.1 *ℤ scaled (is_bare_one t.0) t.0) ts)
+        ≡ total (map (λ t. t.1 *ℤ part names f (is_bare_one t.0) t.0) ts) +ℤ total (map (λ t. t.1 *ℤ unit names f (is_bare_one t.0)) ts) *ℤ D
     all_scaled [] = let none = zero-*ℤ D in omega (arith, ints, none)
     all_scaled (t ∷ ts) =
-        let here = scaled_parts t.0 t.1 (is_number t.0) in
+        let here = scaled_parts t.0 t.1 (is_bare_one t.0) in
         let rest = all_scaled ts in
-        let parts = sum_times (t.1 *ℤ unit names f (is_number t.0)) (total (map (λ t. t.1 *ℤ unit names f (is_number t.0)) ts)) D in
+        let parts = sum_times (t.1 *ℤ unit names f (is_bare_one t.0)) (total (map (λ t. t.1 *ℤ unit names f (is_bare_one t.0)) ts)) D in
         omega (arith, ints, here, rest, parts)
 
     abbrev RelMet : Rel → Type 0
@@ -105,28 +105,28 @@ module _ (names : List Unknown) where
   row_reads : (place : ℕ) (r : Rel) → All (Named names) r.form.terms → Holds (row_of names place r) (Reads r)
   row_reads place r named =
       holds_chain (chain (kept r.form.constant) (λ first. steps read_number first r.form.terms)) _
-      (λ m. m ≡ r.form.constant +ℤ total (map (λ t. t.1 *ℤ unit names (λ _. pos 0) (is_number t.0)) r.form.terms)) (Reads r)
+      (λ m. m ≡ r.form.constant +ℤ total (map (λ t. t.1 *ℤ unit names (λ _. pos 0) (is_bare_one t.0)) r.form.terms)) (Reads r)
       (from_gives (chain (kept r.form.constant) (λ first. steps read_number first r.form.terms)) _ (constant_some names r))
       (λ constant c.
       holds_chain (steps (read_term names) [] r.form.terms) _
-      (λ zs. ((f : ℕ → ℤ) → worth f zs ≡ pos 0 +ℤ total (map (λ t. t.1 *ℤ part names f (is_number t.0) t.0) r.form.terms))
+      (λ zs. ((f : ℕ → ℤ) → worth f zs ≡ pos 0 +ℤ total (map (λ t. t.1 *ℤ part names f (is_bare_one t.0) t.0) r.form.terms))
       × All Fine zs) (Reads r) (terms_hold (steps (read_term names) [] r.form.terms)
       (λ f. read_worth names f r.form.terms [] (pos 0) refl) (terms_fine r.form.terms [] named (All-nil Fine))) (λ terms h.
       ((λ f D. same constant c terms f (h.0 f) D), refl, h.1)))
     where
       terms_hold : (o : Outcome Sparse) → ((f : ℕ → ℤ)
-          → Gives o (λ zs. worth f zs ≡ pos 0 +ℤ total (map (λ t. t.1 *ℤ part names f (is_number t.0) t.0) r.form.terms)))
+          → Gives o (λ zs. worth f zs ≡ pos 0 +ℤ total (map (λ t. t.1 *ℤ part names f (is_bare_one t.0) t.0) r.form.terms)))
           → Gives o (All Fine) → Holds o (λ zs. ((f : ℕ → ℤ)
-          → worth f zs ≡ pos 0 +ℤ total (map (λ t. t.1 *ℤ part names f (is_number t.0) t.0) r.form.terms)) × All Fine zs)
+          → worth f zs ≡ pos 0 +ℤ total (map (λ t. t.1 *ℤ part names f (is_bare_one t.0) t.0) r.form.terms)) × All Fine zs)
       terms_hold (Ok zs) a b = (a, b)
       terms_hold (Err e) a b = tt
 
-      same : (constant : ℤ) → constant ≡ r.form.constant +ℤ total (map (λ t. t.1 *ℤ unit names (λ _. pos 0) (is_number t.0)) r.form.terms)
-          → (terms : Sparse) (f : ℕ → ℤ) → worth f terms ≡ pos 0 +ℤ total (map (λ t. t.1 *ℤ part names f (is_number t.0) t.0) r.form.terms)
+      same : (constant : ℤ) → constant ≡ r.form.constant +ℤ total (map (λ t. t.1 *ℤ unit names (λ _. pos 0) (is_bare_one t.0)) r.form.terms)
+          → (terms : Sparse) (f : ℕ → ℤ) → worth f terms ≡ pos 0 +ℤ total (map (λ t. t.1 *ℤ part names f (is_bare_one t.0) t.0) r.form.terms)
           → (D : ℤ) → constant *ℤ D +ℤ worth f terms ≡ rel_worth f D r
       same constant c terms f w D =
           let along = ap (λ z. z *ℤ D) c in
-          let parts = sum_times r.form.constant (total (map (λ t. t.1 *ℤ unit names (λ _. pos 0) (is_number t.0)) r.form.terms)) D in
+          let parts = sum_times r.form.constant (total (map (λ t. t.1 *ℤ unit names (λ _. pos 0) (is_bare_one t.0)) r.form.terms)) D in
           let all = all_scaled f D r.form.terms in
           omega (arith, ints, along, parts, all, w)
 
@@ -163,16 +163,16 @@ module _ (names : List Unknown) where
     value_worth u false = h (number_of names u)
 
     sum_is : (ts : List (Unknown × ℤ)) (X : ℤ) (x : Fraction) → Worth D X x
-        → Worth D (X +ℤ total (map (λ t. t.1 *ℤ scaled f D (is_number t.0) t.0) ts)) (sum_at names point x ts)
+        → Worth D (X +ℤ total (map (λ t. t.1 *ℤ scaled f D (is_bare_one t.0) t.0) ts)) (sum_at names point x ts)
     sum_is [] X x w = let same : X ≡ X +ℤ pos 0 = omega (arith, ints) in subst (λ y. Worth D y x) same w
     sum_is (t ∷ ts) X x w =
-        let v = value_worth t.0 (is_number t.0) in
-        let next = sum_worth D X (scaled f D (is_number t.0) t.0) t.1 x (value_at names point t.0) w v in
+        let v = value_worth t.0 (is_bare_one t.0) in
+        let next = sum_worth D X (scaled f D (is_bare_one t.0) t.0) t.1 x (value_at names point t.0) w v in
         let over = above_times x.1 (value_at names point t.0).1 w.1 v.1 in
-        let same : (X +ℤ t.1 *ℤ scaled f D (is_number t.0) t.0) +ℤ total (map (λ t. t.1 *ℤ scaled f D (is_number t.0) t.0) ts)
-        ≡ X +ℤ total (map (λ t. t.1 *ℤ scaled f D (is_number t.0) t.0) (t ∷ ts)) = omega (arith, ints) in
+        let same : (X +ℤ t.1 *ℤ scaled f D (is_bare_one t.0) t.0) +ℤ total (map (λ t. t.1 *ℤ scaled f D (is_bare_one t.0) t.0) ts)
+        ≡ X +ℤ total (map (λ t. t.1 *ℤ scaled f D (is_bare_one t.0) t.0) (t ∷ ts)) = omega (arith, ints) in
         subst (λ y. Worth D y (sum_at names point x (t ∷ ts))) same
-        (sum_is ts (X +ℤ t.1 *ℤ scaled f D (is_number t.0) t.0) (plus_exactly x t.1 (value_at names point t.0)) (next, over))
+        (sum_is ts (X +ℤ t.1 *ℤ scaled f D (is_bare_one t.0) t.0) (plus_exactly x t.1 (value_at names point t.0)) (next, over))
 
     form_is : (r : Rel) → Worth D (rel_worth f D r) (form_at names point r)
     form_is r =

@@ -8,7 +8,7 @@ use Rattle.std.specs.Ordering.{int_eq}
 use Rattle.std.proofs.Math.ListN.{get_or-append}
 use Rattle.std.proofs.lemmas.List.Sums.{fold-append}
 use Rattle.std.proofs.lemmas.List.Quantifiers.{position-Some}
-use Rattle.acc_base.specs.UnknownEquality.{unknown_eq}
+use Rattle.acc_base.specs.UnknownEquality.{unknown_eq, is_bare_one}
 use Rattle.std.proofs.lemmas.List.Elements.{All-head, All-tail}
 use Rattle.acc_base.specs.declared.forms.Unknown.{Unknown}
 use Rattle.acc_base.specs.declared.forms.Rel.{Rel}
@@ -16,7 +16,6 @@ use Rattle.acc_systems.specs.declared.rows.Row.{Row}
 use Rattle.acc_systems.specs.Answers.{Outcome, chain, steps}
 use Rattle.acc_systems.specs.Numbers.{kept}
 use Rattle.acc_systems.specs.Sparse.{Sparse, mixed}
-use Rattle.acc_farkas.specs.Sums.{is_number}
 use Rattle.acc_points.specs.Readings.{place_of, with_term, with_rel, unknowns_of, number_of, once, read_number, read_term, row_of}
 use Rattle.acc_points.specs.Readings.{rows_from}
 use Rattle.acc_points.proofs.Names.{Stands, Named, unknowns_stand, stands_push, placed}
@@ -75,7 +74,7 @@ term_later_by us t false c = name_later_by us t.0 c
 terms_later : (ts : List (Unknown × ℤ)) (us : List Unknown) → Later us (fold with_term us ts)
 terms_later [] us = later_same us
 terms_later (t ∷ ts) us = later_later us (with_term us t) (fold with_term (with_term us t) ts)
-    (term_later_by us t (is_number t.0) (is_some (place_of us t.0))) (terms_later ts (with_term us t))
+    (term_later_by us t (is_bare_one t.0) (is_some (place_of us t.0))) (terms_later ts (with_term us t))
 
 rels_later : (rs : List Rel) (us : List Unknown) → Later us (fold with_rel us rs)
 rels_later [] us = later_same us
@@ -85,7 +84,7 @@ rels_later (r ∷ rs) us = later_later us (with_rel us r) (fold with_rel (with_r
 -- ---- a row
 
 module _ (us vs : List Unknown) (later : Later us vs) where
-  term_same_by : (terms : Sparse) (t : Unknown × ℤ) → Named us t → (one z : Bool) → is_number t.0 ≡ one
+  term_same_by : (terms : Sparse) (t : Unknown × ℤ) → Named us t → (one z : Bool) → is_bare_one t.0 ≡ one
       → (if one || z then Ok terms else mixed (pos 1) (pos 1) terms ((number_of vs t.0, t.1) ∷ []))
       ≡ (if one || z then Ok terms else mixed (pos 1) (pos 1) terms ((number_of us t.0, t.1) ∷ []))
   term_same_by terms t n true z e = refl
@@ -97,7 +96,7 @@ module _ (us vs : List Unknown) (later : Later us vs) where
   terms_same [] terms all = refl
   terms_same (t ∷ ts) terms all =
       ap (λ o. chain o (λ s. steps (read_term vs) s ts))
-      (term_same_by terms t (All-head (Named us) t ts all) (is_number t.0) (int_eq t.1 (pos 0)) refl)
+      (term_same_by terms t (All-head (Named us) t ts all) (is_bare_one t.0) (int_eq t.1 (pos 0)) refl)
       ∙ under (read_term us terms t) (λ s. terms_same ts s (All-tail (Named us) t ts all))
     where
       under : (o : Outcome Sparse) → ((s : Sparse) → steps (read_term vs) s ts ≡ steps (read_term us) s ts)

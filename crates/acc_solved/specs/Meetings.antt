@@ -5,7 +5,7 @@ use Rattle.acc_base.specs.declared.forms.Unknown.{Unknown}
 use Rattle.acc_base.specs.declared.forms.Rel.{Rel}
 use Rattle.acc_base.specs.Linear.{meets}
 use Rattle.acc_base.specs.Sums.{Term}
-use Rattle.acc_farkas.specs.Sums.{is_number}
+use Rattle.acc_base.specs.UnknownEquality.{is_bare_one}
 use Rattle.acc_points.specs.Fractions.{Fraction}
 use Rattle.acc_points.specs.Points.{Point, value}
 use Rattle.acc_points.specs.Readings.{unknowns_of, number_of}
@@ -13,7 +13,7 @@ use Rattle.acc_points.specs.Searches.{searched}
 
 -- the value of an unknown at a point; the number 1 without condition is 1
 abbrev pub value_at : List Unknown → Point → Unknown → Fraction
-value_at names point u = if is_number u then (pos 1, pos 1) else value point (number_of names u)
+value_at names point u = if is_bare_one u then (pos 1, pos 1) else value point (number_of names u)
 
 -- x + c * y for fractions, not in lowest terms
 abbrev pub plus_exactly : Fraction → ℤ → Fraction → Fraction

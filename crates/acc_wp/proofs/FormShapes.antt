@@ -12,10 +12,10 @@ use Rattle.acc_base.specs.declared.forms.Form.{Form}
 use Rattle.acc_base.specs.declared.steps.Action.{Action}
 use Rattle.acc_base.specs.declared.steps.Action.TheVariants as action
 use Rattle.acc_base.specs.Tables.{IsInOrder}
-use Rattle.acc_base.specs.UnknownEquality.{unknown_eq}
+use Rattle.acc_base.specs.UnknownEquality.{unknown_eq, is_bare_one}
 use Rattle.acc_base.specs.Sums.{Term, with_term, with_terms, multiple, is_left}
 use Rattle.acc_wp.specs.Unders.{differences, is_false, lengthened}
-use Rattle.acc_instances.specs.Summands.{Part, variable_parts, lin_parts, part_summand, is_number, with_summand, with_summands}
+use Rattle.acc_instances.specs.Summands.{Part, variable_parts, lin_parts, part_summand, with_summand, with_summands}
 use Rattle.acc_base.specs.Actions.{acted_table}
 use Rattle.acc_wp.specs.Changes.{key_of, place_of, value_parts, minus, presence_change, column_change, presence_of, column_of, change}
 use Rattle.acc_wp.specs.Gains.{changed_summands, term_summands, summands, gained}
@@ -140,7 +140,7 @@ module _ (tables : List Table) where
         all-append TermFits (term_summands a t) (summands a ts) (changed_fit t (change a t.0.atom) (change_fits t.0.atom h.0)) (summands_fit ts h.1)
 
     summand_fits : (s : Term) (g : Form) → TermFits s → AllByRecursion TermFits g.terms → AllByRecursion TermFits (with_summand s g).terms
-    summand_fits s g h rest = by (is_number s.0)
+    summand_fits s g h rest = by (is_bare_one s.0)
       where
         by : (b : Bool) → AllByRecursion TermFits (if b then record g { constant = g.constant +ℤ s.1 } else record g { terms = g.terms ++ s ∷ [] }).terms
         by true = rest
