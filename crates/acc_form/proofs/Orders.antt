@@ -1,4 +1,5 @@
 -- The order of faults.
+use Rattle.std.proofs.Common.{arith}
 use Rattle.std.proofs.lemmas.Bool.Decides.{nat_tests}
 use Rattle.acc_base.proofs.Leasts.{IsOrder}
 use Rattle.acc_form.specs.Faults.{is_before}

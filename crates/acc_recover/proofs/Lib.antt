@@ -1,0 +1,6 @@
+pub mod NextEvents
+pub mod Ways
+pub mod InSteps
+pub mod Single
+pub mod Ends
+pub mod Attached

@@ -1,0 +1,36 @@
+use Rattle.std.proofs.Common.{◌∙◌, sym, ap, subst}
+use Rattle.acc_disk.specs.Crashes.{Only}
+use Rattle.acc_recover.proofs.Ways.{recovered}
+use Rattle.acc_recover.proofs.Attached.{one_settling}
+use Rattle.acc_recover.proofs.recovered.end_and_settle.Goals as goal
+
+pub returns-in-Ok-settle-clause-ok : goal.returns-in-Ok-settle-clause-ok
+returns-in-Ok-settle-clause-ok g c =
+    let was = c.args.state.now in
+    recovered was.design was.world c.end_all.new.state.world c.requires.kept.good.lawful c.end_all.ensures.goes c.in-Ok.ensures.ok
+
+pub returns-in-Ok-settle-clause-moments : goal.returns-in-Ok-settle-clause-moments
+returns-in-Ok-settle-clause-moments g c file told only counts =
+    let was = c.args.state.now in
+    let old = c.args.wal.now in
+    let mid = c.end_all.new.wal in
+    let now = c.end_all.new.state.world in
+    let tail = c.end_all.ensures.tail in
+    let same = ap g.D.Disk.told tail.disk in
+    let alone = subst (λ x. Only file (g.D.Disk.may_leave x)) (sym tail.disk) only in
+    one_settling g.D.Disk.clock g.D.Disk.left_since was.design was.world.events now old mid c.requires.in_step c.requires.settled tail c.end_all.ensures.in_step
+    (recovered was.design was.world now c.requires.kept.good.lawful c.end_all.ensures.goes c.in-Ok.ensures.ok)
+    c.settle.new.self.disk (c.settle.ensures.moments c.end_all.ensures.in_step.unspent file (same ∙ told) alone)
+
+pub returns-in-Err-settle-clause-moments : goal.returns-in-Err-settle-clause-moments
+returns-in-Err-settle-clause-moments g c file told only counts =
+    let was = c.args.state.now in
+    let old = c.args.wal.now in
+    let mid = c.end_all.new.wal in
+    let now = c.end_all.new.state.world in
+    let tail = c.end_all.ensures.tail in
+    let same = ap g.D.Disk.told tail.disk in
+    let alone = subst (λ x. Only file (g.D.Disk.may_leave x)) (sym tail.disk) only in
+    one_settling g.D.Disk.clock g.D.Disk.left_since was.design was.world.events now old mid c.requires.in_step c.requires.settled tail c.end_all.ensures.in_step
+    (recovered was.design was.world now c.requires.kept.good.lawful c.end_all.ensures.goes c.in-Ok.ensures.ok)
+    c.settle.new.self.disk (c.settle.ensures.moments c.end_all.ensures.in_step.unspent file (same ∙ told) alone)

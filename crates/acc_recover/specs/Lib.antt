@@ -1,0 +1,5 @@
+pub mod Endings
+pub mod Recoveries
+pub mod Steps
+pub mod Answers
+pub mod Refusals

@@ -1,0 +1,83 @@
+-- Why nothing is recovered, and what is handed back then.
+use Rattle.std.specs.Prelude.{◌≡◌, ◌≢◌, ◌⊎◌, ⊤, ℕ, List, [], Option, IfSome}
+use Rattle.acc_base.specs.declared.tables.Row.{Row}
+use Rattle.acc_base.specs.declared.designs.Design.{Design}
+use Rattle.acc_base.specs.declared.machines.Event.{Event}
+use Rattle.acc_base.specs.Machine.{World, start}
+use Rattle.acc_print.specs.Designs.{printed}
+use Rattle.acc_wal.specs.Journals.{Counts, IsNoJournal, IsOtherVersion, IsDamaged}
+use Rattle.acc_wal.specs.declared.errors.WalError.{WalError}
+use Rattle.acc_wal.specs.declared.errors.WalError.TheVariants.{NotJournal, OtherVersion, Damaged, Disk as NoDisk, Memory as NoMemory}
+use Rattle.acc_machine.specs.Replays.{IsFirstUnlawful}
+use Rattle.acc_recover.specs.Recoveries.{AreRowsWithin, AreRowsOfRecovery}
+use Rattle.acc_recover.specs.declared.errors.RecoverError.{RecoverError}
+use Rattle.acc_recover.specs.declared.errors.RecoverError.TheVariants.{Journal, OtherDesign, Unlawful, Disk, Memory}
+
+abbrev pub RefusesJournal : WalError → List ℕ → Type 0
+RefusesJournal NotJournal file = IsNoJournal file
+RefusesJournal (OtherVersion version) file = IsOtherVersion file version
+RefusesJournal (Damaged place) file = IsDamaged file place
+RefusesJournal _ file = ⊥
+
+-- the file is a journal of another base text
+pub record IsOfOther (file text : List ℕ) : Type 0 where
+  pub base : List ℕ
+  pub events : List Event
+  pub counts : Counts file base events
+  pub other : base ≢ text
+
+-- the file is a journal of the design's text, and this of its events is the first that isn't lawful
+pub record IsUnlawfulAt (d : Design) (file : List ℕ) (at : ℕ) : Type 0 where
+  pub events : List Event
+  pub counts : Counts file (printed d) events
+  pub here : World
+  pub first : IsFirstUnlawful d start events at here
+
+abbrev pub RefusesRecovery : Design → RecoverError → Option (List ℕ) → Type 0 → Type 0
+RefusesRecovery d (Journal error) told fault = IfSome told (RefusesJournal error)
+RefusesRecovery d OtherDesign told fault = IfSome told (λ file. IsOfOther file (printed d))
+RefusesRecovery d (Unlawful at) told fault = IfSome told (λ file. IsUnlawfulAt d file at)
+RefusesRecovery d Disk told fault = fault
+RefusesRecovery d Memory told fault = ⊤
+
+-- ---- the rows that are handed back
+
+-- the rows after some first of the events that were found, or of the recovered history
+pub record AreRowsOnTheWay (d : Design) (told : Option (List ℕ)) (rows : List Row) : Type 0 where
+  pub found : List Event
+  pub counts : IfSome told (λ file. Counts file (printed d) found)
+  pub within : AreRowsWithin d found rows ⊎ AreRowsOfRecovery d found rows
+
+abbrev pub HandsBack : RecoverError → Design → Option (List ℕ) → List Row → Type 0
+HandsBack (Journal error) d told rows = rows ≡ []
+HandsBack OtherDesign d told rows = rows ≡ []
+HandsBack (Unlawful at) d told rows = AreRowsOnTheWay d told rows
+HandsBack Disk d told rows = (rows ≡ []) ⊎ AreRowsOnTheWay d told rows
+HandsBack Memory d told rows = (rows ≡ []) ⊎ AreRowsOnTheWay d told rows
+
+-- ---- the parts of recovery
+
+-- why a base text isn't taken for the design's
+abbrev pub RefusesText : RecoverError → List ℕ → List ℕ → Type 0
+RefusesText OtherDesign base text = base ≢ text
+RefusesText Memory base text = ⊤
+RefusesText _ base text = ⊥
+
+-- why a journal's events aren't done again, and which rows are handed back
+abbrev pub RefusesHistory : Design → List ℕ → List Event → RecoverError → List Row → Type 0
+RefusesHistory d base events OtherDesign rows = (base ≢ printed d) × (rows ≡ [])
+RefusesHistory d base events (Unlawful at) rows =
+    (base ≡ printed d) × ((here : World) × IsFirstUnlawful d start events at here × (rows ≡ here.rows))
+RefusesHistory d base events Memory rows = (rows ≡ []) ⊎ ((base ≡ printed d) × AreRowsWithin d events rows)
+RefusesHistory d base events _ rows = ⊥
+
+-- why ending and settling fails
+abbrev pub FailsToSettle : RecoverError → Type 0 → Type 0
+FailsToSettle Disk fault = fault
+FailsToSettle Memory fault = ⊤
+FailsToSettle _ fault = ⊥
+
+abbrev pub refusal_for : WalError → RecoverError
+refusal_for NoDisk = Disk
+refusal_for NoMemory = Memory
+refusal_for error = Journal error

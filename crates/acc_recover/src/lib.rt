@@ -1,0 +1,10 @@
+//! Recovery: the events that a journal holds are done again, and what they leave unfinished is compensated.
+#![tactic(auto)]
+
+mod endings;
+mod errors;
+pub mod laws;
+mod recovered;
+
+pub use errors::RecoverError;
+pub use recovered::{Recovered, recover};
