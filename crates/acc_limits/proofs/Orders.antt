@@ -1,4 +1,5 @@
 -- The orders of limits and of faults.
+use Rattle.std.proofs.Common.{arith}
 use Rattle.std.proofs.lemmas.Bool.Decides.{nat_tests}
 use Rattle.acc_base.proofs.Leasts.{IsOrder}
 use Rattle.acc_limits.specs.Numbers.{is_lower, is_before}
