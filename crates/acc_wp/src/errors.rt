@@ -1,8 +1,10 @@
 //! Why a weakest precondition isn't given.
 ghost use Rattle.std.specs.Prelude.{◌≡◌};
+ghost use Rattle.acc_wp.specs.declared.errors.WpError.TheVariants.{Memory as OutOfMemory};
 ghost use Rattle.acc_wp.specs.Causes.{turned};
 
 use acc_base::sums::FormSum;
+use std::alloc::{AllocError, AllocFailed};
 
 /// Why a weakest precondition isn't given.
 #[derive(Clone, Copy, Debug, PartialEq, Eq)]
@@ -12,6 +14,22 @@ pub enum WpError {
     Wide,
     /// Memory ran out.
     Memory,
+}
+
+impl From<AllocError> for WpError {
+    ghost from_gives = { λ _ e. e ≡ OutOfMemory };
+
+    fn from(_: AllocError) -> Self {
+        WpError::Memory
+    }
+}
+
+impl<T: Drop> From<AllocFailed<T>> for WpError {
+    ghost from_gives = { λ _ e. e ≡ OutOfMemory };
+
+    fn from(_: AllocFailed<T>) -> Self {
+        WpError::Memory
+    }
 }
 
 impl From<FormSum> for WpError {
