@@ -5,7 +5,6 @@ use Rattle.std.specs.List.{AllByRecursion, list_all}
 use Rattle.std.proofs.lemmas.Bool.{and_parts, leb-true, ltb-true}
 use Rattle.acc_base.specs.declared.forms.Clause.{Clause}
 use Rattle.acc_base.specs.declared.tables.Table.{Table}
-use Rattle.acc_base.specs.declared.steps.Path.{Path}
 use Rattle.acc_base.specs.declared.steps.Step.{Step}
 use Rattle.acc_base.specs.declared.designs.At.{At}
 use Rattle.acc_base.specs.declared.designs.Side.{Side}
@@ -15,15 +14,15 @@ use Rattle.acc_base.specs.declared.designs.TxType.{TxType}
 use Rattle.acc_base.specs.declared.designs.Entry.{Entry}
 use Rattle.acc_base.specs.declared.designs.Design.{Design}
 use Rattle.acc_base.specs.Effects.{step_at}
-use Rattle.acc_form.specs.Ranges.{locals_of, at_in, pair_in}
+use Rattle.acc_form.specs.Ranges.{locals_of}
 use Rattle.acc_form.specs.Sizes.{is_short, rel_small, clause_small, table_small}
-use Rattle.acc_form.specs.WellFormed.{AreClausesFormed, IsClauseFormed, IsStepFormed, IsPointFormed, IsTypeFormed, IsWellFormed}
-use Rattle.acc_form.proofs.InRange.{design_range, EntryInRange}
+use Rattle.acc_form.specs.WellFormed.{AreClausesFormed, IsStepFormed, IsPointFormed, IsTypeFormed, IsWellFormed}
+use Rattle.acc_form.proofs.InRange.{design_range}
 use Rattle.acc_form.proofs.Runs.{table_is_small}
 use Rattle.acc_oblig.specs.Drafts.{each_from, each, step_paths}
 use Rattle.acc_oblig.proofs.OnPath.{numbered_at}
-use Rattle.acc_obligations.specs.Rooms.{HasFewVars, HasFewLocals, IsSmallEntry, IsSmallStep, IsSmallTable, IsSmallDesign, IsSmallPoint, IsSmallType, IsSmallAt, IsSmallRest, IsSmallStop}
-use Rattle.acc_obligations.specs.Stops.{Rest, Stop, joined, rest_alone, stop_alone, rest_stops, rests_of}
+use Rattle.acc_obligations.specs.Rooms.{HasFewVars, IsSmallEntry, IsSmallStep, IsSmallTable, IsSmallDesign, IsSmallPoint, IsSmallType, IsSmallAt, IsSmallRest, IsSmallStop}
+use Rattle.acc_obligations.specs.Stops.{Rest, joined, rest_alone, stop_alone, rest_stops, rests_of}
 
 -- ---- what holds of each item holds of all that is joined
 

@@ -1,20 +1,14 @@
 -- The listed points and paths of a well-formed design are small.
-use Rattle.std.proofs.Common.{◌≡◌, ℕ, ◌<◌, ◌≤◌, List, [], ◌∷◌, map, length, get_or, refl, sym, ap, subst, ◌∙◌, arith, Option, Some, None}
-use Rattle.std.specs.Prelude.{All, slice_get}
+use Rattle.std.proofs.Common.{◌≡◌, ℕ, ◌<◌, ◌≤◌, List, [], ◌∷◌, map, length, get_or, sym, ap, subst, ◌∙◌}
+use Rattle.std.specs.Prelude.{All}
 use Rattle.std.specs.List.{AllByRecursion}
 use Rattle.std.proofs.lemmas.List.Elements.{All-from_recursion, recursion_from_All}
-use Rattle.acc_base.specs.declared.forms.Clause.{Clause}
-use Rattle.acc_base.specs.declared.steps.Target.{Target}
-use Rattle.acc_base.specs.declared.steps.Target.TheVariants as target
-use Rattle.acc_base.specs.declared.designs.Point.{Point}
 use Rattle.acc_base.specs.declared.designs.TxType.{TxType}
 use Rattle.acc_base.specs.declared.designs.Design.{Design}
 use Rattle.acc_form.specs.WellFormed.{IsWellFormed}
 use Rattle.acc_obligations.specs.declared.places.PointPlace.{PointPlace}
 use Rattle.acc_obligations.specs.declared.places.PathPlace.{PathPlace}
-use Rattle.acc_oblig.specs.PathPromises.{point_clauses, promised}
-use Rattle.acc_oblig.proofs.OnPath.{all_at}
-use Rattle.acc_obligations.specs.Rooms.{HasFewVars, IsSmallPoint, IsSmallType, IsSmallRest, IsSmallStop}
+use Rattle.acc_obligations.specs.Rooms.{IsSmallRest, IsSmallStop}
 use Rattle.acc_obligations.specs.SeenPlaces.{rest, stop}
 use Rattle.acc_obligations.specs.Stops.{joined, rest_stops, rests_of}
 use Rattle.acc_obligations.proofs.Small.{all_joined, small_stops, rests_small}
@@ -51,19 +45,3 @@ few_points d wf xs e i l x f =
     let same : x ≡ get_or d.types i x = f ∙ ap (λ (ys : List TxType). get_or ys i x) e in
     let few = (wf.types i x within).few_points in
     subst (λ (y : TxType). length y.points ≤ 32) (sym same) few
-
--- ---- the clauses that a small type promises
-
-promised_few : (x : TxType) → IsSmallType x → (t : Target) → All HasFewVars (promised x t)
-promised_few x s (target.Point p) = by (slice_get x.points p) refl
-  where
-    by : (o : Option Point) → slice_get x.points p ≡ o → All HasFewVars (point_clauses o)
-    by None e = λ k c l. absurd (omega arith)
-    by (Some q) e = (all_at IsSmallPoint x.points p q s.points e).clauses
-promised_few x s target.Commit = s.posts
-promised_few x s target.Undone = s.repairs
-promised_few x s (target.Refuse n) = λ k c l. absurd (omega arith)
-
-pub promise_few :
-    (x : TxType) → IsSmallType x → (t : Target) (k : ℕ) (c : Clause) → slice_get (promised x t) k ≡ Some c → HasFewVars c
-promise_few x s t k c e = all_at HasFewVars (promised x t) k c (promised_few x s t) e

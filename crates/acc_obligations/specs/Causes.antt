@@ -14,13 +14,7 @@ abbrev pub first_wide : List Draft → Option Origin
 first_wide [] = None
 first_wide (x ∷ xs) = if x.wide then Some x.sequent.origin else first_wide xs
 
--- Ok where there is none, Wide with the first one's origin, and want of memory says nothing
-abbrev pub TellsDrafts : {T : Type 0} → Result T ObligError → List Draft → Type 0
-TellsDrafts (Ok x) ds = first_wide ds ≡ None
-TellsDrafts (Err (Wide o)) ds = first_wide ds ≡ Some o
-TellsDrafts (Err Memory) ds = Unit {0}
-
--- and of a clause from one place
+-- of a clause from one place: Ok where no number is too large, Wide with that place where one is, and want of memory says nothing
 abbrev pub TellsClause : {T : Type 0} → Result T ObligError → Origin → Bool → Type 0
 TellsClause (Ok x) origin wide = IsFalse wide
 TellsClause (Err (Wide o)) origin wide = (o ≡ origin) × IsTrue wide

@@ -1,5 +1,5 @@
 -- A setting as the definitions see it, and what bounds its parts.
-use Rattle.std.specs.Prelude.{ℕ, ◌≤◌, length, All}
+use Rattle.std.specs.Prelude.{◌≤◌, length, All}
 use Rattle.acc_base.specs.declared.bounds.TheConstants.{MOST_LOCALS, MOST_READS}
 use Rattle.acc_oblig.specs.Settings as definitions
 use Rattle.acc_obligations.specs.declared.settings.Setting.{Setting}

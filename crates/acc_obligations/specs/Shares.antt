@@ -1,5 +1,5 @@
 -- The obligations of a clause from what they share.
-use Rattle.std.specs.Prelude.{ℕ, ◌++◌, List, map}
+use Rattle.std.specs.Prelude.{◌++◌, List, map}
 use Rattle.acc_base.specs.declared.forms.Clause.{Clause}
 use Rattle.acc_base.specs.declared.steps.Action.{Action}
 use Rattle.acc_wp.specs.Preconditions.{wp_of}
