@@ -1,7 +1,5 @@
-//! The obligations of a design: where they are all true, the design is sound.
+//! What the obligations of a design are, and what they are worth: where they are all true, the design is sound.
 #![tactic(auto)]
 
-pub mod clauses;
-pub mod goals;
 pub mod laws;
 pub mod naming;

@@ -1,0 +1,5 @@
+pub mod Counted
+pub mod GuardEnds
+pub mod ClauseAdded
+pub mod Small
+pub mod SmallPlaces
