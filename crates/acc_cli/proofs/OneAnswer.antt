@@ -1,6 +1,6 @@
 -- A command line means one answer, on a shelf that tells what stands at each name, where no read fails.
-use Rattle.std.proofs.Common.{◌≡◌, ◌≢◌, ℕ, ◌<◌, ◌≤◌, ◌+◌, ◌-◌, ◌^◌, zero, suc, List, [], ◌∷◌, ◌++◌, length, Option, None, Some, IfSome, IsSomeAnd, refl, sym, ap, subst, ◌∙◌, inl, inr, arith}
-use Rattle.std.specs.Prelude.{min}
+use Rattle.std.proofs.Common.{◌≡◌, ℕ, ◌<◌, ◌≤◌, ◌^◌, zero, suc, List, [], ◌∷◌, ◌++◌, length, Option, None, Some, refl, sym, ap, subst, ◌∙◌, inl, inr, arith}
+use Rattle.std.specs.Prelude.{◌≢◌}
 use Rattle.acc_io.specs.Causes.{one_more, Rose}
 use Rattle.acc_io.specs.Counted.{after_files, after_refusal}
 use Rattle.acc_io.specs.Shelves.{Told, IsFile, IsAbsent, IsLong, IsRefused}
@@ -19,7 +19,7 @@ use Rattle.acc_cli.proofs.OneMeaning.{one_meaning}
 -- ---- what stands at a name is told in one way
 
 -- a refusal that speaks of what stands at the name
-Speaks : ShelfError → Type 0
+abbrev pub Speaks : ShelfError → Type 0
 Speaks Failed = ⊥
 Speaks Absent = Unit {0}
 Speaks (Long n) = Unit {0}
@@ -96,7 +96,8 @@ module _ (held : List ℕ → Told) (tells : (name : List ℕ) → held name ≢
   one_first (n ∷ ns) (o ∷ os) after rest [] earlier name label e f s t same h k r q = absurd h
   one_first (n ∷ ns) (o ∷ os) after rest (g ∷ gs) [] name label e f s t same h k r q = absurd k
   one_first (n ∷ ns) (o ∷ os) after rest (g ∷ gs) (i ∷ is) name label e f s t same h k r q =
-      one_first ns os after rest gs is name label e f s t cc h.1 k.1 r q
+      let behind : ns ++ name ∷ after ≡ os ++ label ∷ rest = cc in
+      one_first ns os after rest gs is name label e f s t behind h.1 k.1 r q
 
 -- ---- where no read fails, the refusal speaks
 
@@ -124,7 +125,7 @@ one_text name label (Long n) f t u same is s h k = h ∙ sym (subst (λ x. SaysR
 module _ (held : List ℕ → Told) (tells : (name : List ℕ) → held name ≢ None) (counts one other : Counts)
     (first : ¬ Rose counts.faults one.faults) (second : ¬ Rose counts.faults other.faults) where
   both_refuse : (names : List (List ℕ)) (a b : Reply) → RefusesFile held counts one names a → RefusesFile held counts other names b → a ≡ b
-  both_refuse names a b (status, history, name, e, h, said) (status', history', label, f, k, told) =
+  both_refuse names a b (status, history, (name, e, h, said)) (status', history', (label, f, k, told)) =
       let s = must_speak (length h.before) counts one e a.text name first h.counted said in
       let t = must_speak (length k.before) counts other f b.text label second k.counted told in
       let same = one_first held tells h.before k.before h.after k.after h.files k.files name label e f s t (sym h.place ∙ k.place) h.read k.read h.refused k.refused in
@@ -132,7 +133,7 @@ module _ (held : List ℕ → Told) (tells : (name : List ℕ) → held name ≢
       λ i. record { status = (status ∙ sym status') i; text = text i; history = (history ∙ sym history') i }
 
   given_and_refused : (names files : List (List ℕ)) (now : Counts) (b : Reply) → ¬ Rose counts.faults now.faults → AreFiles held names files → RefusesFile held counts now names b → ⊥
-  given_and_refused names files now b none given (status, history, label, f, k, told) =
+  given_and_refused names files now b none given (status, history, (label, f, k, told)) =
       let t = must_speak (length k.before) counts now f b.text label none k.counted told in
       given_or_refused held tells k.before k.after files k.files label f t (subst (λ ns. AreFiles held ns files) k.place given) k.read k.refused
 
