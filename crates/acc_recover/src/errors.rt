@@ -5,13 +5,13 @@ use acc_wal::WalError;
 /// were found or of the recovered ones; where the journal or its text is refused it is empty.
 #[derive(Clone, Copy, Debug, PartialEq, Eq)]
 pub enum RecoverError {
-    /// The disk holds no journal that counts: `NotJournal`, `OtherVersion` or `Damaged`, and no other. Its bytes are as before.
+    /// The disk's bytes aren't a journal's: `NotJournal`, `OtherVersion` or `Damaged`, and no other.
     Journal(WalError),
     /// The journal's base text isn't the printed text of the design.
     OtherDesign,
     /// The event with so many before it is the first that isn't lawful.
     Unlawful(u64),
-    /// The disk failed. A read gives one of the images that a crash may leave of the call.
+    /// The disk failed: its count of faults rose in this call.
     Disk,
     /// Memory ran out.
     Memory,

@@ -7,5 +7,6 @@ ghost use Rattle.acc_recover.specs.Recoveries.{IsRecovery};
 
 /// A history has one recovered state, and so one recovered history, at most.
 pub fn one_recovery()
-    ensures { (d : Design) (found : List Event) (one other : World) → IsRecovery d found one → IsRecovery d found other → one ≡ other }
+    ensures { (d : Design) (found : List Event) (one other : World)
+        → IsRecovery d found one → IsRecovery d found other → one ≡ other }
 {}
