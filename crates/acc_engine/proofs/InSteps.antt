@@ -22,6 +22,9 @@ use Rattle.acc_lift.proofs.Theorem.{event_logged}
 use Rattle.acc_wal.specs.Spellings.{body, event_bytes, Fits}
 use Rattle.acc_wal.specs.Wals.{Journal}
 use Rattle.acc_wal.specs.Settling.{IsSettled, KeepsLists, Pushes}
+use Rattle.acc_machine.specs.declared.errors.BeginError.{BeginError}
+use Rattle.acc_machine.specs.declared.errors.BeginError.TheVariants.{Full, Crowd, Memory}
+use Rattle.acc_machine.specs.Begun.{Begins}
 use Rattle.acc_machine.specs.Kept.{IsKept}
 use Rattle.acc_machine.proofs.Keeping.{kept_after}
 use Rattle.acc_machine.specs.Turns.{IsTurnEvent, step, undo, abort, AddsEvent, AddsBy}
@@ -365,3 +368,16 @@ in_step_new d w durable tail found calls marks kept same none fits few no_marks 
       sized = omega (arith, ap (λ (l : List Event). length (body l)) none);
       below = λ p low. absurd (omega arith);
     }
+
+-- ---- a call that doesn't begin
+
+pub same_world : (d : Design) (old new : World) (call : Call) (error : BeginError) → Begins d old new call (Err error) → new ≡ old
+same_world d old new call Full a = a.0
+same_world d old new call Crowd a = a.0
+same_world d old new call Memory a = a
+
+pub in_step_same : (d d2 : Design) (w w2 : World) (durable tail : List Event) (found : ℕ) (calls : List Call) (marks : List Bool) (lowest : ℕ)
+    → IsInStep d w durable tail found calls marks lowest → d2 ≡ d → w2 ≡ w → IsInStep d2 w2 durable tail found calls marks lowest
+in_step_same d d2 w w2 durable tail found calls marks lowest k is same =
+    subst (λ (x : Design). IsInStep x w2 durable tail found calls marks lowest) (sym is)
+    (subst (λ (x : World). IsInStep d x durable tail found calls marks lowest) (sym same) k)

@@ -1,10 +1,12 @@
 -- What an engine's calls answer, and what they leave.
-use Rattle.std.specs.Prelude.{◌≡◌, ◌≤◌, ◌<◌, ℕ, Bool, true, false, List, length, slice_get, Some}
+use Rattle.std.specs.Prelude.{◌≡◌, ◌≤◌, ◌<◌, ℕ, Bool, true, false, List, length, slice_get, Some, Result, Ok, Err}
 use Rattle.acc_base.specs.declared.bounds.TheConstants.{MOST_EVENTS, MOST_UNFINISHED}
 use Rattle.acc_base.specs.declared.machines.Call.{Call}
 use Rattle.acc_base.specs.declared.machines.Event.{Event}
 use Rattle.acc_base.specs.declared.machines.Event.TheVariants.{Begin}
 use Rattle.acc_base.specs.Machine.{unfinished, next_number, after_event}
+use Rattle.acc_machine.specs.declared.errors.BeginError.{BeginError}
+use Rattle.acc_machine.specs.declared.errors.BeginError.TheVariants.{Full as TooMany, Crowd as TooOpen, Memory as NoMemory}
 use Rattle.acc_engine.specs.Keeping.{Journalled, is_begun, IsLowest}
 use Rattle.acc_engine.specs.declared.errors.EngineError.{EngineError}
 use Rattle.acc_engine.specs.declared.errors.EngineError.TheVariants.{Disk, Failed, Memory}
@@ -26,6 +28,12 @@ abbrev pub RefusesTurn : EngineError → Bool → Type 0
 RefusesTurn Disk failed = ⊥
 RefusesTurn Failed failed = failed ≡ true
 RefusesTurn Memory failed = failed ≡ false
+
+-- why the history doesn't settle
+abbrev pub RefusesSettling : EngineError → Bool → Bool → Type 0 → Type 0
+RefusesSettling Disk before now fault = (before ≡ false) × (now ≡ true) × fault
+RefusesSettling Failed before now fault = before ≡ true
+RefusesSettling Memory before now fault = ⊥
 
 -- the event by which the call of that place, counted from 0, begins
 pub record IsBeginAt (calls : List Call) (place : ℕ) (event : Event) : Type 0 where
@@ -61,3 +69,9 @@ DrawsLowest (Begun t) old new = (place : ℕ) × IsNextPlace old.calls old.begun
 DrawsLowest Empty old new = ((p : ℕ) → p < length old.calls → is_begun old.begun p ≡ true) × (new.state ≡ old.state)
 DrawsLowest Full old new = (place : ℕ) × IsNextPlace old.calls old.begun place × Draws Full place old new
 DrawsLowest Crowd old new = (place : ℕ) × IsNextPlace old.calls old.begun place × Draws Crowd place old new
+
+-- what is answered where a call doesn't begin
+abbrev pub answer_for : BeginError → Result Drawn EngineError
+answer_for TooMany = Ok Full
+answer_for TooOpen = Ok Crowd
+answer_for NoMemory = Err Memory

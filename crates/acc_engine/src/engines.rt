@@ -1,4 +1,6 @@
 //! The engine.
+ghost use Rattle.std.specs.Prelude.{◌≡◌};
+ghost use Rattle.acc_engine.specs.Calls.{answer_for};
 
 use crate::errors::{Drawn, EngineError};
 use crate::marks::lowest;
@@ -53,7 +55,8 @@ impl<'a, S: Store, D: Disk> Model for Engine<'a, S, D> {
 }
 
 impl<'a, S: Store, D: Disk> Engine<'a, S, D> {
-    ghost use Rattle.std.specs.Prelude.{◌≡◌, ◌≢◌, ◌≤◌, ◌<◌, ◌+◌, ◌-◌, ◌^◌, ◌++◌, [], map, drop, List, ℕ, length, false, true, IfOk, IfErr, OnOk, OnErr, Ok, Err, Some};
+    ghost use Rattle.std.specs.Prelude.{◌≡◌, ◌≢◌, ◌≤◌, ◌<◌, ◌+◌, ◌-◌, ◌^◌, ◌++◌, [], map, drop};
+    ghost use Rattle.std.specs.Prelude.{List, ℕ, length, false, true, IfOk, IfErr, OnOk, OnErr, Ok, Err, Some};
     ghost use Rattle.acc_io.specs.Causes.{Rose};
     ghost use Rattle.acc_disk.specs.Crashes.{Only, IsCalm};
     ghost use Rattle.acc_disk.specs.Moments.{AtAnyMoment};
@@ -62,8 +65,8 @@ impl<'a, S: Store, D: Disk> Engine<'a, S, D> {
     ghost use Rattle.acc_plain.specs.Turned.{IsUnfinished};
     ghost use Rattle.acc_machine.specs.Turns.{IsTurn, AddsBy};
     ghost use Rattle.acc_engine.specs.Keeping.{CallsFit, begin_of, BeginsFrom, is_begun};
-    ghost use Rattle.acc_engine.specs.Calls.{StaysBut, RefusesTurn, Draws, DrawsLowest};
-    ghost use Rattle.acc_engine.specs.declared.errors.EngineError.TheVariants.{Disk as DiskFailed, Failed};
+    ghost use Rattle.acc_engine.specs.Calls.{StaysBut, RefusesTurn, RefusesSettling, Draws, DrawsLowest};
+    ghost use Rattle.acc_engine.specs.declared.errors.EngineError.TheVariants.{Failed};
 
     /// An engine over a state and its settled journal, for these calls, of which none is begun. It takes no memory.
     pub fn new(alloc: Global, state: State<'a, S>, wal: Wal<D>, calls: Seq<Call>) -> Self
@@ -115,9 +118,10 @@ impl<'a, S: Store, D: Disk> Engine<'a, S, D> {
         ensures calls { (self.new.calls ≡ self.old.calls) × (self.new.begun ≡ self.old.begun) × (self.new.found ≡ self.old.found) }
         ensures ok { IfOk result (λ count. (count ≡ length self.new.state.events)
             × (self.new.settled ≡ length self.new.state.events) × (self.new.failed ≡ false)) }
-        ensures disk { result ≡ Err DiskFailed → Rose (D.faults self.old.disk) (D.faults self.new.disk) × (self.new.failed ≡ true) }
+        ensures err { OnErr result (self.new.settled ≡ self.old.settled) }
+        ensures why { IfErr result (λ error. RefusesSettling error self.old.failed self.new.failed
+            (Rose (D.faults self.old.disk) (D.faults self.new.disk))) }
         ensures failed { self.old.failed ≡ true → (result ≡ Err Failed) × (self.new ≡ self.old) }
-        ensures why { result ≡ Err Failed → self.old.failed ≡ true }
         ensures faults { D.faults self.old.disk ≤ D.faults self.new.disk }
         ensures calm { IsCalm (D.told self.old.disk) (D.may_leave self.old.disk)
             → OnOk result (IsCalm (D.told self.new.disk) (D.may_leave self.new.disk)) }
@@ -181,9 +185,7 @@ impl<'a, S: Store, D: Disk> Engine<'a, S, D> {
                 self.begun[index] = true;
                 Ok(Drawn::Begun(t))
             }
-            Err(BeginError::Full) => Ok(Drawn::Full),
-            Err(BeginError::Crowd) => Ok(Drawn::Crowd),
-            Err(BeginError::Memory) => Err(EngineError::Memory),
+            Err(error) => not_begun(error),
         }
     }
 
@@ -222,5 +224,16 @@ impl<'a, S: Store, D: Disk> Engine<'a, S, D> {
             found: _,
         } = self;
         (state, wal)
+    }
+}
+
+// What is answered where a call doesn't begin.
+fn not_begun(error: BeginError) -> Result<Drawn, EngineError>
+    ensures { result ≡ answer_for error }
+{
+    match error {
+        BeginError::Full => Ok(Drawn::Full),
+        BeginError::Crowd => Ok(Drawn::Crowd),
+        BeginError::Memory => Err(EngineError::Memory),
     }
 }

@@ -13,7 +13,7 @@ use Rattle.acc_wal.specs.Spellings.{body, event_bytes, Fits}
 use Rattle.acc_wal.specs.Settling.{Pushes}
 use Rattle.acc_engine.specs.Keeping.{Journalled}
 use Rattle.acc_engine.proofs.CallFields.{all_fields}
-use Rattle.acc_engine.proofs.InSteps.{in_step_widened, begin_short, in_step_begun}
+use Rattle.acc_engine.proofs.InSteps.{in_step_widened, begin_short, in_step_begun, in_step_same, same_world}
 use Rattle.acc_engine.proofs.engines.Engine.begin_at.Goals as goal
 
 pub prepare-requires-clause-fits : goal.prepare-requires-clause-fits
@@ -84,3 +84,16 @@ returns-in-Ok-begin-clause-ok g c =
       subst (λ (w : World). length w.events < MOST_EVENTS) state answer.2.0,
       subst (λ (w : World). length (unfinished w) < MOST_UNFINISHED) state answer.2.1,
     )
+
+pub invariant_of-self-in-Err-begin : goal.invariant_of-self-in-Err-begin
+invariant_of-self-in-Err-begin g c =
+    let inside = c.self.inside in
+    let old = inside.state in
+    let now = c.begin.new.self in
+    let wal = c.prepare.new.wal in
+    let marks = c.prepare.new.begun.items in
+    let wide =
+    in_step_widened old.design old.world inside.wal wal inside.found inside.calls inside.begun.items marks inside.lowest c.self.invariant
+    c.prepare.ensures.lists.lists (c.prepare.ensures.same inside.calls) c.prepare.ensures.marks in
+    in_step_same old.design now.design old.world now.world wal.durable wal.tail inside.found inside.calls marks inside.lowest wide c.begin.ensures.design
+    (same_world old.design old.world now.world c.index-as_slice-index.result c.in-Err-begin.error c.in-Err-begin.ensures.answer)
