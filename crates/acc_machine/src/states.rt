@@ -7,6 +7,7 @@ ghost use Rattle.acc_base.specs.Annotated.{IsAnnotated, IsIdle};
 ghost use Rattle.acc_base.specs.Invariant.{IsGood};
 ghost use Rattle.acc_base.specs.Locks.{IsStuck};
 ghost use Rattle.acc_plain.specs.Turned.{IsUnfinished};
+ghost use Rattle.acc_lift.specs.Acceptance.{IsAccepted};
 ghost use Rattle.acc_machine.specs.Begun.{Begins, HasRoom};
 ghost use Rattle.acc_machine.specs.Holders.{IsForward, IsListed, IsHeldBack, TellsHolder};
 ghost use Rattle.acc_machine.specs.Takes.{CanCome, GivesLeave, Takes};
@@ -70,6 +71,7 @@ impl<'a, S: Store> State<'a, S> {
         ensures run { world self.now.design self.now.world.events ≡ Some self.now.world }
         ensures good { IsGood self.now.design self.now.world }
         ensures annotated { IsAnnotated self.now.design self.now.world.events }
+        ensures accepted { IsAccepted self.now.design }
     {
         self.machine.events()
     }

@@ -1,0 +1,3 @@
+pub mod CallFields
+pub mod Unbegun
+pub mod InSteps

@@ -1,0 +1,26 @@
+use Rattle.std.proofs.Common.{◌≡◌, List, ℕ, length, false, Some, ◌∙◌, ap, subst}
+use Rattle.acc_base.specs.declared.machines.Event.{Event}
+use Rattle.acc_disk.specs.Crashes.{Only}
+use Rattle.acc_disk.specs.Moments.{AtAnyMoment}
+use Rattle.acc_wal.specs.Fronts.{CountsFront}
+use Rattle.acc_wal.proofs.FrontLemmas.{front_of_either}
+use Rattle.acc_wal.proofs.Moments.{weaker}
+use Rattle.acc_engine.specs.Keeping.{Journalled}
+use Rattle.acc_engine.proofs.InSteps.{in_step_settled}
+use Rattle.acc_engine.proofs.engines.Engine.settle.Goals as goal
+
+pub invariant_of-self : goal.invariant_of-self
+invariant_of-self g c =
+    let old = c.self.inside in
+    in_step_settled old.state.design old.state.world old.wal c.settle.new.self old.found old.calls old.begun.items old.lowest c.self.invariant c.settle.result c.settle.ensures.ok c.settle.ensures.err
+
+pub returns-clause-moments : goal.returns-clause-moments
+returns-clause-moments g c unfailed =
+    let wal = c.self.inside.wal in
+    let unspent : wal.spent ≡ false = ap (λ (j : Journalled g.row.D.Denot). j.failed) c.self.view_is ∙ unfailed in
+    let P : Journalled g.row.D.Denot → Type 0 = λ j. (file : List ℕ) → g.D.Disk.told j.disk ≡ Some file → Only file (g.D.Disk.may_leave j.disk) → AtAnyMoment g.D.Disk.clock g.D.Disk.left_since j.disk c.settle.new.self.disk (CountsFront j.base j.state.events j.settled) in
+    subst P c.self.view_is
+    (λ file told only.
+    weaker g.D.Disk.clock g.D.Disk.left_since _ _ _ _
+    (λ image either. subst (λ (h : List Event). CountsFront wal.base h (length wal.durable) image) c.self.invariant.same (front_of_either wal.base image wal.durable wal.tail either))
+    (c.settle.ensures.moments unspent file told only))

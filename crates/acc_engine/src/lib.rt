@@ -1,0 +1,11 @@
+//! The engine: a state and its journal in step, and the calls of a script.
+#![tactic(auto)]
+
+mod engines;
+mod errors;
+mod marks;
+mod noting;
+mod places;
+
+pub use engines::Engine;
+pub use errors::{Drawn, EngineError};
