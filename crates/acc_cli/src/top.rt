@@ -88,7 +88,12 @@ fn decide<H: Shelf>(alloc: Global, words: &[String], shelf: &mut H) -> Result<An
 }
 
 // Answers a command line.
-fn answer<H: Shelf, K: Sink>(alloc: Global, words: &[String], shelf: &mut H, out: &mut K) -> Ended
+fn answer_line<H: Shelf, K: Sink>(
+    alloc: Global,
+    words: &[String],
+    shelf: &mut H,
+    out: &mut K,
+) -> Ended
     ensures held { H.held shelf.new ≡ H.held shelf.old }
     ensures faults { (H.counts shelf.old).faults ≤ (H.counts shelf.new).faults }
     ensures absences { (H.counts shelf.old).absences ≤ (H.counts shelf.new).absences }
@@ -137,7 +142,7 @@ pub fn acc<H: Shelf, K: Sink>(alloc: Global, words: &[String], shelf: &mut H, ou
     ensures absences { (H.counts shelf.old).absences ≤ (H.counts shelf.new).absences }
     ensures sink_faults { K.faults out.old ≤ K.faults out.new }
 {
-    let ended = answer(alloc, words, shelf, out);
+    let ended = answer_line(alloc, words, shelf, out);
     Played {
         status: ended.status.code(),
         history: ended.history,

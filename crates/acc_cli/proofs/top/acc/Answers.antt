@@ -4,10 +4,10 @@ use Rattle.acc_cli.proofs.StatusLemmas.{zero_is_done}
 use Rattle.acc_cli.proofs.top.acc.Goals as goal
 
 pub returns-clause-answered : goal.returns-clause-answered
-returns-clause-answered g c = record { status = c.answer-ended.result.status; coded = c.code.ensures; holds = c.answer-ended.ensures.answered }
+returns-clause-answered g c = record { status = c.answer_line-ended.result.status; coded = c.code.ensures; holds = c.answer_line-ended.ensures.answered }
 
 pub returns-clause-causes : goal.returns-clause-causes
-returns-clause-causes g c = record { status = c.answer-ended.result.status; coded = c.code.ensures; holds = causes_of _ _ _ _ _ _ _ _ _ c.answer-ended.ensures.answered }
+returns-clause-causes g c = record { status = c.answer_line-ended.result.status; coded = c.code.ensures; holds = causes_of _ _ _ _ _ _ _ _ _ c.answer_line-ended.ensures.answered }
 
 pub returns-clause-clean : goal.returns-clause-clean
-returns-clause-clean g c h = c.answer-ended.ensures.clean (zero_is_done c.answer-ended.result.status (sym c.code.ensures ∙ h))
+returns-clause-clean g c h = c.answer_line-ended.ensures.clean (zero_is_done c.answer_line-ended.result.status (sym c.code.ensures ∙ h))
