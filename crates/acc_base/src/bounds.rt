@@ -60,5 +60,3 @@ pub const MOST_TURNS: usize = 1 << 20;
 pub const MOST_EVENTS: usize = 1 << 20;
 /// Transactions that are unfinished at once.
 pub const MOST_UNFINISHED: usize = 64;
-/// Bytes of a file: 2^26.
-pub const LONGEST_FILE: u64 = 1 << 26;

@@ -5,7 +5,7 @@ use Rattle.std.specs.List.{prefix_len}
 use Rattle.acc_disk.specs.Standings.{Standing, settled, IsInOrder}
 use Rattle.acc_disk.specs.Changes.{after_change, after_all}
 use Rattle.acc_disk.specs.declared.history.Recorded.{Recorded}
-use Rattle.acc_disk.specs.declared.history.Change.TheVariants.{Synced}
+use Rattle.acc_disk.specs.declared.history.FileChange.TheVariants.{Synced}
 use Rattle.acc_disk.proofs.Orders.{settled_in_order}
 
 pub after_all-push : (past : List Recorded) (last : Recorded) (standing : Standing) → after_all (past ++ last ∷ []) standing ≡ after_change last.change (after_all past standing)

@@ -9,7 +9,7 @@ use std::alloc::{AllocError, Global};
 
 // A call that changed what stands there.
 #[derive(Drop)]
-pub(crate) enum Change {
+pub(crate) enum FileChange {
     Wrote { at: usize, bytes: Vec<u8> },
     Cut { to: usize },
     Synced,
@@ -19,7 +19,7 @@ pub(crate) enum Change {
 #[derive(Drop)]
 pub(crate) struct Recorded {
     pub(crate) number: u64,
-    pub(crate) change: Change,
+    pub(crate) change: FileChange,
 }
 
 // The bytes at the start, which count as synced, the bytes that stand there now, and all that changed them.
@@ -80,7 +80,7 @@ impl History {
         self.bytes.reserve(piece.len() - inside)?;
         self.past.push(Recorded {
             number,
-            change: Change::Wrote { at, bytes },
+            change: FileChange::Wrote { at, bytes },
         })?;
         put(&mut self.bytes, at, piece);
         Ok(())
@@ -94,7 +94,7 @@ impl History {
     {
         self.past.push(Recorded {
             number,
-            change: Change::Cut { to },
+            change: FileChange::Cut { to },
         })?;
         self.bytes.truncate(to);
         Ok(())
@@ -107,7 +107,7 @@ impl History {
     {
         self.past.push(Recorded {
             number,
-            change: Change::Synced,
+            change: FileChange::Synced,
         })?;
         Ok(())
     }

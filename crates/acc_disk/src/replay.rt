@@ -5,7 +5,7 @@ ghost use Rattle.acc_disk.specs.Standings.{Standing, settled, is_written, IsImag
 ghost use Rattle.acc_disk.specs.Changes.{after_change};
 
 use crate::draw::Draw;
-use crate::history::{Change, put};
+use crate::history::{FileChange, put};
 use std::alloc::{AllocError, Global};
 use std::marker::Model;
 
@@ -61,22 +61,22 @@ impl Replay {
     }
 
     // Does the change once more. After an error nothing is known of it.
-    pub(crate) fn apply(&mut self, alloc: Global, change: &Change) -> Result<(), AllocError>
+    pub(crate) fn apply(&mut self, alloc: Global, change: &FileChange) -> Result<(), AllocError>
         ensures { OnOk result (self.new ≡ after_change change.now self.old) }
     {
         match change {
-            Change::Wrote { at, bytes } => {
+            FileChange::Wrote { at, bytes } => {
                 self.written.push((*at, bytes.len()))?;
                 let start = (*at).min(self.bytes.len());
                 self.bytes.reserve(bytes.len())?;
                 put(&mut self.bytes, start, bytes);
                 self.highest = self.highest.max(self.bytes.len());
             }
-            Change::Cut { to } => {
+            FileChange::Cut { to } => {
                 self.bytes.truncate(*to);
                 self.lowest = self.lowest.min(self.bytes.len());
             }
-            Change::Synced => {
+            FileChange::Synced => {
                 self.synced = self.bytes.to_vec(alloc)?;
                 self.lowest = self.bytes.len();
                 self.highest = self.bytes.len();

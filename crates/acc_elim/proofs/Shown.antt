@@ -8,7 +8,7 @@ use Rattle.acc_farkas.specs.Solutions.{HaveNoSolution}
 use Rattle.acc_farkas.proofs.Worths.{refuted as have_no_solution}
 use Rattle.acc_systems.specs.declared.stops.Stop.TheVariants as stop
 use Rattle.acc_systems.specs.declared.rows.Row.{Row}
-use Rattle.acc_systems.specs.Answers.{Outcome, Answers}
+use Rattle.acc_systems.specs.Answers.{Computation, Answers}
 use Rattle.acc_points.specs.Points.{Point}
 use Rattle.acc_points.specs.Searches.{searched}
 use Rattle.acc_points.proofs.Searched.{refutes}
@@ -34,7 +34,7 @@ shown_by rels r e false false is v h =
     let same : Refuted (record { of = multipliers r }) ≡ v = cc in
     subst (λ w. IfRefuted (Ok w) (Refute rels)) same (evidence rels (multipliers r) (ready rels r (refutes rels r e)) is)
 
-shown_at : (rels : List Rel) (o : Outcome Point) → searched rels ≡ o → (v : Verdict) → ended rels o ≡ Ok v
+shown_at : (rels : List Rel) (o : Computation Point) → searched rels ≡ o → (v : Verdict) → ended rels o ≡ Ok v
     → IfRefuted (Ok v) (Refute rels)
 shown_at rels (Ok point) e v h =
     let same : Solved point ≡ v = cc in
@@ -57,7 +57,7 @@ refuted_is_unsolvable rels (Ok (Refuted ms)) h = have_no_solution rels ms.of h.a
 refuted_is_unsolvable rels (Ok (Solved point)) h = tt
 refuted_is_unsolvable rels (Err e) h = tt
 
-met_at : (rels : List Rel) (o : Outcome Point) → searched rels ≡ o → (v : Verdict) → ended rels o ≡ Ok v → IfSolved (Ok v) (Meets rels)
+met_at : (rels : List Rel) (o : Computation Point) → searched rels ≡ o → (v : Verdict) → ended rels o ≡ Ok v → IfSolved (Ok v) (Meets rels)
 met_at rels (Ok point) e v h =
     let same : Solved point ≡ v = cc in
     subst (λ w. IfSolved (Ok w) (Meets rels)) same (searched_is_met rels point e)
@@ -79,7 +79,7 @@ solved_is_met rels (Err e) h = tt
 
 -- ---- an answer of the elimination's end is that of the decision
 
-pub told : (rels : List Rel) (end : Outcome Point) (o : Result Verdict ElimError) → Answers end (searched rels)
+pub told : (rels : List Rel) (end : Computation Point) (o : Result Verdict ElimError) → Answers end (searched rels)
     → IfOk o (λ v. ended rels end ≡ Ok v) → IfOk o (λ v. decision rels ≡ Ok v)
 told rels (Ok point) (Ok v) e h = ap (ended rels) e ∙ h
 told rels (Err (stop.Refuted r)) (Ok v) e h = ap (ended rels) e ∙ h
@@ -93,7 +93,7 @@ stopped_by Wide x y e h = e ∙ h
 stopped_by Many x y e h = e ∙ h
 stopped_by Memory x y e h = tt
 
-pub told_error : (rels : List Rel) (end : Outcome Point) (o : Result Verdict ElimError) → Answers end (searched rels)
+pub told_error : (rels : List Rel) (end : Computation Point) (o : Result Verdict ElimError) → Answers end (searched rels)
     → IfErr o (λ e. StoppedBy e (ended rels end)) → IfErr o (λ e. StoppedBy e (decision rels))
 told_error rels end (Ok v) e h = tt
 told_error rels (Ok point) (Err d) e h = stopped_by d (decision rels) (ended rels (Ok point)) (ap (ended rels) e) h

@@ -7,7 +7,7 @@ use Rattle.acc_base.specs.Collecting.{multiple}
 use Rattle.acc_farkas.specs.Sums.{Pair, is_refuting_wide}
 use Rattle.acc_systems.specs.declared.stops.Stop.TheVariants as stop
 use Rattle.acc_systems.specs.declared.rows.Row.{Row}
-use Rattle.acc_systems.specs.Answers.{Outcome}
+use Rattle.acc_systems.specs.Answers.{Computation}
 use Rattle.acc_points.specs.Points.{Point}
 use Rattle.acc_points.specs.Searches.{searched}
 use Rattle.acc_elim.specs.declared.verdicts.ElimError.{ElimError}
@@ -41,7 +41,7 @@ refuted rels r =
     if are_multipliers_wide r || is_refuting_wide rels (multipliers r) then Err Wide else Ok (Refuted (record { of = multipliers r }))
 
 -- how an elimination ends: with a point, or with what stopped it. No elimination stops for want of memory
-abbrev pub ended : List Rel → Outcome Point → Result Verdict ElimError
+abbrev pub ended : List Rel → Computation Point → Result Verdict ElimError
 ended rels (Ok point) = Ok (Solved point)
 ended rels (Err (stop.Refuted r)) = refuted rels r
 ended rels (Err stop.Wide) = Err Wide

@@ -13,7 +13,7 @@ use Rattle.acc_base.specs.Numbers.{total}
 use Rattle.acc_systems.specs.declared.stops.Stop.TheVariants.{Refuted, Wide, Many, Memory}
 use Rattle.acc_systems.specs.declared.rows.Row.{Row}
 use Rattle.acc_systems.specs.declared.systems.Eliminated.{Eliminated}
-use Rattle.acc_systems.specs.Answers.{Outcome, chain, steps}
+use Rattle.acc_systems.specs.Answers.{Computation, chain, steps}
 use Rattle.acc_systems.specs.Numbers.{kept, product, opposite, sum as plus}
 use Rattle.acc_systems.specs.Sparse.{Sparse, at, mixed}
 use Rattle.acc_systems.specs.Systems.{is_false, is_lower, eliminated}
@@ -32,13 +32,13 @@ use Rattle.acc_systems.proofs.FalseConstants.{a_sum, signed, rising, at_end}
 
 -- ---- computations that end with a value or a number that is too large
 
-abbrev pub Some : {A : Type 0} → Outcome A → Type 0
+abbrev pub Some : {A : Type 0} → Computation A → Type 0
 Some o = Gives o (λ _. Unit {0})
 
-some_chain : {A B : Type 0} (o : Outcome A) (next : A → Outcome B) → Some o → ((x : A) → Some (next x)) → Some (chain o next)
+some_chain : {A B : Type 0} (o : Computation A) (next : A → Computation B) → Some o → ((x : A) → Some (next x)) → Some (chain o next)
 some_chain o next h k = gives_chain o next (λ _. Unit {0}) (λ _. Unit {0}) h (λ x _. k x)
 
-some_steps : {S X : Type 0} (step : S → X → Outcome S) → ((s : S) (x : X) → Some (step s x)) → (xs : List X) (s : S)
+some_steps : {S X : Type 0} (step : S → X → Computation S) → ((s : S) (x : X) → Some (step s x)) → (xs : List X) (s : S)
     → Some (steps step s xs)
 some_steps step h [] s = tt
 some_steps step h (x ∷ xs) s = some_chain (step s x) (λ t. steps step t xs) (h s x) (λ t. some_steps step h xs t)
@@ -257,7 +257,7 @@ module _ (names : List Unknown) where
 
 -- ---- the false constant that ends a search for a point
 
-ended_by : {A B : Type 0} (o : Outcome A) (next : A → Outcome B) (r : Row) → Some o → chain o next ≡ Err (Refuted r)
+ended_by : {A B : Type 0} (o : Computation A) (next : A → Computation B) (r : Row) → Some o → chain o next ≡ Err (Refuted r)
     → (x : A) × (o ≡ Ok x) × (next x ≡ Err (Refuted r))
 ended_by (Ok x) next r h e = (x, refl, e)
 ended_by (Err Wide) next r h e = absurd (cc)
@@ -265,19 +265,19 @@ ended_by (Err Many) next r h e = absurd h
 ended_by (Err Memory) next r h e = absurd h
 ended_by (Err (Refuted q)) next r h e = absurd h
 
-not_ended : {A : Type 0} (o : Outcome A) (r : Row) → Some o → o ≡ Err (Refuted r) → ⊥
+not_ended : {A : Type 0} (o : Computation A) (r : Row) → Some o → o ≡ Err (Refuted r) → ⊥
 not_ended (Ok x) r h e = cc
 not_ended (Err Wide) r h e = cc
 not_ended (Err Many) r h e = h
 not_ended (Err Memory) r h e = h
 not_ended (Err (Refuted q)) r h e = h
 
-before_it : {A B : Type 0} (o : Outcome A) (next : A → Outcome B) (r : Row) → ((x : A) → Some (next x)) → chain o next ≡ Err (Refuted r)
+before_it : {A B : Type 0} (o : Computation A) (next : A → Computation B) (r : Row) → ((x : A) → Some (next x)) → chain o next ≡ Err (Refuted r)
     → o ≡ Err (Refuted r)
 before_it (Ok x) next r h e = absurd (not_ended (next x) r (h x) e)
 before_it (Err d) next r h e = let same : d ≡ Refuted r = cc in ap Err same
 
-read_as : {A : Type 0} (o : Outcome A) (P : A → Type 0) (x : A) → o ≡ Ok x → Gives o P → P x
+read_as : {A : Type 0} (o : Computation A) (P : A → Type 0) (x : A) → o ≡ Ok x → Gives o P → P x
 read_as o P x e h = subst (λ z. Gives z P) e h
 
 pub refutes : FalseConstantRefutes

@@ -8,7 +8,7 @@ use Rattle.acc_base.specs.declared.forms.Unknown.{Unknown}
 use Rattle.acc_base.specs.declared.forms.Rel.{Rel}
 use Rattle.acc_base.specs.UnknownEquality.{unknown_eq, is_bare_one}
 use Rattle.acc_systems.specs.declared.rows.Row.{Row}
-use Rattle.acc_systems.specs.Answers.{Outcome, chain, steps}
+use Rattle.acc_systems.specs.Answers.{Computation, chain, steps}
 use Rattle.acc_systems.specs.Numbers.{kept, sum}
 use Rattle.acc_systems.specs.Sparse.{Sparse, mixed}
 
@@ -38,11 +38,11 @@ number_of names u = unwrap_or (place_of names u) 0
 -- ---- the relations
 
 -- what is added to the constant for a term
-abbrev pub read_number : ℤ → Unknown × ℤ → Outcome ℤ
+abbrev pub read_number : ℤ → Unknown × ℤ → Computation ℤ
 read_number constant t = if is_bare_one t.0 then sum constant t.1 else Ok constant
 
 -- one more term, beside those so far
-abbrev pub read_term : List Unknown → Sparse → Unknown × ℤ → Outcome Sparse
+abbrev pub read_term : List Unknown → Sparse → Unknown × ℤ → Computation Sparse
 read_term names terms t =
     if is_bare_one t.0 || int_eq t.1 (pos 0) then Ok terms else mixed (pos 1) (pos 1) terms ((number_of names t.0, t.1) ∷ [])
 
@@ -50,16 +50,16 @@ read_term names terms t =
 abbrev pub once : ℕ → Sparse
 once place = (place, pos 1) ∷ []
 
-abbrev pub row_of : List Unknown → ℕ → Rel → Outcome Row
+abbrev pub row_of : List Unknown → ℕ → Rel → Computation Row
 row_of names place r =
     chain (chain (kept r.form.constant) (λ first. steps read_number first r.form.terms))
     (λ constant. chain (steps (read_term names) [] r.form.terms)
     (λ terms. Ok (record { terms = terms; constant = constant; equal = r.equal; by = once place })))
 
-abbrev pub row_alone : List Unknown → ℕ → Rel → Outcome (List Row)
+abbrev pub row_alone : List Unknown → ℕ → Rel → Computation (List Row)
 row_alone names place r = chain (row_of names place r) (λ row. Ok (row ∷ []))
 
-abbrev pub rows_from : List Unknown → ℕ → List Rel → Outcome (List Row)
+abbrev pub rows_from : List Unknown → ℕ → List Rel → Computation (List Row)
 rows_from names place [] = Ok []
 rows_from names place (r ∷ rs) =
     chain (row_of names place r) (λ row. chain (rows_from names (suc place) rs) (λ rows. Ok (row ∷ rows)))

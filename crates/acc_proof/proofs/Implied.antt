@@ -20,7 +20,7 @@ use Rattle.acc_base.specs.Sums.{form_sum}
 use Rattle.acc_farkas.specs.declared.refuting.Mults.{Mults}
 use Rattle.acc_proof.specs.declared.nodes.Node.{Node}
 use Rattle.acc_proof.specs.declared.nodes.Node.TheVariants.{Split, Inst, Axiom, Leaf}
-use Rattle.acc_proof.specs.Outcomes.{Outcome, Gives, and_then}
+use Rattle.acc_proof.specs.Checked.{Checked, Gives, and_then}
 use Rattle.acc_proof.specs.Facts.{one, is_zero, below, is_below_wide, above, is_above_wide, refuted, all_shown, used_up}
 use Rattle.acc_instances.specs.Instances.{fact_at}
 use Rattle.acc_proof.specs.Axioms.{axiom_of}
@@ -33,7 +33,7 @@ use Rattle.acc_proof.proofs.Walks.{IsOff, AreOff, NodesSound, all_off}
 use Rattle.acc_proof.proofs.AxiomTruths.{axiom_true}
 use Rattle.acc_instances.proofs.InstanceValues.{fact_at_true, facts_at_true}
 
-all_used : {A : Type 0} (o : Outcome A) (ms : List Mults) (y : A) → used_up o ms ≡ Gives y → o ≡ Gives y
+all_used : {A : Type 0} (o : Checked A) (ms : List Mults) (y : A) → used_up o ms ≡ Gives y → o ≡ Gives y
 all_used o [] y h = h
 all_used o (m ∷ ms) y h = absurd (cc)
 

@@ -12,7 +12,7 @@ use Rattle.acc_base.specs.TrueSequents.{SequentTrue}
 use Rattle.acc_proof.specs.declared.nodes.Node.{Node}
 use Rattle.acc_proof.specs.declared.checks.Pending.{Pending}
 use Rattle.acc_proof.specs.declared.errors.ProofError.{ProofError}
-use Rattle.acc_proof.specs.Outcomes.{Gives}
+use Rattle.acc_proof.specs.Checked.{Gives}
 use Rattle.acc_proof.specs.Proofs.{Branches, node_of, Proved, NotProved, go_on, walked, verdict}
 use Rattle.acc_proof.specs.Opened.{opened, AreNested, pending}
 use Rattle.acc_proof.proofs.Implied.{proofs_imply}

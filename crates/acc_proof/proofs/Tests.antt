@@ -8,7 +8,7 @@ use Rattle.std.proofs.lemmas.List.Folds.{list_all-append}
 use borrow.Author.Differences.{le-false}
 use lib.Signed.{le_z_yes}
 use lib.Dec.{T}
-use Rattle.acc_proof.specs.Outcomes.{Outcome, Gives, Fails, TooWide, and_then}
+use Rattle.acc_proof.specs.Checked.{Checked, Gives, Fails, TooWide, and_then}
 
 pub le_yes : (a b : ℤ) → a ≤ℤ b → int_le a b ≡ true
 le_yes a b h = by (int_le a b) refl
@@ -35,16 +35,16 @@ all_both P xs ys g h = list_all-append P xs ys ∙ both_true (list_all P xs) (li
 
 -- ---- parts that go on
 
-pub goes_on : {A B : Type 0} (f : A → Outcome B) (o : Outcome A) (y : B) → and_then f o ≡ Gives y → (x : A) × (o ≡ Gives x)
+pub goes_on : {A B : Type 0} (f : A → Checked B) (o : Checked A) (y : B) → and_then f o ≡ Gives y → (x : A) × (o ≡ Gives x)
     × (f x ≡ Gives y)
 goes_on f (Gives x) y h = (x, refl, h)
 goes_on f Fails y h = absurd (cc)
 goes_on f TooWide y h = absurd (cc)
 
-pub not_wide : {A : Type 0} (b : Bool) (o : Outcome A) (y : A) → (if b then TooWide else o) ≡ Gives y → o ≡ Gives y
+pub not_wide : {A : Type 0} (b : Bool) (o : Checked A) (y : A) → (if b then TooWide else o) ≡ Gives y → o ≡ Gives y
 not_wide true o y h = absurd (cc)
 not_wide false o y h = h
 
-pub may : {A : Type 0} (b : Bool) (o : Outcome A) (y : A) → (if b then o else Fails) ≡ Gives y → (b ≡ true) × (o ≡ Gives y)
+pub may : {A : Type 0} (b : Bool) (o : Checked A) (y : A) → (if b then o else Fails) ≡ Gives y → (b ≡ true) × (o ≡ Gives y)
 may true o y h = (refl, h)
 may false o y h = absurd (cc)

@@ -6,7 +6,7 @@ use Rattle.acc_base.specs.declared.forms.Rel.{Rel}
 use Rattle.acc_base.specs.declared.designs.Design.{Design}
 use Rattle.acc_base.specs.declared.sequents.Sequent.{Sequent}
 use Rattle.acc_proof.specs.declared.nodes.Node.{Node}
-use Rattle.acc_proof.specs.Outcomes.{Outcome, Gives, Fails, TooWide}
+use Rattle.acc_proof.specs.Checked.{Checked, Gives, Fails, TooWide}
 use Rattle.acc_proof.specs.Proofs.{Branches, node_of, Verdict, Proved, go_on, walked}
 use Rattle.acc_proof.proofs.Shows.{all_true}
 
@@ -31,7 +31,7 @@ module _ (d : Design) (q : Sequent) (db : List Row) (env : List ℤ) where
   NodesSound =
       (known : List Rel) (n : Node) (bs : Branches) → node_of d q known n ≡ Gives bs → AreOff (map (λ b. known ++ b) bs) → IsOff known
 
-  gives : (i : ℕ) (f : Branches → Verdict) (o : Outcome Branches) → go_on i f o ≡ Proved → (bs : Branches) × (o ≡ Gives bs)
+  gives : (i : ℕ) (f : Branches → Verdict) (o : Checked Branches) → go_on i f o ≡ Proved → (bs : Branches) × (o ≡ Gives bs)
       × (f bs ≡ Proved)
   gives i f (Gives bs) h = (bs, refl, h)
   gives i f Fails h = absurd (cc)

@@ -1,5 +1,5 @@
 pub use Rattle.acc_instances.specs.Instances
-pub mod Outcomes
+pub mod Checked
 pub mod Causes
 pub mod Facts
 pub mod Opened

@@ -11,7 +11,7 @@ use Rattle.acc_farkas.specs.declared.refuting.Mults.{Mults}
 use Rattle.acc_proof.specs.declared.nodes.Node.{Node}
 use Rattle.acc_proof.specs.declared.nodes.Node.TheVariants.{Split, Inst, Axiom, Leaf}
 use Rattle.acc_instances.specs.Instances.{Fact, fact_at}
-use Rattle.acc_proof.specs.Outcomes.{Outcome, Gives, Fails, TooWide, and_then}
+use Rattle.acc_proof.specs.Checked.{Checked, Gives, Fails, TooWide, and_then}
 use Rattle.acc_proof.specs.Facts.{is_zero, below, is_below_wide, above, is_above_wide, refuted, all_shown, used_up}
 use Rattle.acc_proof.specs.Axioms.{Demand, axiom_of}
 
@@ -19,15 +19,15 @@ use Rattle.acc_proof.specs.Axioms.{Demand, axiom_of}
 abbrev pub Branches : Type 0
 Branches = List (List Rel)
 
-abbrev pub only : Fact → Outcome Branches
+abbrev pub only : Fact → Checked Branches
 only f = if f.wide then TooWide else Gives ((f.rel ∷ []) ∷ [])
 
 -- facts are shown, by all the multipliers, and then it goes on
-abbrev pub after_facts : List Rel → List Fact → List Mults → Outcome Branches → Outcome Branches
+abbrev pub after_facts : List Rel → List Fact → List Mults → Checked Branches → Checked Branches
 after_facts known fs ms o = and_then (used_up o) (all_shown known fs ms)
 
 -- a hypothesis at linear values
-abbrev pub instance_of : ℕ → List Rel → Option Clause → List Lin → List Mults → Outcome Branches
+abbrev pub instance_of : ℕ → List Rel → Option Clause → List Lin → List Mults → Checked Branches
 instance_of n known None ls ms = Fails
 instance_of n known (Some c) ls ms =
     if length ls == length c.vars then after_facts known (map (fact_at n ls) c.guards) ms (only (fact_at n ls c.rel)) else Fails
@@ -35,18 +35,18 @@ instance_of n known (Some c) ls ms =
 abbrev pub sure : Rel → Fact
 sure r = record { rel = r; wide = false }
 
-abbrev pub use_axiom : List Rel → Demand → List Mults → Outcome Branches
+abbrev pub use_axiom : List Rel → Demand → List Mults → Checked Branches
 use_axiom known x ms =
     if x.may then after_facts known (map sure x.facts) ms (Gives (x.added ∷ [])) else Fails
 
-abbrev pub leaf_of : List Rel → Mults → Outcome Branches
+abbrev pub leaf_of : List Rel → Mults → Checked Branches
 leaf_of known m = and_then (used_up (Gives [])) (refuted known (m ∷ []))
 
-abbrev pub split_of : Form → Outcome Branches
+abbrev pub split_of : Form → Checked Branches
 split_of e =
     if is_below_wide e || is_above_wide e then TooWide else Gives ((below e ∷ []) ∷ (is_zero e ∷ []) ∷ (above e ∷ []) ∷ [])
 
-abbrev pub node_of : Design → Sequent → List Rel → Node → Outcome Branches
+abbrev pub node_of : Design → Sequent → List Rel → Node → Checked Branches
 node_of d q known (Split e) = split_of e
 node_of d q known (Inst h ls ms) = instance_of q.vars known (slice_get q.hyps h) ls ms
 node_of d q known (Axiom x ms) = use_axiom known (axiom_of d q x) ms
@@ -59,7 +59,7 @@ pub data Verdict : Type 0 where
   NotProved : Verdict
   WideAt : (node : ℕ) → Verdict
 
-abbrev pub go_on : ℕ → (Branches → Verdict) → Outcome Branches → Verdict
+abbrev pub go_on : ℕ → (Branches → Verdict) → Checked Branches → Verdict
 go_on i f (Gives bs) = f bs
 go_on i f Fails = NotProved
 go_on i f TooWide = WideAt i

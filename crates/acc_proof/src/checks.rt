@@ -1,6 +1,6 @@
 //! Whether a list of nodes is a proof of a sequent.
 ghost use Rattle.std.specs.Prelude.{◌≡◌, ◌++◌, ◌∷◌, [], ℕ, map, reverse, take, MatchOption, IfOk, OnOk, IsTrue, if◌then◌else◌, Some};
-ghost use Rattle.acc_proof.specs.Outcomes.{Gives, Fails};
+ghost use Rattle.acc_proof.specs.Checked.{Gives, Fails};
 ghost use Rattle.acc_proof.specs.Proofs.{split_of, leaf_of, instance_of, sure, use_axiom, node_of, walked, verdict, Proved, NotProved};
 ghost use Rattle.acc_proof.specs.Facts.{all_shown};
 ghost use Rattle.acc_instances.specs.Instances.{fact_at};

@@ -1,7 +1,7 @@
 //! Facts that are shown: what is known and the fact's contrary have no solution.
 ghost use Rattle.std.specs.Prelude.{◌≡◌, ◌++◌, ◌∷◌, [], MatchOption, IfOk, OnOk};
 ghost use Rattle.acc_base.specs.Sums.{TellsWide};
-ghost use Rattle.acc_proof.specs.Outcomes.{Gives, Fails};
+ghost use Rattle.acc_proof.specs.Checked.{Gives, Fails};
 ghost use Rattle.acc_proof.specs.Facts.{below, is_below_wide, above, is_above_wide, refuted, excluded, shown};
 ghost use Rattle.acc_proof.specs.Causes.{TellsTooWide};
 

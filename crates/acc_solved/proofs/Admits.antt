@@ -13,7 +13,7 @@ use Rattle.std.proofs.lemmas.Bool.Decides.{Decides-int_eq}
 use Rattle.std.proofs.lemmas.List.Elements.{All-nil, All-head, All-tail, All-cons, All-push}
 use Rattle.acc_systems.specs.declared.stops.Stop.TheVariants.{Refuted, Many}
 use Rattle.acc_systems.specs.declared.rows.Row.{Row}
-use Rattle.acc_systems.specs.Answers.{Outcome, steps}
+use Rattle.acc_systems.specs.Answers.{Computation, steps}
 use Rattle.acc_base.specs.Collecting.{worth}
 use Rattle.acc_systems.specs.Sparse.{Sparse, same_numbers, no_numbers}
 use Rattle.acc_systems.specs.Systems.{MOST, is_false, same_bool, repeats, is_constant, admitted}
@@ -142,7 +142,7 @@ abbrev pub Adds : {X : Type 0} → (Row → Type 0) → ((ℕ → ℤ) → ℤ �
 Adds P So rows xs new = All P new × ((f : ℕ → ℤ) (D : ℤ) → pos 0 <ℤ D → All (Met f D) new → All (Met f D) rows × All (So f D) xs)
 
 pub adds_steps : {X : Type 0} (P : Row → Type 0) (So : (ℕ → ℤ) → ℤ → X → Type 0) (R : X → Type 0)
-    (step : List Row → X → Outcome (List Row)) → ((rows : List Row) (x : X) → All P rows → R x
+    (step : List Row → X → Computation (List Row)) → ((rows : List Row) (x : X) → All P rows → R x
     → Holds (step rows x) (λ new. All P new × ((f : ℕ → ℤ) (D : ℤ) → pos 0 <ℤ D → All (Met f D) new → All (Met f D) rows × So f D x)))
     → (xs : List X) (rows : List Row) → All R xs → All P rows → Holds (steps step rows xs) (Adds P So rows xs)
 adds_steps P So R step h [] rows rs all = (all, λ f D above met. (met, All-nil (So f D)))

@@ -11,7 +11,7 @@ use Rattle.std.proofs.lemmas.Bool.Decides.{nat_tests}
 use Rattle.std.proofs.lemmas.List.Elements.{All-nil, All-cons, All-head, All-tail, All-set, All-replicate}
 use Rattle.acc_systems.specs.declared.rows.Row.{Row}
 use Rattle.acc_systems.specs.declared.systems.Eliminated.{Eliminated}
-use Rattle.acc_systems.specs.Answers.{Outcome, chain, steps}
+use Rattle.acc_systems.specs.Answers.{Computation, chain, steps}
 use Rattle.acc_systems.specs.Numbers.{product, opposite}
 use Rattle.acc_systems.specs.Divisors.{divisor, quotient}
 use Rattle.acc_systems.specs.Sparse.{at}
@@ -79,7 +79,7 @@ fraction_lowest n d = by (int_lt (reduced n d).1 (pos 0)) (reduced n d) (reduced
 
 -- ---- the values of a point
 
-pub anything : {A : Type 0} (o : Outcome A) → Holds o (λ _. Unit {0})
+pub anything : {A : Type 0} (o : Computation A) → Holds o (λ _. Unit {0})
 anything (Ok x) = tt
 anything (Err e) = tt
 
@@ -98,7 +98,7 @@ tightest_lowest u point x r h =
     holds_chain (root u point r) _ Lowest Lowest (root_lowest u point r) (λ y k.
     holds_chain (if is_lower u r then is_less x y else is_less y x) _ (λ _. Unit {0}) Lowest (anything _) (λ b _. either_lowest b x y h k))
 
-steps_hold : {S X : Type 0} (step : S → X → Outcome S) (P : S → Type 0) → ((s : S) (x : X) → P s → Holds (step s x) P)
+steps_hold : {S X : Type 0} (step : S → X → Computation S) (P : S → Type 0) → ((s : S) (x : X) → P s → Holds (step s x) P)
     → (xs : List X) (s : S)
     → P s → Holds (steps step s xs) P
 steps_hold step P h [] s p = p

@@ -13,7 +13,7 @@ use Rattle.std.proofs.lemmas.List.Elements.{All-nil, All-head, All-tail, All-con
 use Rattle.acc_base.proofs.Products.{times_sum, sum_times, times_times}
 use Rattle.acc_systems.specs.declared.stops.Stop.TheVariants.{Refuted, Wide, Many, Memory}
 use Rattle.acc_systems.specs.declared.rows.Row.{Row}
-use Rattle.acc_systems.specs.Answers.{Outcome, chain}
+use Rattle.acc_systems.specs.Answers.{Computation, chain}
 use Rattle.acc_base.specs.Collecting.{worth}
 use Rattle.acc_systems.specs.Made.{IsProper}
 use Rattle.acc_systems.specs.Numbers.{kept, opposite}
@@ -28,7 +28,7 @@ use Rattle.acc_solved.proofs.Ints.{times_less, Other, cancel_zero, above_other, 
 use Rattle.acc_solved.proofs.Points.{only, coef, form}
 
 -- one answer for all f
-gives_all : {A F : Type 0} (o : Outcome A) (P : F → A → Type 0) → F → ((f : F) → Gives o (P f)) → Gives o (λ x. (f : F) → P f x)
+gives_all : {A F : Type 0} (o : Computation A) (P : F → A → Type 0) → F → ((f : F) → Gives o (P f)) → Gives o (λ x. (f : F) → P f x)
 gives_all (Ok x) P any h = h
 gives_all (Err Wide) P any h = tt
 gives_all (Err Many) P any h = h any

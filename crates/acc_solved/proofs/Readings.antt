@@ -13,7 +13,7 @@ use Rattle.acc_base.specs.declared.forms.Rel.{Rel}
 use Rattle.acc_base.specs.Numbers.{total}
 use Rattle.acc_base.proofs.Products.{sum_times}
 use Rattle.acc_systems.specs.declared.rows.Row.{Row}
-use Rattle.acc_systems.specs.Answers.{Outcome, chain, steps}
+use Rattle.acc_systems.specs.Answers.{Computation, chain, steps}
 use Rattle.acc_base.specs.Collecting.{worth}
 use Rattle.acc_base.specs.UnknownEquality.{is_bare_one}
 use Rattle.acc_systems.specs.Made.{Ordered, IsProper}
@@ -114,7 +114,7 @@ module _ (names : List Unknown) where
       (λ f. read_worth names f r.form.terms [] (pos 0) refl) (terms_fine r.form.terms [] named (All-nil Fine))) (λ terms h.
       ((λ f D. same constant c terms f (h.0 f) D), refl, h.1)))
     where
-      terms_hold : (o : Outcome Sparse) → ((f : ℕ → ℤ)
+      terms_hold : (o : Computation Sparse) → ((f : ℕ → ℤ)
           → Gives o (λ zs. worth f zs ≡ pos 0 +ℤ total (map (λ t. t.1 *ℤ part names f (is_bare_one t.0) t.0) r.form.terms)))
           → Gives o (All Fine) → Holds o (λ zs. ((f : ℕ → ℤ)
           → worth f zs ≡ pos 0 +ℤ total (map (λ t. t.1 *ℤ part names f (is_bare_one t.0) t.0) r.form.terms)) × All Fine zs)
@@ -148,7 +148,7 @@ module _ (names : List Unknown) where
             (all.1 f D (All-tail (Met f D) row rows met)),
       )))
     where
-      both : (o : Outcome Row) → Holds o (Reads r) → Gives o Ordered → Holds o (λ row. Reads r row × Ordered row)
+      both : (o : Computation Row) → Holds o (Reads r) → Gives o Ordered → Holds o (λ row. Reads r row × Ordered row)
       both (Ok row) a b = (a, b)
       both (Err e) a b = tt
 
@@ -215,7 +215,7 @@ all_places : (P : Fraction → Type 0) (xs : Point) → ((i : ℕ) → i < lengt
 all_places P [] h = All-nil P
 all_places P (x ∷ xs) h = All-cons P x xs (h 0 (omega arith)) (all_places P xs (λ i l. h (suc i) (omega (arith, l))))
 
-both_hold : {A : Type 0} (o : Outcome A) (P Q : A → Type 0) → Holds o P → Holds o Q → Holds o (λ x. P x × Q x)
+both_hold : {A : Type 0} (o : Computation A) (P Q : A → Type 0) → Holds o P → Holds o Q → Holds o (λ x. P x × Q x)
 both_hold (Ok x) P Q p q = (p, q)
 both_hold (Err e) P Q p q = tt
 

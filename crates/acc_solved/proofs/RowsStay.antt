@@ -13,7 +13,7 @@ use Rattle.std.proofs.lemmas.List.Elements.{All-head, All-tail}
 use Rattle.acc_base.specs.declared.forms.Unknown.{Unknown}
 use Rattle.acc_base.specs.declared.forms.Rel.{Rel}
 use Rattle.acc_systems.specs.declared.rows.Row.{Row}
-use Rattle.acc_systems.specs.Answers.{Outcome, chain, steps}
+use Rattle.acc_systems.specs.Answers.{Computation, chain, steps}
 use Rattle.acc_systems.specs.Numbers.{kept}
 use Rattle.acc_systems.specs.Sparse.{Sparse, mixed}
 use Rattle.acc_points.specs.Readings.{place_of, with_term, with_rel, unknowns_of, number_of, once, read_number, read_term, row_of}
@@ -99,7 +99,7 @@ module _ (us vs : List Unknown) (later : Later us vs) where
       (term_same_by terms t (All-head (Named us) t ts all) (is_bare_one t.0) (int_eq t.1 (pos 0)) refl)
       ∙ under (read_term us terms t) (λ s. terms_same ts s (All-tail (Named us) t ts all))
     where
-      under : (o : Outcome Sparse) → ((s : Sparse) → steps (read_term vs) s ts ≡ steps (read_term us) s ts)
+      under : (o : Computation Sparse) → ((s : Sparse) → steps (read_term vs) s ts ≡ steps (read_term us) s ts)
           → chain o (λ s. steps (read_term vs) s ts) ≡ chain o (λ s. steps (read_term us) s ts)
       under (Ok s) h = h s
       under (Err e) h = refl
@@ -114,7 +114,7 @@ module _ (us vs : List Unknown) (later : Later us vs) where
       → rows_from vs place (xs ++ ys) ≡ chain (rows_from us place xs) (λ rows. chain (rows_from vs n ys) (λ more. Ok (rows ++ more)))
   rows_same ys [] place n e all = last (rows_from vs place ys) ∙ ap (λ k. chain (rows_from vs k ys) (λ more. Ok more)) (first e)
     where
-      last : (o : Outcome (List Row)) → o ≡ chain o (λ more. Ok more)
+      last : (o : Computation (List Row)) → o ≡ chain o (λ more. Ok more)
       last (Ok rows) = refl
       last (Err d) = refl
 
@@ -127,7 +127,7 @@ module _ (us vs : List Unknown) (later : Later us vs) where
       (rows_same ys xs (suc place) n (omega (arith, e)) (All-tail (λ r. All (Named us) r.form.terms) x xs all))
       ∙ inside (row_of us place x) (rows_from us (suc place) xs) (rows_from vs n ys))
     where
-      inside : (o : Outcome Row) (p q : Outcome (List Row))
+      inside : (o : Computation Row) (p q : Computation (List Row))
           → chain o (λ row. chain (chain p (λ rows. chain q (λ more. Ok (rows ++ more)))) (λ rows. Ok (row ∷ rows)))
           ≡ chain (chain o (λ row. chain p (λ rows. Ok (row ∷ rows)))) (λ rows. chain q (λ more. Ok (rows ++ more)))
       inside (Ok row) (Ok rows) (Ok more) = refl

@@ -6,7 +6,7 @@ use Rattle.std.proofs.lemmas.List.{reverse-append}
 use Rattle.std.proofs.lemmas.List.Elements.{All-nil, All-head, All-tail, All-cons, All-push}
 use Rattle.acc_systems.specs.declared.rows.Row.{Row}
 use Rattle.acc_systems.specs.declared.systems.Reduced.{Reduced}
-use Rattle.acc_systems.specs.Answers.{Outcome, chain, steps}
+use Rattle.acc_systems.specs.Answers.{Computation, chain, steps}
 use Rattle.acc_systems.specs.Made.{Rises, Ordered, IsProper}
 use Rattle.acc_systems.specs.Sparse.{Sparse, at, no_numbers}
 use Rattle.acc_systems.specs.Systems.{is_constant, taken, replaced, set_aside, counted}
@@ -21,12 +21,12 @@ use Rattle.acc_solved.proofs.Asides.{all_replaced, placed_meets}
 
 -- ---- steps backwards
 
-pub steps_append : {S X : Type 0} (step : S → X → Outcome S) (xs ys : List X) (s : S)
+pub steps_append : {S X : Type 0} (step : S → X → Computation S) (xs ys : List X) (s : S)
     → steps step s (xs ++ ys) ≡ chain (steps step s xs) (λ t. steps step t ys)
 steps_append step [] ys s = refl
 steps_append {S = S} step (x ∷ xs) ys s = by (λ t. steps_append step xs ys t) (step s x)
   where
-    by : ((t : S) → steps step t (xs ++ ys) ≡ chain (steps step t xs) (λ t. steps step t ys)) → (o : Outcome S)
+    by : ((t : S) → steps step t (xs ++ ys) ≡ chain (steps step t xs) (λ t. steps step t ys)) → (o : Computation S)
         → chain o (λ t. steps step t (xs ++ ys)) ≡ chain (chain o (λ t. steps step t xs)) (λ t. steps step t ys)
     by again (Ok t) = again t
     by again (Err e) = refl

@@ -7,7 +7,7 @@ use lib.IntN.{*ℤ_comm, *ℤ-zero}
 use Rattle.std.proofs.lemmas.Int.{ints}
 use Rattle.std.proofs.lemmas.List.Elements.{All-head}
 use Rattle.acc_base.proofs.Products.{times_sum, sum_times, times_times}
-use Rattle.acc_systems.specs.Answers.{Outcome, chain}
+use Rattle.acc_systems.specs.Answers.{Computation, chain}
 use Rattle.acc_systems.specs.Numbers.{kept, product, opposite}
 use Rattle.acc_systems.specs.Divisors.{divisor, quotient}
 use Rattle.acc_points.specs.Fractions.{Fraction, reduced, upright, fraction, numerator, plus_times, solved}
@@ -17,23 +17,23 @@ use Rattle.acc_solved.proofs.Ints.{swap, move, times_less, above_times, Other, c
 
 -- ---- what holds of a computation's value, if it ends with one
 
-abbrev pub Holds : {A : Type 0} → Outcome A → (A → Type 0) → Type 0
+abbrev pub Holds : {A : Type 0} → Computation A → (A → Type 0) → Type 0
 Holds (Ok x) P = P x
 Holds (Err e) P = Unit {0}
 
-pub holds_chain : {A B : Type 0} (o : Outcome A) (next : A → Outcome B) (P : A → Type 0) (Q : B → Type 0) → Holds o P
+pub holds_chain : {A B : Type 0} (o : Computation A) (next : A → Computation B) (P : A → Type 0) (Q : B → Type 0) → Holds o P
     → ((x : A) → P x → Holds (next x) Q) → Holds (chain o next) Q
 holds_chain (Ok x) next P Q h k = k x h
 holds_chain (Err e) next P Q h k = tt
 
-pub holds_weaker : {A : Type 0} (o : Outcome A) (P Q : A → Type 0) → ((x : A) → P x → Q x) → Holds o P → Holds o Q
+pub holds_weaker : {A : Type 0} (o : Computation A) (P Q : A → Type 0) → ((x : A) → P x → Q x) → Holds o P → Holds o Q
 holds_weaker (Ok x) P Q k h = k x h
 holds_weaker (Err e) P Q k h = tt
 
-pub held : {A : Type 0} (o : Outcome A) (P : A → Type 0) (x : A) → o ≡ Ok x → Holds o P → P x
+pub held : {A : Type 0} (o : Computation A) (P : A → Type 0) (x : A) → o ≡ Ok x → Holds o P → P x
 held o P x e h = subst (λ z. Holds z P) e h
 
-pub from_gives : {A : Type 0} (o : Outcome A) (P : A → Type 0) → Gives o P → Holds o P
+pub from_gives : {A : Type 0} (o : Computation A) (P : A → Type 0) → Gives o P → Holds o P
 from_gives (Ok x) P h = h
 from_gives (Err e) P h = tt
 

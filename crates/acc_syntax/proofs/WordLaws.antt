@@ -11,7 +11,7 @@ use Rattle.acc_grammar.specs.Readers.{AllIn, joined, ◌>>=◌, many}
 use Rattle.acc_grammar.proofs.Exact.{ok_is, bind_ok, bind_assoc, chosen, Stops, Exact, All, Free, seq_exact, made_exact, trees_exact, same_exact, ByHead}
 use Rattle.acc_grammar.proofs.Many.{Shrinks, item_shrinks, Runs, many_exact}
 use Rattle.acc_syntax.specs.Spelling.{just, name, number, further}
-use Rattle.acc_syntax.specs.WordReaders.{Outcome, same_sign, comes, is_name, is_number, every, is_word, sign_at, name_at, number_at, end_at, further_at}
+use Rattle.acc_syntax.specs.WordReaders.{WordsRead, same_sign, comes, is_name, is_number, every, is_word, sign_at, name_at, number_at, end_at, further_at}
 use Rattle.acc_grammar.proofs.RunReaders.{flag, nothing, absent_exact}
 use Rattle.acc_syntax.proofs.Following.{CanFollow, is_own}
 use Rattle.acc_syntax.proofs.Combinators.{all_in}
@@ -44,10 +44,10 @@ name_head (word.Number n) more after = refl
 -- ---- readers of one word
 
 -- what a reader of one word does at a word
-abbrev pub AtWord : {T : Type 0} → (T → List Word) → (List Word → Outcome T) → Word → Type 0
+abbrev pub AtWord : {T : Type 0} → (T → List Word) → (List Word → WordsRead T) → Word → Type 0
 AtWord {T} spell read w = ((t : T) × (spell t ≡ w ∷ []) × ((rest : List Word) → read (w ∷ rest) ≡ Ok (t, rest))) ⊎ ((rest : List Word) → read (w ∷ rest) ≡ Err (w ∷ rest))
 
-pub one_word : {T : Type 0} (spell : T → List Word) (read : List Word → Outcome T) (some : T) → AllIn CanFollow (spell some) → ((t : T) (rest : List Word) → read (spell t ++ rest) ≡ Ok (t, rest)) → (read [] ≡ Err []) → ((w : Word) → AtWord spell read w) → Exact CanFollow spell All Free read
+pub one_word : {T : Type 0} (spell : T → List Word) (read : List Word → WordsRead T) (some : T) → AllIn CanFollow (spell some) → ((t : T) (rest : List Word) → read (spell t ++ rest) ≡ Ok (t, rest)) → (read [] ≡ Err []) → ((w : Word) → AtWord spell read w) → Exact CanFollow spell All Free read
 one_word {T} spell read some plain again nothing_read each = record {
   takes = takes;
   again = λ t rest p g. again t rest;
@@ -145,14 +145,14 @@ end_exact = absent_exact CanFollow every
 -- ---- a fixed word before or behind a part
 
 -- a fixed word, and the part
-abbrev pub after : {T : Type 0} → Sign → (List Word → Outcome T) → List Word → Outcome T
+abbrev pub after : {T : Type 0} → Sign → (List Word → WordsRead T) → List Word → WordsRead T
 after s read ws = sign_at s ws >>= λ o. read o.1 >>= λ x. Ok (x.0, x.1)
 
 -- the part, and a fixed word
-abbrev pub closed : {T : Type 0} → Sign → (List Word → Outcome T) → List Word → Outcome T
+abbrev pub closed : {T : Type 0} → Sign → (List Word → WordsRead T) → List Word → WordsRead T
 closed s read ws = read ws >>= λ x. sign_at s x.1 >>= λ o. Ok (x.0, o.1)
 
-module _ {T : Type 0} {spell : T → List Word} {P : T → Type 0} {goes : T → List Word → Type 0} {read : List Word → Outcome T} (s : Sign) (n : is_own s ≡ false) (e : Exact CanFollow spell P goes read) where
+module _ {T : Type 0} {spell : T → List Word} {P : T → Type 0} {goes : T → List Word → Type 0} {read : List Word → WordsRead T} (s : Sign) (n : is_own s ≡ false) (e : Exact CanFollow spell P goes read) where
   pub after_exact : Exact CanFollow (λ (t : T). just s ++ spell t) P goes (after s read)
   after_exact =
       let whole = made_exact (seq_exact (sign_exact s n) e) (λ p. p.1) (λ (t : T). just s ++ spell t) goes (λ a p. refl) (λ a rest g. g.1) (λ a rest p g. (tt, g)) e.heads in
@@ -173,7 +173,7 @@ sign_shorter s (w ∷ ws) o rest h =
     ]
 
 -- a part behind a fixed word uses up words
-pub after_shrinks : {T : Type 0} {spell : T → List Word} {P : T → Type 0} {goes : T → List Word → Type 0} {read : List Word → Outcome T} (s : Sign) (e : Exact CanFollow spell P goes read) → Shrinks (after s read)
+pub after_shrinks : {T : Type 0} {spell : T → List Word} {P : T → Type 0} {goes : T → List Word → Type 0} {read : List Word → WordsRead T} (s : Sign) (e : Exact CanFollow spell P goes read) → Shrinks (after s read)
 after_shrinks {T} {spell = spell} {read = read} s e ws t rest h =
     let x = bind_ok (sign_at s ws) (λ o. read o.1 >>= λ y. Ok (y.0, y.1)) (t, rest) h in
     let y = bind_ok (read x.0.1) (λ y. Ok (y.0, y.1)) (t, rest) x.2 in
@@ -185,7 +185,7 @@ after_shrinks {T} {spell = spell} {read = read} s e ws t rest h =
 
 -- ---- lists with commas
 
-module _ {T : Type 0} {spell : T → List Word} {goes : T → List Word → Type 0} {read : List Word → Outcome T} (e : Exact CanFollow spell All goes read) where
+module _ {T : Type 0} {spell : T → List Word} {goes : T → List Word → Type 0} {read : List Word → WordsRead T} (e : Exact CanFollow spell All goes read) where
   pub further_exact : Exact CanFollow (further spell) All goes (further_at read)
   unfolding further_at
   further_exact = after_exact sign.Comma refl e

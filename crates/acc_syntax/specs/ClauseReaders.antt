@@ -9,13 +9,13 @@ use Rattle.acc_syntax.specs.declared.trees.Names.{Names}
 use Rattle.acc_syntax.specs.declared.trees.Sum.{Sum}
 use Rattle.acc_syntax.specs.declared.trees.FormRelTree.{FormRelTree}
 use Rattle.acc_syntax.specs.declared.trees.ClauseTree.{ClauseTree}
-use Rattle.acc_syntax.specs.WordReaders.{Outcome, comes, sign_at, further_at}
+use Rattle.acc_syntax.specs.WordReaders.{WordsRead, comes, sign_at, further_at}
 use Rattle.acc_syntax.specs.ValueReaders.{sum_at}
 use Rattle.acc_syntax.specs.StatementReaders.{names_at}
 use Rattle.acc_syntax.specs.FormReaders.{form_rel_at}
 
 -- forall names :, or nothing
-unfoldable pub binder_at : List Word → Outcome (Option Names)
+unfoldable pub binder_at : List Word → WordsRead (Option Names)
 binder_at ws =
     if comes sign.Forall ws then (do
       k ← sign_at sign.Forall ws
@@ -29,7 +29,7 @@ abbrev pub starts_conclusion : List Word → Bool
 starts_conclusion ws = comes sign.Comma ws || comes sign.Implies ws
 
 -- where the relation that was read is a guard: further guards, and the relation behind the arrow
-unfoldable pub conclusion_at : List Word → Outcome (Option (List FormRelTree × FormRelTree))
+unfoldable pub conclusion_at : List Word → WordsRead (Option (List FormRelTree × FormRelTree))
 conclusion_at ws =
     if starts_conclusion ws then (do
       gs ← many (comes sign.Comma) (further_at form_rel_at) ws
@@ -44,7 +44,7 @@ clause_of ns r None = record { variables = ns; guards = None; relation = r }
 clause_of ns r (Some c) = record { variables = ns; guards = Some (record { first = r; others = c.0 }); relation = c.1 }
 
 -- a clause
-unfoldable pub clause_at : List Word → Outcome ClauseTree
+unfoldable pub clause_at : List Word → WordsRead ClauseTree
 clause_at ws = do
   ns ← binder_at ws
   r ← form_rel_at ns.1
@@ -52,7 +52,7 @@ clause_at ws = do
   Ok (clause_of ns.0 r.0 c.0, c.1)
 
 -- a statement of this word and a clause
-unfoldable pub clause_statement_at : Sign → List Word → Outcome ClauseTree
+unfoldable pub clause_statement_at : Sign → List Word → WordsRead ClauseTree
 clause_statement_at s ws = do
   k ← sign_at s ws
   c ← clause_at k.1
@@ -60,7 +60,7 @@ clause_statement_at s ws = do
   Ok (c.0, e.1)
 
 -- variant value, or nothing
-unfoldable pub variant_at : List Word → Outcome (Option Sum)
+unfoldable pub variant_at : List Word → WordsRead (Option Sum)
 variant_at ws =
     if comes sign.Variant ws then (do
       k ← sign_at sign.Variant ws

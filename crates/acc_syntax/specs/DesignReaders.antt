@@ -15,7 +15,7 @@ use Rattle.acc_syntax.specs.declared.designs.TypeHead.{TypeHead}
 use Rattle.acc_syntax.specs.declared.designs.TypeNames.{TypeNames}
 use Rattle.acc_syntax.specs.declared.designs.TypeClauses.{TypeClauses}
 use Rattle.acc_syntax.specs.declared.designs.TypePoints.{TypePoints}
-use Rattle.acc_syntax.specs.WordReaders.{Outcome, comes, is_name, sign_at, name_at, number_at, end_at}
+use Rattle.acc_syntax.specs.WordReaders.{WordsRead, comes, is_name, sign_at, name_at, number_at, end_at}
 use Rattle.acc_syntax.specs.ValueReaders.{guard_at}
 use Rattle.acc_syntax.specs.ReadReaders.{read_at, starts_read}
 use Rattle.acc_syntax.specs.ClauseReaders.{clause_statement_at, variant_at}
@@ -23,7 +23,7 @@ use Rattle.acc_syntax.specs.EntryReaders.{entry_at, hint_at}
 use Rattle.acc_syntax.specs.StatementReaders.{table_at, starts_table, action_at, starts_action, target_at, names_statement_at}
 
 -- a path
-unfoldable pub path_at : List Word → Outcome PathTree
+unfoldable pub path_at : List Word → WordsRead PathTree
 path_at ws = do
   k ← sign_at sign.Path ws
   g ← guard_at k.1
@@ -33,7 +33,7 @@ path_at ws = do
   Ok (record { guard = g.0; actions = acts.0; target = t.0 }, t.1)
 
 -- a step
-unfoldable pub step_at : List Word → Outcome StepTree
+unfoldable pub step_at : List Word → WordsRead StepTree
 step_at ws = do
   rs ← many starts_read read_at ws
   p ← path_at rs.1
@@ -41,7 +41,7 @@ step_at ws = do
   Ok (record { reads = rs.0; first = p.0; others = ps.0 }, ps.1)
 
 -- `next` or `undo`, and its step
-unfoldable pub side_at : Sign → List Word → Outcome StepTree
+unfoldable pub side_at : Sign → List Word → WordsRead StepTree
 side_at s ws = do
   k ← sign_at s ws
   e ← sign_at sign.End k.1
@@ -49,7 +49,7 @@ side_at s ws = do
   Ok (st.0, st.1)
 
 -- what a point begins with, up to its variant
-unfoldable pub point_head_at : List Word → Outcome PointHead
+unfoldable pub point_head_at : List Word → WordsRead PointHead
 point_head_at ws = do
   k ← sign_at sign.Point ws
   x ← name_at k.1
@@ -58,7 +58,7 @@ point_head_at ws = do
   Ok (record { name = x.0; variant = v.0 }, v.1)
 
 -- a point
-unfoldable pub point_at : List Word → Outcome PointTree
+unfoldable pub point_at : List Word → WordsRead PointTree
 point_at ws = do
   h ← point_head_at ws
   hs ← many (comes sign.Holds) (clause_statement_at sign.Holds) h.1
@@ -67,7 +67,7 @@ point_at ws = do
   Ok (record { name = h.0.name; variant = h.0.variant; holds = hs.0; next = n.0; undo = u.0 }, u.1)
 
 -- limit INT
-unfoldable pub limit_at : List Word → Outcome ℕ
+unfoldable pub limit_at : List Word → WordsRead ℕ
 limit_at ws = do
   k ← sign_at sign.Limit ws
   n ← number_at k.1
@@ -75,7 +75,7 @@ limit_at ws = do
   Ok (n.0, e.1)
 
 -- what a type begins with, up to its limit
-unfoldable pub type_head_at : List Word → Outcome TypeHead
+unfoldable pub type_head_at : List Word → WordsRead TypeHead
 type_head_at ws = do
   k ← sign_at sign.Type ws
   x ← name_at k.1
@@ -85,28 +85,28 @@ type_head_at ws = do
   Ok (record { name = x.0; params = xs.0; limit = n.0 }, n.1)
 
 -- what a type returns, and its other locals
-unfoldable pub type_names_at : List Word → Outcome TypeNames
+unfoldable pub type_names_at : List Word → WordsRead TypeNames
 type_names_at ws = do
   rs ← names_statement_at sign.Returns ws
   ls ← names_statement_at sign.Local rs.1
   Ok (record { returns = rs.0; locals = ls.0 }, ls.1)
 
 -- what a commit of a type ensures, and what a compensation repairs
-unfoldable pub type_clauses_at : List Word → Outcome TypeClauses
+unfoldable pub type_clauses_at : List Word → WordsRead TypeClauses
 type_clauses_at ws = do
   es ← many (comes sign.Ensures) (clause_statement_at sign.Ensures) ws
   cs ← many (comes sign.Repairs) (clause_statement_at sign.Repairs) es.1
   Ok (record { ensured = es.0; repaired = cs.0 }, cs.1)
 
 -- the points of a type
-unfoldable pub type_points_at : List Word → Outcome TypePoints
+unfoldable pub type_points_at : List Word → WordsRead TypePoints
 type_points_at ws = do
   p ← point_at ws
   ps ← many (comes sign.Point) point_at p.1
   Ok (record { first = p.0; others = ps.0 }, ps.1)
 
 -- a type
-unfoldable pub type_at : List Word → Outcome TypeTree
+unfoldable pub type_at : List Word → WordsRead TypeTree
 type_at ws = do
   h ← type_head_at ws
   ns ← type_names_at h.1
@@ -128,7 +128,7 @@ type_at ws = do
   )
 
 -- a design, and the end of the words
-unfoldable pub design_at : List Word → Outcome DesignTree
+unfoldable pub design_at : List Word → WordsRead DesignTree
 design_at ws = do
   ts ← many starts_table table_at ws
   cs ← many (comes sign.Always) (clause_statement_at sign.Always) ts.1

@@ -12,11 +12,11 @@ use Rattle.acc_syntax.specs.declared.trees.Pairs.{Pairs}
 use Rattle.acc_syntax.specs.declared.trees.EntryTree.{EntryTree}
 use Rattle.acc_syntax.specs.declared.entries.EntryHead.{EntryHead}
 use Rattle.acc_syntax.specs.declared.trees.HintTree.{HintTree}
-use Rattle.acc_syntax.specs.WordReaders.{Outcome, comes, sign_at, name_at, further_at}
+use Rattle.acc_syntax.specs.WordReaders.{WordsRead, comes, sign_at, name_at, further_at}
 use Rattle.acc_syntax.specs.ValueReaders.{variable_at, sum_at}
 
 -- TYPE . POINT
-unfoldable pub point_name_at : List Word → Outcome PointName
+unfoldable pub point_name_at : List Word → WordsRead PointName
 point_name_at ws = do
   t ← name_at ws
   d ← sign_at sign.Dot t.1
@@ -24,7 +24,7 @@ point_name_at ws = do
   Ok (record { type_name = t.0; point = p.0 }, p.1)
 
 -- next or undo
-unfoldable pub side_name_at : List Word → Outcome SideTree
+unfoldable pub side_name_at : List Word → WordsRead SideTree
 side_name_at ws =
     if comes sign.Next ws then (do
       o ← sign_at sign.Next ws
@@ -34,7 +34,7 @@ side_name_at ws =
       Ok (side_tree.Undo, o.1))
 
 -- X = X
-unfoldable pub pair_at : List Word → Outcome PairTree
+unfoldable pub pair_at : List Word → WordsRead PairTree
 pair_at ws = do
   h ← variable_at ws
   q ← sign_at sign.Equal h.1
@@ -42,7 +42,7 @@ pair_at ws = do
   Ok (record { held = h.0; step = s.0 }, s.1)
 
 -- a colon and pairs, with commas between them, or nothing
-unfoldable pub pairs_at : List Word → Outcome (Option Pairs)
+unfoldable pub pairs_at : List Word → WordsRead (Option Pairs)
 pairs_at ws =
     if comes sign.Colon ws then (do
       c ← sign_at sign.Colon ws
@@ -52,7 +52,7 @@ pairs_at ws =
     else Ok (None, ws)
 
 -- what an entry begins with: two points
-unfoldable pub entry_head_at : List Word → Outcome EntryHead
+unfoldable pub entry_head_at : List Word → WordsRead EntryHead
 entry_head_at ws = do
   k ← sign_at sign.Entry ws
   h ← point_name_at k.1
@@ -61,7 +61,7 @@ entry_head_at ws = do
   Ok (record { held = h.0; by = y.0 }, y.1)
 
 -- an entry
-unfoldable pub entry_at : List Word → Outcome EntryTree
+unfoldable pub entry_at : List Word → WordsRead EntryTree
 entry_at ws = do
   h ← entry_head_at ws
   s ← side_name_at h.1
@@ -70,7 +70,7 @@ entry_at ws = do
   Ok (record { held = h.0.held; by = h.0.by; side = s.0; pairs = ps.0 }, e.1)
 
 -- a hint
-unfoldable pub hint_at : List Word → Outcome HintTree
+unfoldable pub hint_at : List Word → WordsRead HintTree
 hint_at ws = do
   k ← sign_at sign.Hint ws
   p ← point_name_at k.1

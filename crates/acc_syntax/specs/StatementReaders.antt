@@ -11,11 +11,11 @@ use Rattle.acc_syntax.specs.declared.trees.ActionTree.{ActionTree}
 use Rattle.acc_syntax.specs.declared.trees.ActionTree.TheVariants as action
 use Rattle.acc_syntax.specs.declared.trees.TargetTree.{TargetTree}
 use Rattle.acc_syntax.specs.declared.trees.TargetTree.TheVariants as target
-use Rattle.acc_syntax.specs.WordReaders.{Outcome, comes, is_name, sign_at, name_at, number_at}
+use Rattle.acc_syntax.specs.WordReaders.{WordsRead, comes, is_name, sign_at, name_at, number_at}
 use Rattle.acc_syntax.specs.ValueReaders.{sum_at, values_at, place_at, cell_at}
 
 -- `private` or `table`
-unfoldable pub private_at : List Word → Outcome Bool
+unfoldable pub private_at : List Word → WordsRead Bool
 private_at ws =
     if comes sign.Private ws then (do
       o ← sign_at sign.Private ws
@@ -25,7 +25,7 @@ private_at ws =
       Ok (false, o.1))
 
 -- a table
-unfoldable pub table_at : List Word → Outcome TableTree
+unfoldable pub table_at : List Word → WordsRead TableTree
 table_at ws = do
   p ← private_at ws
   x ← name_at p.1
@@ -39,7 +39,7 @@ abbrev pub starts_table : List Word → Bool
 starts_table ws = comes sign.Private ws || comes sign.Table ws
 
 -- put row values
-unfoldable pub put_at : List Word → Outcome ActionTree
+unfoldable pub put_at : List Word → WordsRead ActionTree
 put_at ws = do
   k ← sign_at sign.Put ws
   p ← place_at k.1
@@ -48,7 +48,7 @@ put_at ws = do
   Ok (action.Put p.0 vs.0, e.1)
 
 -- del row
-unfoldable pub del_at : List Word → Outcome ActionTree
+unfoldable pub del_at : List Word → WordsRead ActionTree
 del_at ws = do
   k ← sign_at sign.Del ws
   p ← place_at k.1
@@ -56,7 +56,7 @@ del_at ws = do
   Ok (action.Del p.0, e.1)
 
 -- set row.column value
-unfoldable pub set_at : List Word → Outcome ActionTree
+unfoldable pub set_at : List Word → WordsRead ActionTree
 set_at ws = do
   k ← sign_at sign.Set ws
   c ← cell_at k.1
@@ -65,7 +65,7 @@ set_at ws = do
   Ok (action.Set c.0 v.0, e.1)
 
 -- add row.column value
-unfoldable pub add_at : List Word → Outcome ActionTree
+unfoldable pub add_at : List Word → WordsRead ActionTree
 add_at ws = do
   k ← sign_at sign.Add ws
   c ← cell_at k.1
@@ -74,7 +74,7 @@ add_at ws = do
   Ok (action.Add c.0 v.0, e.1)
 
 -- an action
-unfoldable pub action_at : List Word → Outcome ActionTree
+unfoldable pub action_at : List Word → WordsRead ActionTree
 action_at ws =
     if comes sign.Put ws then put_at ws
     else (if comes sign.Del ws then del_at ws
@@ -86,7 +86,7 @@ abbrev pub starts_action : List Word → Bool
 starts_action ws = comes sign.Put ws || (comes sign.Del ws || (comes sign.Set ws || comes sign.Add ws))
 
 -- goto NAME
-unfoldable pub goto_at : List Word → Outcome TargetTree
+unfoldable pub goto_at : List Word → WordsRead TargetTree
 goto_at ws = do
   k ← sign_at sign.Goto ws
   x ← name_at k.1
@@ -94,21 +94,21 @@ goto_at ws = do
   Ok (target.Goto x.0, e.1)
 
 -- commit
-unfoldable pub commit_at : List Word → Outcome TargetTree
+unfoldable pub commit_at : List Word → WordsRead TargetTree
 commit_at ws = do
   k ← sign_at sign.Commit ws
   e ← sign_at sign.End k.1
   Ok (target.Commit, e.1)
 
 -- undone
-unfoldable pub undone_at : List Word → Outcome TargetTree
+unfoldable pub undone_at : List Word → WordsRead TargetTree
 undone_at ws = do
   k ← sign_at sign.Undone ws
   e ← sign_at sign.End k.1
   Ok (target.Undone, e.1)
 
 -- refuse INT
-unfoldable pub refuse_at : List Word → Outcome TargetTree
+unfoldable pub refuse_at : List Word → WordsRead TargetTree
 refuse_at ws = do
   k ← sign_at sign.Refuse ws
   n ← number_at k.1
@@ -116,7 +116,7 @@ refuse_at ws = do
   Ok (target.Refuse n.0, e.1)
 
 -- a target
-unfoldable pub target_at : List Word → Outcome TargetTree
+unfoldable pub target_at : List Word → WordsRead TargetTree
 target_at ws =
     if comes sign.Goto ws then goto_at ws
     else (if comes sign.Commit ws then commit_at ws
@@ -124,14 +124,14 @@ target_at ws =
     else refuse_at ws))
 
 -- one or more names
-unfoldable pub names_at : List Word → Outcome Names
+unfoldable pub names_at : List Word → WordsRead Names
 names_at ws = do
   x ← name_at ws
   xs ← many is_name name_at x.1
   Ok (record { first = x.0; others = xs.0 }, xs.1)
 
 -- a statement of this word and names, or nothing
-unfoldable pub names_statement_at : Sign → List Word → Outcome (Option Names)
+unfoldable pub names_statement_at : Sign → List Word → WordsRead (Option Names)
 names_statement_at s ws =
     if comes s ws then (do
       k ← sign_at s ws

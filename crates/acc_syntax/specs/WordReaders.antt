@@ -10,8 +10,8 @@ use Rattle.acc_lex.specs.declared.words.Word.{Word}
 use Rattle.acc_lex.specs.declared.words.Word.TheVariants as word
 
 -- what was read and the words after it, or the words from the first that doesn't fit
-abbrev pub Outcome : Type 0 → Type 0
-Outcome T = OutcomeOf Word T
+abbrev pub WordsRead : Type 0 → Type 0
+WordsRead T = OutcomeOf Word T
 
 -- two fixed words are the same
 abbrev pub same_sign : Sign → Sign → Bool
@@ -41,26 +41,26 @@ abbrev pub is_word : List Word → Bool
 is_word ws = next_is every ws
 
 -- this fixed word
-unfoldable pub sign_at : Sign → List Word → Outcome (Unit {0})
+unfoldable pub sign_at : Sign → List Word → WordsRead (Unit {0})
 sign_at s [] = Err []
 sign_at s (w ∷ ws) = if comes s (w ∷ ws) then Ok (tt, ws) else Err (w ∷ ws)
 
 -- a name
-unfoldable pub name_at : List Word → Outcome (List ℕ)
+unfoldable pub name_at : List Word → WordsRead (List ℕ)
 name_at (word.Name x ∷ ws) = Ok (x, ws)
 name_at ws = Err ws
 
 -- a number
-unfoldable pub number_at : List Word → Outcome ℕ
+unfoldable pub number_at : List Word → WordsRead ℕ
 number_at (word.Number n ∷ ws) = Ok (n, ws)
 number_at ws = Err ws
 
 -- the end of the words
-unfoldable pub end_at : List Word → Outcome (Unit {0})
+unfoldable pub end_at : List Word → WordsRead (Unit {0})
 end_at ws = absent_at every ws
 
 -- a comma, and a further part of a list
-unfoldable pub further_at : {T : Type 0} → (List Word → Outcome T) → List Word → Outcome T
+unfoldable pub further_at : {T : Type 0} → (List Word → WordsRead T) → List Word → WordsRead T
 further_at item ws = do
   o ← sign_at sign.Comma ws
   x ← item o.1

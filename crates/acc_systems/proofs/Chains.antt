@@ -6,30 +6,30 @@ use Rattle.std.proofs.lemmas.List.{drop_all}
 use Rattle.std.proofs.lemmas.Result.{err_from_is_err_and}
 use Rattle.acc_systems.specs.declared.stops.Stop.{Stop}
 use Rattle.acc_systems.specs.declared.stops.Stop.TheVariants.{Refuted, Wide, Many, Memory}
-use Rattle.acc_systems.specs.Answers.{Outcome, chain, steps, StoppedBy, Answers, Leaves}
+use Rattle.acc_systems.specs.Answers.{Computation, chain, steps, StoppedBy, Answers, Leaves}
 
 -- what stops the first stops both
-pub stopped_chain : {A B : Type 0} (e : Stop) (r : Outcome A) (next : A → Outcome B) → StoppedBy e r → StoppedBy e (chain r next)
+pub stopped_chain : {A B : Type 0} (e : Stop) (r : Computation A) (next : A → Computation B) → StoppedBy e r → StoppedBy e (chain r next)
 stopped_chain (Refuted x) r next h = ap (λ r. chain r next) h
 stopped_chain Wide r next h = ap (λ r. chain r next) h
 stopped_chain Many r next h = ap (λ r. chain r next) h
 stopped_chain Memory r next h = tt
 
-pub stopped_along : {A : Type 0} (e : Stop) (r s : Outcome A) → r ≡ s → StoppedBy e r → StoppedBy e s
+pub stopped_along : {A : Type 0} (e : Stop) (r s : Computation A) → r ≡ s → StoppedBy e r → StoppedBy e s
 stopped_along e r s same h = subst (λ x. StoppedBy e x) same h
 
-pub answers_along : {T : Type 0} (r : Result T Stop) (o q : Outcome T) → o ≡ q → Answers r o → Answers r q
+pub answers_along : {T : Type 0} (r : Result T Stop) (o q : Computation T) → o ≡ q → Answers r o → Answers r q
 answers_along r o q same h = subst (λ x. Answers r x) same h
 
 -- a call that hands on what stopped a callee
-pub answers_handed : {T : Type 0} (r : Result T Stop) (e : Stop) (outcome : Outcome T) → IsErrAnd r (λ y. y ≡ e) → StoppedBy e outcome
+pub answers_handed : {T : Type 0} (r : Result T Stop) (e : Stop) (outcome : Computation T) → IsErrAnd r (λ y. y ≡ e) → StoppedBy e outcome
     → Answers r outcome
 answers_handed r e outcome h stopped =
     let p = err_from_is_err_and r h in
     let same : r ≡ Err e = p.1 ∙ ap Err p.2 in
     subst (λ y. Answers y outcome) (sym same) stopped
 
-pub leaves_handed : {A T : Type 0} (r : Result T Stop) (e : Stop) (x : A) (outcome : Outcome A) → IsErrAnd r (λ y. y ≡ e)
+pub leaves_handed : {A T : Type 0} (r : Result T Stop) (e : Stop) (x : A) (outcome : Computation A) → IsErrAnd r (λ y. y ≡ e)
     → StoppedBy e outcome → Leaves r x outcome
 leaves_handed r e x outcome h stopped =
     let p = err_from_is_err_and r h in
@@ -42,7 +42,7 @@ pub drop_more : {X : Type 0} (xs : List X) (i : ℕ) (d x : X) → i < length xs
 drop_more xs i d x within here =
     drop-cons xs i d within ∙ (ap (λ (n : ℕ). get_or xs i d ∷ drop n xs) (sym (add-one i)) ∙ ap (λ x. x ∷ drop (i + 1) xs) (sym here))
 
-module _ {S X : Type 0} (step : S → X → Outcome S) (xs : List X) (i : ℕ) (s : S) where
+module _ {S X : Type 0} (step : S → X → Computation S) (xs : List X) (i : ℕ) (s : S) where
   pub step_on : (d : X) (t : S) → i < length xs → d ≡ get_or xs i d → step s d ≡ Ok t
       → steps step t (drop (i + 1) xs) ≡ steps step s (drop i xs)
   step_on d t within here done =

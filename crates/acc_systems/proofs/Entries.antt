@@ -4,7 +4,7 @@ use Rattle.std.specs.Prelude.{All}
 use Rattle.std.specs.Ordering.{int_eq}
 use Rattle.std.proofs.lemmas.Bool.Decides.{nat_tests}
 use Rattle.std.proofs.lemmas.List.Elements.{All-nil, All-head, All-tail, All-cons}
-use Rattle.acc_systems.specs.Answers.{Outcome}
+use Rattle.acc_systems.specs.Answers.{Computation}
 use Rattle.acc_systems.specs.Numbers.{product}
 use Rattle.acc_systems.specs.Sparse.{Sparse, put, put_left, scaled, mixture, mixed_after, mixed}
 use Rattle.acc_systems.proofs.Worths.{Gives, gives_chain, gives_weaker, kept_gives, mixture_gives}
@@ -13,7 +13,7 @@ abbrev pub Entry : Type 0
 Entry = ℕ × ℤ
 
 module _ (C : Entry → Type 0) where
-  put_all : (u : ℕ) (number : Outcome ℤ) (others : Outcome Sparse) → Gives number (λ n. C (u, n)) → Gives others (All C)
+  put_all : (u : ℕ) (number : Computation ℤ) (others : Computation Sparse) → Gives number (λ n. C (u, n)) → Gives others (All C)
       → Gives (put u number others) (All C)
   put_all u number others h g =
       gives_chain number _ (λ n. C (u, n)) (All C) h
@@ -24,7 +24,7 @@ module _ (C : Entry → Type 0) where
   left_by u n rest true e h all = all
   left_by u n rest false e h all = All-cons C (u, n) rest (h e) all
 
-  put_left_all : (u : ℕ) (number : Outcome ℤ) (others : Outcome Sparse) → Gives number (λ n. int_eq n (pos 0) ≡ false → C (u, n))
+  put_left_all : (u : ℕ) (number : Computation ℤ) (others : Computation Sparse) → Gives number (λ n. int_eq n (pos 0) ≡ false → C (u, n))
       → Gives others (All C) → Gives (put_left u number others) (All C)
   put_left_all u number others h g =
       gives_chain number _ (λ n. int_eq n (pos 0) ≡ false → C (u, n)) (All C) h
@@ -59,7 +59,7 @@ module _ (C : Entry → Type 0) where
         gives_weaker (mixture p s.1 q t.1) (λ n. n ≡ p *ℤ s.1 +ℤ q *ℤ t.1) (λ n. int_eq n (pos 0) ≡ false → C (s.0, n))
         (λ n e. subst (λ z. int_eq z (pos 0) ≡ false → C (s.0, z)) (sym e) (both s.0 s.1 t.1 a b)) (mixture_gives p s.1 q t.1)
 
-    at_place : (s t : Entry) (ss ts : Sparse) (others : Sparse → Outcome Sparse) (rest : Outcome Sparse) → A s → B t
+    at_place : (s t : Entry) (ss ts : Sparse) (others : Sparse → Computation Sparse) (rest : Computation Sparse) → A s → B t
         → Gives (others (t ∷ ts)) (All C) → Gives (others ts) (All C) → Gives rest (All C) → (b c : Bool) → nat_lt s.0 t.0 ≡ b
         → nat_lt t.0 s.0 ≡ c
         → Gives (if b then put s.0 (product p s.1) (others (t ∷ ts))
@@ -69,7 +69,7 @@ module _ (C : Entry → Type 0) where
     at_place s t ss ts others rest a b f g h false false e k =
         put_left_all s.0 (mixture p s.1 q t.1) (others ts) (summed s t a (subst (λ u. B (u, t.1)) (same_place s t e k) b)) g
 
-    after_all : (s : Entry) (ss : Sparse) (others : Sparse → Outcome Sparse) → A s → ((ys : Sparse) → All B ys → Gives (others ys) (All C))
+    after_all : (s : Entry) (ss : Sparse) (others : Sparse → Computation Sparse) → A s → ((ys : Sparse) → All B ys → Gives (others ys) (All C))
         → (ys : Sparse) → All B ys → Gives (mixed_after p q s others ys) (All C)
     after_all s ss others a h [] all = put_all s.0 (product p s.1) (others []) (one s a) (h [] all)
     after_all s ss others a h (t ∷ ts) all =

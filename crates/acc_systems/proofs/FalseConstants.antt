@@ -3,7 +3,7 @@ use Rattle.std.proofs.Common.{◌≡◌, ℕ, true, [], ◌∷◌, Err, refl, su
 use Rattle.std.proofs.lemmas.Int.{ints}
 use Rattle.acc_systems.specs.declared.stops.Stop.TheVariants.{Refuted}
 use Rattle.acc_systems.specs.declared.rows.Row.{Row}
-use Rattle.acc_systems.specs.Answers.{Outcome}
+use Rattle.acc_systems.specs.Answers.{Computation}
 use Rattle.acc_systems.specs.Sparse.{Sparse, no_numbers}
 use Rattle.acc_systems.specs.Systems.{is_constant, is_false, eliminated}
 use Rattle.acc_base.specs.Collecting.{worth}
@@ -17,7 +17,7 @@ nothing : (f : ℕ → ℤ) (xs : Sparse) → no_numbers xs ≡ true → worth f
 nothing f [] e = refl
 nothing f (t ∷ ts) e = absurd (cc)
 
-pub at_end : {A : Type 0} (Good : Row → Type 0) (o : Outcome A) (P : A → Type 0) (r : Row) → o ≡ Err (Refuted r) → Keeps Good o P
+pub at_end : {A : Type 0} (Good : Row → Type 0) (o : Computation A) (P : A → Type 0) (r : Row) → o ≡ Err (Refuted r) → Keeps Good o P
     → Good r × (is_constant r ≡ true) × (is_false r ≡ true)
 at_end Good o P r e h = subst (λ x. Keeps Good x P) e h
 

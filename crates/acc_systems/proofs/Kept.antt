@@ -11,7 +11,7 @@ use Rattle.acc_systems.specs.declared.rows.Row.{Row}
 use Rattle.acc_systems.specs.declared.systems.Reduced.{Reduced}
 use Rattle.acc_systems.specs.declared.systems.Bounded.{Bounded}
 use Rattle.acc_systems.specs.declared.systems.Eliminated.{Eliminated}
-use Rattle.acc_systems.specs.Answers.{Outcome, chain, steps}
+use Rattle.acc_systems.specs.Answers.{Computation, chain, steps}
 use Rattle.acc_systems.specs.Rows.{has, cleared, crossing}
 use Rattle.acc_systems.specs.Systems.{MOST, is_false, repeats, is_constant, admitted, is_equation_with, taken, replaced, set_aside, whole}
 use Rattle.acc_systems.specs.Systems.{is_upper, is_lower, is_without, crossed_once, crossed_with, or_else, crossed, unbounded, counted}
@@ -35,7 +35,7 @@ weaker P Q h (x ∷ xs) all = All-cons Q x xs (h x (All-head P x xs all)) (weake
 
 module _ (Good : Row → Type 0) where
   -- a computation ends with a value of which this holds, or with a false constant that is good, or with no value
-  abbrev pub Keeps : {A : Type 0} → Outcome A → (A → Type 0) → Type 0
+  abbrev pub Keeps : {A : Type 0} → Computation A → (A → Type 0) → Type 0
   Keeps (Ok x) P = P x
   Keeps (Err (Refuted r)) P = Good r × (is_constant r ≡ true) × (is_false r ≡ true)
   Keeps (Err Wide) P = Unit {0}
@@ -48,19 +48,19 @@ module _ (Good : Row → Type 0) where
   keeps_err Many P Q h = tt
   keeps_err Memory P Q h = tt
 
-  pub keeps_chain : {A B : Type 0} (o : Outcome A) (next : A → Outcome B) (P : A → Type 0) (Q : B → Type 0) → Keeps o P
+  pub keeps_chain : {A B : Type 0} (o : Computation A) (next : A → Computation B) (P : A → Type 0) (Q : B → Type 0) → Keeps o P
       → ((x : A) → P x → Keeps (next x) Q) → Keeps (chain o next) Q
   keeps_chain (Ok x) next P Q h k = k x h
   keeps_chain (Err e) next P Q h k = keeps_err e P Q h
 
-  pub keeps_steps : {S X : Type 0} (step : S → X → Outcome S) (P : S → Type 0) (R : X → Type 0)
+  pub keeps_steps : {S X : Type 0} (step : S → X → Computation S) (P : S → Type 0) (R : X → Type 0)
       → ((s : S) (x : X) → P s → R x → Keeps (step s x) P) → (xs : List X) → All R xs → (s : S) → P s → Keeps (steps step s xs) P
   keeps_steps step P R h [] all s p = p
   keeps_steps step P R h (x ∷ xs) all s p =
       keeps_chain (step s x) (λ t. steps step t xs) P P (h s x p (All-head R x xs all))
       (λ t q. keeps_steps step P R h xs (All-tail R x xs all) t q)
 
-  from_gives : (o : Outcome Row) → Gives o Good → Keeps o Good
+  from_gives : (o : Computation Row) → Gives o Good → Keeps o Good
   from_gives (Ok r) h = h
   from_gives (Err Wide) h = tt
   from_gives (Err Many) h = tt

@@ -5,7 +5,7 @@ use Rattle.std.specs.Prelude.{All, int_lt}
 use Rattle.std.specs.Ordering.{int_eq}
 use Rattle.std.proofs.lemmas.Bool.Decides.{nat_tests}
 use Rattle.acc_systems.specs.declared.rows.Row.{Row}
-use Rattle.acc_systems.specs.Answers.{Outcome}
+use Rattle.acc_systems.specs.Answers.{Computation}
 use Rattle.acc_systems.specs.Made.{Rises, Ordered}
 use Rattle.acc_systems.specs.Numbers.{product, opposite, size}
 use Rattle.acc_systems.specs.Sparse.{Sparse, at, put, put_left, scaled, mixture, mixed_after, mixed}
@@ -24,7 +24,7 @@ some_product p m = gives_weaker (product p m) (λ n. n ≡ p *ℤ m) (λ _. Unit
 some_mixture : (p m q n : ℤ) → Gives (mixture p m q n) (λ _. Unit {0})
 some_mixture p m q n = gives_weaker (mixture p m q n) (λ v. v ≡ p *ℤ m +ℤ q *ℤ n) (λ _. Unit {0}) (λ v e. tt) (mixture_gives p m q n)
 
-put_rises : (k u : ℕ) (number : Outcome ℤ) (others : Outcome Sparse) → k ≤ u → Gives number (λ _. Unit {0}) → Gives others (Rises (suc u))
+put_rises : (k u : ℕ) (number : Computation ℤ) (others : Computation Sparse) → k ≤ u → Gives number (λ _. Unit {0}) → Gives others (Rises (suc u))
     → Gives (put u number others) (Rises k)
 put_rises k u number others low h g =
     gives_chain number _ (λ _. Unit {0}) (Rises k) h (λ n _. gives_chain others _ (Rises (suc u)) (Rises k) g (λ rest r. (low, r)))
@@ -33,7 +33,7 @@ left_by : (k u : ℕ) (n : ℤ) (rest : Sparse) (b : Bool) → k ≤ u → Rises
 left_by k u n rest true low r = lower k (suc u) rest (omega (arith, low)) r
 left_by k u n rest false low r = (low, r)
 
-put_left_rises : (k u : ℕ) (number : Outcome ℤ) (others : Outcome Sparse) → k ≤ u → Gives number (λ _. Unit {0})
+put_left_rises : (k u : ℕ) (number : Computation ℤ) (others : Computation Sparse) → k ≤ u → Gives number (λ _. Unit {0})
     → Gives others (Rises (suc u)) → Gives (put_left u number others) (Rises k)
 put_left_rises k u number others low h g =
     gives_chain number _ (λ _. Unit {0}) (Rises k) h
@@ -50,7 +50,7 @@ is_same : (a b : ℕ) → nat_lt a b ≡ false → nat_lt b a ≡ false → b �
 is_same a b e f = grind (arith, nat_tests)
 
 module _ (p q : ℤ) where
-  at_place : (k : ℕ) (s t : ℕ × ℤ) (ss ts : Sparse) (others : Sparse → Outcome Sparse) (rest : Outcome Sparse) → Rises k (s ∷ ss)
+  at_place : (k : ℕ) (s t : ℕ × ℤ) (ss ts : Sparse) (others : Sparse → Computation Sparse) (rest : Computation Sparse) → Rises k (s ∷ ss)
       → Rises k (t ∷ ts) → ((j : ℕ) (ys : Sparse) → Rises j ss → Rises j ys → Gives (others ys) (Rises j))
       → ((j : ℕ) → Rises j (s ∷ ss) → Rises j ts → Gives rest (Rises j)) → (b c : Bool) → nat_lt s.0 t.0 ≡ b → nat_lt t.0 s.0 ≡ c
       → Gives (if b then put s.0 (product p s.1) (others (t ∷ ts))
@@ -63,7 +63,7 @@ module _ (p q : ℤ) where
       put_left_rises k s.0 (mixture p s.1 q t.1) (others ts) xr.0 (some_mixture p s.1 q t.1)
       (h (suc s.0) ts xr.1 (subst (λ u. Rises (suc u) ts) (is_same s.0 t.0 e f) yr.1))
 
-  after_rises : (s : ℕ × ℤ) (ss : Sparse) (others : Sparse → Outcome Sparse)
+  after_rises : (s : ℕ × ℤ) (ss : Sparse) (others : Sparse → Computation Sparse)
       → ((j : ℕ) (ys : Sparse) → Rises j ss → Rises j ys → Gives (others ys) (Rises j)) → (ys : Sparse) (k : ℕ) → Rises k (s ∷ ss)
       → Rises k ys → Gives (mixed_after p q s others ys) (Rises k)
   after_rises s ss others h [] k xr yr = put_rises k s.0 (product p s.1) (others []) xr.0 (some_product p s.1) (h (suc s.0) [] xr.1 tt)

@@ -6,29 +6,29 @@ use Rattle.std.proofs.lemmas.Bool.Decides.{nat_tests}
 use Rattle.std.proofs.lemmas.List.{drop_all, take_all}
 use Rattle.acc_systems.specs.declared.stops.Stop.{Stop}
 use Rattle.acc_systems.specs.declared.stops.Stop.TheVariants.{Refuted, Wide, Many, Memory}
-use Rattle.acc_systems.specs.Answers.{Outcome, chain, behind, StoppedBy}
+use Rattle.acc_systems.specs.Answers.{Computation, chain, behind, StoppedBy}
 use Rattle.acc_systems.specs.Numbers.{product}
 use Rattle.acc_systems.specs.Sparse.{Sparse, put, put_left, scaled, mixture, mixed}
 use Rattle.acc_systems.proofs.Chains.{drop_more, stopped_along}
 
-abbrev the_outcome : {A : Type 0} → A → Outcome A
+abbrev the_outcome : {A : Type 0} → A → Computation A
 the_outcome x = Ok x
 
 ok_same : {A : Type 0} (x y : A) → the_outcome x ≡ the_outcome y → x ≡ y
 ok_same x y h = cc
 
 -- what is put behind, in one go or one by one
-behind_one : (xs ys : Sparse) (t : ℕ × ℤ) (r : Outcome Sparse) → xs ++ t ∷ [] ≡ ys
+behind_one : (xs ys : Sparse) (t : ℕ × ℤ) (r : Computation Sparse) → xs ++ t ∷ [] ≡ ys
     → behind ys r ≡ behind xs (chain r (λ rest. Ok (t ∷ rest)))
 behind_one xs ys t (Ok rest) e = ap (λ (zs : Sparse). Ok (zs ++ rest)) (sym e) ∙ ap Ok (append_assoc xs (t ∷ []) rest)
 behind_one xs ys t (Err d) e = refl
 
-pub behind_put : (xs ys : Sparse) (u : ℕ) (n : Outcome ℤ) (r : Outcome Sparse) → behind xs (put u n (Ok [])) ≡ Ok ys
+pub behind_put : (xs ys : Sparse) (u : ℕ) (n : Computation ℤ) (r : Computation Sparse) → behind xs (put u n (Ok [])) ≡ Ok ys
     → behind ys r ≡ behind xs (put u n r)
 behind_put xs ys u (Ok n) r h = behind_one xs ys (u, n) r (ok_same _ _ h)
 behind_put xs ys u (Err e) r h = absurd (cc)
 
-pub stopped_put : (e : Stop) (xs : Sparse) (u : ℕ) (n : Outcome ℤ) (r : Outcome Sparse) → StoppedBy e (behind xs (put u n (Ok [])))
+pub stopped_put : (e : Stop) (xs : Sparse) (u : ℕ) (n : Computation ℤ) (r : Computation Sparse) → StoppedBy e (behind xs (put u n (Ok [])))
     → StoppedBy e (behind xs (put u n r))
 stopped_put (Refuted x) xs u (Ok n) r h = absurd (cc)
 stopped_put Wide xs u (Ok n) r h = absurd (cc)
@@ -36,11 +36,11 @@ stopped_put Many xs u (Ok n) r h = absurd (cc)
 stopped_put Memory xs u (Ok n) r h = tt
 stopped_put e xs u (Err d) r h = h
 
-pub behind_left : (xs ys : Sparse) (u : ℕ) (n : Outcome ℤ) (r : Outcome Sparse) → behind xs (put_left u n (Ok [])) ≡ Ok ys
+pub behind_left : (xs ys : Sparse) (u : ℕ) (n : Computation ℤ) (r : Computation Sparse) → behind xs (put_left u n (Ok [])) ≡ Ok ys
     → behind ys r ≡ behind xs (put_left u n r)
 behind_left xs ys u (Ok n) r h = left_cases xs ys u n (int_eq n (pos 0)) r h
   where
-    left_cases : (xs ys : Sparse) (u : ℕ) (n : ℤ) (b : Bool) (r : Outcome Sparse)
+    left_cases : (xs ys : Sparse) (u : ℕ) (n : ℤ) (b : Bool) (r : Computation Sparse)
         → the_outcome (xs ++ (if b then [] else ((u, n) ∷ []))) ≡ Ok ys
         → behind ys r ≡ behind xs (chain r (λ rest. Ok (if b then rest else ((u, n) ∷ rest))))
     left_cases xs ys u n true (Ok rest) h = ap (λ (zs : Sparse). the_outcome (zs ++ rest)) (sym (ok_same _ _ h) ∙ append-nil xs)
@@ -48,7 +48,7 @@ behind_left xs ys u (Ok n) r h = left_cases xs ys u n (int_eq n (pos 0)) r h
     left_cases xs ys u n false r h = behind_one xs ys (u, n) r (ok_same _ _ h)
 behind_left xs ys u (Err e) r h = absurd (cc)
 
-pub stopped_left : (e : Stop) (xs : Sparse) (u : ℕ) (n : Outcome ℤ) (r : Outcome Sparse) → StoppedBy e (behind xs (put_left u n (Ok [])))
+pub stopped_left : (e : Stop) (xs : Sparse) (u : ℕ) (n : Computation ℤ) (r : Computation Sparse) → StoppedBy e (behind xs (put_left u n (Ok [])))
     → StoppedBy e (behind xs (put_left u n r))
 stopped_left (Refuted x) xs u (Ok n) r h = absurd (cc)
 stopped_left Wide xs u (Ok n) r h = absurd (cc)
@@ -71,7 +71,7 @@ module _ (p q : ℤ) (xs ys : Sparse) (i j : ℕ) (d e : ℕ × ℤ) (in_xs : i 
   abbrev y : ℕ × ℤ
   y = get_or ys j e
 
-  abbrev opened : Bool → Bool → Outcome Sparse
+  abbrev opened : Bool → Bool → Computation Sparse
   opened b c =
       if b then put x.0 (product p x.1) (mixed p q (drop (i + 1) xs) (drop j ys))
       else (if c then put y.0 (product q y.1) (mixed p q (drop i xs) (drop (j + 1) ys))
@@ -97,7 +97,7 @@ module _ (p q : ℤ) (xs ys : Sparse) (i j : ℕ) (d e : ℕ × ℤ) (in_xs : i 
       ≡ put_left x.0 (mixture p x.1 q y.1) (mixed p q (drop (i + 1) xs) (drop (j + 1) ys))
   both_here g h = in_cases ∙ (λ k. opened (not_before x.0 y.0 g k) (not_before y.0 x.0 h k))
 
-  module _ (m n : ℤ) (m_is : m ≡ x.1) (n_is : n ≡ y.1) (out : Sparse) (whole : Outcome Sparse)
+  module _ (m n : ℤ) (m_is : m ≡ x.1) (n_is : n ≡ y.1) (out : Sparse) (whole : Computation Sparse)
       (so_far : behind out (mixed p q (drop i xs) (drop j ys)) ≡ whole) where
     first_is : x.0 < y.0 → behind out (put x.0 (product p m) (mixed p q (drop (i + 1) xs) (drop j ys))) ≡ whole
     first_is h = ap (λ z. behind out (put x.0 (product p z) (mixed p q (drop (i + 1) xs) (drop j ys)))) m_is

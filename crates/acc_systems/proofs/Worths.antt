@@ -9,13 +9,13 @@ use Rattle.acc_base.specs.Bounded.{is_wide}
 use Rattle.acc_base.proofs.Products.{sum_times, times_sum, times_times}
 use Rattle.acc_systems.specs.declared.stops.Stop.{Stop}
 use Rattle.acc_systems.specs.declared.stops.Stop.TheVariants.{Refuted, Wide, Many, Memory}
-use Rattle.acc_systems.specs.Answers.{Outcome, chain}
+use Rattle.acc_systems.specs.Answers.{Computation, chain}
 use Rattle.acc_base.specs.Collecting.{worth}
 use Rattle.acc_systems.specs.Numbers.{kept, product, sum}
 use Rattle.acc_systems.specs.Sparse.{Sparse, put, put_left, scaled, mixture, mixed_after, mixed}
 
 -- a computation's value is this, or a number is too large
-abbrev pub Gives : {A : Type 0} → Outcome A → (A → Type 0) → Type 0
+abbrev pub Gives : {A : Type 0} → Computation A → (A → Type 0) → Type 0
 Gives (Ok x) P = P x
 Gives (Err Wide) P = Unit {0}
 Gives (Err Many) P = ⊥
@@ -28,20 +28,20 @@ gives_err Many P Q h = absurd h
 gives_err Memory P Q h = absurd h
 gives_err (Refuted r) P Q h = absurd h
 
-pub given : {A : Type 0} (o : Outcome A) (P : A → Type 0) (x : A) → o ≡ Ok x → Gives o P → P x
+pub given : {A : Type 0} (o : Computation A) (P : A → Type 0) (x : A) → o ≡ Ok x → Gives o P → P x
 given (Ok y) P x e h = let same : y ≡ x = cc in subst P same h
 given (Err d) P x e h = absurd (cc)
 
-pub gives_chain : {A B : Type 0} (o : Outcome A) (next : A → Outcome B) (P : A → Type 0) (Q : B → Type 0) → Gives o P
+pub gives_chain : {A B : Type 0} (o : Computation A) (next : A → Computation B) (P : A → Type 0) (Q : B → Type 0) → Gives o P
     → ((x : A) → P x → Gives (next x) Q) → Gives (chain o next) Q
 gives_chain (Ok x) next P Q h k = k x h
 gives_chain (Err e) next P Q h k = gives_err e P Q h
 
-pub gives_weaker : {A : Type 0} (o : Outcome A) (P Q : A → Type 0) → ((x : A) → P x → Q x) → Gives o P → Gives o Q
+pub gives_weaker : {A : Type 0} (o : Computation A) (P Q : A → Type 0) → ((x : A) → P x → Q x) → Gives o P → Gives o Q
 gives_weaker (Ok x) P Q k h = k x h
 gives_weaker (Err e) P Q k h = gives_err e P Q h
 
-pub gives_both : {A : Type 0} (o : Outcome A) (P Q : A → Type 0) {R : A → Type 0} → ((x : A) → P x → Q x → R x) → Gives o P → Gives o Q
+pub gives_both : {A : Type 0} (o : Computation A) (P Q : A → Type 0) {R : A → Type 0} → ((x : A) → P x → Q x → R x) → Gives o P → Gives o Q
     → Gives o R
 gives_both (Ok x) P Q k p q = k x p q
 gives_both (Err e) P Q k p q = gives_err e P _ p
@@ -61,7 +61,7 @@ mixture_gives p m q n =
     subst (λ z. Gives (sum a b) (λ v. v ≡ z)) (λ i. e i +ℤ g i) (kept_gives (a +ℤ b))))
 
 module _ (f : ℕ → ℤ) where
-  put_gives : (u : ℕ) (number : Outcome ℤ) (others : Outcome Sparse) (n w : ℤ) → Gives number (λ m. m ≡ n)
+  put_gives : (u : ℕ) (number : Computation ℤ) (others : Computation Sparse) (n w : ℤ) → Gives number (λ m. m ≡ n)
       → Gives others (λ zs. worth f zs ≡ w) → Gives (put u number others) (λ zs. worth f zs ≡ n *ℤ f u +ℤ w)
   put_gives u (Ok m) (Ok rest) n w h g = λ i. h i *ℤ f u +ℤ g i
   put_gives u (Ok m) (Err e) n w h g = gives_err e (λ zs. worth f zs ≡ w) (λ zs. worth f zs ≡ n *ℤ f u +ℤ w) g
@@ -74,14 +74,14 @@ module _ (f : ℕ → ℤ) where
       omega (arith, ints, none, g)
   left_cases u m w rest false e g = ap (λ z. m *ℤ f u +ℤ z) g
 
-  put_left_gives : (u : ℕ) (number : Outcome ℤ) (others : Outcome Sparse) (n w : ℤ) → Gives number (λ m. m ≡ n)
+  put_left_gives : (u : ℕ) (number : Computation ℤ) (others : Computation Sparse) (n w : ℤ) → Gives number (λ m. m ≡ n)
       → Gives others (λ zs. worth f zs ≡ w) → Gives (put_left u number others) (λ zs. worth f zs ≡ n *ℤ f u +ℤ w)
   put_left_gives u (Ok m) (Ok rest) n w h g =
       left_cases u m w rest (int_eq m (pos 0)) refl g ∙ ap (λ z. z *ℤ f u +ℤ w) h
   put_left_gives u (Ok m) (Err e) n w h g = gives_err e (λ zs. worth f zs ≡ w) (λ zs. worth f zs ≡ n *ℤ f u +ℤ w) g
   put_left_gives u (Err e) others n w h g = gives_err e (λ m. m ≡ n) (λ zs. worth f zs ≡ n *ℤ f u +ℤ w) h
 
-  gives_equal : (o : Outcome Sparse) (v w : ℤ) → v ≡ w → Gives o (λ zs. worth f zs ≡ v) → Gives o (λ zs. worth f zs ≡ w)
+  gives_equal : (o : Computation Sparse) (v w : ℤ) → v ≡ w → Gives o (λ zs. worth f zs ≡ v) → Gives o (λ zs. worth f zs ≡ w)
   gives_equal o v w e h = subst (λ z. Gives o (λ zs. worth f zs ≡ z)) e h
 
   -- p times a list is worth p times as much
@@ -94,10 +94,10 @@ module _ (f : ℕ → ℤ) where
       (put_gives t.0 (product p t.1) (scaled p ts) (p *ℤ t.1) (p *ℤ worth f ts) (kept_gives (p *ℤ t.1)) (scaled_gives p ts))
 
   module _ (p q : ℤ) where
-    abbrev Mixes : Outcome Sparse → Sparse → Sparse → Type 0
+    abbrev Mixes : Computation Sparse → Sparse → Sparse → Type 0
     Mixes o xs ys = Gives o (λ zs. worth f zs ≡ p *ℤ worth f xs +ℤ q *ℤ worth f ys)
 
-    by_places : (s t : ℕ × ℤ) (ss ts : Sparse) (others : Sparse → Outcome Sparse) (rest : Outcome Sparse)
+    by_places : (s t : ℕ × ℤ) (ss ts : Sparse) (others : Sparse → Computation Sparse) (rest : Computation Sparse)
         → Mixes (others (t ∷ ts)) ss (t ∷ ts) → Mixes (others ts) ss ts → Mixes rest (s ∷ ss) ts → (b c : Bool) → nat_lt s.0 t.0 ≡ b
         → nat_lt t.0 s.0 ≡ c
         → Mixes (if b then put s.0 (product p s.1) (others (t ∷ ts))
@@ -124,7 +124,7 @@ module _ (f : ℕ → ℤ) where
         gives_equal (put_left s.0 (mixture p s.1 q t.1) (others ts)) _ _ (omega (arith, ints, one, all, two, more, moved, parts))
         (put_left_gives s.0 (mixture p s.1 q t.1) (others ts) (p *ℤ s.1 +ℤ q *ℤ t.1) _ (mixture_gives p s.1 q t.1) both)
 
-    after_gives : (s : ℕ × ℤ) (ss : Sparse) (others : Sparse → Outcome Sparse) → ((ys : Sparse) → Mixes (others ys) ss ys) → (ys : Sparse)
+    after_gives : (s : ℕ × ℤ) (ss : Sparse) (others : Sparse → Computation Sparse) → ((ys : Sparse) → Mixes (others ys) ss ys) → (ys : Sparse)
         → Mixes (mixed_after p q s others ys) (s ∷ ss) ys
     after_gives s ss others h [] =
         let one = times_times p s.1 (f s.0) in

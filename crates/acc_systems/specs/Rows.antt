@@ -2,7 +2,7 @@
 use Rattle.std.specs.Prelude.{ℕ, nat_lt, Bool, false, not, if◌then◌else◌, List, [], ◌∷◌, map, Ok, ℤ, pos, int_lt}
 use Rattle.std.specs.Ordering.{int_eq}
 use Rattle.acc_systems.specs.declared.rows.Row.{Row}
-use Rattle.acc_systems.specs.Answers.{Outcome, chain}
+use Rattle.acc_systems.specs.Answers.{Computation, chain}
 use Rattle.acc_systems.specs.Numbers.{opposite, size}
 use Rattle.acc_systems.specs.Sparse.{Sparse, at, mixture, mixed}
 use Rattle.acc_systems.specs.Divisors.{common, quotient}
@@ -27,7 +27,7 @@ lowest r = if nat_lt 1 (divisor_of r) then divided (divisor_of r) r else r
 
 -- ---- p times a relation and q times another
 
-abbrev pub made : ℤ → Row → ℤ → Row → Bool → Outcome Row
+abbrev pub made : ℤ → Row → ℤ → Row → Bool → Computation Row
 made p r q e equal =
     chain (mixed p q r.terms e.terms) (λ terms. chain (mixture p r.constant q e.constant)
     (λ constant. chain (mixed p q r.by e.by) (λ by. Ok
@@ -40,17 +40,17 @@ has u r = not (int_eq (at u r.terms) (pos 0))
 
 -- the relation without the unknown, by an equation that has it with coefficient a: |a| times it, less s * b times the equation,
 -- where s is the sign of a and b the relation's own coefficient. One that doesn't have it stays
-abbrev pub turned : ℤ → ℤ → Outcome ℤ
+abbrev pub turned : ℤ → ℤ → Computation ℤ
 turned a b = if int_lt a (pos 0) then Ok b else opposite b
 
-abbrev pub cleared_by : ℤ → Row → ℤ → Row → Outcome Row
+abbrev pub cleared_by : ℤ → Row → ℤ → Row → Computation Row
 cleared_by a e b r =
     chain (size a) (λ p. chain (turned a b) (λ q. made p r q e r.equal))
 
-abbrev pub cleared : ℕ → Row → Row → Outcome Row
+abbrev pub cleared : ℕ → Row → Row → Computation Row
 cleared u e r = if has u r then cleared_by (at u e.terms) e (at u r.terms) r else Ok r
 
 -- the relation without the unknown that an upper and a lower bound of it imply: a * low - b * up, where a is the unknown's
 -- coefficient in the upper one, above 0, and b that in the lower one, below 0
-abbrev pub crossing : ℕ → Row → Row → Outcome Row
+abbrev pub crossing : ℕ → Row → Row → Computation Row
 crossing u up low = chain (opposite (at u low.terms)) (λ q. made (at u up.terms) low q up false)

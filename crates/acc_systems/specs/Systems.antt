@@ -9,7 +9,7 @@ use Rattle.acc_systems.specs.declared.systems.Reduced.{Reduced}
 use Rattle.acc_systems.specs.declared.systems.Parted.{Parted}
 use Rattle.acc_systems.specs.declared.systems.Bounded.{Bounded}
 use Rattle.acc_systems.specs.declared.systems.Eliminated.{Eliminated}
-use Rattle.acc_systems.specs.Answers.{Outcome, chain, steps}
+use Rattle.acc_systems.specs.Answers.{Computation, chain, steps}
 use Rattle.acc_systems.specs.Sparse.{at, same_numbers, no_numbers}
 use Rattle.acc_systems.specs.Rows.{has, cleared, crossing}
 
@@ -34,7 +34,7 @@ abbrev pub is_constant : Row → Bool
 is_constant r = no_numbers r.terms
 
 -- one more relation: a false constant ends the elimination; a true one, and a repetition, is dropped
-abbrev pub admitted : List Row → Row → Outcome (List Row)
+abbrev pub admitted : List Row → Row → Computation (List Row)
 admitted rows r =
     if is_constant r then (if is_false r then Err (Refuted r) else Ok rows)
     else (if list_any (repeats r) rows then Ok rows else (if nat_le MOST (length rows) then Err Many else Ok (rows ++ r ∷ [])))
@@ -49,7 +49,7 @@ abbrev pub taken : ℕ → List Row → Option (Row × List Row)
 taken u [] = None
 taken u (r ∷ rs) = if is_equation_with u r then Some (r, rs) else option_map (λ t. (t.0, r ∷ t.1)) (taken u rs)
 
-abbrev pub replaced : ℕ → Row → List Row → Row → Outcome (List Row)
+abbrev pub replaced : ℕ → Row → List Row → Row → Computation (List Row)
 replaced u e rows r = chain (cleared u e r) (admitted rows)
 
 -- a call takes that equation out of the relations, or leaves them
@@ -61,7 +61,7 @@ Takes u old new (Some e) = taken u old ≡ Some (e, new)
 abbrev pub whole : List Row → Reduced
 whole rows = record { rows = rows; aside = []; left = [] }
 
-abbrev pub set_aside : Reduced → ℕ → Outcome Reduced
+abbrev pub set_aside : Reduced → ℕ → Computation Reduced
 set_aside s u =
     elim (taken u s.rows) [
       | None ↦ Ok (record { rows = s.rows; aside = s.aside; left = s.left ++ u ∷ [] })
@@ -84,10 +84,10 @@ abbrev pub IsParted : ℕ → List Row → Parted → Type 0
 IsParted u rows p =
     (p.without ≡ filter (is_without u) rows) × (p.lows ≡ filter (is_lower u) rows) × (p.ups ≡ filter (is_upper u) rows)
 
-abbrev pub crossed_once : ℕ → Row → List Row → Row → Outcome (List Row)
+abbrev pub crossed_once : ℕ → Row → List Row → Row → Computation (List Row)
 crossed_once u up rows low = chain (crossing u up low) (admitted rows)
 
-abbrev pub crossed_with : ℕ → List Row → List Row → Row → Outcome (List Row)
+abbrev pub crossed_with : ℕ → List Row → List Row → Row → Computation (List Row)
 crossed_with u lows rows up = steps (crossed_once u up) rows lows
 
 -- the first list, and the second where it is empty
@@ -98,7 +98,7 @@ or_else (low ∷ lows) ups = low ∷ lows
 abbrev pub bounds_of : ℕ → List Row → List Row
 bounds_of u rows = or_else (filter (is_lower u) rows) (filter (is_upper u) rows)
 
-abbrev pub crossed : Bounded → ℕ → Outcome Bounded
+abbrev pub crossed : Bounded → ℕ → Computation Bounded
 crossed s u =
     chain (steps (crossed_with u (filter (is_lower u) s.rows)) (filter (is_without u) s.rows) (filter (is_upper u) s.rows))
     (λ rows. Ok (record { rows = rows; bounds = s.bounds ++ (u, bounds_of u s.rows) ∷ [] }))
@@ -114,7 +114,7 @@ counted first (suc n) = first ∷ counted (suc first) n
 abbrev pub unbounded : List Row → Bounded
 unbounded rows = record { rows = rows; bounds = [] }
 
-abbrev pub eliminated : ℕ → List Row → Outcome Eliminated
+abbrev pub eliminated : ℕ → List Row → Computation Eliminated
 eliminated unknowns rows =
     chain (steps admitted [] rows) (λ system.
     chain (steps set_aside (whole system) (counted 0 unknowns)) (λ r.

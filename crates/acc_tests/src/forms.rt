@@ -61,7 +61,7 @@ const SELF: u32 = 4;
 
 /// What is changed.
 #[derive(Clone, Copy, Debug)]
-enum Change {
+enum Edited {
     Nothing,
     HintOfNoPoint,
     SelfInAHint,
@@ -136,23 +136,23 @@ fn put_large(alloc: Global, point: &mut Point) -> Result<(), AllocError> {
     Ok(())
 }
 
-fn change_mid(alloc: Global, point: &mut Point, change: Change) -> Result<(), AllocError> {
+fn change_mid(alloc: Global, point: &mut Point, change: Edited) -> Result<(), AllocError> {
     match change {
-        Change::NoPath => point.undo.paths = Seq::new(alloc),
+        Edited::NoPath => point.undo.paths = Seq::new(alloc),
         _ => point.next.reads = one(alloc, Read::Count(Q, 0, Seq::new(alloc)))?,
     }
     Ok(())
 }
 
-fn change_points(alloc: Global, points: &mut [Point], change: Change) -> Result<(), AllocError> {
+fn change_points(alloc: Global, points: &mut [Point], change: Edited) -> Result<(), AllocError> {
     match (change, points) {
-        (Change::LargeNumber, [start, ..]) => put_large(alloc, start),
+        (Edited::LargeNumber, [start, ..]) => put_large(alloc, start),
         (_, [_, mid]) => change_mid(alloc, mid, change),
         _ => Ok(()),
     }
 }
 
-fn change_types(alloc: Global, types: &mut [TxType], change: Change) -> Result<(), AllocError> {
+fn change_types(alloc: Global, types: &mut [TxType], change: Edited) -> Result<(), AllocError> {
     let Some(ty) = types.first_mut() else {
         return Ok(());
     };
@@ -162,20 +162,20 @@ fn change_types(alloc: Global, types: &mut [TxType], change: Change) -> Result<(
     done
 }
 
-fn change_steps(alloc: Global, design: &mut Design, change: Change) -> Result<(), AllocError> {
+fn change_steps(alloc: Global, design: &mut Design, change: Edited) -> Result<(), AllocError> {
     let mut types = mem::replace(&mut design.types, Seq::new(alloc)).into_vec();
     let done = change_types(alloc, &mut types, change);
     design.types = Seq::from_vec(types);
     done
 }
 
-fn make(alloc: Global, design: &mut Design, change: Change) -> Result<(), AllocError> {
+fn make(alloc: Global, design: &mut Design, change: Edited) -> Result<(), AllocError> {
     match change {
-        Change::Nothing => {}
-        Change::HintOfNoPoint => design.hints = hint(alloc, 2, A)?,
-        Change::SelfInAHint => design.hints = hint(alloc, 1, SELF)?,
-        Change::OneInAClause => design.always = clause(alloc)?,
-        Change::NoPath | Change::EmptyPrefix | Change::LargeNumber => {
+        Edited::Nothing => {}
+        Edited::HintOfNoPoint => design.hints = hint(alloc, 2, A)?,
+        Edited::SelfInAHint => design.hints = hint(alloc, 1, SELF)?,
+        Edited::OneInAClause => design.always = clause(alloc)?,
+        Edited::NoPath | Edited::EmptyPrefix | Edited::LargeNumber => {
             change_steps(alloc, design, change)?;
         }
     }
@@ -183,21 +183,21 @@ fn make(alloc: Global, design: &mut Design, change: Change) -> Result<(), AllocE
 }
 
 /// What is said of the design with a change.
-fn judged(alloc: Global, change: Change) -> Result<Option<FormError>, Fail> {
+fn judged(alloc: Global, change: Edited) -> Result<Option<FormError>, Fail> {
     let mut design = parse(alloc, FORMED)?;
     make(alloc, &mut design, change)?;
     Ok(well_formed(&design).err())
 }
 
 /// Each change, with the lowest rule that it breaks and the first line that breaks it.
-const CHANGES: [(Change, Option<(u32, u64)>); 7] = [
-    (Change::Nothing, None),
-    (Change::HintOfNoPoint, Some((1, 0))),
-    (Change::SelfInAHint, Some((1, 0))),
-    (Change::OneInAClause, Some((1, 0))),
-    (Change::NoPath, Some((1, 0))),
-    (Change::EmptyPrefix, Some((2, 25))),
-    (Change::LargeNumber, Some((4, 14))),
+const CHANGES: [(Edited, Option<(u32, u64)>); 7] = [
+    (Edited::Nothing, None),
+    (Edited::HintOfNoPoint, Some((1, 0))),
+    (Edited::SelfInAHint, Some((1, 0))),
+    (Edited::OneInAClause, Some((1, 0))),
+    (Edited::NoPath, Some((1, 0))),
+    (Edited::EmptyPrefix, Some((2, 25))),
+    (Edited::LargeNumber, Some((4, 14))),
 ];
 
 #[test]

@@ -3,7 +3,7 @@ use Rattle.std.proofs.Common.{◌≤◌, length, take, sym, ap, ◌∙◌, subst
 use Rattle.acc_disk.specs.Standings.{settled, IsInOrder}
 use Rattle.acc_disk.specs.Changes.{after_all}
 use Rattle.acc_disk.specs.declared.history.Recorded.{Recorded}
-use Rattle.acc_disk.specs.declared.history.Change.TheVariants.{Cut}
+use Rattle.acc_disk.specs.declared.history.FileChange.TheVariants.{Cut}
 use Rattle.acc_disk.proofs.Orders.{cut_in_order}
 use Rattle.acc_disk.proofs.Replays.{stands_after}
 use Rattle.acc_disk.proofs.history.History.cut.Goals as goal

@@ -1,7 +1,7 @@
 use Rattle.std.proofs.Common.{ℕ, List, refl}
 use Rattle.std.specs.Result.{is_ok}
 use Rattle.acc_disk.specs.declared.history.Recorded.{Recorded}
-use Rattle.acc_disk.specs.declared.history.Change.TheVariants.{Synced}
+use Rattle.acc_disk.specs.declared.history.FileChange.TheVariants.{Synced}
 use Rattle.acc_disk.proofs.Replays.{stands_after, kept_by_sync, in_order_by_sync}
 use Rattle.acc_disk.proofs.history.History.sync.Goals as goal
 

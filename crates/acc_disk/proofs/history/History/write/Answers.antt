@@ -3,7 +3,7 @@ use Rattle.acc_disk.specs.Crashes.{overwritten}
 use Rattle.acc_disk.specs.Standings.{settled, IsInOrder, after_write}
 use Rattle.acc_disk.specs.Changes.{after_all}
 use Rattle.acc_disk.specs.declared.history.Recorded.{Recorded}
-use Rattle.acc_disk.specs.declared.history.Change.TheVariants.{Wrote}
+use Rattle.acc_disk.specs.declared.history.FileChange.TheVariants.{Wrote}
 use Rattle.acc_disk.proofs.Orders.{write_in_order}
 use Rattle.acc_disk.proofs.Replays.{stands_after}
 use Rattle.acc_disk.proofs.history.History.write.Goals as goal
