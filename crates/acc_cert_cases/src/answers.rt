@@ -5,7 +5,7 @@ use acc_base::sequents::Sequent;
 use acc_cert::{CertError, read, write};
 use acc_proof::checks::proves;
 use acc_proof::errors::ProofError;
-use acc_proof::nodes::{Cert, Proof};
+use acc_axioms::nodes::{Cert, Proof};
 use std::alloc::{AllocError, Global};
 use std::fmt::Write;
 

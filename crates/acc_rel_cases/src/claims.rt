@@ -11,7 +11,7 @@ use acc_base::forms::{Atom, Clause, Lin};
 use acc_base::sequences::{Seq, Text};
 use acc_base::sequents::{Origin, Sequent};
 use acc_farkas::refuting::Mults;
-use acc_proof::nodes::{Node, Proof, Schema};
+use acc_axioms::nodes::{Node, Proof, Schema};
 use std::alloc::{AllocError, Global};
 
 /// A sequent, and nodes that may be a proof of it.

@@ -34,17 +34,17 @@ use Rattle.acc_base.proofs.RowOrder.{order_from}
 use Rattle.acc_base.proofs.Lookups.{any_none, found_at}
 use Rattle.acc_instances.proofs.RowPlaces.{found_holds}
 use Rattle.acc_instances.proofs.PartValues.{one_times}
-use Rattle.acc_proof.specs.declared.nodes.Schema.{Schema}
-use Rattle.acc_proof.specs.declared.nodes.Schema.TheVariants as schema
-use Rattle.acc_proof.specs.Facts.{at_most, is_zero}
-use Rattle.acc_proof.specs.Axioms.{axiom_of, has, col, count, sum, plain, form, plus, minus, less, alone, less_atom, lin_form}
-use Rattle.acc_proof.specs.Axioms.{lin_above, lin_below, lin_difference, differences, is_width, is_whole, is_table_atom}
-use Rattle.acc_proof.specs.Axioms.{alike, key_of, is_plain, own_number, own_at, locals_of, variable, is_value, ends_in, ends_in_own}
-use Rattle.acc_proof.specs.Axioms.{off}
-use Rattle.acc_proof.proofs.Tests.{le_yes, le_from, both_true, and_true, off_true}
-use Rattle.acc_proof.proofs.Shows.{all_true}
-use Rattle.acc_proof.proofs.FormValues.{worth, minus_worth, plus_worth, less_worth, lin_worth, above_worth, below_worth, difference_worth}
-use Rattle.acc_proof.proofs.RowFacts.{has_least, has_most, no_column, no_sum, front, HasLength, whole_count, whole_sum_is}
+use Rattle.acc_axioms.specs.declared.nodes.Schema.{Schema}
+use Rattle.acc_axioms.specs.declared.nodes.Schema.TheVariants as schema
+use Rattle.acc_axioms.specs.Axioms.{at_most, is_zero}
+use Rattle.acc_axioms.specs.Axioms.{axiom_of, has, col, count, sum, plain, form, plus, minus, less, alone, less_atom, lin_form}
+use Rattle.acc_axioms.specs.Axioms.{lin_above, lin_below, lin_difference, differences, is_width, is_whole, is_table_atom}
+use Rattle.acc_axioms.specs.Axioms.{alike, key_of, is_plain, own_number, own_at, locals_of, variable, is_value, ends_in, ends_in_own}
+use Rattle.acc_axioms.specs.Axioms.{off}
+use Rattle.acc_axioms.proofs.Tests.{le_yes, le_from, both_true, and_true, off_true}
+use Rattle.acc_axioms.specs.Truths.{all_true}
+use Rattle.acc_axioms.proofs.FormValues.{worth, minus_worth, plus_worth, less_worth, lin_worth, above_worth, below_worth, difference_worth}
+use Rattle.acc_axioms.proofs.RowFacts.{has_least, has_most, no_column, no_sum, front, HasLength, whole_count, whole_sum_is}
 
 module _ (db : List Row) (env : List ℤ) where
   -- ---- relations from values

@@ -7,12 +7,12 @@ use Rattle.acc_base.specs.declared.forms.Atom.TheVariants as atom
 use Rattle.acc_base.specs.declared.forms.Unknown.{Unknown}
 use Rattle.acc_base.specs.declared.forms.Form.{Form}
 use Rattle.acc_farkas.specs.declared.refuting.Mults.{Mults}
-use Rattle.acc_proof.specs.declared.nodes.Schema.{Schema}
-use Rattle.acc_proof.specs.declared.nodes.Schema.TheVariants as schema
-use Rattle.acc_proof.specs.declared.nodes.Node.{Node}
-use Rattle.acc_proof.specs.declared.nodes.Node.TheVariants as node
-use Rattle.acc_proof.specs.declared.nodes.Proof.{Proof}
-use Rattle.acc_proof.specs.declared.nodes.Cert.{Cert}
+use Rattle.acc_axioms.specs.declared.nodes.Schema.{Schema}
+use Rattle.acc_axioms.specs.declared.nodes.Schema.TheVariants as schema
+use Rattle.acc_axioms.specs.declared.nodes.Node.{Node}
+use Rattle.acc_axioms.specs.declared.nodes.Node.TheVariants as node
+use Rattle.acc_axioms.specs.declared.nodes.Proof.{Proof}
+use Rattle.acc_axioms.specs.declared.nodes.Cert.{Cert}
 use Rattle.acc_cert_read.specs.Spellings.{is_wide, is_narrow}
 
 abbrev pub index : ℕ → Bool

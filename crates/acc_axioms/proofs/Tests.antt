@@ -1,5 +1,5 @@
--- Tests of relations, and parts of a check that go on.
-use Rattle.std.proofs.Common.{◌≡◌, Bool, true, false, List, ◌++◌, refl, ap, sym, ◌∙◌, arith, ℤ, if◌then◌else◌, subst}
+-- Tests of relations.
+use Rattle.std.proofs.Common.{◌≡◌, Bool, true, false, List, ◌++◌, refl, ap, sym, ◌∙◌, arith, ℤ, subst}
 use Rattle.std.specs.Prelude.{int_le, ◌&&◌, ◌≤ℤ◌}
 use Rattle.std.specs.List.{list_all}
 use Rattle.std.specs.Cmp.{first_so, second_so}
@@ -8,7 +8,6 @@ use Rattle.std.proofs.lemmas.List.Folds.{list_all-append}
 use borrow.Author.Differences.{le-false}
 use lib.Signed.{le_z_yes}
 use lib.Dec.{T}
-use Rattle.acc_proof.specs.Checked.{Checked, Gives, Fails, TooWide, and_then}
 
 pub le_yes : (a b : ℤ) → a ≤ℤ b → int_le a b ≡ true
 le_yes a b h = by (int_le a b) refl
@@ -32,19 +31,3 @@ off_true false h = refl
 
 pub all_both : {A : Type 0} (P : A → Bool) (xs ys : List A) → list_all P xs ≡ true → list_all P ys ≡ true → list_all P (xs ++ ys) ≡ true
 all_both P xs ys g h = list_all-append P xs ys ∙ both_true (list_all P xs) (list_all P ys) g h
-
--- ---- parts that go on
-
-pub goes_on : {A B : Type 0} (f : A → Checked B) (o : Checked A) (y : B) → and_then f o ≡ Gives y → (x : A) × (o ≡ Gives x)
-    × (f x ≡ Gives y)
-goes_on f (Gives x) y h = (x, refl, h)
-goes_on f Fails y h = absurd (cc)
-goes_on f TooWide y h = absurd (cc)
-
-pub not_wide : {A : Type 0} (b : Bool) (o : Checked A) (y : A) → (if b then TooWide else o) ≡ Gives y → o ≡ Gives y
-not_wide true o y h = absurd (cc)
-not_wide false o y h = h
-
-pub may : {A : Type 0} (b : Bool) (o : Checked A) (y : A) → (if b then o else Fails) ≡ Gives y → (b ≡ true) × (o ≡ Gives y)
-may true o y h = (refl, h)
-may false o y h = absurd (cc)

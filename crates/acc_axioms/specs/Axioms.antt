@@ -15,9 +15,8 @@ use Rattle.acc_base.specs.declared.sequents.Sequent.{Sequent}
 use Rattle.acc_base.specs.FormEquality.{lin_eq}
 use Rattle.acc_base.specs.Sums.{Term}
 use Rattle.acc_base.specs.PrivateRows.{is_own_table}
-use Rattle.acc_proof.specs.declared.nodes.Schema.{Schema}
-use Rattle.acc_proof.specs.declared.nodes.Schema.TheVariants as schema
-use Rattle.acc_proof.specs.Facts.{at_most, is_zero}
+use Rattle.acc_axioms.specs.declared.nodes.Schema.{Schema}
+use Rattle.acc_axioms.specs.declared.nodes.Schema.TheVariants as schema
 
 pub record Demand : Type 0 where
   pub may : Bool
@@ -27,7 +26,7 @@ pub record Demand : Type 0 where
 abbrev pub demand : Bool → List Rel → List Rel → Demand
 demand may facts added = record { may = may; facts = facts; added = added }
 
--- ---- unknowns and forms
+-- ---- unknowns, forms and relations
 
 abbrev pub plain : Atom → Unknown
 plain a = record { under = []; atom = a }
@@ -46,6 +45,12 @@ sum t p c = plain (atom.Sum t p c)
 
 abbrev pub form : List Term → ℤ → Form
 form ts k = record { terms = ts; constant = k }
+
+abbrev pub at_most : Form → Rel
+at_most f = record { form = f; equal = false }
+
+abbrev pub is_zero : Form → Rel
+is_zero f = record { form = f; equal = true }
 
 abbrev pub plus : Unknown → Term
 plus u = (u, pos 1)

@@ -2,8 +2,8 @@
 ghost use Rattle.std.specs.Prelude.{◌≡◌, slice_get};
 ghost use Rattle.acc_base.specs.FormEquality.{lin_eq};
 ghost use Rattle.acc_base.specs.PrivateRows.{is_own_table};
-ghost use Rattle.acc_proof.specs.Axioms.{is_table, is_whole, is_table_atom, alike, key_of, is_plain, own_number, variable};
-ghost use Rattle.acc_proof.specs.Axioms.{ends_in, ends_in_own};
+ghost use Rattle.acc_axioms.specs.Axioms.{is_table, is_whole, is_table_atom, alike, key_of, is_plain, own_number, variable};
+ghost use Rattle.acc_axioms.specs.Axioms.{ends_in, ends_in_own};
 
 use acc_base::designs::Design;
 use acc_base::forms::{Atom, Lin, Unknown};

@@ -1,8 +1,8 @@
 //! Forms that axioms are made of.
 ghost use Rattle.std.specs.Prelude.{◌≡◌, ◌++◌, ◌∷◌, [], map, IfOk, OnOk};
-ghost use Rattle.acc_proof.specs.Facts.{at_most, is_zero};
-ghost use Rattle.acc_proof.specs.Axioms.{plain, form, less, less_atom, variable_term, minus_variable, lin_form, lin_above, lin_below};
-ghost use Rattle.acc_proof.specs.Axioms.{lin_difference, differences};
+ghost use Rattle.acc_axioms.specs.Axioms.{at_most, is_zero};
+ghost use Rattle.acc_axioms.specs.Axioms.{plain, form, less, less_atom, variable_term, minus_variable, lin_form, lin_above, lin_below};
+ghost use Rattle.acc_axioms.specs.Axioms.{lin_difference, differences};
 
 use acc_base::forms::{Atom, Form, Lin, Rel, Unknown};
 use acc_base::sequences::{Seq, copied};

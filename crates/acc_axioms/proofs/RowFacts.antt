@@ -17,7 +17,7 @@ use Rattle.acc_base.proofs.RowOrder.{InOrder, past_same}
 use Rattle.acc_base.proofs.Lookups.{any_none, any_some}
 use Rattle.acc_instances.proofs.RowSums.{given, row_sum, where_passes, one, count_is, total_is}
 use Rattle.acc_instances.proofs.RowPlaces.{find_past, same_place}
-use Rattle.acc_proof.proofs.Tests.{both_true}
+use Rattle.acc_axioms.proofs.Tests.{both_true}
 
 module _ (db : List Row) where
   pub has_least : (t : ℕ) (k : List ℤ) → pos 0 ≤ℤ has_row db t k
