@@ -157,7 +157,8 @@ fn front_need(alloc: Global, d: &Design, t: u32, k: &Seq<Lin>, n: u32) -> Needed
 }
 
 fn same_need(alloc: Global, may: bool, u: &Unknown, v: &Unknown) -> Needed
-    ensures { IfOk result (λ o. Answers o (demand may (differences (key_of u.now.atom) (key_of v.now.atom)) (is_zero (less u.now v.now) ∷ []))) }
+    ensures { IfOk result (λ o. Answers o (demand may (differences (key_of u.now.atom) (key_of v.now.atom))
+        (is_zero (less u.now v.now) ∷ []))) }
 {
     let facts = differences(alloc, key_of(&u.atom), key_of(&v.atom))?;
     let u = copied(u)?;

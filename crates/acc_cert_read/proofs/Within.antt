@@ -1,6 +1,6 @@
 -- What is read is within its bounds: parts, numbers, linear values, unknowns and forms.
-use Rattle.std.proofs.Common.{◌≡◌, ℕ, ◌+◌, Bool, true, false, List, [], ◌∷◌, refl, ap, sym, ◌∙◌, ℤ, Option, Some, None, ⊤}
-use Rattle.std.specs.Prelude.{◌&&◌, if◌then◌else◌, is_some, option_and_then}
+use Rattle.std.proofs.Common.{◌≡◌, ℕ, ◌+◌, Bool, true, false, List, [], ◌∷◌, refl, ap, sym, ◌∙◌, ℤ, Option, Some, None}
+use Rattle.std.specs.Prelude.{◌&&◌, if◌then◌else◌, is_some, option_and_then, ⊤}
 use Rattle.std.specs.List.{list_all}
 use Rattle.std.specs.Str.{bytes_eq}
 use Rattle.std.specs.Str.Parse.{signed_digits_value}
@@ -8,10 +8,8 @@ use Rattle.std.specs.Fmt.{signed_decimal}
 use Rattle.serde_json.specs.Data.{Data, Items, no_items, item}
 use Rattle.serde_json.specs.Find.{at, as_array, as_number, as_u64, as_str}
 use Rattle.acc_base.specs.declared.forms.Lin.{Lin}
-use Rattle.acc_base.specs.declared.forms.Atom.{Atom}
 use Rattle.acc_base.specs.declared.forms.Atom.TheVariants as atom
-use Rattle.acc_base.specs.declared.forms.Unknown.{Unknown}
-use Rattle.acc_base.specs.declared.forms.Form.{Form}
+use Rattle.acc_axioms.proofs.Tests.{both_true}
 use Rattle.acc_cert_read.specs.declared.words.AtomWord.{AtomWord}
 use Rattle.acc_cert_read.specs.declared.words.AtomWord.TheVariants as word
 use Rattle.acc_cert_read.specs.Parts.{Part, Good, Off, and_then, gives, under, given, field, ends, one, two, three, items_from, list_of}
@@ -21,19 +19,13 @@ use Rattle.acc_cert_read.specs.Words.{atom_word}
 use Rattle.acc_cert_read.specs.InBounds as bounds
 
 -- what a part says, if it says something, passes a test
-pub Within : {A : Type 0} → (A → Bool) → Part A → Type 0
+abbrev pub Within : {A : Type 0} → (A → Bool) → Part A → Type 0
 Within ok (Good x) = ok x ≡ true
 Within ok (Off path) = ⊤
 
 -- whatever is read passes a test
 abbrev pub AllWithin : {A : Type 0} → (A → Bool) → (Data → Part A) → Type 0
 AllWithin ok f = (d : Data) → Within ok (f d)
-
-abbrev pub any : {A : Type 0} → A → Bool
-any x = true
-
-both : (a b : Bool) → a ≡ true → b ≡ true → (a && b) ≡ true
-both a b g h = ap (λ x. x && b) g ∙ h
 
 module _ {A B : Type 0} (p : A → Bool) (q : B → Bool) where
   pub then_within : (o : Part A) (f : A → Part B) → Within p o → ((x : A) → p x ≡ true → Within q (f x)) → Within q (and_then o f)
@@ -52,10 +44,6 @@ module _ {A : Type 0} (p : A → Bool) where
   pub given_within : (o : Option A) → ((x : A) → o ≡ Some x → p x ≡ true) → Within p (given o)
   given_within None h = tt
   given_within (Some x) h = h x refl
-
-  any_within : (o : Part A) → Within any o
-  any_within (Good x) = refl
-  any_within (Off path) = tt
 
   pub ends_within : (i : ℕ) (x : A) → p x ≡ true → (d : Data) → Within p (ends i x d)
   ends_within i x h d = by (is_some (at i d))
@@ -79,7 +67,7 @@ module _ {A : Type 0} (p : A → Bool) where
   items_within f h i (item d ds) =
       then_within p (list_all p) (under i (f d)) (λ x. gives (λ xs. x ∷ xs) (items_from f (i + 1) ds)) (under_within i (f d) (h d)) (λ x e.
       gives_within (list_all p) (list_all p) (items_from f (i + 1) ds) (λ xs. x ∷ xs) (items_within f h (i + 1) ds) (λ xs g.
-      both (p x) (list_all p xs) e g))
+      both_true (p x) (list_all p xs) e g))
 
   pub list_within : (f : Data → Part A) → AllWithin p f → AllWithin (list_all p) (list_of f)
   list_within f h d = by (as_array d)
@@ -91,19 +79,27 @@ module _ {A : Type 0} (p : A → Bool) where
 abbrev pub triple : {A B C : Type 0} → (A → Bool) → (B → Bool) → (C → Bool) → A × B × C → Bool
 triple p q r x = p x.0 && (q x.1 && r x.2)
 
-module _ {A B : Type 0} (p : A → Bool) (q : B → Bool) (f : Data → Part A) (g : Data → Part B) (h : AllWithin p f) (k : AllWithin q g) where
+module _ {A B : Type 0} (p : A → Bool) (q : B → Bool) (f : Data → Part A) (g : Data → Part B) (h : AllWithin p f)
+    (k : AllWithin q g) where
   pub two_within : (i : ℕ) (d : Data) → Within (bounds.pair p q) (two i f g d)
   two_within i d =
-      then_within p (bounds.pair p q) (field i f d) (λ a. and_then (field (i + 1) g d) (λ b. ends (i + 2) (a, b) d)) (field_within p f h i d) (λ a e.
-      then_within q (bounds.pair p q) (field (i + 1) g d) (λ b. ends (i + 2) (a, b) d) (field_within q g k (i + 1) d) (λ b z.
-      ends_within (bounds.pair p q) (i + 2) (a, b) (both (p a) (q b) e z) d))
+      then_within p (bounds.pair p q) (field i f d) (λ a. and_then (field (i + 1) g d) (λ b. ends (i + 2) (a, b) d))
+      (field_within p f h i d) (λ a e.
+      then_within q (bounds.pair p q) (field (i + 1) g d) (λ b. ends (i + 2) (a, b) d)
+      (field_within q g k (i + 1) d) (λ b z.
+      ends_within (bounds.pair p q) (i + 2) (a, b) (both_true (p a) (q b) e z) d))
 
-  pub three_within : {C : Type 0} (r : C → Bool) (l : Data → Part C) → AllWithin r l → (i : ℕ) (d : Data) → Within (triple p q r) (three i f g l d)
-  three_within r l m i d =
-      then_within p (triple p q r) (field i f d) (λ a. and_then (field (i + 1) g d) (λ b. and_then (field (i + 2) l d) (λ c. ends (i + 3) (a, b, c) d))) (field_within p f h i d) (λ a e.
-      then_within q (triple p q r) (field (i + 1) g d) (λ b. and_then (field (i + 2) l d) (λ c. ends (i + 3) (a, b, c) d)) (field_within q g k (i + 1) d) (λ b z.
-      then_within r (triple p q r) (field (i + 2) l d) (λ c. ends (i + 3) (a, b, c) d) (field_within r l m (i + 2) d) (λ c y.
-      ends_within (triple p q r) (i + 3) (a, b, c) (both (p a) (q b && r c) e (both (q b) (r c) z y)) d)))
+  module _ {C : Type 0} (r : C → Bool) (l : Data → Part C) (m : AllWithin r l) where
+    pub three_within : (i : ℕ) (d : Data) → Within (triple p q r) (three i f g l d)
+    three_within i d =
+        then_within p (triple p q r) (field i f d)
+        (λ a. and_then (field (i + 1) g d) (λ b. and_then (field (i + 2) l d) (λ c. ends (i + 3) (a, b, c) d)))
+        (field_within p f h i d) (λ a e.
+        then_within q (triple p q r) (field (i + 1) g d) (λ b. and_then (field (i + 2) l d) (λ c. ends (i + 3) (a, b, c) d))
+        (field_within q g k (i + 1) d) (λ b z.
+        then_within r (triple p q r) (field (i + 2) l d) (λ c. ends (i + 3) (a, b, c) d)
+        (field_within r l m (i + 2) d) (λ c y.
+        ends_within (triple p q r) (i + 3) (a, b, c) (both_true (p a) (q b && r c) e (both_true (q b) (r c) z y)) d)))
 
 -- ---- numbers
 
@@ -142,10 +138,10 @@ coefficient_within d = two_within bounds.index is_narrow index_of narrow_of inde
 pub lin_within : AllWithin bounds.lin lin_of
 lin_within d =
     let coefficients = list_within (bounds.pair bounds.index is_narrow) (two 0 index_of narrow_of) coefficient_within in
-    gives_within (bounds.pair (list_all (bounds.pair bounds.index is_narrow)) is_narrow) bounds.lin (two 0 (list_of (two 0 index_of narrow_of)) narrow_of d)
-    (λ p. record { coeffs = p.0; constant = p.1 })
-    (two_within (list_all (bounds.pair bounds.index is_narrow)) is_narrow (list_of (two 0 index_of narrow_of)) narrow_of coefficients narrow_within 0 d)
-    (λ p h. h)
+    gives_within (bounds.pair (list_all (bounds.pair bounds.index is_narrow)) is_narrow) bounds.lin
+    (two 0 (list_of (two 0 index_of narrow_of)) narrow_of d) (λ p. record { coeffs = p.0; constant = p.1 })
+    (two_within (list_all (bounds.pair bounds.index is_narrow)) is_narrow (list_of (two 0 index_of narrow_of)) narrow_of
+    coefficients narrow_within 0 d) (λ p h. h)
 
 pub lins_within : AllWithin bounds.lins lins_of
 lins_within = list_within bounds.lin lin_of lin_within
@@ -172,14 +168,17 @@ rest_within (Some word.Var) d =
 rest_within (Some word.Has) d =
     gives_within keyed bounds.atom_in (two 1 index_of lins_of d) (λ p. atom.Has p.0 p.1) (key_within 1 d) (λ p h. h)
 rest_within (Some word.Col) d =
-    gives_within numbered bounds.atom_in (three 1 index_of lins_of index_of d) (λ p. atom.Col p.0 p.1 p.2) (key_number_within 1 d) (λ p h. h)
+    gives_within numbered bounds.atom_in (three 1 index_of lins_of index_of d) (λ p. atom.Col p.0 p.1 p.2) (key_number_within 1 d)
+    (λ p h. h)
 rest_within (Some word.Count) d =
     gives_within keyed bounds.atom_in (two 1 index_of lins_of d) (λ p. atom.Count p.0 p.1) (key_within 1 d) (λ p h. h)
 rest_within (Some word.Sum) d =
-    gives_within numbered bounds.atom_in (three 1 index_of lins_of index_of d) (λ p. atom.Sum p.0 p.1 p.2) (key_number_within 1 d) (λ p h. h)
+    gives_within numbered bounds.atom_in (three 1 index_of lins_of index_of d) (λ p. atom.Sum p.0 p.1 p.2) (key_number_within 1 d)
+    (λ p h. h)
 
 -- what is read by its first word
-pub worded : {A : Type 0} (p : A → Bool) (f : List ℕ → Part A) → ((w : List ℕ) → Within p (f w)) → (d : Data) → Within p (and_then (field 0 word_of d) f)
+pub worded : {A : Type 0} (p : A → Bool) (f : List ℕ → Part A) → ((w : List ℕ) → Within p (f w)) → (d : Data)
+    → Within p (and_then (field 0 word_of d) f)
 worded p f h d = by (field 0 word_of d)
   where
     by : (o : Part (List ℕ)) → Within p (and_then o f)
@@ -200,6 +199,7 @@ term_within d = two_within bounds.unknown is_wide unknown_of wide_of unknown_wit
 pub form_within : AllWithin bounds.form form_of
 form_within d =
     let terms = list_within (bounds.pair bounds.unknown is_wide) (two 0 unknown_of wide_of) term_within in
-    gives_within (bounds.pair (list_all (bounds.pair bounds.unknown is_wide)) is_wide) bounds.form (two 0 (list_of (two 0 unknown_of wide_of)) wide_of d)
-    (λ p. record { terms = p.0; constant = p.1 })
-    (two_within (list_all (bounds.pair bounds.unknown is_wide)) is_wide (list_of (two 0 unknown_of wide_of)) wide_of terms wide_within 0 d) (λ p h. h)
+    gives_within (bounds.pair (list_all (bounds.pair bounds.unknown is_wide)) is_wide) bounds.form
+    (two 0 (list_of (two 0 unknown_of wide_of)) wide_of d) (λ p. record { terms = p.0; constant = p.1 })
+    (two_within (list_all (bounds.pair bounds.unknown is_wide)) is_wide (list_of (two 0 unknown_of wide_of)) wide_of
+    terms wide_within 0 d) (λ p h. h)
