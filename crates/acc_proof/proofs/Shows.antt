@@ -2,7 +2,6 @@
 use Rattle.std.proofs.Common.{◌≡◌, Bool, true, false, List, [], ◌∷◌, ◌++◌, map, refl, arith, ℤ, pos, negsuc, ◌+ℤ◌}
 use Rattle.std.proofs.Common.{neg_ℤ, if◌then◌else◌}
 use Rattle.std.specs.Prelude.{◌≤ℤ◌}
-use Rattle.std.specs.List.{list_all}
 use Rattle.std.proofs.lemmas.Int.{ints}
 use Rattle.std.proofs.lemmas.Bool.Decides.{Decides-int_eq}
 use borrow.Author.Differences.{le-false}

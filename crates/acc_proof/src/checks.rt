@@ -9,9 +9,9 @@ ghost use Rattle.acc_proof.specs.Opened.{pending};
 ghost use Rattle.acc_proof.specs.Causes.{TellsTooWide, at_node, TellsNode};
 ghost use Rattle.acc_base.specs.TrueSequents.{SequentTrue};
 
-use acc_axioms::axioms::need_of;
 use crate::errors::ProofError;
 use crate::facts::{above, below, shown};
+use acc_axioms::axioms::need_of;
 use acc_axioms::nodes::{Node, Proof, Schema};
 use acc_axioms::terms::{is_zero, single};
 use acc_base::designs::Design;
