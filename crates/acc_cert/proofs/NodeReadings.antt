@@ -5,12 +5,12 @@ use Rattle.std.specs.Cmp.{first_so, second_so}
 use Rattle.std.specs.List.{list_all}
 use Rattle.serde_json.specs.Data.{Data, string}
 use Rattle.acc_farkas.specs.declared.refuting.Mults.{Mults}
-use Rattle.acc_proof.specs.declared.nodes.Schema.{Schema}
-use Rattle.acc_proof.specs.declared.nodes.Schema.TheVariants as schema
-use Rattle.acc_proof.specs.declared.nodes.Node.{Node}
-use Rattle.acc_proof.specs.declared.nodes.Node.TheVariants as node
-use Rattle.acc_proof.specs.declared.nodes.Proof.{Proof}
-use Rattle.acc_proof.specs.declared.nodes.Cert.{Cert}
+use Rattle.acc_axioms.specs.declared.nodes.Schema.{Schema}
+use Rattle.acc_axioms.specs.declared.nodes.Schema.TheVariants as schema
+use Rattle.acc_axioms.specs.declared.nodes.Node.{Node}
+use Rattle.acc_axioms.specs.declared.nodes.Node.TheVariants as node
+use Rattle.acc_axioms.specs.declared.nodes.Proof.{Proof}
+use Rattle.acc_axioms.specs.declared.nodes.Cert.{Cert}
 use Rattle.acc_cert_read.specs.Parts.{Part, Good, Off, and_then, under, gives, two, list_of}
 use Rattle.acc_cert_read.specs.Spellings.{is_wide}
 use Rattle.acc_cert_read.specs.Forms.{index_of, wide_of, lins_of, unknown_of, form_of}
@@ -18,7 +18,7 @@ use Rattle.acc_cert_read.specs.Nodes.{mults_of, is_axiom, schema_of, schema_at, 
 use Rattle.acc_cert_read.specs.Certificates.{cert_of}
 use Rattle.acc_cert.specs.Spelled.{array_of, each, pair, index, signed, lins, unknown, form}
 use Rattle.acc_cert.specs.SpelledNodes.{mults, axiom_number, arguments, node_data, proof, cert}
-use Rattle.acc_cert.specs.InBounds as bounds
+use Rattle.acc_cert_read.specs.InBounds as bounds
 use Rattle.acc_cert.proofs.Readings.{each_read, one_read, one_behind, two_read, three_read, three_behind, index_read, wide_read, lins_read, key_read, key_number_read, unknown_read, form_read}
 
 multiplier_read : (p : ℕ × ℤ) → bounds.pair bounds.index is_wide p ≡ true → two 0 index_of wide_of (pair index signed p) ≡ Good p

@@ -3,12 +3,12 @@ use Rattle.std.proofs.Common.{ℕ, List, arith}
 use Rattle.std.specs.Prelude.{codes}
 use Rattle.acc_base.specs.declared.forms.Lin.{Lin}
 use Rattle.acc_farkas.specs.declared.refuting.Mults.{Mults}
-use Rattle.acc_proof.specs.declared.nodes.Schema.{Schema}
-use Rattle.acc_proof.specs.declared.nodes.Schema.TheVariants as schema
-use Rattle.acc_proof.specs.declared.nodes.Node.{Node}
-use Rattle.acc_proof.specs.declared.nodes.Node.TheVariants as node
-use Rattle.acc_proof.specs.declared.nodes.Proof.{Proof}
-use Rattle.acc_proof.specs.declared.nodes.Cert.{Cert}
+use Rattle.acc_axioms.specs.declared.nodes.Schema.{Schema}
+use Rattle.acc_axioms.specs.declared.nodes.Schema.TheVariants as schema
+use Rattle.acc_axioms.specs.declared.nodes.Node.{Node}
+use Rattle.acc_axioms.specs.declared.nodes.Node.TheVariants as node
+use Rattle.acc_axioms.specs.declared.nodes.Proof.{Proof}
+use Rattle.acc_axioms.specs.declared.nodes.Cert.{Cert}
 use Rattle.acc_cert.specs.Spelled.{pair, index, signed}
 use Rattle.acc_cert.specs.SpelledNodes.{mults, axiom_number, key, key_and_number, arguments, node_data, proof, cert}
 use Rattle.acc_cert.proofs.Sizes.{IsPlain, none, more, whole, number_plain, text_plain, pair_plain, each_plain, lins_plain, unknown_plain, form_plain}

@@ -16,7 +16,7 @@ use Rattle.acc_cert_read.specs.Spellings.{is_wide, is_narrow}
 use Rattle.acc_cert_read.specs.Forms.{index_of, wide_of, narrow_of, lin_of, lins_of, atom_of, unknown_of, form_of}
 use Rattle.acc_cert_read.proofs.Numerals.{number_read, wide_holds, narrow_holds}
 use Rattle.acc_cert.specs.Spelled.{array_of, each, pair, index, signed, lin, lins, atom_data, unknown, form}
-use Rattle.acc_cert.specs.InBounds as bounds
+use Rattle.acc_cert_read.specs.InBounds as bounds
 
 module _ {A : Type 0} (f : A → Data) (g : Data → Part A) (ok : A → Bool) (h : (x : A) → ok x ≡ true → g (f x) ≡ Good x) where
   items_read : (i : ℕ) (xs : List A) → list_all ok xs ≡ true → items_from g i (items_of (map f xs)) ≡ Good xs

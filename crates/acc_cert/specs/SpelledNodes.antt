@@ -3,12 +3,12 @@ use Rattle.std.specs.Prelude.{ℕ, List, [], ◌∷◌, codes}
 use Rattle.serde_json.specs.Data.{Data, string}
 use Rattle.acc_base.specs.declared.forms.Lin.{Lin}
 use Rattle.acc_farkas.specs.declared.refuting.Mults.{Mults}
-use Rattle.acc_proof.specs.declared.nodes.Schema.{Schema}
-use Rattle.acc_proof.specs.declared.nodes.Schema.TheVariants as schema
-use Rattle.acc_proof.specs.declared.nodes.Node.{Node}
-use Rattle.acc_proof.specs.declared.nodes.Node.TheVariants as node
-use Rattle.acc_proof.specs.declared.nodes.Proof.{Proof}
-use Rattle.acc_proof.specs.declared.nodes.Cert.{Cert}
+use Rattle.acc_axioms.specs.declared.nodes.Schema.{Schema}
+use Rattle.acc_axioms.specs.declared.nodes.Schema.TheVariants as schema
+use Rattle.acc_axioms.specs.declared.nodes.Node.{Node}
+use Rattle.acc_axioms.specs.declared.nodes.Node.TheVariants as node
+use Rattle.acc_axioms.specs.declared.nodes.Proof.{Proof}
+use Rattle.acc_axioms.specs.declared.nodes.Cert.{Cert}
 use Rattle.acc_cert.specs.Spelled.{array_of, each, pair, index, signed, lins, unknown, form}
 
 abbrev pub mults : Mults → Data

@@ -5,11 +5,11 @@ ghost use Rattle.acc_cert_read.specs.Parts.{Good};
 ghost use Rattle.acc_cert_read.specs.Certificates.{cert_in};
 ghost use Rattle.acc_cert_read.specs.declared.errors.CertError.TheVariants.{Memory};
 ghost use Rattle.acc_cert.specs.SpelledNodes.{cert};
-ghost use Rattle.acc_cert.specs.InBounds.{cert as is_in_bounds};
+ghost use Rattle.acc_cert_read.specs.InBounds.{cert as is_in_bounds};
 
 use crate::spelled::Spelled;
 use acc_cert_read::errors::CertError;
-use acc_proof::nodes::Cert;
+use acc_axioms::nodes::Cert;
 use std::alloc::Global;
 
 /// Writes a certificate, without spaces. Where its numbers are within the bounds, the bytes are read as this certificate.

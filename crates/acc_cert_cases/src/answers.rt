@@ -1,11 +1,11 @@
 //! The answers.
 use crate::{designs, sequents, texts};
+use acc_axioms::nodes::{Cert, Proof};
 use acc_base::designs::Design;
 use acc_base::sequents::Sequent;
 use acc_cert::{CertError, read, write};
 use acc_proof::checks::proves;
 use acc_proof::errors::ProofError;
-use acc_proof::nodes::{Cert, Proof};
 use std::alloc::{AllocError, Global};
 use std::fmt::Write;
 
@@ -66,31 +66,50 @@ fn question(
     }
 }
 
-/// Whether the first proof of a certificate is one of the sequent.
-fn first_judged(
-    alloc: Global,
-    design: &Design,
-    sequent: &Sequent,
-    cert: &str,
-) -> Result<String, AllocError> {
-    let Ok(cert) = read(alloc, cert.as_bytes()) else {
-        return said(alloc, "no certificate");
-    };
-    match cert.proofs.as_slice().first() {
-        Some(proof) => judged(alloc, design, sequent, proof),
-        None => said(alloc, "no proofs"),
+/// The certificate that a text is, if it is one.
+pub fn certificate(alloc: Global, text: &str) -> Result<Option<Cert>, AllocError> {
+    match read(alloc, text.as_bytes()) {
+        Ok(cert) => Ok(Some(cert)),
+        Err(CertError::NotCert(_)) => Ok(None),
+        Err(CertError::Memory) => Err(AllocError),
     }
 }
 
-/// The same, where the design and the sequent are texts.
+/// How many proofs a certificate has.
+pub fn counted(alloc: Global, cert: Option<&Cert>) -> Result<String, AllocError> {
+    let Some(cert) = cert else {
+        return said(alloc, "no certificate");
+    };
+    let mut out = String::new(alloc);
+    write!(out, "{} proofs", cert.proofs.len())?;
+    Ok(out)
+}
+
+/// Whether a proof is one of the sequent, where the design and the sequent are texts.
+pub fn next_proved(
+    alloc: Global,
+    design: &str,
+    sequent: &str,
+    proof: Option<&Proof>,
+) -> Result<String, AllocError> {
+    let Some((design, sequent)) = question(alloc, design, sequent)? else {
+        return said(alloc, "no design or no sequent");
+    };
+    match proof {
+        Some(proof) => judged(alloc, &design, &sequent, proof),
+        None => said(alloc, "no proof left"),
+    }
+}
+
+/// The same of the first proof of a certificate.
 pub fn proved(
     alloc: Global,
     design: &str,
     sequent: &str,
     cert: &str,
 ) -> Result<String, AllocError> {
-    match question(alloc, design, sequent)? {
-        Some((design, sequent)) => first_judged(alloc, &design, &sequent, cert),
-        None => said(alloc, "no design or no sequent"),
+    match certificate(alloc, cert)? {
+        Some(cert) => next_proved(alloc, design, sequent, cert.proofs.as_slice().first()),
+        None => said(alloc, "no certificate"),
     }
 }

@@ -5,34 +5,34 @@
 //! type how many locals it has. A sequent is
 //! `[[RULE,VARIABLES,TYPE],[HYPOTHESIS..],[[RELATION..],FORM]]`: TYPE is that of the origin's point, from 1 on, and 0 is none;
 //! a hypothesis is `[VARIABLES,[RELATION..],RELATION]`; a relation is `[FORM,0]` where the form is at most 0, and `[FORM,1]`
-//! where it is 0; and forms are spelled as in certificates.
+//! where it is 0; and forms are spelled as in certificates. `certificate JSON` gives a certificate, and each `next` behind it
+//! asks for the next of its proofs.
 #![tactic(auto)]
 
 mod answers;
 mod designs;
+mod given;
 mod sequents;
 mod texts;
 
+use given::Given;
 use std::alloc::{AllocError, Global};
 use std::io;
 
 /// What a question answers.
-fn answer(
-    alloc: Global,
-    design: &str,
-    sequent: &str,
-    question: &str,
-) -> Result<String, AllocError> {
+fn answer(alloc: Global, given: &Given, question: &str) -> Result<String, AllocError> {
     let (verb, rest) = question.split_once(' ').unwrap_or((question, ""));
     match verb {
         "read" => answers::read_again(alloc, &texts::bytes(alloc, rest)?),
-        "proves" => answers::proved(alloc, design, sequent, rest),
+        "proves" => answers::proved(alloc, &given.design, &given.sequent, rest),
+        "certificate" => answers::counted(alloc, given.cert.as_ref()),
+        "next" => answers::next_proved(alloc, &given.design, &given.sequent, given.proof()),
         _ => String::from_str(alloc, "no question"),
     }
 }
 
 /// Answers a question, and prints both; a line with '#' is a remark.
-fn play(rt: &impl Print, alloc: Global, design: &str, sequent: &str, line: &str) -> io::Result<()> {
+fn play(rt: &impl Print, alloc: Global, given: &Given, line: &str) -> io::Result<()> {
     if line.is_empty()
         || line.starts_with('#')
         || line.starts_with("design")
@@ -40,23 +40,17 @@ fn play(rt: &impl Print, alloc: Global, design: &str, sequent: &str, line: &str)
     {
         return rt.println(line);
     }
-    let said = answer(alloc, design, sequent, line)?;
+    let said = answer(alloc, given, line)?;
     println!(rt; "{line} -> {said}")
 }
 
 fn main(rt: HostRuntime) -> io::Result<()> {
     let alloc = rt.alloc();
-    let mut design = String::new(alloc);
-    let mut sequent = String::new(alloc);
+    let mut given = Given::new(alloc);
     for line in rt.lines(alloc) {
         let line = line?;
-        if let Some(text) = line.strip_prefix("design ") {
-            design = String::from_str(alloc, text)?;
-        }
-        if let Some(text) = line.strip_prefix("sequent ") {
-            sequent = String::from_str(alloc, text)?;
-        }
-        play(&rt, alloc, &design, &sequent, &line)?;
+        given.take(alloc, &line)?;
+        play(&rt, alloc, &given, &line)?;
     }
     Ok(())
 }

@@ -1,2 +1,4 @@
 pub mod Numerals
 pub mod Texts
+pub mod Within
+pub mod NodesWithin

@@ -3,7 +3,7 @@ use Rattle.std.specs.Prelude.{ℕ, if◌then◌else◌, List, []}
 use Rattle.std.specs.Str.{is_utf8}
 use Rattle.serde_json.specs.Data.{Data}
 use Rattle.serde_json.specs.Read.{read}
-use Rattle.acc_proof.specs.declared.nodes.Cert.{Cert}
+use Rattle.acc_axioms.specs.declared.nodes.Cert.{Cert}
 use Rattle.acc_cert_read.specs.Parts.{Part, Off, and_then, gives, given, list_of}
 use Rattle.acc_cert_read.specs.Nodes.{proof_of}
 

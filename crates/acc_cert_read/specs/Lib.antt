@@ -5,3 +5,4 @@ pub mod Causes
 pub mod Forms
 pub mod Nodes
 pub mod Certificates
+pub mod InBounds

@@ -1,14 +1,15 @@
 //! A certificate's file, read and written.
-ghost use Rattle.std.specs.Prelude.{◌≡◌, IfOk};
+ghost use Rattle.std.specs.Prelude.{◌≡◌, IfOk, IsTrue};
 ghost use Rattle.serde_json.specs.Read.{read};
 ghost use Rattle.serde_json.specs.View.{view};
 ghost use Rattle.acc_cert_read.specs.Parts.{Good, given, and_then};
 ghost use Rattle.acc_cert_read.specs.Causes.{TellsOff};
 ghost use Rattle.acc_cert_read.specs.Certificates.{cert_in, cert_of};
+ghost use Rattle.acc_cert_read.specs.InBounds.{cert as is_in_bounds};
 
 use crate::errors::{CertError, off};
 use crate::parts::Part;
-use acc_proof::nodes::Cert;
+use acc_axioms::nodes::Cert;
 use serde_json::Value;
 use std::alloc::Global;
 
@@ -40,6 +41,7 @@ fn read_text(alloc: Global, text: &str) -> Result<Cert, CertError>
 /// number that is too large for a float. `Memory` where memory ran out.
 pub fn read(alloc: Global, bytes: &[u8]) -> Result<Cert, CertError>
     ensures value { IfOk result (λ c. cert_in bytes.now ≡ Good c) }
+    ensures bounds { IfOk result (λ c. IsTrue (is_in_bounds c)) }
     ensures off { TellsOff result (cert_in bytes.now) }
 {
     match std::str::from_utf8(bytes) {

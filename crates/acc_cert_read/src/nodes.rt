@@ -9,8 +9,8 @@ use crate::errors::{CertError, off, under};
 use crate::parts::{Part, ends, field, item, one, three, two};
 use crate::values::word;
 use crate::words::NodeWord;
+use acc_axioms::nodes::{Cert, Node, Proof, Schema};
 use acc_farkas::refuting::Mults;
-use acc_proof::nodes::{Cert, Node, Proof, Schema};
 use serde_json::Value;
 use std::alloc::Global;
 

@@ -9,7 +9,7 @@ use Rattle.acc_base.specs.declared.forms.Rel.{Rel}
 use Rattle.acc_base.specs.declared.designs.Design.{Design}
 use Rattle.acc_base.specs.declared.sequents.Sequent.{Sequent}
 use Rattle.acc_base.specs.TrueSequents.{SequentTrue}
-use Rattle.acc_proof.specs.declared.nodes.Node.{Node}
+use Rattle.acc_axioms.specs.declared.nodes.Node.{Node}
 use Rattle.acc_proof.specs.declared.checks.Pending.{Pending}
 use Rattle.acc_proof.specs.declared.errors.ProofError.{ProofError}
 use Rattle.acc_proof.specs.Checked.{Gives}

@@ -2,7 +2,6 @@
 use Rattle.std.proofs.Common.{◌≡◌, Bool, true, false, List, [], ◌∷◌, ◌++◌, map, refl, arith, ℤ, pos, negsuc, ◌+ℤ◌}
 use Rattle.std.proofs.Common.{neg_ℤ, if◌then◌else◌}
 use Rattle.std.specs.Prelude.{◌≤ℤ◌}
-use Rattle.std.specs.List.{list_all}
 use Rattle.std.proofs.lemmas.Int.{ints}
 use Rattle.std.proofs.lemmas.Bool.Decides.{Decides-int_eq}
 use borrow.Author.Differences.{le-false}
@@ -22,7 +21,9 @@ use Rattle.acc_instances.proofs.PartValues.{one_times, minus_times}
 use Rattle.acc_proof.specs.Checked.{Gives, Fails, and_then}
 use Rattle.acc_proof.specs.Facts.{one, below, is_below_wide, above, is_above_wide, refuted, excluded, shown, fact_shown}
 use Rattle.acc_proof.specs.Facts.{all_shown}
-use Rattle.acc_proof.proofs.Tests.{le_yes, both_true, off_true, all_both, goes_on, not_wide, may}
+use Rattle.acc_axioms.specs.Truths.{all_true}
+use Rattle.acc_axioms.proofs.Tests.{le_yes, both_true, off_true, all_both}
+use Rattle.acc_proof.proofs.GoingOn.{goes_on, not_wide, may}
 
 pub are_refuted : (rels : List Rel) (ms left : List Mults) → refuted rels ms ≡ Gives left → HaveNoSolution rels
 are_refuted rels [] left h = absurd (cc)
@@ -33,9 +34,6 @@ are_refuted rels (m ∷ ms) left h =
 module _ (db : List Row) (env : List ℤ) where
   abbrev pub value : Form → ℤ
   value f = form_value db env f
-
-  abbrev pub all_true : List Rel → Bool
-  all_true rels = list_all (rel_true db env) rels
 
   pub below_value : (f : Form) → value (form_sum f (pos 1) one) ≡ value f +ℤ pos 1
   below_value f =
@@ -51,7 +49,7 @@ module _ (db : List Row) (env : List ℤ) where
       let v : value one ≡ pos 1 = omega (arith, ints) in
       omega (arith, ints, h, t, v)
 
-  module _ (known : List Rel) (holds : all_true known ≡ true) where
+  module _ (known : List Rel) (holds : all_true db env known ≡ true) where
     pub is_excluded : (wide : Bool) (r : Rel) (ms left : List Mults) → excluded known wide r ms ≡ Gives left → rel_true db env r ≡ false
     is_excluded wide r ms left h =
         off_true (rel_true db env r) (λ e. are_refuted (known ++ r ∷ []) ms left (not_wide wide (refuted (known ++ r ∷ []) ms) left h)
@@ -84,9 +82,9 @@ module _ (db : List Row) (env : List ℤ) where
     pub is_shown : (r : Rel) (ms left : List Mults) → shown known r ms ≡ Gives left → rel_true db env r ≡ true
     is_shown r ms left h = shown_by r.equal r.form ms left h
 
-    pub are_shown : (fs : List Fact) (ms left : List Mults) → all_shown known fs ms ≡ Gives left → all_true (map (λ f. f.rel) fs) ≡ true
+    pub are_shown : (fs : List Fact) (ms left : List Mults) → all_shown known fs ms ≡ Gives left → all_true db env (map (λ f. f.rel) fs) ≡ true
     are_shown [] ms left h = refl
     are_shown (f ∷ fs) ms left h =
         let parts = goes_on (all_shown known fs) (fact_shown known f ms) left h in
-        both_true (rel_true db env f.rel) (all_true (map (λ g. g.rel) fs))
+        both_true (rel_true db env f.rel) (all_true db env (map (λ g. g.rel) fs))
         (is_shown f.rel ms parts.0 (not_wide f.wide (shown known f.rel ms) parts.0 parts.1)) (are_shown fs parts.0 left parts.2)

@@ -5,10 +5,10 @@ use Rattle.acc_base.specs.declared.tables.Row.{Row}
 use Rattle.acc_base.specs.declared.forms.Rel.{Rel}
 use Rattle.acc_base.specs.declared.designs.Design.{Design}
 use Rattle.acc_base.specs.declared.sequents.Sequent.{Sequent}
-use Rattle.acc_proof.specs.declared.nodes.Node.{Node}
+use Rattle.acc_axioms.specs.declared.nodes.Node.{Node}
 use Rattle.acc_proof.specs.Checked.{Checked, Gives, Fails, TooWide}
 use Rattle.acc_proof.specs.Proofs.{Branches, node_of, Verdict, Proved, go_on, walked}
-use Rattle.acc_proof.proofs.Shows.{all_true}
+use Rattle.acc_axioms.specs.Truths.{all_true}
 
 module _ (d : Design) (q : Sequent) (db : List Row) (env : List ℤ) where
   abbrev pub IsOff : List Rel → Type 0

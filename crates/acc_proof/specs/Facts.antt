@@ -1,23 +1,18 @@
 -- Facts that are shown: what is known and the fact's contrary have no solution.
-use Rattle.std.specs.Prelude.{Bool, true, false, if◌then◌else◌, List, [], ◌∷◌, ◌++◌, pos, negsuc}
+use Rattle.std.specs.Prelude.{Bool, if◌then◌else◌, List, [], ◌∷◌, ◌++◌, pos, negsuc}
 use Rattle.acc_base.specs.declared.forms.Form.{Form}
 use Rattle.acc_base.specs.declared.forms.Rel.{Rel}
 use Rattle.acc_base.specs.Sums.{form_sum, is_sum_wide}
 use Rattle.acc_farkas.specs.declared.refuting.Mults.{Mults}
 use Rattle.acc_instances.specs.Instances.{Fact}
 use Rattle.acc_farkas.specs.Sums.{refutes_all, is_refuting_wide}
+use Rattle.acc_axioms.specs.Axioms.{at_most}
 use Rattle.acc_proof.specs.Checked.{Checked, Gives, Fails, TooWide, and_then}
 
 -- ---- forms and relations
 
 abbrev pub one : Form
 one = record { terms = []; constant = pos 1 }
-
-abbrev pub at_most : Form → Rel
-at_most f = record { form = f; equal = false }
-
-abbrev pub is_zero : Form → Rel
-is_zero f = record { form = f; equal = true }
 
 -- f + 1 <= 0 and 1 - f <= 0, and whether a number of them is too large
 abbrev pub below : Form → Rel

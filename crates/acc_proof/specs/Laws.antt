@@ -3,7 +3,7 @@ use Rattle.std.specs.Prelude.{◌≡◌, List}
 use Rattle.acc_base.specs.declared.designs.Design.{Design}
 use Rattle.acc_base.specs.declared.sequents.Sequent.{Sequent}
 use Rattle.acc_base.specs.TrueSequents.{SequentTrue}
-use Rattle.acc_proof.specs.declared.nodes.Node.{Node}
+use Rattle.acc_axioms.specs.declared.nodes.Node.{Node}
 use Rattle.acc_proof.specs.Proofs.{verdict, Proved}
 
 -- a sequent that has a proof is true

@@ -1,9 +1,6 @@
-pub use Rattle.acc_instances.specs.Instances
 pub mod Checked
 pub mod Causes
 pub mod Facts
 pub mod Opened
-pub mod Needs
-pub mod Axioms
 pub mod Proofs
 pub mod Laws

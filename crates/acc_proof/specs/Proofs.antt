@@ -8,12 +8,12 @@ use Rattle.acc_base.specs.declared.forms.Clause.{Clause}
 use Rattle.acc_base.specs.declared.designs.Design.{Design}
 use Rattle.acc_base.specs.declared.sequents.Sequent.{Sequent}
 use Rattle.acc_farkas.specs.declared.refuting.Mults.{Mults}
-use Rattle.acc_proof.specs.declared.nodes.Node.{Node}
-use Rattle.acc_proof.specs.declared.nodes.Node.TheVariants.{Split, Inst, Axiom, Leaf}
+use Rattle.acc_axioms.specs.declared.nodes.Node.{Node}
+use Rattle.acc_axioms.specs.declared.nodes.Node.TheVariants.{Split, Inst, Axiom, Leaf}
 use Rattle.acc_instances.specs.Instances.{Fact, fact_at}
 use Rattle.acc_proof.specs.Checked.{Checked, Gives, Fails, TooWide, and_then}
-use Rattle.acc_proof.specs.Facts.{is_zero, below, is_below_wide, above, is_above_wide, refuted, all_shown, used_up}
-use Rattle.acc_proof.specs.Axioms.{Demand, axiom_of}
+use Rattle.acc_proof.specs.Facts.{below, is_below_wide, above, is_above_wide, refuted, all_shown, used_up}
+use Rattle.acc_axioms.specs.Axioms.{is_zero, Demand, axiom_of}
 
 -- what each branch behind a node adds to what is known
 abbrev pub Branches : Type 0

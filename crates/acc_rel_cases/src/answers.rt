@@ -1,7 +1,6 @@
 //! The questions by name.
 use crate::parts::{push_collected, push_collected_unknowns, push_difference};
 use crate::printed::push_form;
-use crate::proved::{push_nodes, push_proved};
 use crate::refuted::push_refuted;
 use crate::spelled::{actions, form, parted, relation};
 use acc_base::forms::{Form, Rel};
@@ -54,8 +53,6 @@ pub fn answer(alloc: Global, line: &str) -> Result<String, AllocError> {
         "difference" => push_difference(alloc, &mut out, words)?,
         "unknowns" => push_collected_unknowns(alloc, &mut out, words)?,
         "wp" => push_before(alloc, &mut out, words)?,
-        "proves" => push_proved(alloc, &mut out, words)?,
-        "nodes" => push_nodes(alloc, &mut out, words)?,
         "refutes" => push_refuted(alloc, &mut out, words)?,
         _ => out.push_str("no question")?,
     }

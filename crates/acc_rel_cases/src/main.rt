@@ -1,5 +1,5 @@
-//! Computes sums, collected terms, weakest preconditions, whether multipliers refute relations and whether nodes are a proof of
-//! a sequent, a question a line of the input, and prints the answers.
+//! Computes sums, collected terms, weakest preconditions and whether multipliers refute relations, a question a line of the
+//! input, and prints the answers.
 //!
 //! The variables are v0, v1 and so on. A value is `2*v0+-1*v1+5`. A form is a list of terms and constants, as
 //! `3*has[1*v0,7] -1*v1 4*one{1*v0+-1} 9`: what stands in braces has to be 0 for the term to count. Each row is one of the
@@ -7,10 +7,8 @@
 #![tactic(auto)]
 
 mod answers;
-mod claims;
 mod parts;
 mod printed;
-mod proved;
 mod refuted;
 mod spelled;
 

@@ -6,7 +6,7 @@ use acc_farkas::refuting::refutes;
 use std::alloc::{AllocError, Global};
 
 /// The relations of those words, with `; ` between two.
-pub fn relations(alloc: Global, words: &str) -> Result<Vec<Rel>, AllocError> {
+fn relations(alloc: Global, words: &str) -> Result<Vec<Rel>, AllocError> {
     let mut relations = Vec::new(alloc);
     for one in words.split("; ") {
         relations.push(relation(alloc, one)?)?;
@@ -15,7 +15,7 @@ pub fn relations(alloc: Global, words: &str) -> Result<Vec<Rel>, AllocError> {
 }
 
 /// The places and multipliers of those words, each as `0:-1`.
-pub fn multipliers(alloc: Global, words: &str) -> Result<Vec<(u32, i128)>, AllocError> {
+fn multipliers(alloc: Global, words: &str) -> Result<Vec<(u32, i128)>, AllocError> {
     let mut pairs = Vec::new(alloc);
     for word in words.split(' ') {
         let (place, by) = parted(word, ":");

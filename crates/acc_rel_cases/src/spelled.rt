@@ -40,7 +40,7 @@ fn lin(alloc: Global, word: &str) -> Result<Lin, AllocError> {
 }
 
 /// The values of a list with commas, which ends before that mark.
-pub fn lins(alloc: Global, list: &str, end: &str) -> Result<Seq<Lin>, AllocError> {
+fn lins(alloc: Global, list: &str, end: &str) -> Result<Seq<Lin>, AllocError> {
     let mut lins = Seq::new(alloc);
     for word in parted(list, end).0.split(',') {
         lins.push(lin(alloc, word)?)?;

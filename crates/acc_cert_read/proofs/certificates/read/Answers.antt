@@ -3,6 +3,7 @@ use Rattle.serde_json.specs.Read.{read}
 use Rattle.acc_cert_read.specs.Parts.{Good, given, and_then}
 use Rattle.acc_cert_read.specs.Causes.{TellsOff}
 use Rattle.acc_cert_read.specs.Certificates.{cert_in, cert_of}
+use Rattle.acc_cert_read.proofs.NodesWithin.{read_in_bounds}
 use Rattle.acc_cert_read.proofs.Texts.{of_text, of_others}
 use Rattle.acc_cert_read.proofs.certificates.read.Goals as goal
 
@@ -10,6 +11,9 @@ pub returns-in-Ok-clause-value : goal.returns-in-Ok-clause-value
 returns-in-Ok-clause-value c =
     let same : and_then (given (read c.in-Ok.text.now)) cert_of ≡ cert_in c.args.bytes.now = ap (λ t. and_then (given (read t)) cert_of) c.in-Ok.ensures.cases.0 ∙ of_text c.args.bytes.now c.in-Ok.ensures.cases.1 in
     subst (λ p. IfOk c.read_text.result (λ x. p ≡ Good x)) same c.read_text.ensures.value
+
+pub returns-in-Ok-clause-bounds : goal.returns-in-Ok-clause-bounds
+returns-in-Ok-clause-bounds c = read_in_bounds c.args.bytes.now c.read_text.result (returns-in-Ok-clause-value c)
 
 pub returns-in-Ok-clause-off : goal.returns-in-Ok-clause-off
 returns-in-Ok-clause-off c =

@@ -1,0 +1,3 @@
+pub mod Axioms
+pub mod Needs
+pub mod Truths
