@@ -3,3 +3,6 @@ pub mod GuardEnds
 pub mod ClauseAdded
 pub mod Small
 pub mod SmallPlaces
+pub mod Going
+pub mod EachPath
+pub mod PathAdded

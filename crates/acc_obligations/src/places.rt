@@ -140,6 +140,17 @@ fn listed_paths<'a>(
     Ok(out)
 }
 
+/// The paths of a design, type by type and point by point.
+pub fn all_paths<'a>(alloc: Global, d: &'a Design) -> Result<Vec<PathPlace<'a>>, AllocError>
+    requires { IsWellFormed d.now }
+    ensures value { IfOk result (λ v. map stop v.items ≡ stops_of d.now) }
+    ensures small { IfOk result (λ v. All (λ q. IsSmallStop (stop q)) v.items) }
+{
+    let points = points_of(alloc, d)?;
+    let paths = paths_of(alloc, points.as_slice())?;
+    Ok(paths)
+}
+
 /// The paths before the one with a number.
 fn earlier(paths: &[Path], number: u32) -> &[Path]
     ensures { result.now ≡ take number paths.now }

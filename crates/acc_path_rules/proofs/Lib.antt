@@ -1,0 +1,5 @@
+pub mod Rows
+pub mod Kept
+pub mod Promised
+pub mod Helds
+pub mod Walks

@@ -1,0 +1,11 @@
+//! The obligations on the paths of a design: what each leaves for its target, what it keeps, and the rows that it changes.
+#![tactic(auto)]
+
+pub mod always;
+pub mod promises;
+pub mod spares;
+pub mod there;
+
+mod entries;
+mod orders;
+mod tables;
