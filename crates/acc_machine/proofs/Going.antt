@@ -38,7 +38,7 @@ said_never (Step t) x u n h = standing_never x u n h
 said_never (Abort t c) x u n h = cc
 said_never (Undo t) x u n h = standing_never x u n h
 
-never_blocked : (d : Design) (w w2 : World) (t u n : ℕ) → turn_of d w t ≡ Some (Blocked u n, w2) → ⊥
+pub never_blocked : (d : Design) (w w2 : World) (t u n : ℕ) → turn_of d w t ≡ Some (Blocked u n, w2) → ⊥
 never_blocked d w w2 t u n h = by (next_event d w.rows (transaction_at t w.transactions)) h
   where
     changed_by : (e : Event) (o : Option (List Row × Transaction)) → said_of w e t o ≡ Some (Blocked u n, w2) → ⊥
@@ -92,12 +92,6 @@ module _ (d : Design) (w : World) (t : ℕ) (kept : IsKept d w) (open_t : IsUnfi
 
   pub turned_so : (w2 : World) (x : Turn) → IsTurned d w w2 t (Some x) → IsTurn d w w2 t x
   turned_so w2 x h = goes x h free
-
-  pub never_none : (w2 : World) (x : Turn) → IsTurned d w w2 t None → IsTurn d w w2 t x
-  never_none w2 x h = absurd (has_turn h.0)
-
-  pub never_adds : (w2 : World) (x : Turn) → IsTurned d w w2 t None → AddsBy w w2 t x
-  never_adds w2 x h = absurd (has_turn h.0)
 
 -- ---- where another transaction blocks the step
 

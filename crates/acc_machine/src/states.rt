@@ -246,7 +246,7 @@ impl<'a, S: Store> State<'a, S> {
     {
         match self.machine.turn(t) {
             Ok(Some(turn)) => Ok(turn),
-            Ok(None) => Ok(Turn::Ended),
+            Ok(None) => unreachable!(),
             Err(PlainError::Memory) => Err(TurnError::Memory),
         }
     }

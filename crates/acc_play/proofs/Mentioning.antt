@@ -22,11 +22,8 @@ use Rattle.acc_plain.specs.Turned.{IsUnfinished}
 use Rattle.acc_base.specs.declared.machines.Event.{Event}
 use Rattle.acc_play.specs.declared.plays.Stage.{Stage}
 use Rattle.acc_play.specs.Tells.{Tells}
-use Rattle.acc_play.specs.Stages.{play_of, HasBegun, IsMentioned}
-
-pub on_ok : {T E P Q : Type 0} (r : Result T E) → (P → Q) → OnOk r P → OnOk r Q
-on_ok (Ok x) f h = f h
-on_ok (Err e) f h = h
+use Rattle.acc_play.specs.Stages.{play_of, HasBegun}
+use Rattle.acc_play.proofs.Orders.{item_is, set_is, IsPlayedSoFar}
 
 -- what an unfinished transaction's turn is, is what is told
 pub open_goes : (d : Design) (place : ℕ) (p : Play) (t : ℕ) (turn : Option (Turn × World)) → IsUnfinished t p.world → turn_of d p.world t ≡ turn → Goes (plain d) place t p (reply_at t p.world) (told_turn place p turn)
@@ -42,10 +39,6 @@ pub stuck_goes : (d : Design) (place : ℕ) (p : Play) (t : ℕ) (w : World) →
 stuck_goes d place p t w h e same =
     subst (λ (z : World). Goes (plain d) place t p (reply_at t p.world) (IsStuck place, record { world = z; numbers = p.numbers; places = p.places })) (sym same) (open_goes d place p t None h e)
 
--- a transaction that has ended is told to be over
-pub over_goes : (d : Design) (place : ℕ) (p : Play) (t : ℕ) (reply : Reply) → reply_at t p.world ≡ Some reply → Goes (plain d) place t p (reply_at t p.world) (IsOver place, p)
-over_goes d place p t reply h = subst (λ (o : Option Reply). Goes (plain d) place t p o (IsOver place, p)) (sym h) refl
-
 -- one that hasn't begun is told to be stuck
 pub absent_goes : (d : Design) (place : ℕ) (p : Play) (t : ℕ) → (IsUnfinished t p.world → ⊥) → reply_at t p.world ≡ None → Goes (plain d) place t p (reply_at t p.world) (IsStuck place, p)
 absent_goes d place p t closed h = by (transaction_at t p.world.transactions) refl closed h
@@ -60,15 +53,6 @@ absent_goes d place p t closed h = by (transaction_at t p.world.transactions) re
     by (Some (Ended r)) at u k = absurd cc
 
 -- ---- a place begins
-
-from_one : (k : ℕ) → 0 < k → (k == 0) ≡ false
-from_one k h = grind (arith, nat_tests)
-
-item_is : {T : Type 0} (k : ℕ) (items : List T) (x : T) → 0 < k → slice_get items (k - 1) ≡ Some x → item_at k items ≡ Some x
-item_is {T} k items x h e = ap (λ (b : Bool). if b then None else slice_get items (k - 1)) (from_one k h) ∙ e
-
-set_is : {T : Type 0} (k : ℕ) (x : T) (items : List T) → 0 < k → with_item k x items ≡ slice_set items (k - 1) x
-set_is {T} k x items h = ap (λ (b : Bool). if b then items else slice_set items (k - 1) x) (from_one k h)
 
 -- a place that has begun has its number
 pub has_begun : (d : Design) (calls : List Call) (place : ℕ) (p : Play) (t : ℕ) → 0 < place → slice_get p.numbers (place - 1) ≡ Some (Some t) → HasBegun d calls place p (number_of p place) t p
@@ -95,64 +79,16 @@ mention_is d calls p q place t x begun goes = by (number_of p place) begun
     by None h =
         record { call = h.call; is_call = h.is_call; world = Some h.world; allowed = (h.begins, refl); opens = moved (next_number p.world) (with_place p place h.world) h.number h.play }
 
--- ---- the order, place by place
-
--- what is done so far, and then a play of the places that are left, is a play of the whole
-pub record IsPlayedSoFar (d : Design) (calls : List Call) (order left : List ℕ) (s : Stage) : Type 0 where
-  pub mentions : List (Told × Play)
-  pub text : s.text.items ≡ flat_map (mention_line d) mentions
-  pub now : play_after (opening calls) mentions ≡ play_of s
-  pub whole : (later : List (Told × Play)) → PlaysOn (plain d) calls (play_of s) left later → Plays (plain d) calls order (mentions ++ later)
-
--- nothing is done, on a stage that opens
-pub opens_play : (d : Design) (calls : List Call) (order : List ℕ) (s : Stage) → s.text.items ≡ [] → play_of s ≡ opening calls → IsPlayedSoFar d calls order order s
-opens_play d calls order s text opens = record {
-  mentions = [];
-  text = text;
-  now = sym opens;
-  whole = λ later h. subst (λ (p : Play). PlaysOn (plain d) calls p order later) opens h;
-}
-
-after_last : (p : Play) (xs : List (Told × Play)) (x : Told × Play) → play_after p (xs ++ x ∷ []) ≡ x.1
-after_last p [] x = refl
-after_last p (y ∷ ys) x = after_last y.1 ys x
-
-pub played_more : (d : Design) (calls : List Call) (order left : List ℕ) (place : ℕ) (old new : Stage) → IsPlayedSoFar d calls order (place ∷ left) old → IsMentioned d calls place old new → IsPlayedSoFar d calls order left new
-played_more d calls order left place old new so_far m =
-    let x : Told × Play = (m.told, play_of new) in
-    record {
-      mentions = so_far.mentions ++ x ∷ [];
-      text = m.text ∙ ap (λ (z : List ℕ). z ++ mention_line d x) so_far.text ∙ sym (flat_map-append (mention_line d) so_far.mentions (x ∷ []) ∙ ap (λ (z : List ℕ). flat_map (mention_line d) so_far.mentions ++ z) (append-nil (mention_line d x)));
-      now = after_last (opening calls) so_far.mentions x;
-      whole = λ later h. subst (Plays (plain d) calls order) (sym (append_assoc so_far.mentions (x ∷ []) later)) (so_far.whole (x ∷ later) (m.is_mention, h));
-    }
-
--- ---- the replies, place by place
-
-range_more : (a n : ℕ) → range_with_len a (suc n) ≡ range_with_len a n ++ (a + n) ∷ []
-range_more a zero = let e : a ≡ a + 0 = omega arith in ap (λ (z : ℕ). z ∷ []) e
-range_more a (suc n) =
-    let e : (a + 1) + n ≡ a + suc n = omega arith in
-    ap (λ (zs : List ℕ). a ∷ zs) (range_more (a + 1) n ∙ ap (λ (z : ℕ). range_with_len (a + 1) n ++ z ∷ []) e)
-
-pub replies_more : (p q : Play) (first text new : List ℕ) (n : ℕ) → text ≡ first ++ flat_map (reply_line p) (range_with_len 1 n) → q ≡ p → new ≡ text ++ reply_line q (n + 1) → new ≡ first ++ flat_map (reply_line p) (range_with_len 1 (n + 1))
-replies_more p q first text new n so_far same more =
-    let f = reply_line p in
-    let place : n + 1 ≡ 1 + n = omega arith in
-    let whole : flat_map f (range_with_len 1 (n + 1)) ≡ flat_map f (range_with_len 1 n) ++ f (n + 1) =
-    ap (λ (k : ℕ). flat_map f (range_with_len 1 k)) (add-one n) ∙ ap (flat_map f) (range_more 1 n) ∙ flat_map-append f (range_with_len 1 n) ((1 + n) ∷ []) ∙ ap (λ (z : List ℕ). flat_map f (range_with_len 1 n) ++ z) (append-nil (f (1 + n)) ∙ ap f (sym place)) in
-    more ∙ (λ i. so_far i ++ reply_line (same i) (n + 1)) ∙ append_assoc first (flat_map f (range_with_len 1 n)) (f (n + 1)) ∙ ap (λ (z : List ℕ). first ++ z) (sym whole)
-
 -- ---- the whole
 
-pub tells_play : (d : Design) (calls : List Call) (order : List ℕ) (s after : Stage) (text : List ℕ) (history : List Event) → IsPlayedSoFar d calls order [] s → length s.numbers.items ≡ length calls → after.text.items ≡ s.text.items ++ flat_map (reply_line (play_of s)) (range_with_len 1 (length s.numbers.items)) → play_of after ≡ play_of s → world d after.machine.world.events ≡ Some after.machine.world → history ≡ after.machine.world.events → text ≡ after.text.items ++ line (codes "events " ++ decimal (length history)) → Tells d calls order text history
+pub tells_play : (d : Design) (calls : List Call) (order : List ℕ) (s after : Stage) (text : List ℕ) (history : List Event) → IsPlayedSoFar (plain d) d calls order [] s.text.items (play_of s) → length s.numbers.items ≡ length calls → after.text.items ≡ s.text.items ++ flat_map (reply_line (play_of s)) (range_with_len 1 (length s.numbers.items)) → play_of after ≡ play_of s → world d after.machine.world.events ≡ Some after.machine.world → history ≡ after.machine.world.events → text ≡ after.text.items ++ line (codes "events " ++ decimal (length history)) → Tells d calls order text history
 tells_play d calls order s after text history so_far count replies same run events more =
     let logged : history ≡ s.machine.world.events = events ∙ ap (λ (p : Play). p.world.events) same in
     let told = flat_map (mention_line d) so_far.mentions in
     let replied = flat_map (reply_line (play_of s)) (range_with_len 1 (length calls)) in
     let ended : play_of after ≡ play_after (opening calls) so_far.mentions = same ∙ sym so_far.now in
     let text_so : text ≡ told ++ ending_text calls (play_of s) =
-    more ∙ (λ i. (replies ∙ (λ j. so_far.text j ++ flat_map (reply_line (play_of s)) (range_with_len 1 (count j)))) i ++ line (codes "events " ++ decimal (length (logged i)))) ∙ append_assoc told replied (line (codes "events " ++ decimal (length s.machine.world.events))) in
+    more ∙ (λ i. (replies ∙ (λ j. so_far.text_is j ++ flat_map (reply_line (play_of s)) (range_with_len 1 (count j)))) i ++ line (codes "events " ++ decimal (length (logged i)))) ∙ append_assoc told replied (line (codes "events " ++ decimal (length s.machine.world.events))) in
     let state : after.machine.world ≡ (play_after (opening calls) so_far.mentions).world = ap (λ (p : Play). p.world) ended in
     record {
       mentions = so_far.mentions;

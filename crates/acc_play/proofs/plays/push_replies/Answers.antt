@@ -1,6 +1,6 @@
 use Rattle.std.proofs.Common.{◌∙◌}
 use Rattle.acc_play.specs.Stages.{play_of}
-use Rattle.acc_play.proofs.Mentioning.{replies_more}
+use Rattle.acc_play.proofs.Orders.{replies_more}
 use Rattle.acc_play.proofs.plays.push_replies.Goals as goal
 
 pub loop-at-preserved : goal.loop-at-preserved

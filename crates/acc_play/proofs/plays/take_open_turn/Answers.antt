@@ -1,7 +1,8 @@
 use Rattle.std.proofs.Common.{Some}
 use Rattle.acc_base.specs.Plays.{Turns, IsStuck}
 use Rattle.acc_play.specs.Stages.{play_of}
-use Rattle.acc_play.proofs.Mentioning.{on_ok, open_goes, stuck_goes}
+use Rattle.acc_play.proofs.Orders.{on_ok}
+use Rattle.acc_play.proofs.Mentioning.{open_goes, stuck_goes}
 use Rattle.acc_play.proofs.plays.take_open_turn.Goals as goal
 
 pub returns-in-Ok-Some-clause-turn : goal.returns-in-Ok-Some-clause-turn
