@@ -7,5 +7,6 @@ pub mod spares;
 pub mod there;
 
 mod entries;
+mod names;
 mod orders;
 mod tables;

@@ -31,8 +31,7 @@ returns-in_ok-names-in-Some c =
     let some : Some c.in-Some.c.now ≡ slice_get (promised q.x q.path.target) k =
       ap option_copied (sym c.in-Some.is) ∙ (looked ∙ ap (λ (xs : List Clause). slice_get xs k) c.promised.ensures) in
     let names : c.in_ok-names-in-Some.names ≡ last_now s ++ s.locals ∷ [] =
-      c.in_ok-names-in-Some.ensures ∙ (ap (λ z. z ++ own.locals ∷ []) c.in_ok-last_names-in-Some.ensures
-      ∙ ap (λ (z : Setting). last_now z ++ z.locals ∷ []) c.path_setting-s.ensures.seen) in
+      c.in_ok-names-in-Some.ensures ∙ ap (λ (z : Setting). last_now z ++ z.locals ∷ []) c.path_setting-s.ensures.seen in
     promise_added c.add_path_clause.result c.args.out.now c.add_path_clause.new.out d k q (Some c.in-Some.c.now) some
     (path_added c.add_path_clause.result c.args.out.now c.add_path_clause.new.out 1 None k q.w s (last_now s ++ s.locals ∷ []) c.in-Some.c.now
     c.path_origin.result (seen own) c.in_ok-names-in-Some.names c.in-Some.c.now c.path_origin.ensures c.path_setting-s.ensures.seen names refl
