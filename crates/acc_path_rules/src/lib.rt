@@ -2,11 +2,10 @@
 #![tactic(auto)]
 
 pub mod always;
-pub mod promises;
-pub mod spares;
-pub mod there;
-
 mod entries;
 mod names;
 mod orders;
+pub mod promises;
+pub mod spares;
 mod tables;
+pub mod there;

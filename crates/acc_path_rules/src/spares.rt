@@ -24,8 +24,10 @@ use acc_obligations::forms::below;
 use acc_obligations::naming::own_naming;
 use acc_obligations::paths::{Cause, path_origin};
 use acc_obligations::places::{PathPlace, PointPlace, all_paths, path_setting, points_of};
-use acc_obligations::settings::{Setting, add_frame_bounds, add_own_clauses, add_step_rels, counted, path_actions};
-use acc_obligations::settings::{step_bounds, step_hyps, step_vars};
+use acc_obligations::settings::{
+    Setting, add_frame_bounds, add_own_clauses, add_step_rels, counted, path_actions, step_bounds,
+    step_hyps, step_vars,
+};
 use std::alloc::{AllocError, Global};
 
 /// The variables of so many held locals and of the held number.
@@ -52,17 +54,18 @@ fn held_hyps(
 {
     let mut hyps = step_hyps(alloc, s, vars)?;
     let names = held_names(alloc, s, held.ty.locals.len() as u32)?;
-    add_own_clauses(alloc, &mut hyps, &names, vars, held.point.clauses.as_slice())?;
+    add_own_clauses(
+        alloc,
+        &mut hyps,
+        &names,
+        vars,
+        held.point.clauses.as_slice(),
+    )?;
     Ok(hyps)
 }
 
 /// The bounds and relations of a step, with the bounds of so many held locals and of the held number.
-fn held_rels(
-    alloc: Global,
-    s: &Setting<'_>,
-    held: u32,
-    vars: u32,
-) -> Result<Seq<Rel>, AllocError>
+fn held_rels(alloc: Global, s: &Setting<'_>, held: u32, vars: u32) -> Result<Seq<Rel>, AllocError>
     requires room { HasRoom s.now }
     requires small { held ≤ MOST_LOCALS }
     requires few { vars + 1 < 2 ^ 32 }

@@ -70,7 +70,7 @@ fn setting_before<'a>(d: &'a Design, q: &PathPlace<'a>, k: usize) -> Setting<'a>
     requires design { IsSmallDesign d.now }
     requires small { IsSmallStop (stop q.now) }
     ensures seen { seen result ≡ record (setting_of d.now q.now.ty.now q.now.point.now q.now.step.now q.now.number q.now.path.now) {
-      actions = take k q.now.path.now.actions
+      actions = take k q.now.path.now.actions;
     } }
     ensures room { HasRoom result }
 {
