@@ -18,7 +18,6 @@ use Rattle.acc_path_rules.specs.Orders.{after_ordered}
 use Rattle.acc_path_rules.specs.Helds.{ordered_of}
 
 module _ (r : Result (Unit {0}) ObligError) (old new : List Sequent) (origin : Origin) (s : Setting) (q : Rest) (pairs : List Rel) (c : Clause) where
-
   pub spare_added :
       (own vars : ℕ) (o : Ordered) (acts : List Action) (n : Naming)
       → own ≡ step_vars s + (length q.x.locals + 1) → vars ≡ own + length c.vars → o ≡ ordered_of origin s q vars pairs → acts ≡ path_actions s vars

@@ -73,6 +73,6 @@ module _ (r : Result (Unit {0}) ObligError) (old new : List Sequent) (d : Design
       let entry = entry_for d.entries held.at q.w.at q.w.side in
       let s = setting_at d q in
       let by : opened o ≡ by_entry (path_origin 3 (Some held.at) k q.w) s q.w.side held.p.clauses (length held.x.locals) c entry =
-        ap opened f ∙ by_entry_is (path_origin 3 (Some held.at) k q.w) s q.w.side held.p.clauses (length held.x.locals) c entry in
+      ap opened f ∙ by_entry_is (path_origin 3 (Some held.at) k q.w) s q.w.side held.p.clauses (length held.x.locals) c entry in
       subst (λ b. Adds r old new (if b then by_entry (path_origin 3 (Some held.at) k q.w) s q.w.side held.p.clauses
       (length held.x.locals) c entry else [])) (sym e) (subst (Adds r old new) by a)

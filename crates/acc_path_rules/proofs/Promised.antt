@@ -1,5 +1,5 @@
 -- The obligation on a promised clause, from the clause.
-use Rattle.std.proofs.Common.{◌≡◌, ℕ, ◌<◌, ◌++◌, List, [], ◌∷◌, length, get_or, refl, ap, sym, subst, arith, Bor}
+use Rattle.std.proofs.Common.{◌≡◌, ℕ, ◌++◌, List, [], ◌∷◌, length, get_or, refl, sym, subst, arith, Bor}
 use Rattle.std.specs.Prelude.{Result, Option, Some, None, All, slice_get, option_copied, is_some, nat_lt, IfSome}
 use Rattle.std.proofs.lemmas.Bool.Decides.{nat_tests}
 use Rattle.std.proofs.lemmas.Option.{slice_get_past, slice_get_read}

@@ -1,6 +1,5 @@
 -- The rows that have to be there, as clauses.
 use Rattle.std.specs.Prelude.{ℕ, List, Option, Some, None, slice_get, option_map}
-use Rattle.acc_base.specs.declared.forms.Lin.{Lin}
 use Rattle.acc_base.specs.declared.forms.Clause.{Clause}
 use Rattle.acc_base.specs.declared.steps.Action.{Action}
 use Rattle.acc_oblig.specs.PathPromises.{changed_row, row_there}

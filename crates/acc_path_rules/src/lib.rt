@@ -2,10 +2,10 @@
 #![tactic(auto)]
 
 pub mod always;
+mod entries;
+mod names;
+mod orders;
 pub mod promises;
 pub mod spares;
-pub mod there;
-
-mod entries;
-mod orders;
 mod tables;
+pub mod there;

@@ -8,6 +8,7 @@ ghost use Rattle.acc_obligations.specs.Rooms.{HasFewVars, IsSmallDesign, IsSmall
 ghost use Rattle.acc_obligations.specs.SeenPlaces.{stop};
 ghost use Rattle.acc_obligations.specs.Stops.{joined, at_stop};
 
+use crate::names::names_after;
 use acc_base::bounds::MOST_CLAUSES;
 use acc_base::designs::{Design, TxType};
 use acc_base::forms::Clause;
@@ -17,7 +18,6 @@ use acc_base::steps::Target;
 use acc_obligations::errors::ObligError;
 use acc_obligations::paths::{Cause, add_path_clause, path_origin};
 use acc_obligations::places::{PathPlace, all_paths, path_setting};
-use acc_obligations::settings::{behind, last_names};
 use std::alloc::Global;
 
 /// The clauses of a point of a type.
@@ -59,7 +59,7 @@ fn add_path_promise(
         None => Ok(()),
         Some(c) => {
             let s = path_setting(d, q);
-            let names = behind(&last_names(alloc, &s)?, s.locals)?;
+            let names = names_after(alloc, &s)?;
             let cause = Cause {
                 rule: 1,
                 held: None,

@@ -24,8 +24,10 @@ use acc_obligations::forms::below;
 use acc_obligations::naming::own_naming;
 use acc_obligations::paths::{Cause, path_origin};
 use acc_obligations::places::{PathPlace, PointPlace, all_paths, path_setting, points_of};
-use acc_obligations::settings::{Setting, add_frame_bounds, add_own_clauses, add_step_rels, counted, path_actions};
-use acc_obligations::settings::{step_bounds, step_hyps, step_vars};
+use acc_obligations::settings::{
+    Setting, add_frame_bounds, add_own_clauses, add_step_rels, counted, path_actions, step_bounds,
+    step_hyps, step_vars,
+};
 use std::alloc::{AllocError, Global};
 
 /// The variables of so many held locals and of the held number.
@@ -41,27 +43,29 @@ fn held_names(alloc: Global, s: &Setting<'_>, held: u32) -> Result<Seq<u32>, All
 fn held_hyps(
     alloc: Global,
     s: &Setting<'_>,
-    clauses: &[Clause],
-    names: &Seq<u32>,
+    held: &PointPlace<'_>,
     vars: u32,
 ) -> Result<Seq<Clause>, AllocError>
     requires room { HasRoom s.now }
-    requires small { All HasFewVars clauses.now }
+    requires small { IsSmallRest (rest held.now) }
     requires few { vars + MOST_VARIABLES < 2 ^ 32 }
-    ensures { IfOk result (λ cs. cs ≡ step_hyps (seen s.now) vars ++ own_clauses names.now vars clauses.now) }
+    ensures { IfOk result (λ cs. cs ≡ step_hyps (seen s.now) vars
+        ++ own_clauses (held_names (seen s.now) (length held.now.ty.now.locals)) vars held.now.point.now.clauses) }
 {
     let mut hyps = step_hyps(alloc, s, vars)?;
-    add_own_clauses(alloc, &mut hyps, names, vars, clauses)?;
+    let names = held_names(alloc, s, held.ty.locals.len() as u32)?;
+    add_own_clauses(
+        alloc,
+        &mut hyps,
+        &names,
+        vars,
+        held.point.clauses.as_slice(),
+    )?;
     Ok(hyps)
 }
 
 /// The bounds and relations of a step, with the bounds of so many held locals and of the held number.
-fn held_rels(
-    alloc: Global,
-    s: &Setting<'_>,
-    held: u32,
-    vars: u32,
-) -> Result<Seq<Rel>, AllocError>
+fn held_rels(alloc: Global, s: &Setting<'_>, held: u32, vars: u32) -> Result<Seq<Rel>, AllocError>
     requires room { HasRoom s.now }
     requires small { held ≤ MOST_LOCALS }
     requires few { vars + 1 < 2 ^ 32 }
@@ -91,11 +95,10 @@ fn ordered_of(
 {
     let locals = held.ty.locals.len() as u32;
     let me = step_vars(s) + locals;
-    let names = held_names(alloc, s, locals)?;
     Ok(Ordered {
         origin,
         vars,
-        hyps: held_hyps(alloc, s, held.point.clauses.as_slice(), &names, vars)?,
+        hyps: held_hyps(alloc, s, held, vars)?,
         first: held_rels(alloc, s, locals, vars)?,
         lower: below(alloc, me, s.locals)?,
         higher: below(alloc, s.locals, me)?,

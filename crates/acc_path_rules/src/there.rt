@@ -11,6 +11,7 @@ ghost use Rattle.acc_obligations.specs.SeenPlaces.{stop};
 ghost use Rattle.acc_obligations.specs.Stops.{joined, at_stop};
 ghost use Rattle.acc_path_rules.specs.Rows.{needed_row, needed_at};
 
+use crate::names::names_after;
 use acc_base::bounds::MOST_ACTIONS;
 use acc_base::designs::Design;
 use acc_base::forms::{Atom, Clause, Lin};
@@ -21,7 +22,7 @@ use acc_obligations::errors::ObligError;
 use acc_obligations::forms::{is_none, one_term, times};
 use acc_obligations::paths::{Cause, add_path_clause, path_origin};
 use acc_obligations::places::{PathPlace, all_paths, path_setting};
-use acc_obligations::settings::{Setting, behind, last_names};
+use acc_obligations::settings::Setting;
 use std::alloc::{AllocError, Global};
 
 /// That a row is there.
@@ -69,7 +70,7 @@ fn setting_before<'a>(d: &'a Design, q: &PathPlace<'a>, k: usize) -> Setting<'a>
     requires design { IsSmallDesign d.now }
     requires small { IsSmallStop (stop q.now) }
     ensures seen { seen result ≡ record (setting_of d.now q.now.ty.now q.now.point.now q.now.step.now q.now.number q.now.path.now) {
-      actions = take k q.now.path.now.actions
+      actions = take k q.now.path.now.actions;
     } }
     ensures room { HasRoom result }
 {
@@ -95,7 +96,7 @@ fn add_path_row(
         None => Ok(()),
         Some(there) => {
             let s = setting_before(d, q, k);
-            let names = behind(&last_names(alloc, &s)?, s.locals)?;
+            let names = names_after(alloc, &s)?;
             let cause = Cause {
                 rule: 4,
                 held: None,

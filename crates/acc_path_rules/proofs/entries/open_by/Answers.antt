@@ -1,7 +1,6 @@
 use Rattle.std.proofs.Common.{◌≡◌, List, ap, ◌∙◌}
 use Rattle.std.specs.Prelude.{Some, Option}
 use Rattle.std.proofs.lemmas.Result.{IfOk-weaker}
-use Rattle.acc_base.specs.declared.designs.Entry.{Entry}
 use Rattle.acc_base.specs.declared.forms.Rel.{Rel}
 use Rattle.acc_oblig.specs.Spares.{entry_for}
 use Rattle.acc_obligations.specs.Seen.{seen}

@@ -6,7 +6,6 @@ use Rattle.acc_oblig.specs.Settings.{Setting}
 use Rattle.acc_oblig.specs.PathPromises.{clause_names}
 use Rattle.acc_oblig.specs.Spares.{entry_for, spare_drafts}
 use Rattle.acc_obligations.specs.Causes.{Adds, at_case}
-use Rattle.acc_obligations.specs.Seen.{seen}
 use Rattle.acc_obligations.specs.SeenPlaces.{rest, stop}
 use Rattle.acc_path_rules.specs.Openings.{open_by}
 use Rattle.acc_path_rules.proofs.Kept.{setting_at, spare_opened}
@@ -20,11 +19,11 @@ returns-in-Some c =
     let clause = c.args.c.now in
     let side = q.w.side in
     let names : true ≡ clause_names q.path.actions clause =
-      c.if-not-clause_names.ensures ∙ ap (λ (xs : List Action). clause_names xs clause) c.as_slice.ensures in
+    c.if-not-clause_names.ensures ∙ ap (λ (xs : List Action). clause_names xs clause) c.as_slice.ensures in
     let some : Some c.in-Some.pairs ≡ open_by (setting_at d q) side (entry_for d.entries held.at q.w.at side) =
-      sym c.in-Some.is ∙ (c.in_ok-open_by.ensures
-      ∙ (ap (λ (z : Setting). open_by z side (entry_for c.as_slice-2.result.now held.at q.w.at side)) c.path_setting-s.ensures.seen
-      ∙ ap (λ (es : List Entry). open_by (setting_at d q) side (entry_for es held.at q.w.at side)) c.as_slice-2.ensures)) in
+    sym c.in-Some.is ∙ (c.in_ok-open_by.ensures
+    ∙ (ap (λ (z : Setting). open_by z side (entry_for c.as_slice-2.result.now held.at q.w.at side)) c.path_setting-s.ensures.seen
+    ∙ ap (λ (es : List Entry). open_by (setting_at d q) side (entry_for es held.at q.w.at side)) c.as_slice-2.ensures)) in
     spare_opened c.add_spare.result c.args.out.now c.add_spare.new.out d held q c.args.k clause (Some c.in-Some.pairs) (sym names) some
     (subst (Adds c.add_spare.result c.args.out.now c.add_spare.new.out)
     (λ i. spare_drafts (at_case (c.path_origin.ensures i)) (c.path_setting-s.ensures.seen i) held.p.clauses (length held.x.locals)

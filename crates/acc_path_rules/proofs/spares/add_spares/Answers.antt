@@ -14,8 +14,8 @@ pub loop-held-init : goal.loop-held-init
 loop-held-init c =
     let d = c.args.d.now in
     let all : joined (at_rest (held_drafts d)) (map rest c.as_slice-points.result.now) ≡ all_spare_drafts d =
-      ap (λ z. joined (at_rest (held_drafts d)) (map rest z)) c.as_slice-points.ensures.value
-      ∙ (ap (joined (at_rest (held_drafts d))) c.in_ok-listed.ensures.value ∙ each_point_is d (held_drafts d)) in
+    ap (λ z. joined (at_rest (held_drafts d)) (map rest z)) c.as_slice-points.ensures.value
+    ∙ (ap (joined (at_rest (held_drafts d))) c.in_ok-listed.ensures.value ∙ each_point_is d (held_drafts d)) in
     subst (λ z. Going c.args.out.now c.args.out.now z (all_spare_drafts d)) (sym all) (going_all c.args.out.now (all_spare_drafts d))
 
 pub loop-held-preserved : goal.loop-held-preserved

@@ -17,10 +17,9 @@ returns-in_ok-names-in-Some c =
     let own = c.setting_before-s.result in
     let s = before d k q in
     let some : Some c.in-Some.there ≡ needed_at q.path.actions k =
-      sym c.in-Some.is ∙ (c.in_ok-needed_at.ensures ∙ ap (λ (xs : List Action). needed_at xs k) c.as_slice.ensures) in
+    sym c.in-Some.is ∙ (c.in_ok-needed_at.ensures ∙ ap (λ (xs : List Action). needed_at xs k) c.as_slice.ensures) in
     let names : c.in_ok-names-in-Some.names ≡ last_now s ++ s.locals ∷ [] =
-      c.in_ok-names-in-Some.ensures ∙ (ap (λ z. z ++ own.locals ∷ []) c.in_ok-last_names-in-Some.ensures
-      ∙ ap (λ (z : Setting). last_now z ++ z.locals ∷ []) c.setting_before-s.ensures.seen) in
+    c.in_ok-names-in-Some.ensures ∙ ap (λ (z : Setting). last_now z ++ z.locals ∷ []) c.setting_before-s.ensures.seen in
     row_added c.add_path_clause.result c.args.out.now c.add_path_clause.new.out d k q (Some c.in-Some.there) some
     (path_added c.add_path_clause.result c.args.out.now c.add_path_clause.new.out 4 None k q.w s (last_now s ++ s.locals ∷ []) c.in-Some.there
     c.path_origin.result (seen own) c.in_ok-names-in-Some.names c.in-Some.there c.path_origin.ensures c.setting_before-s.ensures.seen names refl
