@@ -75,7 +75,10 @@ impl Reader<'_> {
 }
 
 fn json(text: &str) -> Option<Json> {
-    let mut reader = Reader { bytes: text.as_bytes(), at: 0 };
+    let mut reader = Reader {
+        bytes: text.as_bytes(),
+        at: 0,
+    };
     let value = reader.value()?;
     reader.skip();
     (reader.at == text.len()).then_some(value)
@@ -207,7 +210,10 @@ enum Node {
 }
 
 fn lin(j: &Json) -> Option<Lin> {
-    let (coeffs, constant) = j.pair(|c| c.list(|p| p.pair(Json::index, Json::narrow)), Json::narrow)?;
+    let (coeffs, constant) = j.pair(
+        |c| c.list(|p| p.pair(Json::index, Json::narrow)),
+        Json::narrow,
+    )?;
     Some(Lin { coeffs, constant })
 }
 
@@ -277,18 +283,31 @@ fn certificate(text: &str) -> Option<Vec<Vec<Node>>> {
 
 fn rel(j: &Json) -> Option<Rel> {
     let (form, equal) = j.pair(form, Json::index)?;
-    Some(Rel { form, equal: equal == 1 })
+    Some(Rel {
+        form,
+        equal: equal == 1,
+    })
 }
 
 fn clause(j: &Json) -> Option<Clause> {
-    let [vars, guards, of] = j.items()? else { return None };
-    Some(Clause { vars: vars.index()?, guards: guards.list(rel)?, rel: rel(of)? })
+    let [vars, guards, of] = j.items()? else {
+        return None;
+    };
+    Some(Clause {
+        vars: vars.index()?,
+        guards: guards.list(rel)?,
+        rel: rel(of)?,
+    })
 }
 
 fn sequent(text: &str) -> Option<Sequent> {
     let whole = json(text)?;
-    let [numbers, hyps, known] = whole.items()? else { return None };
-    let [rule, vars, ty] = numbers.items()? else { return None };
+    let [numbers, hyps, known] = whole.items()? else {
+        return None;
+    };
+    let [rule, vars, ty] = numbers.items()? else {
+        return None;
+    };
     let (rels, goal) = known.pair(|r| r.list(rel), form)?;
     Some(Sequent {
         rule: rule.index()?,
@@ -351,19 +370,31 @@ fn plus(a: &Form, by: i128, b: &Form) -> Result<Form, Wide> {
         sums.add(unknown, bounded(by.checked_mul(*n))?)?;
     }
     let left = sums.sums.into_iter().filter(|(_, n)| *n != 0);
-    Ok(Form { terms: left.map(|(u, n)| (u.clone(), n)).collect(), constant })
+    Ok(Form {
+        terms: left.map(|(u, n)| (u.clone(), n)).collect(),
+        constant,
+    })
 }
 
 fn number(constant: i128) -> Form {
-    Form { terms: Vec::new(), constant }
+    Form {
+        terms: Vec::new(),
+        constant,
+    }
 }
 
 fn below(form: &Form) -> Result<Rel, Wide> {
-    Ok(Rel { form: plus(form, 1, &number(1))?, equal: false })
+    Ok(Rel {
+        form: plus(form, 1, &number(1))?,
+        equal: false,
+    })
 }
 
 fn above(form: &Form) -> Result<Rel, Wide> {
-    Ok(Rel { form: plus(&number(1), -1, form)?, equal: false })
+    Ok(Rel {
+        form: plus(&number(1), -1, form)?,
+        equal: false,
+    })
 }
 
 // ---- hypotheses at linear values
@@ -381,7 +412,10 @@ fn value_for(n: u32, own: &[Lin], x: u32) -> Option<&Lin> {
 }
 
 fn lin_at(n: u32, own: &[Lin], l: &Lin) -> Result<Lin, Wide> {
-    let mut sum = Lin { coeffs: Vec::new(), constant: 0 };
+    let mut sum = Lin {
+        coeffs: Vec::new(),
+        constant: 0,
+    };
     for (x, c) in &l.coeffs {
         let Some(value) = value_for(n, own, *x) else {
             add_coefficient(&mut sum.coeffs, *x, *c)?;
@@ -426,7 +460,13 @@ fn add_summand(form: &mut Form, unknown: Unknown, n: i128) -> Result<(), Wide> {
     Ok(())
 }
 
-fn add_term_at(form: &mut Form, n: u32, own: &[Lin], unknown: &Unknown, m: i128) -> Result<(), Wide> {
+fn add_term_at(
+    form: &mut Form,
+    n: u32,
+    own: &[Lin],
+    unknown: &Unknown,
+    m: i128,
+) -> Result<(), Wide> {
     let under = lins_at(n, own, &unknown.under)?;
     let value = match unknown.atom {
         Atom::Var(x) => value_for(n, own, x),
@@ -438,10 +478,24 @@ fn add_term_at(form: &mut Form, n: u32, own: &[Lin], unknown: &Unknown, m: i128)
     };
     for (x, c) in &value.coeffs {
         let product = bounded(m.checked_mul(i128::from(*c)))?;
-        add_summand(form, Unknown { under: under.clone(), atom: Atom::Var(*x) }, product)?;
+        add_summand(
+            form,
+            Unknown {
+                under: under.clone(),
+                atom: Atom::Var(*x),
+            },
+            product,
+        )?;
     }
     let product = bounded(m.checked_mul(i128::from(value.constant)))?;
-    add_summand(form, Unknown { under, atom: Atom::One }, product)
+    add_summand(
+        form,
+        Unknown {
+            under,
+            atom: Atom::One,
+        },
+        product,
+    )
 }
 
 fn rel_at(n: u32, own: &[Lin], rel: &Rel) -> Result<Rel, Wide> {
@@ -449,7 +503,10 @@ fn rel_at(n: u32, own: &[Lin], rel: &Rel) -> Result<Rel, Wide> {
     for (unknown, m) in &rel.form.terms {
         add_term_at(&mut raw, n, own, unknown, *m)?;
     }
-    Ok(Rel { form: plus(&number(0), 1, &raw)?, equal: rel.equal })
+    Ok(Rel {
+        form: plus(&number(0), 1, &raw)?,
+        equal: rel.equal,
+    })
 }
 
 // ---- axioms
@@ -460,7 +517,10 @@ struct Need {
 }
 
 fn plain(atom: Atom) -> Unknown {
-    Unknown { under: Vec::new(), atom }
+    Unknown {
+        under: Vec::new(),
+        atom,
+    }
 }
 
 fn at_most(form: Form) -> Rel {
@@ -472,11 +532,17 @@ fn is_zero(form: Form) -> Rel {
 }
 
 fn one_term(u: Unknown, n: i128, constant: i128) -> Form {
-    Form { terms: vec![(u, n)], constant }
+    Form {
+        terms: vec![(u, n)],
+        constant,
+    }
 }
 
 fn less(u: Unknown, v: Unknown) -> Form {
-    Form { terms: vec![(u, 1), (v, -1)], constant: 0 }
+    Form {
+        terms: vec![(u, 1), (v, -1)],
+        constant: 0,
+    }
 }
 
 fn less_atom(u: &Unknown) -> Form {
@@ -487,11 +553,16 @@ fn less_atom(u: &Unknown) -> Form {
 }
 
 fn variables(l: &Lin, by: i128) -> impl Iterator<Item = (Unknown, i128)> + '_ {
-    l.coeffs.iter().map(move |(x, n)| (plain(Atom::Var(*x)), by * i128::from(*n)))
+    l.coeffs
+        .iter()
+        .map(move |(x, n)| (plain(Atom::Var(*x)), by * i128::from(*n)))
 }
 
 fn scaled(l: &Lin, by: i128, constant: i128) -> Form {
-    Form { terms: variables(l, by).collect(), constant: by * i128::from(l.constant) + constant }
+    Form {
+        terms: variables(l, by).collect(),
+        constant: by * i128::from(l.constant) + constant,
+    }
 }
 
 fn difference(a: &Lin, b: &Lin) -> Form {
@@ -518,7 +589,9 @@ fn key_of(atom: &Atom) -> &[Lin] {
 fn alike(a: &Atom, b: &Atom) -> bool {
     let same = match (a, b) {
         (Atom::Has(t, _), Atom::Has(u, _)) | (Atom::Count(t, _), Atom::Count(u, _)) => t == u,
-        (Atom::Col(t, _, c), Atom::Col(u, _, e)) | (Atom::Sum(t, _, c), Atom::Sum(u, _, e)) => t == u && c == e,
+        (Atom::Col(t, _, c), Atom::Col(u, _, e)) | (Atom::Sum(t, _, c), Atom::Sum(u, _, e)) => {
+            t == u && c == e
+        }
         _ => false,
     };
     same && key_of(a).len() == key_of(b).len()
@@ -530,11 +603,15 @@ impl Design {
     }
 
     fn is_whole(&self, t: u32, k: &[Lin]) -> bool {
-        self.tables.get(t as usize).is_some_and(|table| table.0 as usize == k.len())
+        self.tables
+            .get(t as usize)
+            .is_some_and(|table| table.0 as usize == k.len())
     }
 
     fn is_private(&self, t: u32) -> bool {
-        self.tables.get(t as usize).is_some_and(|table| table.1 == 1)
+        self.tables
+            .get(t as usize)
+            .is_some_and(|table| table.1 == 1)
     }
 
     fn is_table_atom(&self, atom: &Atom) -> bool {
@@ -542,7 +619,9 @@ impl Design {
     }
 
     fn ends_in_own(&self, q: &Sequent, k: &[Lin]) -> bool {
-        let locals = q.ty.checked_sub(1).and_then(|ty| self.locals.get(ty as usize));
+        let locals =
+            q.ty.checked_sub(1)
+                .and_then(|ty| self.locals.get(ty as usize));
         match (locals, k.last()) {
             (Some(own), Some(last)) => last.coeffs == [(*own, 1)] && last.constant == 0,
             _ => false,
@@ -563,25 +642,47 @@ fn need_of(d: &Design, q: &Sequent, schema: &Schema) -> Option<Need> {
     match schema {
         Schema::Has(t, k) if d.has(*t) => need(
             vec![],
-            vec![at_most(one_term(has(t, k), -1, 0)), at_most(one_term(has(t, k), 1, -1))],
+            vec![
+                at_most(one_term(has(t, k), -1, 0)),
+                at_most(one_term(has(t, k), 1, -1)),
+            ],
         ),
-        Schema::Count(t, p) if d.has(*t) => need(vec![], vec![at_most(one_term(count(t, p), -1, 0))]),
-        Schema::Front(t, k, n) if d.has(*t) && *n as usize <= k.len() => {
-            need(vec![], vec![at_most(less(has(t, k), count(t, &k[..*n as usize])))])
+        Schema::Count(t, p) if d.has(*t) => {
+            need(vec![], vec![at_most(one_term(count(t, p), -1, 0))])
         }
+        Schema::Front(t, k, n) if d.has(*t) && *n as usize <= k.len() => need(
+            vec![],
+            vec![at_most(less(has(t, k), count(t, &k[..*n as usize])))],
+        ),
         Schema::Same(u, v)
-            if d.is_table_atom(&u.atom) && alike(&u.atom, &v.atom) && u.under.is_empty() && v.under.is_empty() =>
+            if d.is_table_atom(&u.atom)
+                && alike(&u.atom, &v.atom)
+                && u.under.is_empty()
+                && v.under.is_empty() =>
         {
             let keys = key_of(&u.atom).iter().zip(key_of(&v.atom));
-            need(keys.map(|(a, b)| is_zero(difference(a, b))).collect(), vec![is_zero(less(u.clone(), v.clone()))])
+            need(
+                keys.map(|(a, b)| is_zero(difference(a, b))).collect(),
+                vec![is_zero(less(u.clone(), v.clone()))],
+            )
         }
-        Schema::NoCol(t, k, c) if d.has(*t) => need(vec![at_most(one_term(has(t, k), 1, 0))], zero(col(t, k, c))),
-        Schema::NoSum(t, p, c) if d.has(*t) => need(vec![at_most(one_term(count(t, p), 1, 0))], zero(sum(t, p, c))),
-        Schema::OneCount(t, k) if d.is_whole(*t, k) => need(vec![], vec![is_zero(less(count(t, k), has(t, k)))]),
-        Schema::OneSum(t, k, c) if d.is_whole(*t, k) => need(vec![], vec![is_zero(less(sum(t, k, c), col(t, k, c)))]),
-        Schema::Opened(u) if !u.under.is_empty() => {
-            need(u.under.iter().map(|l| is_zero(scaled(l, 1, 0))).collect(), vec![is_zero(less_atom(u))])
+        Schema::NoCol(t, k, c) if d.has(*t) => {
+            need(vec![at_most(one_term(has(t, k), 1, 0))], zero(col(t, k, c)))
         }
+        Schema::NoSum(t, p, c) if d.has(*t) => need(
+            vec![at_most(one_term(count(t, p), 1, 0))],
+            zero(sum(t, p, c)),
+        ),
+        Schema::OneCount(t, k) if d.is_whole(*t, k) => {
+            need(vec![], vec![is_zero(less(count(t, k), has(t, k)))])
+        }
+        Schema::OneSum(t, k, c) if d.is_whole(*t, k) => {
+            need(vec![], vec![is_zero(less(sum(t, k, c), col(t, k, c)))])
+        }
+        Schema::Opened(u) if !u.under.is_empty() => need(
+            u.under.iter().map(|l| is_zero(scaled(l, 1, 0))).collect(),
+            vec![is_zero(less_atom(u))],
+        ),
         Schema::Shut(u, n, side) => {
             let l = u.under.get(*n as usize)?;
             let off = match side {
@@ -591,8 +692,12 @@ fn need_of(d: &Design, q: &Sequent, schema: &Schema) -> Option<Need> {
             };
             need(vec![at_most(off)], zero(u.clone()))
         }
-        Schema::Empty(u) if q.rule == 8 && d.is_table_atom(&u.atom) => need(vec![], zero(u.clone())),
-        Schema::Fresh(t, k) if q.rule == 0 && d.is_private(*t) && d.is_whole(*t, k) && d.ends_in_own(q, k) => {
+        Schema::Empty(u) if q.rule == 8 && d.is_table_atom(&u.atom) => {
+            need(vec![], zero(u.clone()))
+        }
+        Schema::Fresh(t, k)
+            if q.rule == 0 && d.is_private(*t) && d.is_whole(*t, k) && d.ends_in_own(q, k) =>
+        {
             need(vec![], zero(has(t, k)))
         }
         _ => None,
@@ -618,14 +723,19 @@ impl Known<'_> {
     /// Whether multipliers refute what is known.
     fn refuted(&self, m: &Mults) -> Result<bool, Wide> {
         let rise = m.windows(2).all(|w| w[0].0 < w[1].0);
-        if !rise || m.last().is_some_and(|(place, _)| self.at(*place as usize).is_none()) {
+        if !rise
+            || m.last()
+                .is_some_and(|(place, _)| self.at(*place as usize).is_none())
+        {
             return Ok(false);
         }
         let mut sums = Sums::default();
         let mut constant = 0i128;
         let mut signs = true;
         for (place, by) in m {
-            let Some(rel) = self.at(*place as usize) else { return Ok(false) };
+            let Some(rel) = self.at(*place as usize) else {
+                return Ok(false);
+            };
             signs &= rel.equal || *by >= 0;
             for (unknown, n) in &rel.form.terms {
                 let product = bounded(by.checked_mul(*n))?;
@@ -642,8 +752,14 @@ impl Known<'_> {
     }
 
     /// Whether the next multipliers refute what is known and the contrary of a fact.
-    fn excluded<'m>(&mut self, contrary: Rel, shown: &'m [Mults]) -> Result<Option<&'m [Mults]>, Wide> {
-        let Some((m, rest)) = shown.split_first() else { return Ok(None) };
+    fn excluded<'m>(
+        &mut self,
+        contrary: Rel,
+        shown: &'m [Mults],
+    ) -> Result<Option<&'m [Mults]>, Wide> {
+        let Some((m, rest)) = shown.split_first() else {
+            return Ok(None);
+        };
         self.more.push(contrary);
         let yes = self.refuted(m);
         self.more.pop();
@@ -660,8 +776,16 @@ impl Known<'_> {
 
 type Branches = Vec<Vec<Rel>>;
 
-fn instance(q: &Sequent, known: &mut Known, h: u32, own: &[Lin], shown: &[Mults]) -> Result<Option<Branches>, Wide> {
-    let Some(clause) = q.hyps.get(h as usize) else { return Ok(None) };
+fn instance(
+    q: &Sequent,
+    known: &mut Known,
+    h: u32,
+    own: &[Lin],
+    shown: &[Mults],
+) -> Result<Option<Branches>, Wide> {
+    let Some(clause) = q.hyps.get(h as usize) else {
+        return Ok(None);
+    };
     if own.len() != clause.vars as usize {
         return Ok(None);
     }
@@ -678,8 +802,16 @@ fn instance(q: &Sequent, known: &mut Known, h: u32, own: &[Lin], shown: &[Mults]
     Ok(Some(vec![vec![rel_at(q.vars, own, &clause.rel)?]]))
 }
 
-fn axiom(d: &Design, q: &Sequent, known: &mut Known, schema: &Schema, shown: &[Mults]) -> Result<Option<Branches>, Wide> {
-    let Some(need) = need_of(d, q, schema) else { return Ok(None) };
+fn axiom(
+    d: &Design,
+    q: &Sequent,
+    known: &mut Known,
+    schema: &Schema,
+    shown: &[Mults],
+) -> Result<Option<Branches>, Wide> {
+    let Some(need) = need_of(d, q, schema) else {
+        return Ok(None);
+    };
     let mut left = shown;
     for fact in &need.facts {
         match known.shown(fact, left)? {
@@ -690,11 +822,20 @@ fn axiom(d: &Design, q: &Sequent, known: &mut Known, schema: &Schema, shown: &[M
     Ok(left.is_empty().then(|| vec![need.added]))
 }
 
-fn branches(d: &Design, q: &Sequent, known: &mut Known, node: &Node) -> Result<Option<Branches>, Wide> {
+fn branches(
+    d: &Design,
+    q: &Sequent,
+    known: &mut Known,
+    node: &Node,
+) -> Result<Option<Branches>, Wide> {
     match node {
         Node::Split(form) => {
             let (low, high) = (below(form)?, above(form)?);
-            Ok(Some(vec![vec![low], vec![is_zero(form.clone())], vec![high]]))
+            Ok(Some(vec![
+                vec![low],
+                vec![is_zero(form.clone())],
+                vec![high],
+            ]))
         }
         Node::Inst(h, own, shown) => instance(q, known, *h, own, shown),
         Node::Axiom(schema, shown) => axiom(d, q, known, schema, shown),
@@ -704,16 +845,25 @@ fn branches(d: &Design, q: &Sequent, known: &mut Known, node: &Node) -> Result<O
 
 /// Whether nodes are a proof of a sequent; the error is the number of the node where a number is too large.
 fn proves(d: &Design, q: &Sequent, nodes: &[Node]) -> Result<bool, usize> {
-    let mut known = Known { first: &q.rels, more: Vec::new() };
+    let mut known = Known {
+        first: &q.rels,
+        more: Vec::new(),
+    };
     let mut open = vec![(0, vec![above(&q.goal).map_err(|Wide| 0usize)?])];
     for (number, node) in nodes.iter().enumerate() {
-        let Some((length, added)) = open.pop() else { return Ok(false) };
+        let Some((length, added)) = open.pop() else {
+            return Ok(false);
+        };
         known.more.truncate(length);
         known.more.extend(added);
         match branches(d, q, &mut known, node) {
             Err(Wide) => return Err(number),
             Ok(None) => return Ok(false),
-            Ok(Some(list)) => open.extend(list.into_iter().rev().map(|added| (known.more.len(), added))),
+            Ok(Some(list)) => open.extend(
+                list.into_iter()
+                    .rev()
+                    .map(|added| (known.more.len(), added)),
+            ),
         }
     }
     Ok(open.is_empty())
