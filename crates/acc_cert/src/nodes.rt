@@ -3,8 +3,8 @@ ghost use Rattle.std.specs.Prelude.{◌≡◌};
 ghost use Rattle.acc_cert.specs.SpelledNodes.{axiom_number};
 
 use crate::spelled::{Spelled, four, one, three, two};
-use acc_farkas::refuting::Mults;
 use acc_axioms::nodes::{Cert, Node, Proof, Schema};
+use acc_farkas::refuting::Mults;
 use serde_json::Value;
 use std::alloc::{AllocError, Global};
 

@@ -8,8 +8,8 @@ ghost use Rattle.acc_cert.specs.SpelledNodes.{cert};
 ghost use Rattle.acc_cert_read.specs.InBounds.{cert as is_in_bounds};
 
 use crate::spelled::Spelled;
-use acc_cert_read::errors::CertError;
 use acc_axioms::nodes::Cert;
+use acc_cert_read::errors::CertError;
 use std::alloc::Global;
 
 /// Writes a certificate, without spaces. Where its numbers are within the bounds, the bytes are read as this certificate.

@@ -76,4 +76,3 @@ replies_more p q first text new n so_far same more =
     let whole : flat_map f (range_with_len 1 (n + 1)) ≡ flat_map f (range_with_len 1 n) ++ f (n + 1) =
     ap (λ (k : ℕ). flat_map f (range_with_len 1 k)) (add-one n) ∙ ap (flat_map f) (range_more 1 n) ∙ flat_map-append f (range_with_len 1 n) ((1 + n) ∷ []) ∙ ap (λ (z : List ℕ). flat_map f (range_with_len 1 n) ++ z) (append-nil (f (1 + n)) ∙ ap f (sym place)) in
     more ∙ (λ i. so_far i ++ reply_line (same i) (n + 1)) ∙ append_assoc first (flat_map f (range_with_len 1 n)) (f (n + 1)) ∙ ap (λ (z : List ℕ). first ++ z) (sym whole)
-
