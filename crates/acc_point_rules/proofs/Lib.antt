@@ -1,0 +1,3 @@
+pub mod Assembled
+pub mod CountedVariables
+pub mod Items

@@ -1,0 +1,3 @@
+pub mod Bounds
+pub mod Clears
+pub mod OneClause

@@ -1,0 +1,9 @@
+//! The obligations on begins, on variants, on ends, and on no rows.
+#![tactic(auto)]
+
+pub mod begins;
+pub mod clears;
+pub mod empty;
+mod resting;
+mod small_goals;
+pub mod variants;
