@@ -1,6 +1,6 @@
 -- The obligations of goals from the values that they were computed from.
-use Rattle.std.proofs.Common.{◌≡◌, ℕ, ◌+◌, ◌≤◌, length, Bool, true, false, List, [], ◌∷◌, ◌++◌, refl, ap, sym, subst, ◌∙◌}
-use Rattle.std.specs.Prelude.{slice_get, Result, Option, Some, None, Ok, Err, IsTrue, IsFalse, IsErrAnd, if◌then◌else◌}
+use Rattle.std.proofs.Common.{◌≡◌, ℕ, ◌+◌, ◌≤◌, length, Bool, true, false, List, [], ◌∷◌, refl, ap, sym, subst, ◌∙◌}
+use Rattle.std.specs.Prelude.{slice_get, Result, Some, None, Ok, Err, IsTrue, IsFalse, IsErrAnd, if◌then◌else◌}
 use Rattle.std.proofs.lemmas.List.{append-nil}
 use Rattle.std.proofs.lemmas.Result.{err_from_is_err_and}
 use Rattle.std.proofs.lemmas.Option.{slice_get_past}
@@ -8,14 +8,11 @@ use Rattle.acc_base.specs.declared.forms.Lin.{Lin}
 use Rattle.acc_base.specs.declared.forms.Form.{Form}
 use Rattle.acc_base.specs.declared.forms.Rel.{Rel}
 use Rattle.acc_base.specs.declared.forms.Clause.{Clause}
-use Rattle.acc_base.specs.declared.designs.At.{At}
-use Rattle.acc_base.specs.declared.designs.TxType.{TxType}
-use Rattle.acc_base.specs.declared.designs.Design.{Design}
 use Rattle.acc_base.specs.declared.sequents.Origin.{Origin}
 use Rattle.acc_base.specs.declared.sequents.Sequent.{Sequent}
-use Rattle.acc_oblig.specs.Settings.{Setting, first_now, step_vars, step_bounds, step_rels, step_hyps}
-use Rattle.acc_oblig.specs.Drafts.{Draft, Place, of_some, goal_drafts, clause_drafts, path_origin, path_rels}
-use Rattle.acc_oblig.specs.PointRules.{rest_origin, variant_form, rest_in, fall_in, begin_rels}
+use Rattle.acc_oblig.specs.Settings.{Setting, first_now, step_vars, step_hyps}
+use Rattle.acc_oblig.specs.Drafts.{Draft, Place, of_some, goal_drafts, path_origin, path_rels}
+use Rattle.acc_oblig.specs.PointRules.{rest_origin, variant_form, rest_in, fall_in}
 use Rattle.acc_obligations.specs.declared.errors.ObligError.{ObligError}
 use Rattle.acc_obligations.specs.declared.errors.ObligError.TheVariants.{Wide, Memory}
 use Rattle.acc_obligations.specs.Causes.{first_wide, Adds, TellsClause, at_case}

@@ -1,7 +1,6 @@
 -- What holds of each item of a list, and the last obligations of a walk.
-use Rattle.std.proofs.Common.{◌≡◌, ℕ, ◌+◌, ◌-◌, ◌<◌, List, [], ◌∷◌, ◌++◌, map, length, get_or, refl, ap, sym, subst, ◌∙◌, append_assoc, arith}
-use Rattle.std.specs.Prelude.{All, Result, Some, Ok, Err}
-use Rattle.std.proofs.lemmas.List.{map-append}
+use Rattle.std.proofs.Common.{◌≡◌, ℕ, ◌-◌, ◌<◌, List, ◌++◌, map, length, get_or, ap, sym, subst, ◌∙◌, arith}
+use Rattle.std.specs.Prelude.{All, Result, Ok, Err}
 use Rattle.acc_base.specs.declared.sequents.Sequent.{Sequent}
 use Rattle.acc_base.specs.declared.designs.Point.{Point}
 use Rattle.acc_base.specs.declared.designs.TxType.{TxType}
@@ -10,7 +9,7 @@ use Rattle.acc_oblig.specs.Drafts.{Draft, each_number}
 use Rattle.acc_oblig.specs.PointRules.{each_point}
 use Rattle.acc_obligations.specs.declared.errors.ObligError.{ObligError}
 use Rattle.acc_obligations.specs.declared.errors.ObligError.TheVariants.{Wide, Memory}
-use Rattle.acc_obligations.specs.Causes.{sequents, first_wide, Adds}
+use Rattle.acc_obligations.specs.Causes.{Adds}
 use Rattle.acc_obligations.specs.declared.places.PointPlace.{PointPlace}
 use Rattle.acc_obligations.specs.SeenPlaces.{rest}
 use Rattle.acc_obligations.specs.Stops.{joined, at_rest, rests_of}

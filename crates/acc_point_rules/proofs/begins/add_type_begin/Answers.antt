@@ -1,6 +1,4 @@
-use Rattle.std.proofs.Common.{[]}
 use Rattle.std.specs.Prelude.{slice_get}
-use Rattle.acc_base.specs.declared.sequents.Origin.{Origin}
 use Rattle.acc_oblig.specs.PathPromises.{point_clauses}
 use Rattle.acc_oblig.specs.PointRules.{begin_origin}
 use Rattle.acc_point_rules.specs.OneClause.{begin_clause_drafts}

@@ -1,10 +1,9 @@
-use Rattle.std.proofs.Common.{subst, sym, ap, length, arith}
+use Rattle.std.proofs.Common.{subst, sym}
 use Rattle.std.specs.Prelude.{List}
 use Rattle.acc_base.specs.declared.forms.Clause.{Clause}
 use Rattle.acc_oblig.specs.Drafts.{each, each_from}
 use Rattle.acc_point_rules.specs.OneClause.{empty_clause_drafts}
 use Rattle.acc_obligations.proofs.Going.{Going, going_all, going_on, going_off, going_past, each_next, each_past}
-use Rattle.acc_point_rules.proofs.Items.{all_at}
 use Rattle.acc_point_rules.proofs.empty.add_empty.Goals as goal
 
 pub loop-k-init : goal.loop-k-init

@@ -1,5 +1,4 @@
-use Rattle.std.proofs.Common.{◌++◌, map, refl}
-use Rattle.std.specs.Prelude.{Ok}
+use Rattle.std.proofs.Common.{map, refl}
 use Rattle.acc_obligations.specs.SeenPlaces.{rest}
 use Rattle.acc_obligations.specs.Stops.{joined, at_rest}
 use Rattle.acc_obligations.proofs.Going.{going_all, going_on, going_off}

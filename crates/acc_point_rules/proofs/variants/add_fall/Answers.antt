@@ -1,4 +1,3 @@
-use Rattle.std.proofs.Common.{ap, ◌∙◌}
 use Rattle.acc_base.specs.declared.forms.Form.{Form}
 use Rattle.acc_oblig.specs.Settings.{Setting, step_vars}
 use Rattle.acc_oblig.specs.Drafts.{setting_of}

@@ -1,7 +1,7 @@
-use Rattle.std.proofs.Common.{◌≡◌, ◌++◌, map, ap, sym, ◌∙◌, append_assoc}
+use Rattle.std.proofs.Common.{◌++◌, map, ap, sym, ◌∙◌, append_assoc}
 use Rattle.std.specs.Prelude.{List, Ok, Err}
 use Rattle.acc_oblig.specs.Drafts.{Draft, each_path}
-use Rattle.acc_oblig.specs.PointRules.{each_point, fall_at, variant_drafts}
+use Rattle.acc_oblig.specs.PointRules.{each_point, fall_at}
 use Rattle.acc_obligations.specs.SeenPlaces.{rest, stop}
 use Rattle.acc_obligations.proofs.Going.{going_all, going_on, going_off}
 use Rattle.acc_obligations.proofs.PathAdded.{paths_added}
