@@ -1,0 +1,5 @@
+pub mod Bounds
+pub mod Clears
+pub mod Numbers
+pub mod OneClause
+pub mod PathRanges
