@@ -53,6 +53,14 @@ fn print<R: Print + AllocGlobal>(rt: &R, text: &str) -> io::Result<()> {
     answer_at_once(rt, "print design", &mut shelf)
 }
 
+/// `check TEXT -> CERTIFICATE`: what the command `check` answers to a design's text and a certificate.
+fn check<R: Print + AllocGlobal>(rt: &R, text: &str) -> io::Result<()> {
+    let (design, certificate) = text.split_once(" -> ").unwrap_or((text, ""));
+    let mut shelf = memory::shelf(rt.alloc(), design)?;
+    memory::hold(&mut shelf, "certificate", certificate.as_bytes())?;
+    answer_at_once(rt, "check design certificate", &mut shelf)
+}
+
 /// The numbers with commas between them; a `-` is none.
 fn numbers(alloc: Global, text: &str) -> Result<Vec<u64>, AllocError> {
     let mut numbers = Vec::new(alloc);
@@ -191,6 +199,7 @@ fn answer_plain<R: Files + Print + AllocGlobal>(rt: &R, line: &str) -> io::Resul
         "run" => run(rt, rest),
         "play" => play(rt, name, behind),
         "print" => print(rt, rest),
+        "check" => check(rt, rest),
         "fails" => fails(rt, rest),
         _ => show(rt, verb, rest),
     }

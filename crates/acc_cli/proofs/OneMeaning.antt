@@ -26,6 +26,9 @@ use Rattle.acc_form.specs.Faults.{form_faults, is_before}
 use Rattle.acc_base.specs.Leasts.{IsLeast}
 use Rattle.acc_form.specs.WellFormed.{IsWellFormed}
 use Rattle.acc_form.proofs.Placed.{faulty_of_least}
+use Rattle.acc_accept.proofs.OneFault.{one_least}
+use Rattle.acc_check.proofs.OneReported.{reports_once}
+use Rattle.acc_check.specs.Reports.{Reports}
 use Rattle.acc_script.specs.CallLines.{SaysCall, most_calls}
 use Rattle.acc_script.specs.OrderLines.{SaysPlaces, most_numbers}
 use Rattle.acc_script.proofs.LineSteps.{one_said_by, one_refused_line}
@@ -41,6 +44,7 @@ use Rattle.acc_cli.specs.Notes.{help_text, version_text}
 use Rattle.acc_cli.specs.Refusals.{SaysError, RefusesForm, RefusesDesign}
 use Rattle.acc_cli.specs.PlayFiles.{SaysPlay, SaysOfOrder, SaysOfScript, PlaysFiles}
 use Rattle.acc_cli.specs.PrintFiles.{PrintsFile}
+use Rattle.acc_cli.specs.CheckFiles.{ChecksFiles, ending_by}
 use Rattle.acc_cli.specs.Meant.{Means}
 
 said_same : (ending : Ending) (t u : List ℕ) (a b : Said) → t ≡ u → Says ending t a → Says ending u b → a ≡ b
@@ -127,25 +131,6 @@ one_error text errors.Memory f a b h k s r = absurd s
 
 -- ---- a design breaks one rule first
 
-before_by_rule : (r a s b : ℕ) → r < s → IsTrue (is_before (r, a) (s, b))
-unfolding is_before
-before_by_rule r a s b h = rw (lt-ltb r s h) refl
-
-before_by_line : (r a b : ℕ) → a < b → IsTrue (is_before (r, a) (r, b))
-unfolding is_before
-before_by_line r a b h = grind (arith, nat_tests)
-
-one_least : (faults : List (ℕ × ℕ)) (r a s b : ℕ) → IsLeast is_before faults (r, a) → IsLeast is_before faults (s, b) → (r ≡ s) × (a ≡ b)
-one_least faults r a s b h k =
-    let not_less : ¬ IsTrue (is_before (s, b) (r, a)) = All-contains (λ y. ¬ IsTrue (is_before y (r, a))) faults (s, b) h.least k.there in
-    let not_more : ¬ IsTrue (is_before (r, a) (s, b)) = All-contains (λ y. ¬ IsTrue (is_before y (s, b))) faults (r, a) k.least h.there in
-    let no_lower : ¬ (r < s) = λ lt. not_more (before_by_rule r a s b lt) in
-    let no_higher : ¬ (s < r) = λ lt. not_less (before_by_rule s b r a lt) in
-    let rule : r ≡ s = omega (arith, no_lower, no_higher) in
-    let no_earlier : ¬ (a < b) = λ lt. not_more (subst (λ (z : ℕ). IsTrue (is_before (r, a) (z, b))) rule (before_by_line r a b lt)) in
-    let no_later : ¬ (b < a) = λ lt. not_less (subst (λ (z : ℕ). IsTrue (is_before (z, b) (r, a))) rule (before_by_line r b a lt)) in
-    (rule, omega (arith, no_earlier, no_later))
-
 one_form : (text : List ℕ) (a b : Said) → RefusesForm text a → RefusesForm text b → a ≡ b
 one_form text a b h k =
     let same : h.d ≡ k.d = one_design text h.d k.d h.is_text k.is_text in
@@ -204,6 +189,18 @@ one_print design a b (inr h) (inl k) = absurd (formed_or_refused design h.d b h.
 one_print design a b (inr h) (inr k) =
     said_same Done (printed h.d) (printed k.d) a b (ap printed (one_design design h.d k.d h.is_text k.is_text)) h.says k.says
 
+-- ---- certificates
+
+one_check : (design certificate : List ℕ) (a b : Said) → ChecksFiles design certificate a → ChecksFiles design certificate b → a ≡ b
+one_check design certificate a b (inl h) (inl k) = one_refusal design a b h k
+one_check design certificate a b (inl h) (inr k) = absurd (formed_or_refused design k.d a k.is_text k.formed h)
+one_check design certificate a b (inr h) (inl k) = absurd (formed_or_refused design h.d b h.is_text h.formed k)
+one_check design certificate a b (inr h) (inr k) =
+    let same = reports_once k.d certificate h.accepted k.accepted a.text b.text
+    (subst (λ (d : Design). Reports d certificate h.accepted a.text) (one_design design h.d k.d h.is_text k.is_text) h.reports) k.reports in
+    let ending : a.ending ≡ b.ending = h.ending ∙ ap ending_by same.0 ∙ sym k.ending in
+    λ i. record { ending = ending i; text = same.1 i; history = (h.history ∙ sym k.history) i }
+
 -- ---- commands
 
 pub one_meaning : (c : Command) (files : List (List ℕ)) (a b : Said) → Means c files a → Means c files b → a ≡ b
@@ -216,6 +213,10 @@ one_meaning command.Play (design ∷ script ∷ order ∷ more ∷ rest) a b h k
 one_meaning command.Print [] a b h k = absurd h
 one_meaning command.Print (design ∷ []) a b h k = one_print design a b h k
 one_meaning command.Print (design ∷ more ∷ rest) a b h k = absurd h
+one_meaning command.Check [] a b h k = absurd h
+one_meaning command.Check (design ∷ []) a b h k = absurd h
+one_meaning command.Check (design ∷ certificate ∷ []) a b h k = one_check design certificate a b h k
+one_meaning command.Check (design ∷ certificate ∷ more ∷ rest) a b h k = absurd h
 one_meaning command.Help [] a b h k = said_same Done help_text help_text a b refl h k
 one_meaning command.Help (more ∷ rest) a b h k = absurd h
 one_meaning command.Version [] a b h k = said_same Done version_text version_text a b refl h k

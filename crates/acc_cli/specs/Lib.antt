@@ -7,6 +7,7 @@ pub mod ReadDesigns
 pub mod Notes
 pub mod PlayFiles
 pub mod PrintFiles
+pub mod CheckFiles
 pub mod Responses
 pub mod Meant
 pub mod Answered

@@ -1,5 +1,5 @@
 //! What each command makes of its files.
-ghost use Rattle.std.specs.Prelude.{◌≡◌, ◌++◌, map, length, IfOk};
+ghost use Rattle.std.specs.Prelude.{◌≡◌, ◌++◌, [], map, length, IfOk};
 ghost use Rattle.std.specs.Fmt.{decimal};
 ghost use Rattle.acc_base.specs.Lines.{line};
 ghost use Rattle.acc_base.specs.Runnable.{IsRunnable};
@@ -11,6 +11,7 @@ ghost use Rattle.acc_cli.specs.Responses.{said_of};
 ghost use Rattle.acc_play.specs.Stages.{AllFit};
 ghost use Rattle.acc_cli.specs.PlayFiles.{PlaysFiles, SaysOfScript, SaysOfOrder};
 ghost use Rattle.acc_cli.specs.PrintFiles.{PrintsFile};
+ghost use Rattle.acc_cli.specs.CheckFiles.{ChecksFiles, ending_by};
 
 use crate::designs::{ReadDesign, read_design};
 use crate::notes;
@@ -20,6 +21,7 @@ use crate::words::Command;
 use acc_base::designs::Design;
 use acc_base::machines::Call;
 use acc_base::sequences::Seq;
+use acc_check::{Report, check};
 use acc_play::{Transcript, play};
 use acc_print::{PrintError, print};
 use acc_script::{ScriptError, calls, order};
@@ -113,6 +115,32 @@ fn print_file(alloc: Global, design: &[u8]) -> Result<Response, AllocError>
     }
 }
 
+/// The answer of a report.
+fn reported(alloc: Global, report: Report) -> Response
+    ensures { said_of result ≡ record { ending = ending_by report.accepted; text = report.text.items; history = [] } }
+{
+    let ending = if report.accepted {
+        Ending::Done
+    } else {
+        Ending::DesignRefused
+    };
+    Response {
+        ending,
+        text: report.text,
+        history: Seq::new(alloc),
+    }
+}
+
+/// Tells whether a design is accepted with a certificate.
+fn check_files(alloc: Global, design: &[u8], certificate: &[u8]) -> Result<Response, AllocError>
+    ensures { IfOk result (λ a. ChecksFiles design.now certificate.now (said_of a)) }
+{
+    match read_design(alloc, design)? {
+        ReadDesign::Read(d) => Ok(reported(alloc, check(alloc, d, certificate)?)),
+        ReadDesign::Refused(outcome) => Ok(outcome),
+    }
+}
+
 /// An answer of a text alone.
 fn note(alloc: Global, text: Vec<u8>) -> Response
     ensures { Says Done text.items (said_of result) }
@@ -133,6 +161,7 @@ pub fn run(alloc: Global, command: Command, files: &[Vec<u8>]) -> Result<Respons
     match (command, files) {
         (Command::Play, [design, script, order]) => play_files(alloc, design, script, order),
         (Command::Print, [design]) => print_file(alloc, design),
+        (Command::Check, [design, certificate]) => check_files(alloc, design, certificate),
         (Command::Help, []) => Ok(note(alloc, notes::help_text(alloc)?)),
         (Command::Version, []) => Ok(note(alloc, notes::version_text(alloc)?)),
         _ => unreachable!(),

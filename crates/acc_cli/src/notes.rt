@@ -11,6 +11,7 @@ pub fn help_text(alloc: Global) -> Result<Vec<u8>, AllocError>
 {
     b"acc play DESIGN SCRIPT ORDER   plays the script's transactions in the order's turns, and prints the turns and replies
 acc print DESIGN               prints the design in its one spelling
+acc check DESIGN CERT          tells whether the certificate proves that the design is sound, and else why not
 acc --help                     prints these lines
 acc --version                  prints the version of acc, and of the toolchain that proved it
 README.md tells what acc is for, and docs/DESIGN-LANGUAGE.md how a design is written and how to mend one that is refused.

@@ -6,7 +6,7 @@ ghost use Rattle.acc_cli.specs.Status.{code_of};
 #[derive(Clone, Copy, Debug, PartialEq, Eq)]
 pub enum Ending {
     Done,
-    /// The design is refused.
+    /// The design or its certificate is refused.
     DesignRefused,
     /// The script or the order is refused.
     ScriptRefused,

@@ -9,6 +9,8 @@ pub enum Command {
     Play,
     /// `print DESIGN`
     Print,
+    /// `check DESIGN CERT`
+    Check,
     /// `--help`
     Help,
     /// `--version`
@@ -36,6 +38,8 @@ pub fn command_of(words: &[String]) -> Option<Command>
         Some(Command::Play)
     } else if is_form(words, "print", 1) {
         Some(Command::Print)
+    } else if is_form(words, "check", 2) {
+        Some(Command::Check)
     } else if is_form(words, "--help", 0) {
         Some(Command::Help)
     } else if is_form(words, "--version", 0) {
@@ -53,6 +57,7 @@ pub fn file_count(command: Command) -> usize
     match command {
         Command::Play => 3,
         Command::Print => 1,
+        Command::Check => 2,
         Command::Help | Command::Version => 0,
     }
 }

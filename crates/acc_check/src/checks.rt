@@ -1,0 +1,114 @@
+//! Whether a design is accepted with the bytes of a certificate.
+ghost use Rattle.std.specs.Prelude.{◌≡◌, ◌≢◌, ◌++◌, codes, false, IfOk, OnOk};
+ghost use Rattle.std.specs.Fmt.{decimal};
+ghost use Rattle.acc_base.specs.Lines.{line};
+ghost use Rattle.acc_accept.specs.declared.refusals.Refusal.TheVariants.{Memory as OutOfMemory};
+ghost use Rattle.acc_check.specs.Origins.{origin_text, path_text};
+ghost use Rattle.acc_check.specs.Reports.{Reports, ReportsWith, reason_text};
+
+use crate::origins::{push_number, push_origin, push_path};
+use acc_accept::{Refusal, accept};
+use acc_axioms::nodes::Cert;
+use acc_base::designs::Design;
+use acc_base::sequents::Origin;
+use acc_cert_read::certificates::read;
+use acc_cert_read::errors::CertError;
+use std::alloc::{AllocError, Global};
+
+/// Whether a design is accepted, and the line that says so, or why not.
+#[derive(Drop)]
+pub struct Report {
+    pub accepted: bool,
+    pub text: Vec<u8>,
+}
+
+/// A label, and where an obligation comes from.
+fn push_labelled(
+    out: &mut Vec<u8>,
+    label: &[u8],
+    d: &Design,
+    origin: &Origin,
+) -> Result<(), AllocError>
+    ensures { OnOk result (out.new.items ≡ out.old.items ++ (label.now ++ origin_text d.now origin.now)) }
+{
+    out.extend_from_slice(label)?;
+    push_origin(out, d, origin)
+}
+
+fn push_rule(out: &mut Vec<u8>, rule: u32, line: u64) -> Result<(), AllocError>
+    ensures { OnOk result (out.new.items ≡ out.old.items ++ (codes "form " ++ (decimal rule ++ (codes " " ++ decimal line)))) }
+{
+    out.extend_from_slice(b"form ")?;
+    push_number(out, u64::from(rule))?;
+    out.extend_from_slice(b" ")?;
+    push_number(out, line)
+}
+
+/// Why a design isn't accepted; want of memory is no reason that is written.
+fn push_reason(out: &mut Vec<u8>, d: &Design, refusal: &Refusal) -> Result<(), AllocError>
+    ensures text { OnOk result (out.new.items ≡ out.old.items ++ reason_text d.now refusal.now) }
+    ensures other { OnOk result (refusal.now ≢ OutOfMemory) }
+{
+    match refusal {
+        Refusal::Form(rule, line) => push_rule(out, *rule, *line),
+        Refusal::ObligWide(origin) => push_labelled(out, b"wide ", d, origin),
+        Refusal::Missing(origin) => push_labelled(out, b"missing ", d, origin),
+        Refusal::ProofWide(origin) => push_labelled(out, b"wide ", d, origin),
+        Refusal::NotProved(origin) => push_labelled(out, b"proof ", d, origin),
+        Refusal::Memory => Err(AllocError),
+    }
+}
+
+/// What is said of bytes that are no certificate; the part at this path is off.
+fn bytes_refused(alloc: Global, path: &[u64]) -> Result<Report, AllocError>
+    ensures refused { IfOk result (λ r. r.accepted ≡ false) }
+    ensures text { IfOk result (λ r. r.text.items ≡ line (codes "refused certificate " ++ path_text path.now)) }
+{
+    let mut text = b"refused certificate ".to_vec(alloc)?;
+    push_path(&mut text, path)?;
+    text.push(b'\n')?;
+    Ok(Report {
+        accepted: false,
+        text,
+    })
+}
+
+/// What is said of a design that is refused with a certificate.
+fn design_refused(alloc: Global, d: &Design, refusal: &Refusal) -> Result<Report, AllocError>
+    ensures refused { IfOk result (λ r. r.accepted ≡ false) }
+    ensures text { IfOk result (λ r. r.text.items ≡ line (codes "refused " ++ reason_text d.now refusal.now)) }
+    ensures other { IfOk result (λ r. refusal.now ≢ OutOfMemory) }
+{
+    let mut text = b"refused ".to_vec(alloc)?;
+    push_reason(&mut text, d, refusal)?;
+    text.push(b'\n')?;
+    Ok(Report {
+        accepted: false,
+        text,
+    })
+}
+
+/// Whether a design is accepted with a certificate.
+fn check_with(alloc: Global, d: Design, certificate: &Cert) -> Result<Report, AllocError>
+    ensures { IfOk result (λ r. ReportsWith d certificate.now r.accepted r.text.items) }
+{
+    match accept(alloc, d, certificate) {
+        Ok(_) => Ok(Report {
+            accepted: true,
+            text: b"accepted\n".to_vec(alloc)?,
+        }),
+        Err((refusal, d)) => design_refused(alloc, &d, &refusal),
+    }
+}
+
+/// Whether a design is accepted with the bytes of a certificate: whether they are a certificate, and then whether it proves
+/// each obligation of the design. `AllocError` where memory ran out.
+pub fn check(alloc: Global, d: Design, bytes: &[u8]) -> Result<Report, AllocError>
+    ensures { IfOk result (λ r. Reports d bytes.now r.accepted r.text.items) }
+{
+    match read(alloc, bytes) {
+        Ok(certificate) => check_with(alloc, d, &certificate),
+        Err(CertError::NotCert(path)) => bytes_refused(alloc, path.as_slice()),
+        Err(CertError::Memory) => Err(AllocError),
+    }
+}

@@ -1,0 +1,8 @@
+//! Whether a design is accepted with the bytes of a certificate, as a line.
+#![tactic(auto)]
+
+mod checks;
+pub mod laws;
+mod origins;
+
+pub use checks::{Report, check};
