@@ -1,5 +1,5 @@
 -- On which line of its text a design is refused.
-use Rattle.std.specs.Prelude.{◌≡◌, ◌-◌, ℕ, List}
+use Rattle.std.specs.Prelude.{◌-◌, ℕ, List}
 use Rattle.acc_base.specs.declared.designs.Design.{Design}
 use Rattle.acc_statements.specs.Lines.{IsLineOf}
 use Rattle.acc_form.specs.declared.rules.FormError.TheVariants.{Bad}

@@ -1,4 +1,4 @@
-use Rattle.std.proofs.Common.{◌≡◌, ◌-◌, List, sym, subst, ◌∙◌}
+use Rattle.std.proofs.Common.{◌-◌, List, sym, subst, ◌∙◌}
 use Rattle.acc_lex.specs.declared.words.Word.{Word}
 use Rattle.acc_syntax.specs.declared.trees.DesignTree.{DesignTree}
 use Rattle.acc_syntax.specs.Texts.{IsSpelling}
