@@ -11,6 +11,7 @@ mod status;
 mod top;
 mod words;
 
+pub use notes::help_text;
 pub use status::{Ending, Status};
 pub use top::{Played, acc};
 pub use words::Command;

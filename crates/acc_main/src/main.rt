@@ -1,9 +1,10 @@
-//! The program: makes the real shelf and sink, and answers the command line.
+//! The program: makes the real shelf and sink, answers the command line, and tells on standard error why one is refused.
 #![tactic(auto)]
 
-use acc_cli::acc;
+use acc_cli::{acc, help_text};
+use acc_diagnose::explain;
 use acc_io::{FolderShelf, StdSink};
-use std::io::ErrorKind;
+use std::io::{ErrorKind, Write};
 use std::process::ExitCode;
 use std::{env, io};
 
@@ -16,6 +17,19 @@ fn words(rt: &HostRuntime) -> io::Result<Vec<String>> {
     Ok(words)
 }
 
+/// Tells on standard error why a command line ended with a status that isn't 0. What fails here changes nothing else.
+fn tell(rt: &HostRuntime, status: u8, words: &[String]) {
+    let usage = match help_text(rt.alloc()) {
+        Ok(usage) => usage,
+        Err(_) => Vec::new(rt.alloc()),
+    };
+    let mut shelf = FolderShelf::new(rt);
+    let told = explain(rt.alloc(), status, words, &mut shelf, &usage);
+    match rt.stderr().write_all(&told) {
+        Ok(()) | Err(_) => {}
+    }
+}
+
 fn main(rt: HostRuntime) -> ExitCode {
     let words = match words(&rt) {
         Ok(words) => words,
@@ -25,6 +39,9 @@ fn main(rt: HostRuntime) -> ExitCode {
     };
     let mut shelf = FolderShelf::new(&rt);
     let mut out = StdSink::new(&rt);
-    let played = acc(rt.alloc(), &words, &mut shelf, &mut out);
-    ExitCode::from(played.status)
+    let status = acc(rt.alloc(), &words, &mut shelf, &mut out).status;
+    if status != 0 {
+        tell(&rt, status, &words);
+    }
+    ExitCode::from(status)
 }

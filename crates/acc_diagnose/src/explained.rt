@@ -1,0 +1,152 @@
+//! What is told of a command line that ended with another status than 0.
+use crate::designs::{Diagnosed, diagnose};
+use acc_base::designs::Design;
+use acc_base::sequences::Seq;
+use acc_explain::{
+    absent_text, failed_text, line_at, long_text, memory_text, push_note, push_report, push_text,
+    sink_text,
+};
+use acc_io::{Shelf, ShelfError};
+use acc_script::{ScriptError, calls, order};
+use acc_spot::{order_spot, script_spot};
+use std::alloc::{AllocError, Global};
+
+/// What is told of a file that isn't given.
+fn file_text(error: ShelfError) -> &'static [u8] {
+    match error {
+        ShelfError::Failed => failed_text(),
+        ShelfError::Absent => absent_text(),
+        ShelfError::Long(_) => long_text(),
+        ShelfError::Memory => memory_text(),
+    }
+}
+
+/// Reads the files of these names; says of the first that isn't given why, and answers none then.
+fn read_all<H: Shelf>(
+    alloc: Global,
+    out: &mut Vec<u8>,
+    names: &[String],
+    shelf: &mut H,
+) -> Result<Option<Vec<Vec<u8>>>, AllocError> {
+    let mut files = Vec::new(alloc);
+    for name in names {
+        match shelf.read(alloc, name.as_str()) {
+            Ok(file) => files.push(file)?,
+            Err(error) => {
+                push_note(out, name.as_bytes(), file_text(error), b"")?;
+                return Ok(None);
+            }
+        }
+    }
+    Ok(Some(files))
+}
+
+/// Says what is wrong with an order, if it is refused.
+fn push_order(
+    alloc: Global,
+    out: &mut Vec<u8>,
+    places: u64,
+    name: &[u8],
+    text: &[u8],
+) -> Result<(), AllocError> {
+    match order(alloc, places, text) {
+        Err(ScriptError::Line(line)) => {
+            let spot = order_spot(alloc, places, line_at(text, line))?;
+            push_report(out, name, text, line, &spot)
+        }
+        _ => Ok(()),
+    }
+}
+
+/// Says what is wrong with a script, or else with its order.
+fn push_script(
+    alloc: Global,
+    out: &mut Vec<u8>,
+    design: &Design,
+    names: &[String],
+    files: &[Vec<u8>],
+) -> Result<(), AllocError> {
+    let ([_, script_name, order_name], [_, script, order]) = (names, files) else {
+        return Ok(());
+    };
+    match calls(alloc, design, script) {
+        Ok(asked) => {
+            let places = asked.len() as u64;
+            push_order(alloc, out, places, order_name.as_bytes(), order)
+        }
+        Err(ScriptError::Line(line)) => {
+            let spot = script_spot(alloc, design, line_at(script, line))?;
+            push_report(out, script_name.as_bytes(), script, line, &spot)
+        }
+        Err(ScriptError::Memory) => Err(AllocError),
+    }
+}
+
+/// Says what is wrong with the files that a command line names.
+fn push_files(
+    alloc: Global,
+    out: &mut Vec<u8>,
+    names: &[String],
+    files: &[Vec<u8>],
+) -> Result<(), AllocError> {
+    let ([name, ..], [text, ..]) = (names, files) else {
+        return Ok(());
+    };
+    match diagnose(alloc, text)? {
+        Diagnosed::Read(design) => push_script(alloc, out, &design, names, files),
+        Diagnosed::Refused(d) => push_report(out, name.as_bytes(), text, d.line, &d.spot),
+    }
+}
+
+/// Says what is wrong with the files that these names stand for.
+fn push_names<H: Shelf>(
+    alloc: Global,
+    out: &mut Vec<u8>,
+    names: &[String],
+    shelf: &mut H,
+) -> Result<(), AllocError> {
+    match read_all(alloc, out, names, shelf)? {
+        Some(files) => push_files(alloc, out, names, &files),
+        None => Ok(()),
+    }
+}
+
+/// Says what a command line is, where its words are none.
+fn push_usage(out: &mut Vec<u8>, usage: &[u8]) -> Result<(), AllocError> {
+    push_text(out, b"acc: these words are no command. The commands are\n")?;
+    push_text(out, usage)
+}
+
+/// Says why a command line ended with this status.
+fn push_status<H: Shelf>(
+    alloc: Global,
+    out: &mut Vec<u8>,
+    status: u8,
+    words: &[String],
+    shelf: &mut H,
+    usage: &[u8],
+) -> Result<(), AllocError> {
+    match (status, words) {
+        (0, _) => Ok(()),
+        (1, _) => push_usage(out, usage),
+        (7, _) => push_note(out, b"acc", sink_text(), b""),
+        (9, _) => push_note(out, b"acc", memory_text(), b""),
+        (_, [_, names @ ..]) => push_names(alloc, out, names, shelf),
+        _ => Ok(()),
+    }
+}
+
+/// What is told of a command line that ended with this status: nothing after 0, and the front of it where memory runs out. The
+/// files are read anew, and what is told is of what is read then. `usage` lists the commands.
+pub fn explain<H: Shelf>(
+    alloc: Global,
+    status: u8,
+    words: &[String],
+    shelf: &mut H,
+    usage: &[u8],
+) -> Vec<u8> {
+    let mut out = Vec::new(alloc);
+    match push_status(alloc, &mut out, status, words, shelf, usage) {
+        Ok(()) | Err(_) => out,
+    }
+}

@@ -1,0 +1,10 @@
+//! What is told of a refused command line: the file, the line and the word, what is wrong, and how to mend it.
+#![tactic(auto)]
+
+mod designs;
+mod explained;
+mod forms;
+mod tokens;
+
+pub use designs::{Diagnosed, Diagnosis, Refusal, diagnose};
+pub use explained::explain;

@@ -1,0 +1,105 @@
+//! The cases by their verbs.
+use crate::texts::{changed, with_feeds};
+use acc_cli::{acc, help_text};
+use acc_diagnose::explain;
+use acc_io::{MemShelf, MemSink};
+use std::alloc::{AllocError, Global};
+use std::io;
+
+/// The script of the cases that try orders.
+const SCRIPT: &str = "fund 1 1 100\nfund 1 2 50\n";
+
+/// The words of a text.
+fn words_of(alloc: Global, text: &str) -> Result<Vec<String>, AllocError> {
+    let mut words = Vec::new(alloc);
+    for word in text.split_whitespace() {
+        words.push(String::from_str(alloc, word)?)?;
+    }
+    Ok(words)
+}
+
+/// A shelf with a design, a script and an order.
+fn shelf(alloc: Global, design: &str, script: &str, order: &str) -> Result<MemShelf, AllocError> {
+    let mut shelf = MemShelf::new(alloc, &[]).map_err(|_| AllocError)?;
+    hold(&mut shelf, "design", design)?;
+    hold(&mut shelf, "script", script)?;
+    hold(&mut shelf, "order", order)?;
+    Ok(shelf)
+}
+
+fn hold(shelf: &mut MemShelf, name: &str, text: &str) -> Result<(), AllocError> {
+    shelf.hold(name, text.as_bytes()).map_err(|_| AllocError)
+}
+
+/// A sink whose first write fails, where that is asked for.
+fn sink(alloc: Global, is_failing: bool) -> Result<MemSink, AllocError> {
+    let fails: &[u64] = if is_failing { &[1] } else { &[] };
+    MemSink::new(alloc, fails, &[]).map_err(|_| AllocError)
+}
+
+/// The status of a command line, what it prints, and what is told of it.
+fn answered(
+    alloc: Global,
+    shelf: &mut MemShelf,
+    line: &str,
+    out: &mut MemSink,
+) -> Result<String, AllocError> {
+    let words = words_of(alloc, line)?;
+    let status = acc(alloc, &words, shelf, out).status;
+    let usage = help_text(alloc)?;
+    let told = explain(alloc, status, &words, shelf, &usage);
+    let printed = String::from_utf8_lossy(alloc, out.bytes())?;
+    let told = String::from_utf8_lossy(alloc, &told)?;
+    format!(in alloc; "status {status} {:?}\n{told}", printed.as_str())
+}
+
+/// Answers a command line over a shelf.
+fn answer_line(
+    alloc: Global,
+    shelf: &mut MemShelf,
+    line: &str,
+    is_failing: bool,
+) -> Result<String, AllocError> {
+    let mut out = sink(alloc, is_failing)?;
+    answered(alloc, shelf, line, &mut out)
+}
+
+/// Answers a play of a design.
+fn play(alloc: Global, design: &str, script: &str, order: &str) -> Result<String, AllocError> {
+    let mut shelf = shelf(alloc, design, script, order)?;
+    answer_line(alloc, &mut shelf, "play design script order", false)
+}
+
+/// Answers a command line over a design, a script and an order.
+fn run(alloc: Global, design: &str, line: &str, is_failing: bool) -> Result<String, AllocError> {
+    let mut shelf = shelf(alloc, design, SCRIPT, "1 2\n")?;
+    answer_line(alloc, &mut shelf, line, is_failing)
+}
+
+/// Prints a changed design.
+fn design(alloc: Global, base: &str, change: &str) -> Result<String, AllocError> {
+    let text = changed(alloc, base, change)?;
+    run(alloc, &text, "print design", false)
+}
+
+/// What a case answers.
+fn answer(alloc: Global, base: &str, verb: &str, rest: &str) -> Result<String, AllocError> {
+    match verb {
+        "design" => design(alloc, base, rest),
+        "script" => play(alloc, base, &with_feeds(alloc, rest)?, ""),
+        "order" => play(alloc, base, SCRIPT, &with_feeds(alloc, rest)?),
+        "run" => run(alloc, base, rest, false),
+        "fails" => run(alloc, base, rest, true),
+        _ => String::from_str(alloc, "no such case\n"),
+    }
+}
+
+/// Tells the answer of the case of a line; a line with `#` is a remark.
+pub fn tell(rt: &HostRuntime, base: &str, line: &str) -> io::Result<()> {
+    if line.is_empty() || line.starts_with('#') {
+        return Ok(());
+    }
+    let (verb, rest) = line.split_once(" ").unwrap_or((line, ""));
+    let answer = answer(rt.alloc(), base, verb, rest)?;
+    print!(rt; "{answer}")
+}

@@ -1,0 +1,25 @@
+//! What is told of refused command lines: a case a line of the input, with the status, what is printed and what is told.
+//!
+//! `base TEXT` gives the design of the cases behind it, with `\n` for a line feed. `design OLD -> NEW` prints that design with the
+//! first OLD exchanged for NEW; `script TEXT` and `order TEXT` play it; `run WORDS` and `fails WORDS` are command lines, the
+//! second over a sink that fails.
+#![tactic(auto)]
+
+mod cases;
+mod texts;
+
+use std::io;
+
+fn main(rt: HostRuntime) -> io::Result<()> {
+    let alloc = rt.alloc();
+    let mut base = String::new(alloc);
+    for line in rt.lines(alloc) {
+        let line = line?;
+        println!(rt; "{line}")?;
+        match line.strip_prefix("base ") {
+            Some(text) => base = texts::with_feeds(alloc, text)?,
+            None => cases::tell(&rt, &base, &line)?,
+        }
+    }
+    Ok(())
+}

@@ -1,0 +1,242 @@
+//! The word of a script's line that is refused.
+use crate::numbers::{is_integer, is_numeral, is_within, value_of};
+use crate::statements::line_spot;
+use acc_base::bounds::{LATEST_ASK, LONGEST_TAPE};
+use acc_base::designs::{Design, TxType};
+use acc_explain::{Spot, push_number, push_quoted, push_text};
+use std::alloc::{AllocError, Global};
+
+/// A word of a line.
+#[derive(Clone, Copy)]
+pub struct LineWord<'a> {
+    /// Where it begins, from 0.
+    pub at: usize,
+    pub bytes: &'a [u8],
+}
+
+/// The first word of a line from this place on.
+pub fn next_word(line: &[u8], from: usize) -> Option<LineWord> {
+    let from = from.min(line.len());
+    let spaces = line[from..].iter().take_while(|b| **b == b' ').count();
+    let at = from.saturating_add(spaces).min(line.len());
+    let rest = &line[at..];
+    let len = rest.iter().take_while(|b| **b != b' ').count();
+    let bytes = &rest[..len.min(rest.len())];
+    if bytes.is_empty() {
+        return None;
+    }
+    Some(LineWord { at, bytes })
+}
+
+/// Where a word ends.
+fn end_of(word: LineWord) -> usize {
+    word.at.saturating_add(word.bytes.len())
+}
+
+/// Marks a word.
+pub fn mark(spot: &mut Spot, word: LineWord) {
+    spot.column = word.at;
+    spot.width = word.bytes.len();
+}
+
+/// The type of a name.
+fn type_named<'a>(d: &'a Design, name: &[u8]) -> Option<&'a TxType> {
+    d.types
+        .as_slice()
+        .iter()
+        .find(|ty| ty.name.as_slice() == name)
+}
+
+/// What the line of a type's call is, in words.
+fn push_form(out: &mut Vec<u8>, ty: &TxType) -> Result<(), AllocError> {
+    push_text(out, b"a call is `")?;
+    push_text(out, ty.name.as_slice())?;
+    for name in ty.locals.as_slice().iter().take(ty.params as usize) {
+        push_text(out, b" ")?;
+        push_text(out, name.as_slice())?;
+    }
+    push_text(
+        out,
+        b"`, and behind that `| TAPE` and `@ STEPS`, where they are wanted",
+    )
+}
+
+/// Says that a word isn't the number that is wanted.
+fn push_number_fault(spot: &mut Spot, word: LineWord) -> Result<(), AllocError> {
+    mark(spot, word);
+    push_quoted(&mut spot.what, word.bytes)?;
+    if is_integer(word.bytes) {
+        push_text(&mut spot.what, b" is out of range")?;
+        push_text(
+            &mut spot.hint,
+            b"numbers are within 35,184,372,088,832 of 0",
+        )
+    } else {
+        push_text(&mut spot.what, b" is no whole number")?;
+        push_text(
+            &mut spot.hint,
+            b"a number is written in digits, without a plus and without leading zeros, and with a `-` where it is below 0",
+        )
+    }
+}
+
+/// Whether a word is a number that a call may have.
+fn is_value(word: LineWord) -> bool {
+    is_integer(word.bytes) && is_within(word.bytes)
+}
+
+/// Whether a word begins a tape or an asked abort.
+fn is_part(word: LineWord) -> bool {
+    word.bytes == b"|".as_slice() || word.bytes == b"@".as_slice()
+}
+
+/// Where the parameters end, or what is wrong with them; the spot is said then.
+fn parameters_end(
+    spot: &mut Spot,
+    line: &[u8],
+    ty: &TxType,
+    from: usize,
+) -> Result<Option<usize>, AllocError> {
+    let mut at = from;
+    for number in 0..ty.params {
+        match next_word(line, at) {
+            Some(word) if is_value(word) => at = end_of(word),
+            Some(word) if !is_part(word) => {
+                push_number_fault(spot, word)?;
+                return Ok(None);
+            }
+            _ => {
+                spot.column = at;
+                push_count_fault(spot, ty, u64::from(number))?;
+                return Ok(None);
+            }
+        }
+    }
+    Ok(Some(at))
+}
+
+/// Says that there are too few parameters, or too many.
+fn push_count_fault(spot: &mut Spot, ty: &TxType, found: u64) -> Result<(), AllocError> {
+    push_quoted(&mut spot.what, ty.name.as_slice())?;
+    push_text(&mut spot.what, b" has ")?;
+    push_number(&mut spot.what, u64::from(ty.params))?;
+    if ty.params == 1 {
+        push_text(&mut spot.what, b" parameter")?;
+    } else {
+        push_text(&mut spot.what, b" parameters")?;
+    }
+    push_text(&mut spot.what, b", the line gives ")?;
+    push_number(&mut spot.what, found)?;
+    push_form(&mut spot.hint, ty)
+}
+
+/// Where the tape ends, or what is wrong with it; the spot is said then.
+fn tape_end(spot: &mut Spot, line: &[u8], from: usize) -> Result<Option<usize>, AllocError> {
+    let mut at = from;
+    for _ in 0..=LONGEST_TAPE {
+        match next_word(line, at) {
+            Some(word) if is_value(word) => at = end_of(word),
+            Some(word) if word.bytes != b"@".as_slice() => {
+                push_number_fault(spot, word)?;
+                return Ok(None);
+            }
+            _ => return Ok(Some(at)),
+        }
+    }
+    spot.column = from;
+    push_text(&mut spot.what, b"a tape has at most 4,096 numbers")?;
+    Ok(None)
+}
+
+/// Says what is wrong behind the `@` of a line.
+fn push_ask_fault(spot: &mut Spot, line: &[u8], from: usize) -> Result<(), AllocError> {
+    spot.column = from;
+    push_text(
+        &mut spot.hint,
+        b"behind `@` stands one number up to 65,536, the number of steps after which the transaction is asked to turn, and nothing more",
+    )?;
+    let Some(word) = next_word(line, from) else {
+        return push_text(&mut spot.what, b"a number is missing behind `@`");
+    };
+    mark(spot, word);
+    let is_steps = is_numeral(word.bytes) && value_of(word.bytes) <= LATEST_ASK as u64;
+    if !is_steps {
+        push_quoted(&mut spot.what, word.bytes)?;
+        return push_text(&mut spot.what, b" is no number of steps");
+    }
+    match next_word(line, end_of(word)) {
+        Some(more) => {
+            mark(spot, more);
+            push_quoted(&mut spot.what, more.bytes)?;
+            push_text(
+                &mut spot.what,
+                b" is too much: a line ends behind the number of `@`",
+            )
+        }
+        None => push_text(
+            &mut spot.what,
+            b"a script has at most 1,048,576 transactions",
+        ),
+    }
+}
+
+/// Says what is wrong behind the parameters of a line.
+fn push_rest_fault(
+    spot: &mut Spot,
+    line: &[u8],
+    ty: &TxType,
+    from: usize,
+) -> Result<(), AllocError> {
+    let mut at = from;
+    if let Some(word) = next_word(line, at) {
+        if word.bytes == b"|".as_slice() {
+            match tape_end(spot, line, end_of(word))? {
+                Some(end) => at = end,
+                None => return Ok(()),
+            }
+        }
+    }
+    match next_word(line, at) {
+        Some(word) if word.bytes == b"@".as_slice() => push_ask_fault(spot, line, end_of(word)),
+        Some(word) => {
+            mark(spot, word);
+            push_quoted(&mut spot.what, word.bytes)?;
+            push_text(&mut spot.what, b" is too much")?;
+            push_form(&mut spot.hint, ty)
+        }
+        None => push_text(
+            &mut spot.what,
+            b"a script has at most 1,048,576 transactions",
+        ),
+    }
+}
+
+/// Says that a word is no type's name, and which there are.
+fn push_type_fault(spot: &mut Spot, d: &Design, word: LineWord) -> Result<(), AllocError> {
+    mark(spot, word);
+    push_text(&mut spot.what, b"there is no type called ")?;
+    push_quoted(&mut spot.what, word.bytes)?;
+    push_text(&mut spot.hint, b"the types of the design are")?;
+    for ty in d.types.as_slice() {
+        push_text(&mut spot.hint, b" ")?;
+        push_quoted(&mut spot.hint, ty.name.as_slice())?;
+    }
+    Ok(())
+}
+
+/// The spot of a refused line of a script over a design, and what the type's parameters are.
+pub fn script_spot(alloc: Global, d: &Design, line: &[u8]) -> Result<Spot, AllocError> {
+    let mut spot = line_spot(alloc);
+    let Some(word) = next_word(line, 0) else {
+        return Ok(spot);
+    };
+    let Some(ty) = type_named(d, word.bytes) else {
+        push_type_fault(&mut spot, d, word)?;
+        return Ok(spot);
+    };
+    match parameters_end(&mut spot, line, ty, end_of(word))? {
+        Some(at) => push_rest_fault(&mut spot, line, ty, at)?,
+        None => {}
+    }
+    Ok(spot)
+}
