@@ -1,0 +1,4 @@
+pub mod LockPlays
+pub mod Waiting
+pub mod Ends
+pub mod Closing

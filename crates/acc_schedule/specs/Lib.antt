@@ -1,0 +1,5 @@
+pub mod LockRules
+pub mod Endings
+pub mod Passes
+pub mod Stages
+pub mod Schedules

@@ -1,0 +1,66 @@
+-- What is told of a schedule: calls that take their turns in an order, by the rules of locks, and then are ended.
+use Rattle.std.specs.Prelude.{◌≡◌, ◌++◌, ◌≤◌, ℕ, Bool, true, false, IsSome, List, [], length, All, Option, None, Some, slice_get, codes}
+use Rattle.std.specs.List.{flat_map, range_with_len}
+use Rattle.std.specs.Fmt.{decimal}
+use Rattle.acc_base.specs.declared.bounds.TheConstants.{MOST_EVENTS}
+use Rattle.acc_base.specs.declared.designs.Design.{Design}
+use Rattle.acc_base.specs.declared.machines.Call.{Call}
+use Rattle.acc_base.specs.declared.machines.Event.{Event}
+use Rattle.acc_base.specs.Annotated.{IsAnnotated, IsIdle}
+use Rattle.acc_base.specs.Invariant.{IsGood}
+use Rattle.acc_base.specs.Machine.{World, world, unfinished}
+use Rattle.acc_base.specs.Plays.{Play, Told, opening, Plays, play_after}
+use Rattle.acc_base.specs.Lines.{mention_line, ending_text, line}
+use Rattle.acc_schedule.specs.declared.stages.Stage.{Stage}
+use Rattle.acc_schedule.specs.declared.schedules.Scheduled.{Scheduled}
+use Rattle.acc_schedule.specs.LockRules.{with_locks}
+use Rattle.acc_schedule.specs.Endings.{EndsAll, EndsPlaces}
+
+-- The calls take their turns in the order; then what is unfinished is ended, and each place that hasn't begun, in the order of the calls.
+pub record Schedules (d : Design) (calls : List Call) (order : List ℕ) (mentions : List (Told × Play)) (ended : Play) : Type 0 where
+  pub is_played : Plays (with_locks d) calls order mentions
+  pub rest : World
+  pub ends : EndsAll (with_locks d) (play_after (opening calls) mentions).world rest
+  pub places :
+      EndsPlaces (with_locks d) calls (record (play_after (opening calls) mentions) { world = rest }) (range_with_len 1 (length calls)) ended
+
+-- What a good end is: each event of the history came by the rules of locks and with its assertion true, nothing is unfinished, and what is
+-- asserted for all times is true of the rows.
+pub record EndsWell (d : Design) (history : List Event) (w : World) : Type 0 where
+  pub run : world d history ≡ Some w
+  pub good : IsGood d w
+  pub annotated : IsAnnotated d history
+  pub none_left : unfinished w ≡ []
+  pub idle : IsIdle d w.rows
+
+-- each place has begun; or one hasn't, and the history is full
+abbrev pub TellsBegun : Bool → List (Option ℕ) → List Event → Type 0
+TellsBegun true numbers history = All IsSome numbers
+TellsBegun false numbers history = ((at : ℕ) × (slice_get numbers at ≡ Some None)) × (MOST_EVENTS ≤ length history)
+
+-- The text is that of a schedule: a line each mention of the order, a reply line each place, and the number of events. The history is the
+-- events of its machine, and it ends well.
+pub record TellsSchedule (d : Design) (calls : List Call) (order : List ℕ) (s : Scheduled) : Type 0 where
+  pub mentions : List (Told × Play)
+  pub ended : Play
+  pub schedules : Schedules d calls order mentions ended
+  pub text_is : s.text.items ≡ flat_map (mention_line d) mentions ++ ending_text calls ended
+  pub history_is : s.history ≡ ended.world.events
+  pub ends_well : EndsWell d s.history ended.world
+  pub begun : TellsBegun s.all_begun ended.numbers s.history
+
+-- ---- parts of it
+
+-- the play after the mentions of an order, and their lines
+pub record IsPlayed (d : Design) (calls : List Call) (order text : List ℕ) (p : Play) : Type 0 where
+  pub mentions : List (Told × Play)
+  pub is_played : Plays (with_locks d) calls order mentions
+  pub text_is : text ≡ flat_map (mention_line d) mentions
+  pub now : play_after (opening calls) mentions ≡ p
+
+-- what is told of a stage on which nothing is unfinished
+pub record IsClosed (stage : Stage) (s : Scheduled) : Type 0 where
+  pub text : s.text.items ≡ stage.text.items ++ line (codes "events " ++ decimal (length stage.state.world.events))
+  pub history : s.history ≡ stage.state.world.events
+  pub ends_well : EndsWell stage.state.design s.history stage.state.world
+  pub begun : TellsBegun s.all_begun stage.numbers.items s.history
