@@ -16,7 +16,7 @@ use Rattle.acc_schedule.specs.declared.schedules.Scheduled.{Scheduled}
 use Rattle.acc_schedule.specs.LockRules.{with_locks}
 use Rattle.acc_schedule.specs.Endings.{EndsAll, EndsPlaces}
 
--- The calls take their turns in the order; then what is unfinished is ended, and each place that hasn't begun, in the order of the calls.
+-- The calls take their turns in the order; then what is unfinished is ended, and each place that hasn't begun.
 pub record Schedules (d : Design) (calls : List Call) (order : List ℕ) (mentions : List (Told × Play)) (ended : Play) : Type 0 where
   pub is_played : Plays (with_locks d) calls order mentions
   pub rest : World
