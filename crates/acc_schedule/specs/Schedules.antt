@@ -16,13 +16,17 @@ use Rattle.acc_schedule.specs.declared.schedules.Scheduled.{Scheduled}
 use Rattle.acc_schedule.specs.LockRules.{with_locks}
 use Rattle.acc_schedule.specs.Endings.{EndsAll, EndsPlaces}
 
+-- the play with its machine in that state
+abbrev pub in_state : Play → World → Play
+in_state p w = record p { world = w }
+
 -- The calls take their turns in the order; then what is unfinished is ended, and each place that hasn't begun.
 pub record Schedules (d : Design) (calls : List Call) (order : List ℕ) (mentions : List (Told × Play)) (ended : Play) : Type 0 where
   pub is_played : Plays (with_locks d) calls order mentions
   pub rest : World
   pub ends : EndsAll (with_locks d) (play_after (opening calls) mentions).world rest
   pub places :
-      EndsPlaces (with_locks d) calls (record (play_after (opening calls) mentions) { world = rest }) (range_with_len 1 (length calls)) ended
+      EndsPlaces (with_locks d) calls (in_state (play_after (opening calls) mentions) rest) (range_with_len 1 (length calls)) ended
 
 -- What a good end is: each event of the history came by the rules of locks and with its assertion true, nothing is unfinished, and what is
 -- asserted for all times is true of the rows.
