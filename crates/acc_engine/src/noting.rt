@@ -8,23 +8,18 @@ ghost use Rattle.acc_machine.specs.Kept.{IsKept};
 ghost use Rattle.acc_engine.specs.Lags.{Lags, CatchesUp, EndsInTurn, HasSmallCause};
 
 use acc_base::machines::{Call, Cause, Event, Turn};
-use acc_base::sequences::copied;
+use acc_base::sequences::{Boxed, copied};
 use acc_disk::Disk;
 use acc_machine::State;
 use acc_store::Store;
 use acc_wal::Wal;
-use std::alloc::AllocError;
+use std::alloc::{AllocError, Global};
 
 /// The event by which a call begins.
-pub fn begin_again(call: &Call) -> Result<Event, AllocError>
+pub fn begin_again(alloc: Global, call: &Call) -> Result<Event, AllocError>
     ensures { IfOk result (λ event. event ≡ Begin call.now) }
 {
-    Ok(Event::Begin(Call {
-        ty: call.ty,
-        params: copied(&call.params)?,
-        tape: copied(&call.tape)?,
-        ask: call.ask,
-    }))
+    Ok(Event::Begin(Boxed::new(alloc, copied(call)?)?))
 }
 
 /// Puts an event at the end of the tail, where it has room.

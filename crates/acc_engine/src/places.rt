@@ -38,7 +38,7 @@ pub fn prepare<D: Disk>(
     if wal.reserve(0).is_err() {
         return Err(EngineError::Failed);
     }
-    let Ok(event) = begin_again(&calls[index]) else {
+    let Ok(event) = begin_again(*begun.allocator(), &calls[index]) else {
         return Err(EngineError::Memory);
     };
     match wal.reserve(event_len(&event)) {

@@ -2,7 +2,7 @@
 ghost use Rattle.std.specs.Prelude.{◌≡◌, ◌≤◌, ◌^◌, length, slice_get};
 ghost use Rattle.acc_base.specs.Tables.{IsInOrder};
 ghost use Rattle.acc_base.specs.Runnable.{IsRunnable, IsSmallFrame};
-ghost use Rattle.acc_base.specs.Machine.{is_asked, limit_of};
+ghost use Rattle.acc_base.specs.Machine.{limit_of};
 ghost use Rattle.acc_store.specs.Bounds.{AreWithin};
 ghost use Rattle.acc_form.specs.WellFormed.{IsWellFormed};
 ghost use Rattle.acc_machine.specs.Blocked.{AreAtPoints};
@@ -11,28 +11,9 @@ ghost use Rattle.acc_machine.specs.HeldUp.{leads_on, goes_ahead, TellsHeldUp};
 use crate::blocked::blocker;
 use acc_base::designs::{Design, Side};
 use acc_base::machines::Frame;
+use acc_plain::{is_asked, limit_of};
 use acc_step::{Outlook, look};
 use acc_store::Store;
-
-/// Whether a transaction is asked to turn after so many steps.
-fn is_asked(ask: Option<u32>, steps: u32) -> bool
-    ensures { result ≡ is_asked ask steps }
-{
-    match ask {
-        Some(n) => n == steps,
-        None => false,
-    }
-}
-
-/// A type's limit.
-fn limit_of(d: &Design, ty: u32) -> u32
-    ensures { result ≡ limit_of (slice_get d.now.types ty) }
-{
-    match d.types.as_slice().get(ty as usize) {
-        Some(x) => x.limit,
-        None => 0,
-    }
-}
 
 /// Whether a step goes on or ends.
 fn leads_on(outlook: Outlook) -> bool
@@ -48,7 +29,7 @@ fn leads_on(outlook: Outlook) -> bool
 fn goes_ahead(d: &Design, f: &Frame, outlook: Outlook) -> bool
     ensures { result ≡ goes_ahead (limit_of (slice_get d.now.types f.now.ty)) f.now outlook }
 {
-    !is_asked(f.ask, f.steps) && f.steps < limit_of(d, f.ty) && leads_on(outlook)
+    !is_asked(f) && f.steps < limit_of(d, f) && leads_on(outlook)
 }
 
 /// Who blocks a frame's forward step that nothing stops, the first of the frames that does, and its lowest entry.

@@ -4,7 +4,7 @@ use crate::designs::formed;
 use crate::rows::push_row_answer;
 use crate::words::{list, number, said, small};
 use acc_base::machines::{Call, Event, Outcome, Reply};
-use acc_base::sequences::Seq;
+use acc_base::sequences::{Boxed, Seq};
 use acc_plain::{Machine, PlainError};
 use acc_store::MapStore;
 use std::alloc::{AllocError, Global};
@@ -16,12 +16,13 @@ const MOST: usize = 1 << 30;
 /// A call of those parameters, without a tape.
 fn call(alloc: Global, ty: u32, params: &str) -> Result<Event, AllocError> {
     let params = list(alloc, params)?;
-    Ok(Event::Begin(Call {
+    let call = Call {
         ty,
         params: Seq::from_vec(params),
         tape: Seq::new(alloc),
         ask: None,
-    }))
+    };
+    Ok(Event::Begin(Boxed::new(alloc, call)?))
 }
 
 /// The event of those words, if they are one's.

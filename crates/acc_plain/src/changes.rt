@@ -76,7 +76,7 @@ pub enum Ahead {
 }
 
 /// The most forward steps of a frame's type.
-fn limit(d: &Design, f: &Frame) -> u32
+pub fn limit_of(d: &Design, f: &Frame) -> u32
     ensures { result ≡ limit_of (slice_get d.now.types f.now.ty) }
 {
     match d.types.as_slice().get(f.ty as usize) {
@@ -86,7 +86,7 @@ fn limit(d: &Design, f: &Frame) -> u32
 }
 
 /// Whether the frame was asked to turn ahead of this step.
-fn is_asked(f: &Frame) -> bool
+pub fn is_asked(f: &Frame) -> bool
     ensures { result ≡ is_asked f.now.ask f.now.steps }
 {
     match f.ask {
@@ -134,7 +134,7 @@ fn look_ahead<S: Store>(alloc: Global, d: &Design, f: &Frame, s: &S) -> Result<A
     if is_asked(f) {
         return Ok(Ahead::Stops(Cause::Asked));
     }
-    if f.steps >= limit(d, f) {
+    if f.steps >= limit_of(d, f) {
         return Ok(Ahead::Stops(Cause::Limit));
     }
     step_ahead(alloc, d, f, s)

@@ -8,5 +8,5 @@ mod machines;
 mod takes;
 mod transactions;
 
-pub use changes::PlainError;
+pub use changes::{PlainError, is_asked, limit_of};
 pub use machines::Machine;

@@ -21,7 +21,7 @@ use crate::takes::change_by;
 use crate::transactions::{TransactionRef, Transactions};
 use acc_base::designs::{Design, Side};
 use acc_base::machines::{Call, Cause, Event, Frame, Reply, Turn};
-use acc_base::sequences::{Seq, copied};
+use acc_base::sequences::{Boxed, Seq, copied};
 use acc_store::{Store, StoreError, Write};
 use std::alloc::{AllocError, Global};
 use std::marker::Model;
@@ -256,7 +256,7 @@ impl<'a, S: Store> Machine<'a, S> {
         log_begin(
             &mut self.events,
             &mut self.transactions,
-            Event::Begin(again),
+            Event::Begin(Boxed::new(self.alloc, again)?),
             frame,
         )?;
         Ok(t)
@@ -303,7 +303,7 @@ impl<'a, S: Store> Machine<'a, S> {
         ensures count { length self.new.world.events ≤ length self.old.world.events + 1 }
     {
         match event {
-            Event::Begin(call) => self.take_call(call),
+            Event::Begin(call) => self.take_call(call.get()),
             Event::Step(t) | Event::Abort(t, _) | Event::Undo(t) => self.take_of(*t, event),
         }
     }

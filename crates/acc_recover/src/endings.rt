@@ -18,8 +18,8 @@ use acc_machine::{State, TakeError, TurnError};
 use acc_store::Store;
 use acc_wal::Wal;
 
-// The bytes of the longest of these events.
-const LONGEST: usize = 14;
+// The bytes that such an event has room for.
+const ENDING_ROOM: usize = 14;
 
 // The number of the first forward frame.
 fn first_forward(frames: &[Frame]) -> Option<u64>
@@ -90,7 +90,7 @@ fn end_next<S: Store, D: Disk>(
     ensures in_step { InStep state.new.world.events wal.new }
     ensures tail { TailOnly wal.old wal.new }
 {
-    if wal.reserve(LONGEST).is_err() {
+    if wal.reserve(ENDING_ROOM).is_err() {
         return Err(TurnError::Memory);
     }
     take_ending(state, &event)?;

@@ -3,7 +3,7 @@ ghost use Rattle.std.specs.Prelude.{◌≡◌, ◌<◌, ◌^◌, [], ◌∷◌, 
 ghost use Rattle.acc_wal.specs.Spellings.{Fits, CallFits, cause_number};
 
 use acc_base::machines::{Call, Cause, Event};
-use acc_base::sequences::Seq;
+use acc_base::sequences::{Boxed, Seq};
 use std::alloc::{AllocError, Global};
 use std::fmt::Write;
 
@@ -65,7 +65,8 @@ pub fn event(alloc: Global, words: &[&str]) -> Result<Option<Event>, AllocError>
     Ok(match words {
         ["begin", ty, param, tape, turn] => {
             let (ty, param) = (ty.parse().unwrap_or(0), param.parse().unwrap_or(0));
-            Some(Event::Begin(call(alloc, ty, param, tape.parse().unwrap_or(0), ask(turn))?))
+            let call = call(alloc, ty, param, tape.parse().unwrap_or(0), ask(turn))?;
+            Some(Event::Begin(Boxed::new(alloc, call)?))
         }
         ["step", t] => Some(Event::Step(small(t) as u64)),
         ["undo", t] => Some(Event::Undo(small(t) as u64)),
@@ -76,7 +77,8 @@ pub fn event(alloc: Global, words: &[&str]) -> Result<Option<Event>, AllocError>
 
 fn push_event(out: &mut String, event: &Event) -> Result<(), AllocError> {
     match event {
-        Event::Begin(call) => {
+        Event::Begin(boxed) => {
+            let call = boxed.get();
             let (ty, params, tape) = (call.ty, call.params.as_slice(), call.tape.as_slice());
             write!(out, "begin({ty},{params:?},{tape:?},{:?})", call.ask)
         }
