@@ -23,7 +23,7 @@ enum Cause {
 
 #[allow(dead_code)]
 enum Event {
-    Begin(Call),
+    Begin(Box<Call>),
     Step(u64),
     Abort(u64, Cause),
     Undo(u64),
