@@ -3,6 +3,7 @@ use Rattle.std.proofs.Common.{arith, Option, Some, None, ℤ}
 use Rattle.std.proofs.Common.{◌≡◌, ℕ, zero, suc, ◌+◌, ◌-◌, ◌<◌, ◌≤◌, inl, inr, Bool, true, false, ◌||◌, List, []}
 use Rattle.std.proofs.Common.{◌∷◌, sym, ap, refl, ◌∙◌, if◌then◌else◌}
 use Rattle.std.specs.Prelude.{◌==◌, ◌&&◌, All, slice_get}
+use Rattle.std.specs.List.{list_any}
 use Rattle.std.specs.Cmp.Derive.{both_true}
 use Rattle.std.specs.Cmp.{first_so, second_so}
 use Rattle.std.proofs.lemmas.Option.{same_Some, none-some}
@@ -20,7 +21,7 @@ use Rattle.acc_base.specs.Effects.{first_from}
 use Rattle.acc_base.specs.Entries.{Forbids}
 use Rattle.acc_base.specs.Locks.{Clashes, ClashesEither}
 use Rattle.acc_table.specs.Closures.{is_set, IsClosure}
-use Rattle.acc_table.specs.Entries.{pair_agrees, pairs_agree, entry_forbids, entry_clashes, either_clashes, TellsLowest}
+use Rattle.acc_table.specs.Entries.{pair_agrees, pairs_agree, entry_forbids, entry_clashes, either_clashes, entry_may_clash, either_may_clash, TellsLowest}
 
 -- ---- the first that passes
 
@@ -158,42 +159,46 @@ module _ (d : Design) (held : At) (held_locals : List ℤ) (step : At) (side : S
 
 -- ---- clashes
 
+module _ (d : Design) (a : At) (a_locals : List ℤ) (b : At) (b_locals : List ℤ) (n : ℕ) where
+  may_clash_to : (c : Clashes d a a_locals b b_locals n) → entry_may_clash a.ty a_locals b.ty b_locals c.forbids.entry ≡ true
+  may_clash_to c =
+      let f = c.forbids in
+      both_true (both_true (both_true ((side_decides f.entry.side Undo).1 f.side_is)
+      (equal_passes f.entry.step.ty a.ty (ap (λ z. z.ty) f.step_is))) (equal_passes f.entry.held.ty b.ty (ap (λ z. z.ty) f.held_is)))
+      (pairs_pass b_locals a_locals f.entry.pairs f.pairs)
+
 module _ (d : Design) (a : At) (a_points : List Bool) (a_locals : List ℤ) (b : At) (b_points : List Bool) (b_locals : List ℤ)
     (a_closed : IsClosure d a.ty a.point a_points) (b_closed : IsClosure d b.ty b.point b_points) (n : ℕ) where
   pub clash_to : Clashes d a a_locals b b_locals n → Passing d.entries (entry_clashes a.ty a_points a_locals b.ty b_points b_locals) n
   clash_to c =
       let f = c.forbids in
-      let step_ty : f.entry.step.ty ≡ a.ty = ap (λ z. z.ty) f.step_is in
       let step_point : f.entry.step.point ≡ c.step = ap (λ z. z.point) f.step_is in
-      let held_ty : f.entry.held.ty ≡ b.ty = ap (λ z. z.ty) f.held_is in
       let held_point : f.entry.held.point ≡ c.held = ap (λ z. z.point) f.held_is in
       record {
         entry = f.entry;
         first = f.first;
         is_entry = f.is_entry;
-        passes = both_true (both_true (both_true (both_true (both_true ((side_decides f.entry.side Undo).1 f.side_is)
-            (equal_passes f.entry.step.ty a.ty step_ty)) (ap (is_set a_points) step_point ∙ (a_closed c.step).1 c.step_reached))
-            (equal_passes f.entry.held.ty b.ty held_ty)) (ap (is_set b_points) held_point ∙ (b_closed c.held).1 c.held_reached))
-            (pairs_pass b_locals a_locals f.entry.pairs f.pairs);
+        passes = both_true (both_true (may_clash_to d a a_locals b b_locals n c)
+            (ap (is_set a_points) step_point ∙ (a_closed c.step).1 c.step_reached))
+            (ap (is_set b_points) held_point ∙ (b_closed c.held).1 c.held_reached);
       }
 
   pub clash_from : Passing d.entries (entry_clashes a.ty a_points a_locals b.ty b_points b_locals) n → Clashes d a a_locals b b_locals n
   clash_from p =
       let e = p.entry in
-      let k = and_parts (side_eq e.side Undo && (e.step.ty == a.ty) && is_set a_points e.step.point && (e.held.ty == b.ty)
-      && is_set b_points e.held.point) (pairs_agree b_locals a_locals e.pairs) p.passes in
-      let l = and_parts (side_eq e.side Undo && (e.step.ty == a.ty) && is_set a_points e.step.point && (e.held.ty == b.ty))
-      (is_set b_points e.held.point) k.0 in
-      let m = and_parts (side_eq e.side Undo && (e.step.ty == a.ty) && is_set a_points e.step.point) (e.held.ty == b.ty) l.0 in
-      let q = and_parts (side_eq e.side Undo && (e.step.ty == a.ty)) (is_set a_points e.step.point) m.0 in
+      let may = entry_may_clash a.ty a_locals b.ty b_locals e in
+      let k = and_parts (may && is_set a_points e.step.point) (is_set b_points e.held.point) p.passes in
+      let l = and_parts may (is_set a_points e.step.point) k.0 in
+      let m = and_parts (side_eq e.side Undo && (e.step.ty == a.ty) && (e.held.ty == b.ty)) (pairs_agree b_locals a_locals e.pairs) l.0 in
+      let q = and_parts (side_eq e.side Undo && (e.step.ty == a.ty)) (e.held.ty == b.ty) m.0 in
       let r = and_parts (side_eq e.side Undo) (e.step.ty == a.ty) q.0 in
       let step_ty = eqb-true e.step.ty a.ty r.1 in
-      let held_ty = eqb-true e.held.ty b.ty m.1 in
+      let held_ty = eqb-true e.held.ty b.ty q.1 in
       record {
         step = e.step.point;
         held = e.held.point;
-        step_reached = (a_closed e.step.point).0 q.1;
-        held_reached = (b_closed e.held.point).0 l.1;
+        step_reached = (a_closed e.step.point).0 l.1;
+        held_reached = (b_closed e.held.point).0 k.1;
         forbids = record {
           entry = e;
           first = p.first;
@@ -201,7 +206,7 @@ module _ (d : Design) (a : At) (a_points : List Bool) (a_locals : List ℤ) (b :
           held_is = λ i. record { ty = held_ty i; point = e.held.point };
           step_is = λ i. record { ty = step_ty i; point = e.step.point };
           side_is = (side_decides e.side Undo).0 r.0;
-          pairs = pairs_are b_locals a_locals e.pairs k.1;
+          pairs = pairs_are b_locals a_locals e.pairs m.1;
         };
       }
 
@@ -250,3 +255,36 @@ module _ (d : Design) (a : At) (a_points : List Bool) (a_locals : List ℤ) (b :
         is_entry = p.is_entry;
         passes = h;
       }))
+
+-- ---- clashes that no entry can make
+
+none_any : (test : Entry → Bool) (es : List Entry) → list_any test es ≡ false → (k : ℕ) (e : Entry) → slice_get es k ≡ Some e
+    → test e ≡ false
+none_any test [] h k e at = absurd (none-some e at)
+none_any test (x ∷ es) h k e at = by (test x) refl h k at (λ g j m. none_any test es g j e m)
+  where
+    by : (b : Bool) → test x ≡ b → (b || list_any test es) ≡ false → (k : ℕ) → slice_get (x ∷ es) k ≡ Some e
+        → (list_any test es ≡ false → (j : ℕ) → slice_get es j ≡ Some e → test e ≡ false) → test e ≡ false
+    by true q g k m rest = cc
+    by false q g zero m rest = ap test (sym (same_Some x e m)) ∙ q
+    by false q g (suc j) m rest = rest g j m
+
+or_right : (x y : Bool) → y ≡ true → (x || y) ≡ true
+or_right true y e = refl
+or_right false y e = e
+
+pub no_clash : (d : Design) (a : At) (a_locals : List ℤ) (b : At) (b_locals : List ℤ)
+    → list_any (either_may_clash a.ty a_locals b.ty b_locals) d.entries ≡ false → (n : ℕ) → ¬ ClashesEither d a a_locals b b_locals n
+no_clash d a a_locals b b_locals h n (inl c) =
+    let f = c.forbids in
+    let test = either_may_clash a.ty a_locals b.ty b_locals in
+    true_false (test f.entry)
+    (ap (λ z. z || entry_may_clash b.ty b_locals a.ty a_locals f.entry) (may_clash_to d a a_locals b b_locals n c))
+    (none_any test d.entries h (n - 1) f.entry f.is_entry)
+no_clash d a a_locals b b_locals h n (inr c) =
+    let f = c.forbids in
+    let test = either_may_clash a.ty a_locals b.ty b_locals in
+    true_false (test f.entry)
+    (or_right (entry_may_clash a.ty a_locals b.ty b_locals f.entry) (entry_may_clash b.ty b_locals a.ty a_locals f.entry)
+    (may_clash_to d b b_locals a a_locals n c))
+    (none_any test d.entries h (n - 1) f.entry f.is_entry)

@@ -24,11 +24,18 @@ abbrev pub entry_forbids : At → List ℤ → At → Side → List ℤ → Entr
 entry_forbids held held_locals step side locals e =
     at_eq e.held held && at_eq e.step step && side_eq e.side side && pairs_agree held_locals locals e.pairs
 
+-- of an undo step of the one type, held at the other, whatever the points
+abbrev pub entry_may_clash : ℕ → List ℤ → ℕ → List ℤ → Entry → Bool
+entry_may_clash a a_locals b b_locals e =
+    side_eq e.side Undo && (e.step.ty == a) && (e.held.ty == b) && pairs_agree b_locals a_locals e.pairs
+
+abbrev pub either_may_clash : ℕ → List ℤ → ℕ → List ℤ → Entry → Bool
+either_may_clash a a_locals b b_locals e = entry_may_clash a a_locals b b_locals e || entry_may_clash b b_locals a a_locals e
+
 -- by the points that the one's undo steps reach, as steps, and the other's, as held
 abbrev pub entry_clashes : ℕ → List Bool → List ℤ → ℕ → List Bool → List ℤ → Entry → Bool
 entry_clashes a a_points a_locals b b_points b_locals e =
-    side_eq e.side Undo && (e.step.ty == a) && is_set a_points e.step.point && (e.held.ty == b) && is_set b_points e.held.point
-    && pairs_agree b_locals a_locals e.pairs
+    entry_may_clash a a_locals b b_locals e && is_set a_points e.step.point && is_set b_points e.held.point
 
 abbrev pub either_clashes : ℕ → List Bool → List ℤ → ℕ → List Bool → List ℤ → Entry → Bool
 either_clashes a a_points a_locals b b_points b_locals e =

@@ -1,12 +1,13 @@
 //! What entries forbid.
-ghost use Rattle.std.specs.Prelude.{◌≡◌, ◌≤◌, ◌<◌, ◌^◌, ◌||◌, length, option_map};
+ghost use Rattle.std.specs.Prelude.{◌≡◌, ◌≤◌, ◌<◌, ◌^◌, ◌||◌, ℕ, length, option_map, IsFalse};
+ghost use Rattle.std.specs.List.{list_any};
 ghost use Rattle.acc_base.specs.Linear.{var};
 ghost use Rattle.acc_base.specs.Effects.{first_from};
 ghost use Rattle.acc_form.specs.WellFormed.{IsWellFormed};
 ghost use Rattle.acc_base.specs.Entries.{at_of, Forbids};
 ghost use Rattle.acc_base.specs.Locks.{ClashesEither};
 ghost use Rattle.acc_table.specs.Closures.{is_set};
-ghost use Rattle.acc_table.specs.Entries.{pairs_agree, entry_forbids, entry_clashes, either_clashes, IsPointOf, TellsLowest};
+ghost use Rattle.acc_table.specs.Entries.{pairs_agree, entry_forbids, entry_clashes, either_clashes, entry_may_clash, either_may_clash, IsPointOf, TellsLowest};
 
 use crate::closures::undo_points;
 use acc_base::designs::{At, Design, Entry, Side};
@@ -84,6 +85,16 @@ pub fn forbids(d: &Design, held: &Frame, at: At, side: Side, locals: &[i64]) -> 
     )
 }
 
+/// Whether an entry forbids an undo step of the one type, with these locals, at a point of the other, whichever these are.
+fn entry_may_clash(entry: &Entry, a: u32, a_locals: &[i64], b: u32, b_locals: &[i64]) -> bool
+    ensures { result ≡ entry_may_clash a a_locals.now b b_locals.now entry.now }
+{
+    entry.side == Side::Undo
+        && entry.step.ty == a
+        && entry.held.ty == b
+        && pairs_agree(b_locals, a_locals, entry.pairs.as_slice())
+}
+
 /// Whether an entry forbids an undo step that a may come to, at a point that b may come to.
 fn entry_clashes(
     entry: &Entry,
@@ -96,12 +107,9 @@ fn entry_clashes(
 ) -> bool
     ensures { result ≡ entry_clashes a a_points.now a_locals.now b b_points.now b_locals.now entry.now }
 {
-    entry.side == Side::Undo
-        && entry.step.ty == a
+    entry_may_clash(entry, a, a_locals, b, b_locals)
         && is_set(a_points, entry.step.point)
-        && entry.held.ty == b
         && is_set(b_points, entry.held.point)
-        && pairs_agree(b_locals, a_locals, entry.pairs.as_slice())
 }
 
 /// Whether a point's flag is set.
@@ -134,9 +142,25 @@ fn first_clashing(
     None
 }
 
-/// The entry because of which frames at two points with these locals aren't compatible: the one may come to an undo step that
-/// it forbids where the other may come to stand.
-pub fn compatible(d: &Design, a: At, a_locals: &[i64], b: At, b_locals: &[i64]) -> Option<u32>
+/// Whether some entry may make points of two types clash, whichever these are.
+fn some_may_clash(entries: &[Entry], a: u32, a_locals: &[i64], b: u32, b_locals: &[i64]) -> bool
+    ensures { result ≡ list_any (either_may_clash a a_locals.now b b_locals.now) entries.now }
+{
+    entries.iter().any(|entry| {
+        entry_may_clash(entry, a, a_locals, b, b_locals)
+            || entry_may_clash(entry, b, b_locals, a, a_locals)
+    })
+}
+
+/// Whether some entry may make two points clash, without a look at where undo steps lead.
+fn may_clash(d: &Design, a: At, a_locals: &[i64], b: At, b_locals: &[i64]) -> bool
+    ensures { IsFalse result → (n : ℕ) → ¬ ClashesEither d.now a a_locals.now b b_locals.now n }
+{
+    some_may_clash(d.entries.as_slice(), a.ty, a_locals, b.ty, b_locals)
+}
+
+/// The first entry by which two points clash, by the points to which their undo steps lead.
+fn first_clash(d: &Design, a: At, a_locals: &[i64], b: At, b_locals: &[i64]) -> Option<u32>
     requires formed { IsWellFormed d.now }
     requires a_point { IsPointOf d.now a.ty a.point }
     requires b_point { IsPointOf d.now b.ty b.point }
@@ -153,4 +177,22 @@ pub fn compatible(d: &Design, a: At, a_locals: &[i64], b: At, b_locals: &[i64]) 
         &b_points,
         b_locals,
     )
+}
+
+/// The entry because of which frames at two points with these locals aren't compatible: the one may come to an undo step that
+/// it forbids where the other may come to stand.
+///
+/// It walks the entries once. Only where one of them is of an undo step of the one type, is held at the other, and has equal pairs, it
+/// goes on to where the undo steps lead, and walks the entries again.
+pub fn compatible(d: &Design, a: At, a_locals: &[i64], b: At, b_locals: &[i64]) -> Option<u32>
+    requires formed { IsWellFormed d.now }
+    requires a_point { IsPointOf d.now a.ty a.point }
+    requires b_point { IsPointOf d.now b.ty b.point }
+    ensures { TellsLowest (ClashesEither d.now a a_locals.now b b_locals.now) result }
+{
+    if may_clash(d, a, a_locals, b, b_locals) {
+        first_clash(d, a, a_locals, b, b_locals)
+    } else {
+        None
+    }
 }

@@ -4,7 +4,7 @@ use Rattle.acc_base.specs.Locks.{ClashesEither}
 use Rattle.acc_table.specs.Entries.{either_clashes}
 use Rattle.acc_table.proofs.Telling.{tells, either_to, either_from}
 use Rattle.acc_table.proofs.Formed.{few_entries, leads_within, point_within}
-use Rattle.acc_table.proofs.entries.compatible.Goals as goal
+use Rattle.acc_table.proofs.entries.first_clash.Goals as goal
 
 pub returns : goal.returns
 returns c =
