@@ -1,1 +1,2 @@
 pub mod OneReported
+pub mod Admitting

@@ -1,6 +1,6 @@
 -- A design and bytes have one report.
 use Rattle.std.proofs.Common.{◌≡◌, ℕ, Bool, true, false, List, refl, sym, ap, subst, ◌∙◌, inl, inr}
-use Rattle.std.specs.Prelude.{◌≢◌, ◌++◌, codes, ◌⊎◌}
+use Rattle.std.specs.Prelude.{◌++◌, codes}
 use Rattle.acc_base.specs.declared.designs.Design.{Design}
 use Rattle.acc_base.specs.Lines.{line}
 use Rattle.acc_axioms.specs.declared.nodes.Cert.{Cert}
@@ -8,7 +8,7 @@ use Rattle.acc_cert_read.specs.Parts.{Part, Good, Off}
 use Rattle.acc_accept.specs.declared.refusals.Refusal.{Refusal}
 use Rattle.acc_accept.proofs.OneRefusal.{none_is_both, refused_for_one_reason}
 use Rattle.acc_check.specs.Origins.{path_text}
-use Rattle.acc_check.specs.Reports.{reason_text, ReportsWith, TellsBytes, TellsCertificate, Reports}
+use Rattle.acc_check.specs.Reports.{reason_text, ReportsWith, TellsBytes}
 use Rattle.acc_check.specs.Laws.{OneReport}
 
 one_good : (c e : Cert) → Good c ≡ Good e → c ≡ e

@@ -1,3 +1,4 @@
 pub mod Origins
 pub mod Reports
+pub mod Admissions
 pub mod Laws

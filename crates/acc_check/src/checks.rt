@@ -1,10 +1,11 @@
 //! Whether a design is accepted with the bytes of a certificate.
-ghost use Rattle.std.specs.Prelude.{◌≡◌, ◌≢◌, ◌++◌, codes, false, IfOk, OnOk};
+ghost use Rattle.std.specs.Prelude.{◌≡◌, ◌≢◌, ◌++◌, codes, IfOk, OnOk};
 ghost use Rattle.std.specs.Fmt.{decimal};
 ghost use Rattle.acc_base.specs.Lines.{line};
 ghost use Rattle.acc_accept.specs.declared.refusals.Refusal.TheVariants.{Memory as OutOfMemory};
 ghost use Rattle.acc_check.specs.Origins.{origin_text, path_text};
-ghost use Rattle.acc_check.specs.Reports.{Reports, ReportsWith, reason_text};
+ghost use Rattle.acc_check.specs.Reports.{Reports, reason_text};
+ghost use Rattle.acc_check.specs.Admissions.{Admits, AdmitsWith};
 
 use crate::origins::{push_number, push_origin, push_path};
 use acc_accept::{Refusal, accept};
@@ -13,7 +14,15 @@ use acc_base::designs::Design;
 use acc_base::sequents::Origin;
 use acc_cert_read::certificates::read;
 use acc_cert_read::errors::CertError;
+use acc_lift::Accepted;
 use std::alloc::{AllocError, Global};
+
+/// A design that is accepted with the bytes of a certificate, or the line that says why it isn't.
+#[derive(Drop)]
+pub enum Admission {
+    Accepted(Accepted),
+    Refused(Vec<u8>),
+}
 
 /// Whether a design is accepted, and the line that says so, or why not.
 #[derive(Drop)]
@@ -60,44 +69,47 @@ fn push_reason(out: &mut Vec<u8>, d: &Design, refusal: &Refusal) -> Result<(), A
 }
 
 /// What is said of bytes that are no certificate; the part at this path is off.
-fn bytes_refused(alloc: Global, path: &[u64]) -> Result<Report, AllocError>
-    ensures refused { IfOk result (λ r. r.accepted ≡ false) }
-    ensures text { IfOk result (λ r. r.text.items ≡ line (codes "refused certificate " ++ path_text path.now)) }
+fn bytes_refused(alloc: Global, path: &[u64]) -> Result<Vec<u8>, AllocError>
+    ensures { IfOk result (λ text. text.items ≡ line (codes "refused certificate " ++ path_text path.now)) }
 {
     let mut text = b"refused certificate ".to_vec(alloc)?;
     push_path(&mut text, path)?;
     text.push(b'\n')?;
-    Ok(Report {
-        accepted: false,
-        text,
-    })
+    Ok(text)
 }
 
 /// What is said of a design that is refused with a certificate.
-fn design_refused(alloc: Global, d: &Design, refusal: &Refusal) -> Result<Report, AllocError>
-    ensures refused { IfOk result (λ r. r.accepted ≡ false) }
-    ensures text { IfOk result (λ r. r.text.items ≡ line (codes "refused " ++ reason_text d.now refusal.now)) }
-    ensures other { IfOk result (λ r. refusal.now ≢ OutOfMemory) }
+fn design_refused(alloc: Global, d: &Design, refusal: &Refusal) -> Result<Vec<u8>, AllocError>
+    ensures text { IfOk result (λ text. text.items ≡ line (codes "refused " ++ reason_text d.now refusal.now)) }
+    ensures other { IfOk result (λ text. refusal.now ≢ OutOfMemory) }
 {
     let mut text = b"refused ".to_vec(alloc)?;
     push_reason(&mut text, d, refusal)?;
     text.push(b'\n')?;
-    Ok(Report {
-        accepted: false,
-        text,
-    })
+    Ok(text)
 }
 
-/// Whether a design is accepted with a certificate.
-fn check_with(alloc: Global, d: Design, certificate: &Cert) -> Result<Report, AllocError>
-    ensures { IfOk result (λ r. ReportsWith d certificate.now r.accepted r.text.items) }
+/// Accepts a design with a certificate.
+fn admit_with(alloc: Global, d: Design, certificate: &Cert) -> Result<Admission, AllocError>
+    ensures { IfOk result (AdmitsWith d certificate.now) }
 {
     match accept(alloc, d, certificate) {
-        Ok(_) => Ok(Report {
-            accepted: true,
-            text: b"accepted\n".to_vec(alloc)?,
-        }),
-        Err((refusal, d)) => design_refused(alloc, &d, &refusal),
+        Ok(accepted) => Ok(Admission::Accepted(accepted)),
+        Err((refusal, d)) => Ok(Admission::Refused(design_refused(alloc, &d, &refusal)?)),
+    }
+}
+
+/// Accepts a design with the bytes of a certificate: whether they are a certificate, and then whether it proves each obligation of
+/// the design. Else it tells why not, by the line that `check` says. `AllocError` where memory ran out.
+pub fn admit(alloc: Global, d: Design, bytes: &[u8]) -> Result<Admission, AllocError>
+    ensures { IfOk result (Admits d bytes.now) }
+{
+    match read(alloc, bytes) {
+        Ok(certificate) => admit_with(alloc, d, &certificate),
+        Err(CertError::NotCert(path)) => {
+            Ok(Admission::Refused(bytes_refused(alloc, path.as_slice())?))
+        }
+        Err(CertError::Memory) => Err(AllocError),
     }
 }
 
@@ -106,9 +118,14 @@ fn check_with(alloc: Global, d: Design, certificate: &Cert) -> Result<Report, Al
 pub fn check(alloc: Global, d: Design, bytes: &[u8]) -> Result<Report, AllocError>
     ensures { IfOk result (λ r. Reports d bytes.now r.accepted r.text.items) }
 {
-    match read(alloc, bytes) {
-        Ok(certificate) => check_with(alloc, d, &certificate),
-        Err(CertError::NotCert(path)) => bytes_refused(alloc, path.as_slice()),
-        Err(CertError::Memory) => Err(AllocError),
+    match admit(alloc, d, bytes)? {
+        Admission::Accepted(_) => Ok(Report {
+            accepted: true,
+            text: b"accepted\n".to_vec(alloc)?,
+        }),
+        Admission::Refused(text) => Ok(Report {
+            accepted: false,
+            text,
+        }),
     }
 }

@@ -5,4 +5,4 @@ mod checks;
 pub mod laws;
 mod origins;
 
-pub use checks::{Report, check};
+pub use checks::{Admission, Report, admit, check};

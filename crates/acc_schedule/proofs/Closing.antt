@@ -8,16 +8,25 @@ use Rattle.acc_base.specs.declared.bounds.TheConstants.{MOST_EVENTS}
 use Rattle.acc_base.specs.declared.designs.Design.{Design}
 use Rattle.acc_base.specs.declared.machines.Call.{Call}
 use Rattle.acc_base.specs.declared.machines.Event.{Event}
+use Rattle.acc_base.specs.Invariant.{IsGood}
 use Rattle.acc_base.specs.Machine.{World}
 use Rattle.acc_base.specs.Plays.{Play, opening, Plays, play_after}
 use Rattle.acc_base.specs.Lines.{mention_line, reply_line, ending_text, line}
+use Rattle.acc_lift.specs.Acceptance.{IsAccepted}
+use Rattle.acc_lift.proofs.FormRules.{run_rules}
+use Rattle.acc_lift.proofs.Theorem.{front_steady, idle}
 use Rattle.acc_play.proofs.Orders.{IsPlayedSoFar}
 use Rattle.acc_schedule.specs.declared.stages.Stage.{Stage}
 use Rattle.acc_schedule.specs.declared.schedules.Scheduled.{Scheduled}
 use Rattle.acc_schedule.specs.LockRules.{with_locks}
 use Rattle.acc_schedule.specs.Endings.{EndsAll, EndsPlaces}
 use Rattle.acc_schedule.specs.Stages.{play_of}
-use Rattle.acc_schedule.specs.Schedules.{TellsSchedule, TellsBegun, EndsWell, IsPlayed, IsClosed}
+use Rattle.acc_schedule.specs.Schedules.{TellsSchedule, TellsBegun, IsIdleBetween, EndsWell, IsPlayed, IsClosed}
+
+-- the events of a good state of an accepted design are idle whenever nothing is unfinished
+pub idle_between : (d : Design) (w : World) → IsAccepted d → IsGood d w → IsIdleBetween d w.events
+idle_between d w accepted good past rest v split is none =
+    idle d v (front_steady d accepted.sound (run_rules d accepted.formed) w.events past rest w good.lawful split v is) none
 
 -- the mentions of a whole order
 pub played : (d : Design) (calls : List Call) (order text : List ℕ) (p : Play) → IsPlayedSoFar (with_locks d) d calls order [] text p
@@ -43,7 +52,7 @@ pub tells_schedule : (d : Design) (calls : List Call) (order : List ℕ) (a b c 
     → EndsPlaces (with_locks d) calls (play_of b) (range_with_len 1 (length calls)) (play_of c) → c.text.items ≡ b.text.items
     → length c.numbers.items ≡ length calls
     → e.text.items ≡ c.text.items ++ flat_map (reply_line (play_of c)) (range_with_len 1 (length c.numbers.items))
-    → play_of e ≡ play_of c → e.state.design ≡ d → IsClosed e s → TellsSchedule d calls order s
+    → play_of e ≡ play_of c → e.state.design ≡ d → IsClosed e s → TellsSchedule d calls order s.text.items s.history s.all_begun
 tells_schedule d calls order a b c e s played passes passes_text ends places places_text count replies same design closed =
     let now : play_after (opening calls) played.mentions ≡ play_of a = played.now in
     let told = flat_map (mention_line d) played.mentions in

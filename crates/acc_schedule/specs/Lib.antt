@@ -3,3 +3,4 @@ pub mod Endings
 pub mod Passes
 pub mod Stages
 pub mod Schedules
+pub mod Laws

@@ -28,30 +28,35 @@ pub record Schedules (d : Design) (calls : List Call) (order : List ℕ) (mentio
   pub places :
       EndsPlaces (with_locks d) calls (in_state (play_after (opening calls) mentions) rest) (range_with_len 1 (length calls)) ended
 
--- What a good end is: each event of the history came by the rules of locks and with its assertion true, nothing is unfinished, and what is
--- asserted for all times is true of the rows.
+-- whenever nothing is unfinished, what is asserted for all times is true of the rows, and none of them is private
+abbrev pub IsIdleBetween : Design → List Event → Type 0
+IsIdleBetween d history =
+    (past rest : List Event) (w : World) → history ≡ past ++ rest → world d past ≡ Some w → unfinished w ≡ [] → IsIdle d w.rows
+
+-- What a good end is: each event of the history came by the rules of locks, each step with its assertion true, and each end keeps its
+-- promise; the history is idle whenever nothing is unfinished; and nothing is unfinished at the end.
 pub record EndsWell (d : Design) (history : List Event) (w : World) : Type 0 where
   pub run : world d history ≡ Some w
   pub good : IsGood d w
   pub annotated : IsAnnotated d history
+  pub idle : IsIdleBetween d history
   pub none_left : unfinished w ≡ []
-  pub idle : IsIdle d w.rows
 
--- each place has begun; or one hasn't, and the history is full
+-- each place has begun; or one couldn't begin, since the history is full
 abbrev pub TellsBegun : Bool → List (Option ℕ) → List Event → Type 0
 TellsBegun true numbers history = All IsSome numbers
 TellsBegun false numbers history = ((at : ℕ) × (slice_get numbers at ≡ Some None)) × (MOST_EVENTS ≤ length history)
 
 -- The text is that of a schedule: a line each mention of the order, a reply line each place, and the number of events. The history is the
 -- events of its machine, and it ends well.
-pub record TellsSchedule (d : Design) (calls : List Call) (order : List ℕ) (s : Scheduled) : Type 0 where
+pub record TellsSchedule (d : Design) (calls : List Call) (order text : List ℕ) (history : List Event) (all_begun : Bool) : Type 0 where
   pub mentions : List (Told × Play)
   pub ended : Play
   pub schedules : Schedules d calls order mentions ended
-  pub text_is : s.text.items ≡ flat_map (mention_line d) mentions ++ ending_text calls ended
-  pub history_is : s.history ≡ ended.world.events
-  pub ends_well : EndsWell d s.history ended.world
-  pub begun : TellsBegun s.all_begun ended.numbers s.history
+  pub text_is : text ≡ flat_map (mention_line d) mentions ++ ending_text calls ended
+  pub history_is : history ≡ ended.world.events
+  pub ends_well : EndsWell d history ended.world
+  pub begun : TellsBegun all_begun ended.numbers history
 
 -- ---- parts of it
 

@@ -2,6 +2,7 @@
 #![tactic(auto)]
 
 mod endings;
+pub mod laws;
 mod mentions;
 mod replies;
 mod schedules;

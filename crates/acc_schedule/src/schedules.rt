@@ -95,7 +95,6 @@ fn close(stage: Stage) -> Result<Scheduled, AllocError>
         mut text,
     } = stage;
     let all_begun = all_begun(&numbers);
-    let _idle = state.unfinished();
     push_events(&mut text, state.events().len() as u64)?;
     let (_, history) = state.into_parts();
     Ok(Scheduled {
@@ -117,7 +116,7 @@ pub fn schedule(
 ) -> Result<Scheduled, AllocError>
     requires fit { AllFit accepted.now calls.now }
     requires places { All (IsPlace (length calls.now)) order.now }
-    ensures { IfOk result (TellsSchedule accepted.now calls.now order.now) }
+    ensures { IfOk result (λ s. TellsSchedule accepted.now calls.now order.now s.text.items s.history s.all_begun) }
 {
     let d = accepted.design();
     let mut stage = open(alloc, accepted, calls)?;

@@ -18,7 +18,8 @@ returns c =
     let ends =
     subst (λ (x : Design). EndsAll (with_locks x) mentioned.state.world c.end_all.new.state.world) c.mention_all.ensures.stage.design
     c.in_ok-end_all.ensures.ends in
-    if_ok c.close.result (λ s closed. subst (λ (x : Design). TellsSchedule x calls order s) c.design-d.ensures.design
+    if_ok c.close.result (λ s closed.
+    subst (λ (x : Design). TellsSchedule x calls order s.text.items s.history s.all_begun) c.design-d.ensures.design
     (tells_schedule d calls order mentioned rested ended told s c.in_ok-mention_all.ensures.played refl refl ends
     c.in_ok-end_places.ensures.ends c.end_places.ensures.text c.in_ok-end_places.ensures.stage.numbers c.in_ok-push_replies.ensures.text
     c.push_replies.ensures.play (c.push_replies.ensures.design ∙ c.in_ok-end_places.ensures.stage.design) closed)) c.close.ensures

@@ -1,0 +1,65 @@
+-- One thing is told of a schedule.
+use Rattle.std.proofs.Common.{◌≡◌, ℕ, ◌<◌, ◌++◌, Bool, true, false, List, length, Option, Some, None, get_or, refl, sym, ap, subst, ◌∙◌}
+use Rattle.std.specs.Prelude.{IsSome, All, slice_get}
+use Rattle.std.specs.List.{flat_map, range_with_len}
+use Rattle.std.proofs.lemmas.Option.{same_Some, none-some, slice_get-get_or}
+use Rattle.acc_base.specs.declared.designs.Design.{Design}
+use Rattle.acc_base.specs.declared.machines.Call.{Call}
+use Rattle.acc_base.specs.declared.machines.Event.{Event}
+use Rattle.acc_base.specs.Lines.{mention_line, ending_text}
+use Rattle.acc_base.specs.Machine.{World}
+use Rattle.acc_base.specs.Plays.{Play, Told, opening, play_after}
+use Rattle.acc_lift.proofs.Transactions.{got_within}
+use Rattle.acc_schedule.specs.LockRules.{with_locks}
+use Rattle.acc_schedule.specs.Endings.{EndsAll, EndsPlaces}
+use Rattle.acc_schedule.specs.Schedules.{in_state, Schedules, TellsBegun}
+use Rattle.acc_schedule.specs.Laws.{SchedulesOnce}
+use Rattle.acc_schedule.proofs.OneTurn.{locks_are_determined}
+use Rattle.acc_schedule.proofs.OnePlay.{one_play, one_end, one_ending}
+
+module _ (d : Design) (calls : List Call) (order : List ℕ) where
+  one_schedule :
+      (xs ys : List (Told × Play)) (p q : Play) → Schedules d calls order xs p → Schedules d calls order ys q → (xs ≡ ys) × (p ≡ q)
+  one_schedule xs ys p q h k =
+      let m = with_locks d in
+      let one = locks_are_determined d in
+      let played : xs ≡ ys = one_play m one calls (opening calls) order xs ys h.is_played k.is_played in
+      let after : play_after (opening calls) xs ≡ play_after (opening calls) ys = ap (play_after (opening calls)) played in
+      let rest : h.rest ≡ k.rest =
+      one_end m one (play_after (opening calls) ys).world h.rest (subst (λ (z : Play). EndsAll m z.world h.rest) after h.ends)
+      k.rest k.ends in
+      let places =
+      subst (λ (w : World). EndsPlaces m calls (in_state (play_after (opening calls) ys) w) (range_with_len 1 (length calls)) p) rest
+      (subst (λ (z : Play). EndsPlaces m calls (in_state z h.rest) (range_with_len 1 (length calls)) p) after h.places) in
+      let last = in_state (play_after (opening calls) ys) k.rest in
+      (played, one_ending m one calls (range_with_len 1 (length calls)) last p q places k.places)
+
+none_is_some : (o : Option ℕ) → o ≡ None → IsSome o → ⊥
+none_is_some None e h = cc
+none_is_some (Some n) e h = none-some n (sym e)
+
+-- not each has begun where one hasn't
+not_all : (numbers : List (Option ℕ)) (at : ℕ) → slice_get numbers at ≡ Some None → All IsSome numbers → ⊥
+not_all numbers at unbegun all =
+    let within : at < length numbers = got_within numbers at None unbegun in
+    let is : get_or numbers at None ≡ None =
+    same_Some (get_or numbers at None) None (sym (slice_get-get_or numbers at None within) ∙ unbegun) in
+    none_is_some (get_or numbers at None) is (all at None within)
+
+one_answer :
+    (numbers : List (Option ℕ)) (history : List Event) (a b : Bool) → TellsBegun a numbers history → TellsBegun b numbers history
+    → a ≡ b
+one_answer numbers history true true h k = refl
+one_answer numbers history true false h k = absurd (not_all numbers k.0.0 k.0.1 h)
+one_answer numbers history false true h k = absurd (not_all numbers h.0.0 h.0.1 k)
+one_answer numbers history false false h k = refl
+
+pub schedules_once : SchedulesOnce
+schedules_once d calls order t u h k a b x y =
+    let same = one_schedule d calls order x.mentions y.mentions x.ended y.ended x.schedules y.schedules in
+    let text : t ≡ u =
+    x.text_is ∙ (λ i. flat_map (mention_line d) (same.0 i) ++ ending_text calls (same.1 i)) ∙ sym y.text_is in
+    let history : h ≡ k = x.history_is ∙ ap (λ (p : Play). p.world.events) same.1 ∙ sym y.history_is in
+    let begun : TellsBegun a y.ended.numbers k =
+    subst (λ (p : Play). TellsBegun a p.numbers k) same.1 (subst (λ (es : List Event). TellsBegun a x.ended.numbers es) history x.begun) in
+    (text, history, one_answer y.ended.numbers k a b begun y.begun)
