@@ -35,8 +35,7 @@ fn play_texts<R: Print + AllocGlobal>(
     order: &str,
 ) -> io::Result<()> {
     let mut shelf = memory::shelf(rt.alloc(), design)?;
-    memory::hold(&mut shelf, "script", script.as_bytes())?;
-    memory::hold(&mut shelf, "order", order.as_bytes())?;
+    memory::hold_run(&mut shelf, script, order)?;
     answer_at_once(rt, "play design script order", &mut shelf)
 }
 
@@ -45,6 +44,72 @@ fn play<R: Files + Print + AllocGlobal>(rt: &R, name: &str, rest: &str) -> io::R
     let design = fs::read_to_string(rt, name)?;
     let (script, order) = rest.split_once(" -> ").unwrap_or((rest, ""));
     play_texts(rt, design.as_str(), script, order)
+}
+
+/// Schedules a script in an order over a design and a certificate.
+fn sched_texts<R: Print + AllocGlobal>(
+    rt: &R,
+    design: &str,
+    certificate: &str,
+    rest: &str,
+) -> io::Result<()> {
+    let (script, order) = rest.split_once(" -> ").unwrap_or((rest, ""));
+    let mut shelf = memory::certified_shelf(rt.alloc(), design, certificate)?;
+    memory::hold_run(&mut shelf, script, order)?;
+    answer_at_once(rt, memory::SCHED, &mut shelf)
+}
+
+/// `sched DESIGN CERT SCRIPT -> ORDER`: a schedule over a design and a certificate of the folder, with the script and the order that
+/// stand there.
+fn sched<R: Files + Print + AllocGlobal>(rt: &R, name: &str, rest: &str) -> io::Result<()> {
+    let (certificate, rest) = first_word(rest);
+    let design = fs::read_to_string(rt, name)?;
+    let certificate = fs::read_to_string(rt, certificate)?;
+    sched_texts(rt, design.as_str(), certificate.as_str(), rest)
+}
+
+/// Prints the last two lines of a text.
+fn tell_last<R: Print>(rt: &R, text: &str) -> io::Result<()> {
+    let count = text.lines().count();
+    for line in text.lines().skip(count.saturating_sub(2)) {
+        println!(rt; "{line}")?;
+    }
+    Ok(())
+}
+
+/// Answers a command line over a shelf in memory, and tells the last two lines, the status and how many events there were.
+fn answer_last<R: Print + AllocGlobal>(
+    rt: &R,
+    line: &str,
+    shelf: &mut MemShelf,
+) -> io::Result<()> {
+    let mut out = memory::sink(rt.alloc(), &[], &[])?;
+    let (status, events) = memory::answer(rt.alloc(), line, shelf, &mut out)?;
+    tell_last(rt, String::from_utf8_lossy(rt.alloc(), out.bytes())?.as_str())?;
+    println!(rt; "status {status}, {events} events")
+}
+
+/// Schedules a script without an order over a design and a certificate, and tells how that ends.
+fn sched_last<R: Print + AllocGlobal>(
+    rt: &R,
+    design: &str,
+    certificate: &str,
+    script: &str,
+) -> io::Result<()> {
+    let mut shelf = memory::certified_shelf(rt.alloc(), design, certificate)?;
+    memory::hold_run(&mut shelf, script, "")?;
+    answer_last(rt, memory::SCHED, &mut shelf)
+}
+
+/// `many DESIGN CERT COUNT LINE`: a schedule over a design and a certificate of the folder, with so many lines for a script and no order;
+/// its last two lines.
+fn many<R: Files + Print + AllocGlobal>(rt: &R, name: &str, rest: &str) -> io::Result<()> {
+    let (certificate, rest) = first_word(rest);
+    let (count, line) = first_word(rest);
+    let design = fs::read_to_string(rt, name)?;
+    let certificate = fs::read_to_string(rt, certificate)?;
+    let script = texts::pieces(rt.alloc(), line, count.parse().unwrap_or(0))?;
+    sched_last(rt, design.as_str(), certificate.as_str(), script.as_str())
 }
 
 /// `print TEXT`: what the command `print` answers to a text.
@@ -56,8 +121,7 @@ fn print<R: Print + AllocGlobal>(rt: &R, text: &str) -> io::Result<()> {
 /// `check TEXT -> CERTIFICATE`: what the command `check` answers to a design's text and a certificate.
 fn check<R: Print + AllocGlobal>(rt: &R, text: &str) -> io::Result<()> {
     let (design, certificate) = text.split_once(" -> ").unwrap_or((text, ""));
-    let mut shelf = memory::shelf(rt.alloc(), design)?;
-    memory::hold(&mut shelf, "certificate", certificate.as_bytes())?;
+    let mut shelf = memory::certified_shelf(rt.alloc(), design, certificate)?;
     answer_at_once(rt, "check design certificate", &mut shelf)
 }
 
@@ -198,6 +262,8 @@ fn answer_plain<R: Files + Print + AllocGlobal>(rt: &R, line: &str) -> io::Resul
         "" | "#" => Ok(()),
         "run" => run(rt, rest),
         "play" => play(rt, name, behind),
+        "sched" => sched(rt, name, behind),
+        "many" => many(rt, name, behind),
         "print" => print(rt, rest),
         "check" => check(rt, rest),
         "fails" => fails(rt, rest),

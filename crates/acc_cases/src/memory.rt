@@ -29,6 +29,26 @@ pub fn shelf(alloc: Global, design: &str) -> Result<MemShelf, AllocError> {
     Ok(shelf)
 }
 
+/// The command line of a schedule over the files that a shelf has.
+pub const SCHED: &str = "sched design certificate script order";
+
+/// A shelf with a design and a certificate.
+pub fn certified_shelf(
+    alloc: Global,
+    design: &str,
+    certificate: &str,
+) -> Result<MemShelf, AllocError> {
+    let mut shelf = shelf(alloc, design)?;
+    hold(&mut shelf, "certificate", certificate.as_bytes())?;
+    Ok(shelf)
+}
+
+/// Puts a script and an order there.
+pub fn hold_run(shelf: &mut MemShelf, script: &str, order: &str) -> Result<(), AllocError> {
+    hold(shelf, "script", script.as_bytes())?;
+    hold(shelf, "order", order.as_bytes())
+}
+
 /// Answers a command line, and tells the status and how many events there were.
 pub fn answer<K: Sink>(
     alloc: Global,

@@ -31,7 +31,7 @@ pub fn change_of(text: &str) -> Option<Change<'_>> {
 }
 
 /// So many pieces, each with its number, from 0 on, in place of a `#`.
-fn pieces(alloc: Global, piece: &str, count: u64) -> Result<String, AllocError> {
+pub fn pieces(alloc: Global, piece: &str, count: u64) -> Result<String, AllocError> {
     let (before, after) = piece.split_once("#").unwrap_or((piece, ""));
     let numbered = before.len() < piece.len();
     let mut out = String::new(alloc);

@@ -1,18 +1,17 @@
 -- A command line means one answer, on a shelf that tells what stands at each name, where no read fails.
-use Rattle.std.proofs.Common.{◌≡◌, ℕ, ◌<◌, ◌≤◌, ◌^◌, zero, suc, List, [], ◌∷◌, ◌++◌, length, Option, None, Some, refl, sym, ap, subst, ◌∙◌, inl, inr, arith}
+use Rattle.std.proofs.Common.{◌≡◌, ℕ, zero, suc, List, [], ◌∷◌, ◌++◌, length, Option, None, Some, refl, sym, ap, subst, ◌∙◌, inl, inr, arith}
 use Rattle.std.specs.Prelude.{◌≢◌}
 use Rattle.acc_io.specs.Causes.{one_more, Rose}
 use Rattle.acc_io.specs.Counted.{after_files, after_refusal}
-use Rattle.acc_io.specs.Shelves.{Told, IsFile, IsAbsent, IsLong, IsRefused}
+use Rattle.acc_io.specs.Shelves.{Told, IsFile, IsRefused}
 use Rattle.acc_io.specs.declared.counts.Counts.{Counts}
 use Rattle.acc_io.specs.declared.shelf.ShelfError.{ShelfError}
 use Rattle.acc_io.specs.declared.shelf.ShelfError.TheVariants.{Failed, Absent, Long, Memory}
 use Rattle.acc_cli.specs.declared.words.Command.{Command}
-use Rattle.acc_cli.specs.declared.status.Ending.{Ending}
 use Rattle.acc_cli.specs.declared.status.Status.TheVariants.{Ran}
 use Rattle.acc_cli.specs.Text.{Said, Reply}
 use Rattle.acc_cli.specs.Words.{command_of, files_of}
-use Rattle.acc_cli.specs.Files.{AreFiles, IsFirstRefused, SaysRefused}
+use Rattle.acc_cli.specs.Files.{AreFiles, SaysRefused}
 use Rattle.acc_cli.specs.Meant.{Means, RefusesFile, Runs, MeansForm, Meant}
 use Rattle.acc_cli.proofs.OneMeaning.{one_meaning}
 

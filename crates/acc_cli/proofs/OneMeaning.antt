@@ -1,186 +1,32 @@
 -- A command says one thing of its files.
-use Rattle.std.proofs.Common.{◌≡◌, ℕ, ◌-◌, ◌<◌, ◌≤◌, ◌^◌, List, [], ◌∷◌, ◌++◌, length, None, Some, refl, sym, ap, subst, ◌∙◌, inl, inr, append_assoc, arith}
-use Rattle.std.specs.Prelude.{◌⊎◌, codes, Contains, IsTrue}
-use Rattle.std.specs.Fmt.{decimal}
-use Rattle.std.proofs.lemmas.Bool.{lt-ltb}
-use Rattle.std.proofs.lemmas.Bool.Decides.{nat_tests}
-use Rattle.std.proofs.lemmas.List.Elements.{All-contains}
+use Rattle.std.proofs.Common.{◌≡◌, ℕ, List, [], ◌∷◌, refl, sym, ap, subst, ◌∙◌, inl, inr}
 use Rattle.acc_base.specs.declared.designs.Design.{Design}
-use Rattle.acc_base.specs.declared.machines.Call.{Call}
-use Rattle.acc_base.specs.Lines.{line}
-use Rattle.acc_lex.proofs.WholeTexts.{one_reading}
-use Rattle.acc_syntax.proofs.WholeLaws.{one_tree}
-use Rattle.acc_statements.specs.Lines.{first_lines, IsLineOf}
-use Rattle.acc_statements.proofs.FirstLines.{later_lines}
-use Rattle.acc_statements.proofs.OneLine.{one_line_of}
-use Rattle.acc_names.specs.Faults.{first_fault_of}
-use Rattle.acc_limits.specs.declared.limits.Limit.{Limit}
-use Rattle.acc_meaning.specs.Designs.{design_of}
-use Rattle.acc_parse.specs.Texts.{IsGrammatical, IsDesignText, past_limits}
-use Rattle.acc_parse.specs.Syntax.{IsWrongAt}
-use Rattle.acc_parse.specs.Faults.{Refuses, IsNameFaultAt, IsLimitAt}
-use Rattle.acc_parse.specs.declared.errors.ParseError.{ParseError}
-use Rattle.acc_parse.specs.declared.errors.ParseError.TheVariants as errors
 use Rattle.acc_print.specs.Designs.{printed}
-use Rattle.acc_form.specs.Faults.{form_faults, is_before}
-use Rattle.acc_base.specs.Leasts.{IsLeast}
-use Rattle.acc_form.specs.WellFormed.{IsWellFormed}
-use Rattle.acc_form.proofs.Placed.{faulty_of_least}
-use Rattle.acc_accept.proofs.OneFault.{one_least}
 use Rattle.acc_check.proofs.OneReported.{reports_once}
 use Rattle.acc_check.specs.Reports.{Reports}
-use Rattle.acc_script.specs.CallLines.{SaysCall, most_calls}
-use Rattle.acc_script.specs.OrderLines.{SaysPlaces, most_numbers}
-use Rattle.acc_script.proofs.LineSteps.{one_said_by, one_refused_line}
-use Rattle.acc_script.proofs.CallSteps.{says_one as says_one_call}
-use Rattle.acc_script.proofs.OrderSteps.{says_one as says_one_line}
-use Rattle.acc_play.proofs.OneTold.{tells_once}
 use Rattle.acc_cli.specs.declared.words.Command.{Command}
 use Rattle.acc_cli.specs.declared.words.Command.TheVariants as command
-use Rattle.acc_cli.specs.declared.status.Ending.{Ending}
-use Rattle.acc_cli.specs.declared.status.Ending.TheVariants.{Done, DesignRefused, ScriptRefused}
-use Rattle.acc_cli.specs.Text.{Said, Says}
+use Rattle.acc_cli.specs.declared.status.Ending.TheVariants.{Done}
+use Rattle.acc_cli.specs.Text.{Said}
 use Rattle.acc_cli.specs.Notes.{help_text, version_text}
-use Rattle.acc_cli.specs.Refusals.{SaysError, RefusesForm, RefusesDesign}
-use Rattle.acc_cli.specs.PlayFiles.{SaysPlay, SaysOfOrder, SaysOfScript, PlaysFiles}
+use Rattle.acc_cli.specs.Scripts.{SaysOfScript}
+use Rattle.acc_cli.specs.PlayFiles.{SaysPlay, PlaysFiles}
+use Rattle.acc_cli.specs.ScheduleFiles.{SaysOfCertificate, SchedulesFiles}
 use Rattle.acc_cli.specs.PrintFiles.{PrintsFile}
 use Rattle.acc_cli.specs.CheckFiles.{ChecksFiles, ending_by}
 use Rattle.acc_cli.specs.Meant.{Means}
-
-said_same : (ending : Ending) (t u : List ℕ) (a b : Said) → t ≡ u → Says ending t a → Says ending u b → a ≡ b
-said_same ending t u a b same h k = λ i. record { ending = (h.0 ∙ sym k.0) i; text = (h.1 ∙ same ∙ sym k.1) i; history = (h.2 ∙ sym k.2) i }
-
--- ---- a text is that of one design, or is refused in one way
-
-one_grammar : (text : List ℕ) (g k : IsGrammatical text) → g.tree ≡ k.tree
-one_grammar text g k =
-    one_tree g.tree k.tree (sym g.spelled.spelled ∙ one_reading text g.words k.words g.lexed k.lexed ∙ k.spelled.spelled)
-
-one_design : (text : List ℕ) (d e : Design) → IsDesignText text d → IsDesignText text e → d ≡ e
-one_design text d e h k = h.means ∙ ap design_of (one_grammar text h.of k.of) ∙ sym k.means
-
-none_contained : {X : Type 0} (xs : List X) (x : X) → xs ≡ [] → Contains xs x → ⊥
-none_contained {X} xs x e c = let lt : c.0 < 0 = subst (λ (ys : List X). c.0 < length ys) e c.1 in absurd (omega (arith, lt))
-
-none_some : {X : Type 0} (x : X) → None ≡ Some x → ⊥
-none_some x e = cc
-
-some_same : {X : Type 0} (x y : X) → Some x ≡ Some y → x ≡ y
-some_same x y e = cc
-
-read_or_refused : (text : List ℕ) (d : Design) (e : ParseError) (said : Said) → IsDesignText text d → Refuses text e → SaysError e said → ⊥
-read_or_refused text d (errors.Syntax at) said h r s = r.none h.of
-read_or_refused text d (errors.Name at) said h r s =
-    none_some r.statement (sym h.allowed.names ∙ ap first_fault_of (one_grammar text h.of r.of) ∙ r.first)
-read_or_refused text d (errors.Limit at which) said h r s =
-    none_contained (past_limits r.of.tree) (r.passed.statement, r.passed.limit) (ap past_limits (one_grammar text r.of h.of) ∙ h.allowed.limits) r.passed.there
-read_or_refused text d errors.Memory said h r s = s
-
-no_earlier_wrong : (text : List ℕ) (m n : ℕ) → IsWrongAt text m → IsWrongAt text n → m < n → ⊥
-no_earlier_wrong text m n h k lt =
-    let later = later_lines m (n - 1) text (omega (arith, lt)) in
-    let more = k.begins.0 in
-    h.stops (omega (arith, lt, k.high))
-    (later.0 ++ more, subst IsGrammatical (ap (λ (z : List ℕ). z ++ more) later.1 ∙ append_assoc (first_lines m text) later.0 more) k.begins.1)
-
-one_wrong : (text : List ℕ) (m n : ℕ) → IsWrongAt text m → IsWrongAt text n → m ≡ n
-one_wrong text m n h k =
-    let not_less : ¬ (m < n) = no_earlier_wrong text m n h k in
-    let not_more : ¬ (n < m) = no_earlier_wrong text n m k h in
-    omega (arith, not_less, not_more)
-
-one_name_line : (text : List ℕ) (m n : ℕ) → IsNameFaultAt text m → IsNameFaultAt text n → m ≡ n
-one_name_line text m n h k =
-    let same : h.statement ≡ k.statement = some_same h.statement k.statement (sym h.first ∙ ap first_fault_of (one_grammar text h.of k.of) ∙ k.first) in
-    one_line_of text k.statement m n (subst (λ (s : ℕ). IsLineOf text s m) same h.on_line) k.on_line
-
-both_first : (m n v w : ℕ) → (m < n) ⊎ ((m ≡ n) × (v ≤ w)) → (n < m) ⊎ ((n ≡ m) × (w ≤ v)) → (m ≡ n) × (v ≡ w)
-both_first m n v w (inl h) (inl k) = absurd (omega (arith, h, k))
-both_first m n v w (inl h) (inr k) = absurd (omega (arith, h, k.0))
-both_first m n v w (inr h) (inl k) = absurd (omega (arith, h.0, k))
-both_first m n v w (inr h) (inr k) = (h.0, omega (arith, h.1, k.1))
-
-one_limit : (text : List ℕ) (m n v w : ℕ) → IsLimitAt text m v → IsLimitAt text n w → (m ≡ n) × (v ≡ w)
-one_limit text m n v w h k =
-    let faults : past_limits h.of.tree ≡ past_limits k.of.tree = ap past_limits (one_grammar text h.of k.of) in
-    let first = h.passed.first k.passed.statement k.passed.limit n (subst (λ (xs : List (ℕ × Limit)). Contains xs (k.passed.statement, k.passed.limit)) (sym faults) k.passed.there) k.passed.on_line in
-    let second = k.passed.first h.passed.statement h.passed.limit m (subst (λ (xs : List (ℕ × Limit)). Contains xs (h.passed.statement, h.passed.limit)) faults h.passed.there) h.passed.on_line in
-    both_first m n v w (subst (λ (z : ℕ). (m < n) ⊎ ((m ≡ n) × (v ≤ z))) (sym k.passed.number) first) (subst (λ (z : ℕ). (n < m) ⊎ ((n ≡ m) × (w ≤ z))) (sym h.passed.number) second)
-
-name_or_limit : (text : List ℕ) (m n w : ℕ) → IsNameFaultAt text m → IsLimitAt text n w → ⊥
-name_or_limit text m n w h k = none_some h.statement (sym k.named ∙ ap first_fault_of (one_grammar text k.of h.of) ∙ h.first)
-
-one_error : (text : List ℕ) (e f : ParseError) (a b : Said) → Refuses text e → Refuses text f → SaysError e a → SaysError f b → a ≡ b
-one_error text (errors.Syntax m) (errors.Syntax n) a b h k s r =
-    said_same DesignRefused _ _ a b (ap (λ (at : ℕ). line (codes "refused syntax " ++ decimal at)) (one_wrong text m n h k)) s r
-one_error text (errors.Syntax m) (errors.Name n) a b h k s r = absurd (h.none k.of)
-one_error text (errors.Syntax m) (errors.Limit n w) a b h k s r = absurd (h.none k.of)
-one_error text (errors.Syntax m) errors.Memory a b h k s r = absurd r
-one_error text (errors.Name m) (errors.Syntax n) a b h k s r = absurd (k.none h.of)
-one_error text (errors.Name m) (errors.Name n) a b h k s r =
-    said_same DesignRefused _ _ a b (ap (λ (at : ℕ). line (codes "refused name " ++ decimal at)) (one_name_line text m n h k)) s r
-one_error text (errors.Name m) (errors.Limit n w) a b h k s r = absurd (name_or_limit text m n w h k)
-one_error text (errors.Name m) errors.Memory a b h k s r = absurd r
-one_error text (errors.Limit m v) (errors.Syntax n) a b h k s r = absurd (k.none h.of)
-one_error text (errors.Limit m v) (errors.Name n) a b h k s r = absurd (name_or_limit text n m v k h)
-one_error text (errors.Limit m v) (errors.Limit n w) a b h k s r =
-    let same = one_limit text m n v w h k in
-    said_same DesignRefused _ _ a b (λ i. line (codes "refused limit " ++ (decimal (same.0 i) ++ (codes " " ++ decimal (same.1 i))))) s r
-one_error text (errors.Limit m v) errors.Memory a b h k s r = absurd r
-one_error text errors.Memory f a b h k s r = absurd s
-
--- ---- a design breaks one rule first
-
-one_form : (text : List ℕ) (a b : Said) → RefusesForm text a → RefusesForm text b → a ≡ b
-one_form text a b h k =
-    let same : h.d ≡ k.d = one_design text h.d k.d h.is_text k.is_text in
-    let first = one_least (form_faults k.d) h.rule h.at k.rule k.at (subst (λ (d : Design). IsLeast is_before (form_faults d) (h.rule, h.at)) same h.first) k.first in
-    said_same DesignRefused _ _ a b (λ i. line (codes "refused form " ++ (decimal (first.0 i) ++ (codes " " ++ decimal (first.1 i))))) h.says k.says
-
-one_refusal : (text : List ℕ) (a b : Said) → RefusesDesign text a → RefusesDesign text b → a ≡ b
-one_refusal text a b (inl h) (inl k) = one_error text h.error k.error a b h.refused k.refused h.says k.says
-one_refusal text a b (inl h) (inr k) = absurd (read_or_refused text k.d h.error a k.is_text h.refused h.says)
-one_refusal text a b (inr h) (inl k) = absurd (read_or_refused text h.d k.error b h.is_text k.refused k.says)
-one_refusal text a b (inr h) (inr k) = one_form text a b h k
-
-formed_or_refused : (text : List ℕ) (d : Design) (a : Said) → IsDesignText text d → IsWellFormed d → RefusesDesign text a → ⊥
-formed_or_refused text d a is_text formed (inl h) = read_or_refused text d h.error a is_text h.refused h.says
-formed_or_refused text d a is_text formed (inr h) =
-    faulty_of_least d (h.rule, h.at) (subst (λ (z : Design). IsLeast is_before (form_faults z) (h.rule, h.at)) (one_design text h.d d h.is_text is_text) h.first) formed
+use Rattle.acc_cli.proofs.OneDesign.{said_same, one_design, one_refusal, formed_or_refused}
+use Rattle.acc_cli.proofs.OneRun.{one_of_script, one_play, one_certified}
 
 -- ---- plays
-
-one_play : (d : Design) (calls : List Call) (order : List ℕ) (a b : Said) → SaysPlay d calls order a → SaysPlay d calls order b → a ≡ b
-one_play d calls order a b h k =
-    let same = tells_once d calls order a.text b.text a.history b.history h.1 k.1 in
-    λ i. record { ending = (h.0 ∙ sym k.0) i; text = same.0 i; history = same.1 i }
-
-one_of_order : (d : Design) (calls : List Call) (order : List ℕ) (a b : Said) → length calls < 2 ^ 64 → SaysOfOrder d calls order a → SaysOfOrder d calls order b → a ≡ b
-one_of_order d calls order a b few (inl h) (inl k) =
-    let same = one_refused_line (SaysPlaces (length calls)) (says_one_line (length calls) few) most_numbers order h.at k.at h.first k.first in
-    said_same ScriptRefused _ _ a b (ap (λ (at : ℕ). line (codes "refused order " ++ decimal at)) same) h.says k.says
-one_of_order d calls order a b few (inl h) (inr k) = absurd (h.none k.numbers k.is_order)
-one_of_order d calls order a b few (inr h) (inl k) = absurd (k.none h.numbers h.is_order)
-one_of_order d calls order a b few (inr h) (inr k) =
-    let same = one_said_by (SaysPlaces (length calls)) (says_one_line (length calls) few) most_numbers order h.numbers k.numbers h.is_order k.is_order in
-    one_play d calls k.numbers a b (subst (λ (ns : List ℕ). SaysPlay d calls ns a) same h.says) k.says
-
-one_of_script : (d : Design) (script order : List ℕ) (a b : Said) → SaysOfScript d script order a → SaysOfScript d script order b → a ≡ b
-one_of_script d script order a b (inl h) (inl k) =
-    let same = one_refused_line (SaysCall d) (says_one_call d) most_calls script h.at k.at h.first k.first in
-    said_same ScriptRefused _ _ a b (ap (λ (at : ℕ). line (codes "refused script " ++ decimal at)) same) h.says k.says
-one_of_script d script order a b (inl h) (inr k) = absurd (h.none k.calls k.is_script)
-one_of_script d script order a b (inr h) (inl k) = absurd (k.none h.calls h.is_script)
-one_of_script d script order a b (inr h) (inr k) =
-    let same = one_said_by (SaysCall d) (says_one_call d) most_calls script h.calls k.calls h.is_script k.is_script in
-    one_of_order d k.calls order a b (omega (arith, k.is_script.few)) (subst (λ (cs : List Call). SaysOfOrder d cs order a) same h.says) k.says
 
 one_of_files : (design script order : List ℕ) (a b : Said) → PlaysFiles design script order a → PlaysFiles design script order b → a ≡ b
 one_of_files design script order a b (inl h) (inl k) = one_refusal design a b h k
 one_of_files design script order a b (inl h) (inr k) = absurd (formed_or_refused design k.d a k.is_text k.formed h)
 one_of_files design script order a b (inr h) (inl k) = absurd (formed_or_refused design h.d b h.is_text h.formed k)
 one_of_files design script order a b (inr h) (inr k) =
-    one_of_script k.d script order a b (subst (λ (d : Design). SaysOfScript d script order a) (one_design design h.d k.d h.is_text k.is_text) h.says) k.says
+    one_of_script (SaysPlay k.d) (one_play k.d) k.d script order a b
+    (subst (λ (d : Design). SaysOfScript (SaysPlay d) d script order a) (one_design design h.d k.d h.is_text k.is_text) h.says) k.says
 
 one_print : (design : List ℕ) (a b : Said) → PrintsFile design a → PrintsFile design b → a ≡ b
 one_print design a b (inl h) (inl k) = one_refusal design a b h k
@@ -201,6 +47,16 @@ one_check design certificate a b (inr h) (inr k) =
     let ending : a.ending ≡ b.ending = h.ending ∙ ap ending_by same.0 ∙ sym k.ending in
     λ i. record { ending = ending i; text = same.1 i; history = (h.history ∙ sym k.history) i }
 
+one_scheduled :
+    (design certificate script order : List ℕ) (a b : Said) → SchedulesFiles design certificate script order a
+    → SchedulesFiles design certificate script order b → a ≡ b
+one_scheduled design certificate script order a b (inl h) (inl k) = one_refusal design a b h k
+one_scheduled design certificate script order a b (inl h) (inr k) = absurd (formed_or_refused design k.d a k.is_text k.formed h)
+one_scheduled design certificate script order a b (inr h) (inl k) = absurd (formed_or_refused design h.d b h.is_text h.formed k)
+one_scheduled design certificate script order a b (inr h) (inr k) =
+    one_certified k.d certificate script order a b
+    (subst (λ (d : Design). SaysOfCertificate d certificate script order a) (one_design design h.d k.d h.is_text k.is_text) h.says) k.says
+
 -- ---- commands
 
 pub one_meaning : (c : Command) (files : List (List ℕ)) (a b : Said) → Means c files a → Means c files b → a ≡ b
@@ -210,6 +66,12 @@ one_meaning command.Play (design ∷ []) a b h k = absurd h
 one_meaning command.Play (design ∷ script ∷ []) a b h k = absurd h
 one_meaning command.Play (design ∷ script ∷ order ∷ []) a b h k = one_of_files design script order a b h k
 one_meaning command.Play (design ∷ script ∷ order ∷ more ∷ rest) a b h k = absurd h
+one_meaning command.Sched [] a b h k = absurd h
+one_meaning command.Sched (design ∷ []) a b h k = absurd h
+one_meaning command.Sched (design ∷ certificate ∷ []) a b h k = absurd h
+one_meaning command.Sched (design ∷ certificate ∷ script ∷ []) a b h k = absurd h
+one_meaning command.Sched (design ∷ certificate ∷ script ∷ order ∷ []) a b h k = one_scheduled design certificate script order a b h k
+one_meaning command.Sched (design ∷ certificate ∷ script ∷ order ∷ more ∷ rest) a b h k = absurd h
 one_meaning command.Print [] a b h k = absurd h
 one_meaning command.Print (design ∷ []) a b h k = one_print design a b h k
 one_meaning command.Print (design ∷ more ∷ rest) a b h k = absurd h

@@ -5,10 +5,14 @@ pub mod Status
 pub mod Refusals
 pub mod ReadDesigns
 pub mod Notes
+pub mod Scripts
 pub mod PlayFiles
+pub mod ScheduleFiles
 pub mod PrintFiles
 pub mod CheckFiles
 pub mod Responses
+pub mod ReadScripts
 pub mod Meant
 pub mod Answered
 pub mod Causes
+pub mod Promises

@@ -16,12 +16,14 @@ use Rattle.acc_cli.specs.Notes.{help_text, version_text}
 use Rattle.acc_cli.specs.Words.{command_of, files_of}
 use Rattle.acc_cli.specs.Files.{AreFiles, IsFirstRefused, SaysRefused}
 use Rattle.acc_cli.specs.PlayFiles.{PlaysFiles}
+use Rattle.acc_cli.specs.ScheduleFiles.{SchedulesFiles}
 use Rattle.acc_cli.specs.PrintFiles.{PrintsFile}
 use Rattle.acc_cli.specs.CheckFiles.{ChecksFiles}
 
 -- what a command makes of its files
 unfoldable pub Means : Command → List (List ℕ) → Said → Type 0
 Means command.Play (design ∷ script ∷ order ∷ []) = PlaysFiles design script order
+Means command.Sched (design ∷ certificate ∷ script ∷ order ∷ []) = SchedulesFiles design certificate script order
 Means command.Print (design ∷ []) = PrintsFile design
 Means command.Check (design ∷ certificate ∷ []) = ChecksFiles design certificate
 Means command.Help [] = Says Done help_text

@@ -1,6 +1,6 @@
 -- The numbers of the statuses.
 use Rattle.std.specs.Prelude.{◌≡◌, ℕ}
-use Rattle.acc_cli.specs.declared.status.Ending.TheVariants.{Done, DesignRefused, ScriptRefused}
+use Rattle.acc_cli.specs.declared.status.Ending.TheVariants.{Done, DesignRefused, ScriptRefused, Unbegun}
 use Rattle.acc_cli.specs.declared.status.Status.{Status}
 use Rattle.acc_cli.specs.declared.status.Status.TheVariants.{Usage, File, Sink, Memory, Ran}
 
@@ -11,6 +11,7 @@ code_of (Ran DesignRefused) = 2
 code_of (Ran ScriptRefused) = 3
 code_of File = 6
 code_of Sink = 7
+code_of (Ran Unbegun) = 8
 code_of Memory = 9
 
 -- the number is that of a status of which this holds

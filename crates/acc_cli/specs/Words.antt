@@ -9,19 +9,22 @@ abbrev pub is_form : List ℕ → ℕ → List (List ℕ) → Bool
 is_form verb count [] = false
 is_form verb count (first ∷ rest) = bytes_eq first verb && (length rest == count)
 
--- the command that the words ask for: `play DESIGN SCRIPT ORDER`, `print DESIGN`, `check DESIGN CERT`, `--help`, `--version`
+-- the command that the words ask for: `play DESIGN SCRIPT ORDER`, `sched DESIGN CERT SCRIPT ORDER`, `print DESIGN`, `check DESIGN CERT`,
+-- `--help`, `--version`
 unfoldable pub command_of : List (List ℕ) → Option Command
 command_of words =
     if is_form (codes "play") 3 words then Some command.Play else
+    (if is_form (codes "sched") 4 words then Some command.Sched else
     (if is_form (codes "print") 1 words then Some command.Print else
     (if is_form (codes "check") 2 words then Some command.Check else
     (if is_form (codes "--help") 0 words then Some command.Help else
     (if is_form (codes "--version") 0 words then Some command.Version else
-    None))))
+    None)))))
 
 -- how many files a command reads: the first words behind the verb name them
 unfoldable pub file_count : Command → ℕ
 file_count command.Play = 3
+file_count command.Sched = 4
 file_count command.Print = 1
 file_count command.Check = 2
 file_count command.Help = 0

@@ -1,39 +1,33 @@
 //! What each command makes of its files.
-ghost use Rattle.std.specs.Prelude.{◌≡◌, ◌++◌, [], map, length, IfOk};
-ghost use Rattle.std.specs.Fmt.{decimal};
-ghost use Rattle.acc_base.specs.Lines.{line};
+ghost use Rattle.std.specs.Prelude.{◌≡◌, [], map, length, IfOk};
 ghost use Rattle.acc_base.specs.Runnable.{IsRunnable};
 ghost use Rattle.acc_cli.specs.Words.{file_count};
 ghost use Rattle.acc_cli.specs.Meant.{Means};
 ghost use Rattle.acc_cli.specs.Text.{Says};
-ghost use Rattle.acc_cli.specs.declared.status.Ending.TheVariants.{Done, ScriptRefused};
+ghost use Rattle.acc_cli.specs.declared.status.Ending.TheVariants.{Done};
 ghost use Rattle.acc_cli.specs.Responses.{said_of};
 ghost use Rattle.acc_play.specs.Stages.{AllFit};
-ghost use Rattle.acc_cli.specs.PlayFiles.{PlaysFiles, SaysOfScript, SaysOfOrder};
+ghost use Rattle.acc_cli.specs.Scripts.{SaysOfScript, SaysOfOrder};
+ghost use Rattle.acc_cli.specs.PlayFiles.{PlaysFiles, SaysPlay};
+ghost use Rattle.acc_cli.specs.ScheduleFiles.{SchedulesFiles, SaysOfCertificate, SaysSchedule, ending_at};
 ghost use Rattle.acc_cli.specs.PrintFiles.{PrintsFile};
 ghost use Rattle.acc_cli.specs.CheckFiles.{ChecksFiles, ending_by};
 
 use crate::designs::{ReadDesign, read_design};
 use crate::notes;
-use crate::responses::{Response, one_line};
+use crate::responses::Response;
+use crate::scripts::{ReadOrder, ReadScript, read_order, read_script};
 use crate::status::Ending;
 use crate::words::Command;
 use acc_base::designs::Design;
 use acc_base::machines::Call;
 use acc_base::sequences::Seq;
-use acc_check::{Report, check};
+use acc_check::{Admission, Report, admit, check};
+use acc_lift::Accepted;
 use acc_play::{Transcript, play};
 use acc_print::{PrintError, print};
-use acc_script::{ScriptError, calls, order};
+use acc_schedule::{Scheduled, schedule};
 use std::alloc::{AllocError, Global};
-
-/// What is answered to a text of which a line is refused; the label says which text.
-fn line_refusal(alloc: Global, label: &str, at: u64) -> Result<Response, AllocError>
-    ensures { IfOk result (λ a. Says ScriptRefused (line (label.now ++ decimal at)) (said_of a)) }
-{
-    let text = format!(in alloc; "{label}{at}")?;
-    one_line(alloc, Ending::ScriptRefused, text.as_str())
-}
 
 /// The answer of a play.
 fn played(transcript: Transcript) -> Response
@@ -56,12 +50,11 @@ fn play_order(
 ) -> Result<Response, AllocError>
     requires runnable { IsRunnable d.now }
     requires fit { AllFit d.now asked.now }
-    ensures { IfOk result (λ a. SaysOfOrder d.now asked.now file.now (said_of a)) }
+    ensures { IfOk result (λ a. SaysOfOrder (SaysPlay d.now) asked.now file.now (said_of a)) }
 {
-    match order(alloc, asked.len() as u64, file) {
-        Ok(places) => Ok(played(play(alloc, d, asked, places.as_slice())?)),
-        Err(ScriptError::Line(at)) => line_refusal(alloc, "refused order ", at),
-        Err(ScriptError::Memory) => Err(AllocError),
+    match read_order(alloc, asked, file)? {
+        ReadOrder::Read(places) => Ok(played(play(alloc, d, asked, places.as_slice())?)),
+        ReadOrder::Refused(response) => Ok(response),
     }
 }
 
@@ -73,12 +66,11 @@ fn play_script(
     file: &[u8],
 ) -> Result<Response, AllocError>
     requires runnable { IsRunnable d.now }
-    ensures { IfOk result (λ a. SaysOfScript d.now script.now file.now (said_of a)) }
+    ensures { IfOk result (λ a. SaysOfScript (SaysPlay d.now) d.now script.now file.now (said_of a)) }
 {
-    match calls(alloc, d, script) {
-        Ok(asked) => play_order(alloc, d, asked.as_slice(), file),
-        Err(ScriptError::Line(at)) => line_refusal(alloc, "refused script ", at),
-        Err(ScriptError::Memory) => Err(AllocError),
+    match read_script(alloc, d, script)? {
+        ReadScript::Read(asked) => play_order(alloc, d, asked.as_slice(), file),
+        ReadScript::Refused(response) => Ok(response),
     }
 }
 
@@ -95,6 +87,98 @@ fn play_files(
     match read_design(alloc, design)? {
         ReadDesign::Read(d) => play_script(alloc, &d, script, file),
         ReadDesign::Refused(outcome) => Ok(outcome),
+    }
+}
+
+/// The answer of a schedule.
+fn scheduled_answer(told: Scheduled) -> Response
+    ensures { said_of result ≡ record { ending = ending_at told.all_begun; text = told.text.items; history = told.history } }
+{
+    let Scheduled {
+        text,
+        history,
+        all_begun,
+    } = told;
+    let ending = if all_begun {
+        Ending::Done
+    } else {
+        Ending::Unbegun
+    };
+    Response {
+        ending,
+        text,
+        history,
+    }
+}
+
+/// Schedules the calls in the order that the file gives.
+fn schedule_order(
+    alloc: Global,
+    accepted: &Accepted,
+    asked: &[Call],
+    file: &[u8],
+) -> Result<Response, AllocError>
+    requires fit { AllFit accepted.now asked.now }
+    ensures { IfOk result (λ a. SaysOfOrder (SaysSchedule accepted.now) asked.now file.now (said_of a)) }
+{
+    match read_order(alloc, asked, file)? {
+        ReadOrder::Read(places) => {
+            let told = schedule(alloc, accepted, asked, places.as_slice())?;
+            Ok(scheduled_answer(told))
+        }
+        ReadOrder::Refused(response) => Ok(response),
+    }
+}
+
+/// Schedules the calls of a script.
+fn schedule_script(
+    alloc: Global,
+    accepted: &Accepted,
+    script: &[u8],
+    file: &[u8],
+) -> Result<Response, AllocError>
+    ensures { IfOk result (λ a. SaysOfScript (SaysSchedule accepted.now) accepted.now script.now file.now (said_of a)) }
+{
+    match read_script(alloc, accepted.design(), script)? {
+        ReadScript::Read(asked) => schedule_order(alloc, accepted, asked.as_slice(), file),
+        ReadScript::Refused(response) => Ok(response),
+    }
+}
+
+/// Schedules the calls of a script on a design, if it is accepted with its certificate.
+fn schedule_design(
+    alloc: Global,
+    d: Design,
+    certificate: &[u8],
+    script: &[u8],
+    file: &[u8],
+) -> Result<Response, AllocError>
+    ensures { IfOk result (λ a. SaysOfCertificate d certificate.now script.now file.now (said_of a)) }
+{
+    match admit(alloc, d, certificate)? {
+        Admission::Accepted(accepted) => schedule_script(alloc, &accepted, script, file),
+        Admission::Refused(text) => Ok(Response {
+            ending: Ending::DesignRefused,
+            text,
+            history: Seq::new(alloc),
+        }),
+    }
+}
+
+/// Plays a script's calls in the order that is given and then to their end, by the rules of locks, on a design that is accepted with
+/// its certificate.
+fn schedule_files(
+    alloc: Global,
+    design: &[u8],
+    certificate: &[u8],
+    script: &[u8],
+    file: &[u8],
+) -> Result<Response, AllocError>
+    ensures { IfOk result (λ a. SchedulesFiles design.now certificate.now script.now file.now (said_of a)) }
+{
+    match read_design(alloc, design)? {
+        ReadDesign::Read(d) => schedule_design(alloc, d, certificate, script, file),
+        ReadDesign::Refused(response) => Ok(response),
     }
 }
 
@@ -160,6 +244,9 @@ pub fn run(alloc: Global, command: Command, files: &[Vec<u8>]) -> Result<Respons
 {
     match (command, files) {
         (Command::Play, [design, script, order]) => play_files(alloc, design, script, order),
+        (Command::Sched, [design, certificate, script, order]) => {
+            schedule_files(alloc, design, certificate, script, order)
+        }
         (Command::Print, [design]) => print_file(alloc, design),
         (Command::Check, [design, certificate]) => check_files(alloc, design, certificate),
         (Command::Help, []) => Ok(note(alloc, notes::help_text(alloc)?)),

@@ -7,6 +7,7 @@ mod files;
 pub mod laws;
 mod notes;
 mod responses;
+mod scripts;
 mod status;
 mod top;
 mod words;

@@ -9,11 +9,12 @@ use std::alloc::{AllocError, Global};
 pub fn help_text(alloc: Global) -> Result<Vec<u8>, AllocError>
     ensures { IfOk result (λ text. text.items ≡ help_text) }
 {
-    b"acc play DESIGN SCRIPT ORDER   plays the script's transactions in the order's turns, and prints the turns and replies
-acc print DESIGN               prints the design in its one spelling
-acc check DESIGN CERT          tells whether the certificate proves that the design is sound, and else why not
-acc --help                     prints these lines
-acc --version                  prints the version of acc, and of the toolchain that proved it
+    b"acc play DESIGN SCRIPT ORDER         plays the script's transactions in the order's turns, and prints the turns and replies
+acc sched DESIGN CERT SCRIPT ORDER   plays them by the rules of locks, if the certificate proves the design, and ends the rest
+acc print DESIGN                     prints the design in its one spelling
+acc check DESIGN CERT                tells whether the certificate proves that the design is sound, and else why not
+acc --help                           prints these lines
+acc --version                        prints the version of acc, and of the toolchain that proved it
 README.md tells what acc is for, and docs/DESIGN-LANGUAGE.md how a design is written and how to mend one that is refused.
 "
         .to_vec(alloc)

@@ -10,6 +10,8 @@ pub enum Ending {
     DesignRefused,
     /// The script or the order is refused.
     ScriptRefused,
+    /// A place of the script couldn't begin, since the history is full.
+    Unbegun,
 }
 
 /// How the program ends.
@@ -39,6 +41,7 @@ impl Status {
             Status::Ran(Ending::ScriptRefused) => 3,
             Status::File => 6,
             Status::Sink => 7,
+            Status::Ran(Ending::Unbegun) => 8,
             Status::Memory => 9,
         }
     }

@@ -1,5 +1,5 @@
 // The top call.
-ghost use Rattle.std.specs.Prelude.{◌≡◌, ◌≤◌, map, string_bytes, IfOk};
+ghost use Rattle.std.specs.Prelude.{◌≡◌, ◌≤◌, map, string_bytes, IfOk, Some};
 ghost use Rattle.acc_io.specs.Causes.{Rose};
 ghost use Rattle.acc_cli.specs.Files.{AllGiven, SaysRefused};
 ghost use Rattle.acc_cli.specs.declared.status.Ending.TheVariants.{Done};
@@ -10,6 +10,9 @@ ghost use Rattle.acc_cli.specs.Meant.{Meant};
 ghost use Rattle.acc_cli.specs.Answered.{Answered};
 ghost use Rattle.acc_cli.specs.Causes.{HasCauses};
 ghost use Rattle.acc_cli.specs.Status.{IsCoded};
+ghost use Rattle.acc_cli.specs.Promises.{KeepsPromise};
+ghost use Rattle.acc_cli.specs.Words.{command_of};
+ghost use Rattle.acc_cli.specs.declared.words.Command.TheVariants.{Sched};
 
 use crate::status::{Ending, Status};
 use crate::{commands, files, words};
@@ -133,6 +136,9 @@ pub fn acc<H: Shelf, K: Sink>(alloc: Global, words: &[String], shelf: &mut H, ou
     ensures causes { IsCoded result.status (λ status. HasCauses (H.held shelf.old)
         (H.counts shelf.old) (H.counts shelf.new)
         (map string_bytes words.now) (Rose (K.faults out.old) (K.faults out.new)) status) }
+    // What `sched` ran is a lawful and annotated run of an accepted design, whatever the order of turns.
+    ensures promise { command_of (map string_bytes words.now) ≡ Some Sched
+        → KeepsPromise (H.held shelf.old) (map string_bytes words.now) result.history }
     // Status 0 comes only where each read gave its file and no write failed.
     ensures clean { result.status ≡ 0 → AllGiven (H.counts shelf.old) (H.counts shelf.new)
         × (K.faults out.new ≡ K.faults out.old) }

@@ -7,6 +7,8 @@ ghost use Rattle.acc_cli.specs.Words.{is_form, command_of, file_count};
 pub enum Command {
     /// `play DESIGN SCRIPT ORDER`
     Play,
+    /// `sched DESIGN CERT SCRIPT ORDER`
+    Sched,
     /// `print DESIGN`
     Print,
     /// `check DESIGN CERT`
@@ -36,6 +38,8 @@ pub fn command_of(words: &[String]) -> Option<Command>
 {
     if is_form(words, "play", 3) {
         Some(Command::Play)
+    } else if is_form(words, "sched", 4) {
+        Some(Command::Sched)
     } else if is_form(words, "print", 1) {
         Some(Command::Print)
     } else if is_form(words, "check", 2) {
@@ -56,6 +60,7 @@ pub fn file_count(command: Command) -> usize
 {
     match command {
         Command::Play => 3,
+        Command::Sched => 4,
         Command::Print => 1,
         Command::Check => 2,
         Command::Help | Command::Version => 0,

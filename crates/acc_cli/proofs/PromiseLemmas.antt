@@ -1,0 +1,106 @@
+-- What sched tells is no event, or a run of an accepted design.
+use Rattle.std.proofs.Common.{◌≡◌, ℕ, List, [], ◌∷◌, Option, Some, inl, inr, sym, subst}
+use Rattle.std.specs.Prelude.{◌⊎◌}
+use Rattle.acc_base.specs.declared.designs.Design.{Design}
+use Rattle.acc_base.specs.declared.machines.Call.{Call}
+use Rattle.acc_base.specs.declared.machines.Event.{Event}
+use Rattle.acc_base.specs.Machine.{World}
+use Rattle.acc_io.specs.Shelves.{Told}
+use Rattle.acc_io.specs.declared.counts.Counts.{Counts}
+use Rattle.acc_parse.specs.declared.errors.ParseError.{ParseError}
+use Rattle.acc_parse.specs.declared.errors.ParseError.TheVariants as errors
+use Rattle.acc_schedule.specs.Schedules.{EndsWell}
+use Rattle.acc_cli.specs.declared.words.Command.{Command}
+use Rattle.acc_cli.specs.declared.words.Command.TheVariants as command
+use Rattle.acc_cli.specs.declared.status.Status.{Status}
+use Rattle.acc_cli.specs.Text.{Said, Reply}
+use Rattle.acc_cli.specs.Words.{command_of, files_of}
+use Rattle.acc_cli.specs.Files.{AreFiles}
+use Rattle.acc_cli.specs.Refusals.{SaysError, RefusesDesign}
+use Rattle.acc_cli.specs.Scripts.{SaysOfScript, SaysOfOrder}
+use Rattle.acc_cli.specs.ScheduleFiles.{SaysSchedule, SchedulesAccepted, SaysOfCertificate, SchedulesFiles}
+use Rattle.acc_cli.specs.Meant.{Means, MeansForm, Meant}
+use Rattle.acc_cli.specs.Answered.{Answered}
+use Rattle.acc_cli.specs.Promises.{KeepsPromise}
+
+-- ---- what is refused tells no event
+
+error_tells_none : (e : ParseError) (said : Said) → SaysError e said → said.history ≡ []
+error_tells_none (errors.Syntax at) said says = says.2
+error_tells_none (errors.Name at) said says = says.2
+error_tells_none (errors.Limit at which) said says = says.2
+error_tells_none errors.Memory said says = absurd says
+
+refusal_tells_none : (design : List ℕ) (said : Said) → RefusesDesign design said → said.history ≡ []
+refusal_tells_none design said (inl h) = error_tells_none h.error said h.says
+refusal_tells_none design said (inr h) = h.says.2
+
+-- ---- what is told ends well
+
+abbrev EndsSomehow : Design → List Event → Type 0
+EndsSomehow d history = (history ≡ []) ⊎ ((last : World) × EndsWell d history last)
+
+of_order :
+    (d : Design) (calls : List Call) (order : List ℕ) (said : Said) → SaysOfOrder (SaysSchedule d) calls order said
+    → EndsSomehow d said.history
+of_order d calls order said (inl h) = inl h.says.2
+of_order d calls order said (inr h) = inr (h.says.tells.ended.world, h.says.tells.ends_well)
+
+of_script :
+    (d : Design) (script order : List ℕ) (said : Said) → SaysOfScript (SaysSchedule d) d script order said → EndsSomehow d said.history
+of_script d script order said (inl h) = inl h.says.2
+of_script d script order said (inr h) = of_order d h.calls order said h.says
+
+module _ (held : List ℕ → Told) (words : List (List ℕ)) where
+  of_files :
+      (design certificate script order : List ℕ) (said : Said)
+      → AreFiles held (files_of command.Sched words) (design ∷ certificate ∷ script ∷ order ∷ [])
+      → SchedulesFiles design certificate script order said → KeepsPromise held words said.history
+  of_files design certificate script order said given (inl h) = inl (refusal_tells_none design said h)
+  of_files design certificate script order said given (inr h) = by h.says
+    where
+      of_accepted :
+          SchedulesAccepted h.d certificate script order said → EndsSomehow h.d said.history → KeepsPromise held words said.history
+      of_accepted a (inl none) = inl none
+      of_accepted a (inr w) = inr (record {
+        design = design;
+        certificate = certificate;
+        others = script ∷ order ∷ [];
+        given = given;
+        d = h.d;
+        is_text = h.is_text;
+        accepted = a.accepted;
+        last = w.0;
+        ends_well = w.1;
+      })
+
+      by : SaysOfCertificate h.d certificate script order said → KeepsPromise held words said.history
+      by (inl refused) = inl refused.history
+      by (inr a) = of_accepted a (of_script h.d script order said a.says)
+
+  of_means :
+      (files : List (List ℕ)) (said : Said) → AreFiles held (files_of command.Sched words) files → Means command.Sched files said
+      → KeepsPromise held words said.history
+  unfolding Means
+  of_means [] said given h = absurd h
+  of_means (design ∷ []) said given h = absurd h
+  of_means (design ∷ certificate ∷ []) said given h = absurd h
+  of_means (design ∷ certificate ∷ script ∷ []) said given h = absurd h
+  of_means (design ∷ certificate ∷ script ∷ order ∷ []) said given h = of_files design certificate script order said given h
+  of_means (design ∷ certificate ∷ script ∷ order ∷ more ∷ rest) said given h = absurd h
+
+  of_form :
+      (counts counts' : Counts) (reply : Reply) → MeansForm held counts counts' words (Some command.Sched) reply
+      → KeepsPromise held words reply.history
+  of_form counts counts' reply (inl refused) = inl refused.1
+  of_form counts counts' reply (inr runs) =
+      of_means runs.0 (record { ending = runs.1; text = reply.text; history = reply.history }) runs.2 runs.5
+
+  pub promise_kept :
+      (counts counts' : Counts) (old new : Option (List ℕ)) (fault : Type 0) (status : Status) (history : List Event)
+      → command_of words ≡ Some command.Sched → Answered (Meant held counts counts' words) old new fault status history
+      → KeepsPromise held words history
+  promise_kept counts counts' old new fault status history is (inl none) = inl none.2
+  promise_kept counts counts' old new fault status history is (inr (meant, means, ends)) =
+      subst (KeepsPromise held words) (sym ends.history_is)
+      (of_form counts counts' meant (subst (λ (o : Option Command). MeansForm held counts counts' words o meant) is means))
