@@ -63,10 +63,12 @@ fn push_script(
     alloc: Global,
     out: &mut Vec<u8>,
     design: &Design,
-    names: [&String; 2],
-    files: [&Vec<u8>; 2],
+    names: &[String],
+    files: &[Vec<u8>],
 ) -> Result<(), AllocError> {
-    let ([script_name, order_name], [script, order]) = (names, files);
+    let ([_, script_name, order_name], [_, script, order]) = (names, files) else {
+        return Ok(());
+    };
     match calls(alloc, design, script) {
         Ok(asked) => {
             let places = asked.len() as u64;
@@ -77,25 +79,6 @@ fn push_script(
             push_report(out, script_name.as_bytes(), script, line, &spot)
         }
         Err(ScriptError::Memory) => Err(AllocError),
-    }
-}
-
-/// Says what is wrong with the script or the order of `play` or `sched`, which stand behind the design, or behind its certificate.
-fn push_run(
-    alloc: Global,
-    out: &mut Vec<u8>,
-    design: &Design,
-    names: &[String],
-    files: &[Vec<u8>],
-) -> Result<(), AllocError> {
-    match (names, files) {
-        ([_, a, b], [_, script, order]) => {
-            push_script(alloc, out, design, [a, b], [script, order])
-        }
-        ([_, _, a, b], [_, _, script, order]) => {
-            push_script(alloc, out, design, [a, b], [script, order])
-        }
-        _ => Ok(()),
     }
 }
 
@@ -110,7 +93,7 @@ fn push_files(
         return Ok(());
     };
     match diagnose(alloc, text)? {
-        Diagnosed::Read(design) => push_run(alloc, out, &design, names, files),
+        Diagnosed::Read(design) => push_script(alloc, out, &design, names, files),
         Diagnosed::Refused(d) => push_report(out, name.as_bytes(), text, d.line, &d.spot),
     }
 }
@@ -148,8 +131,6 @@ fn push_status<H: Shelf>(
         (1, _) => push_usage(out, usage),
         (7, _) => push_note(out, b"acc", sink_text(), b""),
         (9, _) => push_note(out, b"acc", memory_text(), b""),
-        // The design or the certificate of `sched`.
-        (2, [_, _, _, _, _]) => push_names(alloc, out, &words[1..3], shelf),
         (_, [_, names @ ..]) => push_names(alloc, out, names, shelf),
         _ => Ok(()),
     }
