@@ -1,5 +1,9 @@
 //! What is told of a command line that ended with another status than 0.
+ghost use Rattle.acc_form.specs.WellFormed.{IsWellFormed};
+
+use crate::certificates::{Judged, judge};
 use crate::designs::{Diagnosed, diagnose};
+use crate::obligations::{File, push_fault};
 use acc_base::designs::Design;
 use acc_base::sequences::Seq;
 use acc_explain::{
@@ -42,17 +46,11 @@ fn read_all<H: Shelf>(
 }
 
 /// Says what is wrong with an order, if it is refused.
-fn push_order(
-    alloc: Global,
-    out: &mut Vec<u8>,
-    places: u64,
-    name: &[u8],
-    text: &[u8],
-) -> Result<(), AllocError> {
-    match order(alloc, places, text) {
+fn push_order(alloc: Global, out: &mut Vec<u8>, places: u64, file: File) -> Result<(), AllocError> {
+    match order(alloc, places, file.text) {
         Err(ScriptError::Line(line)) => {
-            let spot = order_spot(alloc, places, line_at(text, line))?;
-            push_report(out, name, text, line, &spot)
+            let spot = order_spot(alloc, places, line_at(file.text, line))?;
+            push_report(out, file.name, file.text, line, &spot)
         }
         _ => Ok(()),
     }
@@ -63,39 +61,82 @@ fn push_script(
     alloc: Global,
     out: &mut Vec<u8>,
     design: &Design,
-    names: &[String],
-    files: &[Vec<u8>],
+    script: File,
+    order: File,
 ) -> Result<(), AllocError> {
-    let ([_, script_name, order_name], [_, script, order]) = (names, files) else {
-        return Ok(());
-    };
-    match calls(alloc, design, script) {
-        Ok(asked) => {
-            let places = asked.len() as u64;
-            push_order(alloc, out, places, order_name.as_bytes(), order)
-        }
+    match calls(alloc, design, script.text) {
+        Ok(asked) => push_order(alloc, out, asked.len() as u64, order),
         Err(ScriptError::Line(line)) => {
-            let spot = script_spot(alloc, design, line_at(script, line))?;
-            push_report(out, script_name.as_bytes(), script, line, &spot)
+            let spot = script_spot(alloc, design, line_at(script.text, line))?;
+            push_report(out, script.name, script.text, line, &spot)
         }
         Err(ScriptError::Memory) => Err(AllocError),
     }
 }
 
-/// Says what is wrong with the files that a command line names.
-fn push_files(
+/// Says why a design isn't accepted with its certificate, or else what is wrong with the files behind that, if there are some.
+fn push_judged(
     alloc: Global,
     out: &mut Vec<u8>,
-    names: &[String],
-    files: &[Vec<u8>],
-) -> Result<(), AllocError> {
-    let ([name, ..], [text, ..]) = (names, files) else {
+    d: Design,
+    design: File,
+    certificate: File,
+    behind: &[File],
+) -> Result<(), AllocError>
+    requires { IsWellFormed d }
+{
+    match (judge(alloc, d, certificate.text)?, behind) {
+        (Judged::Refused(d, fault), _) => push_fault(alloc, out, &d, design, certificate, &fault),
+        (Judged::Accepted(d), [script, order]) => {
+            push_script(alloc, out, d.design(), *script, *order)
+        }
+        (Judged::Accepted(_), _) => Ok(()),
+    }
+}
+
+/// Says what is wrong with the files behind a design that is well-formed.
+fn push_behind(
+    alloc: Global,
+    out: &mut Vec<u8>,
+    d: Design,
+    design: File,
+    behind: &[File],
+) -> Result<(), AllocError>
+    requires { IsWellFormed d }
+{
+    match behind {
+        [script, order] => push_script(alloc, out, &d, *script, *order),
+        [certificate, rest @ ..] => push_judged(alloc, out, d, design, *certificate, rest),
+        [] => Ok(()),
+    }
+}
+
+/// Says what is wrong with the files that a command line names: a design, then its certificate, where the command takes one, and
+/// then a script and an order, where it takes these.
+fn push_files(alloc: Global, out: &mut Vec<u8>, files: &[File]) -> Result<(), AllocError> {
+    let [design, behind @ ..] = files else {
         return Ok(());
     };
-    match diagnose(alloc, text)? {
-        Diagnosed::Read(design) => push_script(alloc, out, &design, names, files),
-        Diagnosed::Refused(d) => push_report(out, name.as_bytes(), text, d.line, &d.spot),
+    match diagnose(alloc, design.text)? {
+        Diagnosed::Read(d) => push_behind(alloc, out, d, *design, behind),
+        Diagnosed::Refused(d) => push_report(out, design.name, design.text, d.line, &d.spot),
     }
+}
+
+/// The files with their names.
+fn named<'a>(
+    alloc: Global,
+    names: &'a [String],
+    texts: &'a [Vec<u8>],
+) -> Result<Vec<File<'a>>, AllocError> {
+    let mut files = Vec::new(alloc);
+    for (name, text) in names.iter().zip(texts.iter()) {
+        files.push(File {
+            name: name.as_bytes(),
+            text,
+        })?;
+    }
+    Ok(files)
 }
 
 /// Says what is wrong with the files that these names stand for.
@@ -106,7 +147,10 @@ fn push_names<H: Shelf>(
     shelf: &mut H,
 ) -> Result<(), AllocError> {
     match read_all(alloc, out, names, shelf)? {
-        Some(files) => push_files(alloc, out, names, &files),
+        Some(texts) => {
+            let files = named(alloc, names, &texts)?;
+            push_files(alloc, out, &files)
+        }
         None => Ok(()),
     }
 }

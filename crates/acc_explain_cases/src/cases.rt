@@ -18,13 +18,24 @@ fn words_of(alloc: Global, text: &str) -> Result<Vec<String>, AllocError> {
     Ok(words)
 }
 
-/// A shelf with a design, a script and an order.
-fn shelf(alloc: Global, design: &str, script: &str, order: &str) -> Result<MemShelf, AllocError> {
-    let mut shelf = MemShelf::new(alloc, &[]).map_err(|_| AllocError)?;
+/// A shelf with a design, a script and an order, of which the reads of these numbers fail.
+fn failing_shelf(
+    alloc: Global,
+    fails: &[u64],
+    design: &str,
+    script: &str,
+    order: &str,
+) -> Result<MemShelf, AllocError> {
+    let mut shelf = MemShelf::new(alloc, fails).map_err(|_| AllocError)?;
     hold(&mut shelf, "design", design)?;
     hold(&mut shelf, "script", script)?;
     hold(&mut shelf, "order", order)?;
     Ok(shelf)
+}
+
+/// A shelf with a design, a script and an order.
+fn shelf(alloc: Global, design: &str, script: &str, order: &str) -> Result<MemShelf, AllocError> {
+    failing_shelf(alloc, &[], design, script, order)
 }
 
 fn hold(shelf: &mut MemShelf, name: &str, text: &str) -> Result<(), AllocError> {
@@ -76,6 +87,19 @@ fn run(alloc: Global, design: &str, line: &str, is_failing: bool) -> Result<Stri
     answer_line(alloc, &mut shelf, line, is_failing)
 }
 
+/// Answers a command line over a shelf whose first two reads fail.
+fn unread(alloc: Global, design: &str, line: &str) -> Result<String, AllocError> {
+    let mut shelf = failing_shelf(alloc, &[1, 2], design, SCRIPT, "1 2\n")?;
+    answer_line(alloc, &mut shelf, line, false)
+}
+
+/// Checks a design with the text of a certificate.
+fn check(alloc: Global, design: &str, certificate: &str) -> Result<String, AllocError> {
+    let mut shelf = shelf(alloc, design, "", "")?;
+    hold(&mut shelf, "cert", certificate)?;
+    answer_line(alloc, &mut shelf, "check design cert", false)
+}
+
 /// Prints a changed design.
 fn design(alloc: Global, base: &str, change: &str) -> Result<String, AllocError> {
     let text = changed(alloc, base, change)?;
@@ -88,7 +112,9 @@ fn answer(alloc: Global, base: &str, verb: &str, rest: &str) -> Result<String, A
         "design" => design(alloc, base, rest),
         "script" => play(alloc, base, &with_feeds(alloc, rest)?, ""),
         "order" => play(alloc, base, SCRIPT, &with_feeds(alloc, rest)?),
+        "certificate" => check(alloc, base, &with_feeds(alloc, rest)?),
         "run" => run(alloc, base, rest, false),
+        "unread" => unread(alloc, base, rest),
         "fails" => run(alloc, base, rest, true),
         _ => String::from_str(alloc, "no such case\n"),
     }

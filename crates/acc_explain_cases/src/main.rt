@@ -1,8 +1,8 @@
 //! What is told of refused command lines: a case a line of the input, with the status, what is printed and what is told.
 //!
 //! `base TEXT` gives the design of the cases behind it, with `\n` for a line feed. `design OLD -> NEW` prints that design with the
-//! first OLD exchanged for NEW; `script TEXT` and `order TEXT` play it; `run WORDS` and `fails WORDS` are command lines, the
-//! second over a sink that fails.
+//! first OLD exchanged for NEW; `script TEXT` and `order TEXT` play it; `certificate TEXT` checks it; `run WORDS`, `unread WORDS`
+//! and `fails WORDS` are command lines, the second over files that can't be read, the third over a sink that fails.
 #![tactic(auto)]
 
 mod cases;

@@ -1,0 +1,206 @@
+//! The assertion and the path of an obligation, where they stand in the text of the design.
+use crate::certificates::Marked;
+use crate::parts::{
+    action_from, always_from, first_of, held_from, path_from, point_from, promise_from, side_word,
+    step_from, table_from, variant_from,
+};
+use crate::rules::lack_text;
+use acc_base::designs::{At, Design, Side};
+use acc_base::names::push_at;
+use acc_base::sequents::Origin;
+use acc_base::steps::{Step, Target};
+use acc_explain::{push_number, push_quoted, push_text};
+use acc_lex::Token;
+use acc_spot::spot_at;
+use std::alloc::{AllocError, Global};
+
+/// The step of a point at a side.
+fn step_of(d: &Design, at: At, side: Side) -> Option<&Step> {
+    let ty = d.types.as_slice().get(at.ty as usize)?;
+    let point = ty.points.as_slice().get(at.point as usize)?;
+    match side {
+        Side::Next => Some(&point.next),
+        Side::Undo => Some(&point.undo),
+    }
+}
+
+/// Where the path of an obligation leads.
+fn target_of(d: &Design, origin: &Origin) -> Option<Target> {
+    let step = step_of(d, origin.at?, origin.side)?;
+    let number = origin.path.checked_sub(1)?;
+    let path = step.paths.as_slice().get(number as usize)?;
+    Some(path.target)
+}
+
+/// The tokens from the clause on that the target of an obligation's path promises.
+fn promised_from<'a>(
+    text: &[u8],
+    tokens: &'a [Token],
+    d: &Design,
+    origin: &Origin,
+    number: u32,
+) -> Option<&'a [Token]> {
+    let ty = origin.at?.ty;
+    match target_of(d, origin)? {
+        Target::Point(point) => held_from(text, tokens, At { ty, point }, number),
+        Target::Commit => promise_from(text, tokens, ty, b"ensures", number),
+        Target::Undone => promise_from(text, tokens, ty, b"repairs", number),
+        Target::Refuse(_) => None,
+    }
+}
+
+/// The tokens from the variant of a point on, or from the point where it has none.
+fn counted_from<'a>(text: &[u8], tokens: &'a [Token], at: At) -> Option<&'a [Token]> {
+    match variant_from(text, tokens, at) {
+        Some(found) => Some(found),
+        None => point_from(text, tokens, at),
+    }
+}
+
+/// The tokens from the path of an obligation on, or from its step where no path is named.
+fn taken_from<'a>(text: &[u8], tokens: &'a [Token], origin: &Origin) -> Option<&'a [Token]> {
+    let at = origin.at?;
+    match origin.path.checked_sub(1) {
+        Some(number) => path_from(text, tokens, at, origin.side, number),
+        None if origin.rule == 5 => step_from(text, tokens, at, origin.side),
+        None => None,
+    }
+}
+
+/// The tokens from the assertion on that an obligation is about.
+fn asserted_from<'a>(
+    text: &[u8],
+    tokens: &'a [Token],
+    d: &Design,
+    origin: &Origin,
+) -> Option<&'a [Token]> {
+    let number = origin.clause.checked_sub(1)?;
+    match origin.rule {
+        0 => held_from(text, tokens, origin.at?, number),
+        1 => promised_from(text, tokens, d, origin, number),
+        3 => held_from(text, tokens, origin.held?, number),
+        4 => action_from(text, taken_from(text, tokens, origin)?, number),
+        6 => counted_from(text, tokens, origin.at?),
+        7 => table_from(text, tokens, number),
+        2 | 8 => always_from(text, tokens, number),
+        _ => None,
+    }
+}
+
+/// The bytes of the first statement.
+fn statement_in<'a>(text: &'a [u8], tokens: &[Token]) -> &'a [u8] {
+    let statement = first_of(tokens);
+    let ([first, ..], [.., last]) = (statement, statement) else {
+        return &[];
+    };
+    let to = (last.to as usize).min(text.len());
+    &text[(first.from as usize).min(to)..to]
+}
+
+/// The mark of the first statement, of which nothing is said yet.
+fn statement_mark(alloc: Global, text: &[u8], tokens: &[Token]) -> Option<Marked> {
+    let first = tokens.first()?;
+    let mut spot = spot_at(alloc, text, first);
+    spot.width = statement_in(text, tokens).len();
+    Some(Marked {
+        line: first.line,
+        spot,
+    })
+}
+
+/// The path of an obligation, in words; nothing where it has none.
+pub fn push_path(out: &mut Vec<u8>, d: &Design, origin: &Origin) -> Result<(), AllocError> {
+    let Some(at) = origin.at else {
+        return Ok(());
+    };
+    if origin.path > 0 {
+        push_text(out, b" path ")?;
+        push_number(out, u64::from(origin.path))?;
+        push_text(out, b" of")?;
+    } else if origin.rule != 5 {
+        return Ok(());
+    }
+    push_text(out, b" the step `")?;
+    push_text(out, side_word(origin.side))?;
+    push_text(out, b"` of `")?;
+    push_at(out, d, at)?;
+    push_text(out, b"`")
+}
+
+/// What an obligation is about: an assertion as it stands in the text, a variant or a number.
+fn push_subject(
+    out: &mut Vec<u8>,
+    d: &Design,
+    origin: &Origin,
+    statement: &[u8],
+) -> Result<(), AllocError> {
+    match (origin.rule, origin.at) {
+        (6, Some(at)) => {
+            push_text(out, b"the variant of `")?;
+            push_at(out, d, at)?;
+            push_text(out, b"`")
+        }
+        (5, _) => {
+            push_text(out, b"number ")?;
+            push_number(out, u64::from(origin.clause))
+        }
+        _ => push_quoted(out, statement),
+    }
+}
+
+/// What isn't shown, in words.
+fn push_lack(
+    out: &mut Vec<u8>,
+    d: &Design,
+    origin: &Origin,
+    statement: &[u8],
+) -> Result<(), AllocError> {
+    push_subject(out, d, origin, statement)?;
+    push_text(out, lack_text(origin.rule, origin.clause))?;
+    push_path(out, d, origin)?;
+    push_text(out, b" (rule S")?;
+    push_number(out, u64::from(origin.rule))?;
+    push_text(out, b")")
+}
+
+/// The mark of the assertion that an obligation is about, or else of its path, and what isn't shown.
+pub fn asserted_mark(
+    alloc: Global,
+    text: &[u8],
+    tokens: &[Token],
+    d: &Design,
+    origin: &Origin,
+) -> Result<Option<Marked>, AllocError> {
+    let found = match asserted_from(text, tokens, d, origin) {
+        Some(found) => found,
+        None => match taken_from(text, tokens, origin) {
+            Some(found) => found,
+            None => return Ok(None),
+        },
+    };
+    let Some(mut mark) = statement_mark(alloc, text, found) else {
+        return Ok(None);
+    };
+    push_lack(&mut mark.spot.what, d, origin, statement_in(text, found))?;
+    Ok(Some(mark))
+}
+
+/// The mark of the path of an obligation that speaks of an assertion elsewhere; none of others.
+pub fn path_mark(
+    alloc: Global,
+    text: &[u8],
+    tokens: &[Token],
+    origin: &Origin,
+) -> Result<Option<Marked>, AllocError> {
+    if origin.rule == 4 || origin.rule == 5 {
+        return Ok(None);
+    }
+    let Some(found) = taken_from(text, tokens, origin) else {
+        return Ok(None);
+    };
+    let Some(mut mark) = statement_mark(alloc, text, found) else {
+        return Ok(None);
+    };
+    push_text(&mut mark.spot.what, b"this is the path")?;
+    Ok(Some(mark))
+}

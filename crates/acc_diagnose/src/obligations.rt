@@ -1,0 +1,204 @@
+//! What is told of a certificate that is refused with its design.
+ghost use Rattle.acc_form.specs.WellFormed.{IsWellFormed};
+
+use crate::certificates::CertFault;
+use crate::tokens::tokens_of;
+use acc_accept::{Refusal, obligations};
+use acc_base::designs::Design;
+use acc_base::sequents::Origin;
+use acc_cert_spot::{
+    Marked, asserted_mark, obligation_hint, off_mark, path_mark, proof_mark, proofs_in,
+};
+use acc_explain::{push_note, push_number, push_report, push_text};
+use acc_obligations::ObligError;
+use std::alloc::{AllocError, Global};
+
+/// A file that a command line names.
+#[derive(Clone, Copy)]
+pub struct File<'a> {
+    pub name: &'a [u8],
+    pub text: &'a [u8],
+}
+
+/// The place of an obligation in the list of a design, from 1, and how many there are.
+#[derive(Clone, Copy)]
+struct Place {
+    number: u64,
+    count: u64,
+}
+
+/// Says what a mark says of a file.
+fn push_mark(out: &mut Vec<u8>, file: File, mark: &Marked) -> Result<(), AllocError> {
+    push_report(out, file.name, file.text, mark.line, &mark.spot)
+}
+
+/// The place of the obligation that comes from here.
+fn place_of(alloc: Global, d: &Design, origin: &Origin) -> Result<Option<Place>, AllocError>
+    requires { IsWellFormed d.now }
+{
+    let sequents = match obligations(alloc, d) {
+        Ok(sequents) => sequents,
+        Err(ObligError::Wide(_)) => return Ok(None),
+        Err(ObligError::Memory) => return Err(AllocError),
+    };
+    let list = sequents.as_slice();
+    match list.iter().position(|sequent| sequent.origin == *origin) {
+        Some(place) => Ok(Some(Place {
+            number: (place as u64).saturating_add(1),
+            count: list.len() as u64,
+        })),
+        None => Ok(None),
+    }
+}
+
+/// Puts a number, and of how many it is one.
+fn push_place(out: &mut Vec<u8>, place: Place) -> Result<(), AllocError> {
+    push_text(out, b"number ")?;
+    push_number(out, place.number)?;
+    push_text(out, b" of ")?;
+    push_number(out, place.count)
+}
+
+/// Says which assertion isn't shown, and by which path.
+fn push_assertion(
+    alloc: Global,
+    out: &mut Vec<u8>,
+    d: &Design,
+    design: File,
+    origin: &Origin,
+) -> Result<(), AllocError> {
+    let tokens = tokens_of(alloc, design.text)?;
+    if let Some(mark) = asserted_mark(alloc, design.text, tokens.as_slice(), d, origin)? {
+        push_mark(out, design, &mark)?;
+    }
+    if let Some(mark) = path_mark(alloc, design.text, tokens.as_slice(), origin)? {
+        push_mark(out, design, &mark)?;
+    }
+    Ok(())
+}
+
+/// Says that the certificate has no proof of an obligation.
+fn push_missing(
+    alloc: Global,
+    out: &mut Vec<u8>,
+    certificate: File,
+    place: Place,
+) -> Result<(), AllocError> {
+    let mut what = Vec::new(alloc);
+    push_text(&mut what, b"the certificate has ")?;
+    push_number(&mut what, proofs_in(certificate.text))?;
+    push_text(&mut what, b" proofs, and none for this obligation, ")?;
+    push_place(&mut what, place)?;
+    push_note(
+        out,
+        certificate.name,
+        &what,
+        b"a certificate has a proof for each obligation of its design, in their order; this one may be of another design",
+    )
+}
+
+/// Says what is wrong with the proof of an obligation.
+fn push_proof(
+    alloc: Global,
+    out: &mut Vec<u8>,
+    certificate: File,
+    place: Place,
+    what: &[u8],
+    rule: u32,
+) -> Result<(), AllocError> {
+    let mut mark = proof_mark(alloc, certificate.text, place.number.saturating_sub(1));
+    push_text(&mut mark.spot.what, b"the proof here, ")?;
+    push_place(&mut mark.spot.what, place)?;
+    push_text(&mut mark.spot.what, what)?;
+    push_text(
+        &mut mark.spot.hint,
+        b"the certificate may be of another design; or the design breaks the assertion, and then: ",
+    )?;
+    push_text(&mut mark.spot.hint, obligation_hint(rule))?;
+    push_mark(out, certificate, &mark)
+}
+
+/// Says that a number of an obligation is too large.
+fn push_wide(out: &mut Vec<u8>, design: File) -> Result<(), AllocError> {
+    push_note(
+        out,
+        design.name,
+        b"a number of this obligation is more than 2^120 away from 0, so that no proof is looked at",
+        b"multiply by smaller numbers, or take further locals in place of a long chain of `let`",
+    )
+}
+
+/// Says what the certificate has for an obligation that isn't shown.
+fn push_lack(
+    alloc: Global,
+    out: &mut Vec<u8>,
+    certificate: File,
+    refusal: &Refusal,
+    place: Place,
+) -> Result<(), AllocError> {
+    match refusal {
+        Refusal::Missing(_) => push_missing(alloc, out, certificate, place),
+        Refusal::NotProved(origin) => {
+            push_proof(
+                alloc,
+                out,
+                certificate,
+                place,
+                b", doesn't prove that",
+                origin.rule,
+            )
+        }
+        Refusal::ProofWide(origin) => {
+            let what = b", has a number more than 2^120 away from 0 in its check";
+            push_proof(alloc, out, certificate, place, what, origin.rule)
+        }
+        Refusal::ObligWide(_) | Refusal::Form(_, _) | Refusal::Memory => Ok(()),
+    }
+}
+
+/// Says why a certificate doesn't do for its design.
+fn push_lacking(
+    alloc: Global,
+    out: &mut Vec<u8>,
+    d: &Design,
+    design: File,
+    certificate: File,
+    refusal: &Refusal,
+) -> Result<(), AllocError>
+    requires { IsWellFormed d.now }
+{
+    let origin = match refusal {
+        Refusal::Missing(origin) | Refusal::NotProved(origin) | Refusal::ProofWide(origin) =>
+            origin,
+        Refusal::ObligWide(origin) => {
+            push_assertion(alloc, out, d, design, origin)?;
+            return push_wide(out, design);
+        }
+        Refusal::Form(_, _) | Refusal::Memory => return Ok(()),
+    };
+    push_assertion(alloc, out, d, design, origin)?;
+    match place_of(alloc, d, origin)? {
+        Some(place) => push_lack(alloc, out, certificate, refusal, place),
+        None => Ok(()),
+    }
+}
+
+/// Says why a design isn't accepted with the bytes of a certificate.
+pub fn push_fault(
+    alloc: Global,
+    out: &mut Vec<u8>,
+    d: &Design,
+    design: File,
+    certificate: File,
+    fault: &CertFault,
+) -> Result<(), AllocError>
+    requires { IsWellFormed d.now }
+{
+    match fault {
+        CertFault::Bytes(path) => {
+            let mark = off_mark(alloc, certificate.text, path.as_slice())?;
+            push_mark(out, certificate, &mark)
+        }
+        CertFault::Lacks(refusal) => push_lacking(alloc, out, d, design, certificate, refusal),
+    }
+}
