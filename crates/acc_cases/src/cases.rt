@@ -78,14 +78,13 @@ fn tell_last<R: Print>(rt: &R, text: &str) -> io::Result<()> {
 }
 
 /// Answers a command line over a shelf in memory, and tells the last two lines, the status and how many events there were.
-fn answer_last<R: Print + AllocGlobal>(
-    rt: &R,
-    line: &str,
-    shelf: &mut MemShelf,
-) -> io::Result<()> {
+fn answer_last<R: Print + AllocGlobal>(rt: &R, line: &str, shelf: &mut MemShelf) -> io::Result<()> {
     let mut out = memory::sink(rt.alloc(), &[], &[])?;
     let (status, events) = memory::answer(rt.alloc(), line, shelf, &mut out)?;
-    tell_last(rt, String::from_utf8_lossy(rt.alloc(), out.bytes())?.as_str())?;
+    tell_last(
+        rt,
+        String::from_utf8_lossy(rt.alloc(), out.bytes())?.as_str(),
+    )?;
     println!(rt; "status {status}, {events} events")
 }
 

@@ -61,8 +61,7 @@ no_earlier_wrong : (text : List ℕ) (m n : ℕ) → IsWrongAt text m → IsWron
 no_earlier_wrong text m n h k lt =
     let later = later_lines m (n - 1) text (omega (arith, lt)) in
     let more = k.begins.0 in
-    h.stops (omega (arith, lt, k.high))
-    (
+    h.stops (omega (arith, lt, k.high)) (
       later.0 ++ more,
       subst IsGrammatical (ap (λ (z : List ℕ). z ++ more) later.1 ∙ append_assoc (first_lines m text) later.0 more) k.begins.1,
     )
