@@ -6,8 +6,10 @@ mod designs;
 mod explained;
 mod forms;
 mod obligations;
+mod reasons;
 mod tokens;
 
 pub use certificates::{CertFault, Judged, judge};
 pub use designs::{Diagnosed, Diagnosis, Refusal, diagnose};
 pub use explained::explain;
+pub use reasons::system_reason;

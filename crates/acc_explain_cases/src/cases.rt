@@ -1,7 +1,7 @@
 //! The cases by their verbs.
 use crate::texts::{changed, with_feeds};
 use acc_cli::{acc, help_text};
-use acc_diagnose::explain;
+use acc_diagnose::{explain, system_reason};
 use acc_io::{MemShelf, MemSink};
 use std::alloc::{AllocError, Global};
 use std::io;
@@ -120,12 +120,22 @@ fn answer(alloc: Global, base: &str, verb: &str, rest: &str) -> Result<String, A
     }
 }
 
+/// Tells why the system doesn't give a file of these names in the program's folder.
+fn tell_reason(rt: &HostRuntime, names: &str) -> io::Result<()> {
+    let names = words_of(rt.alloc(), names)?;
+    let reason = system_reason(rt, rt.alloc(), &names)?;
+    print!(rt; "{reason}")
+}
+
 /// Tells the answer of the case of a line; a line with `#` is a remark.
 pub fn tell(rt: &HostRuntime, base: &str, line: &str) -> io::Result<()> {
     if line.is_empty() || line.starts_with('#') {
         return Ok(());
     }
     let (verb, rest) = line.split_once(" ").unwrap_or((line, ""));
+    if verb == "reason" {
+        return tell_reason(rt, rest);
+    }
     let answer = answer(rt.alloc(), base, verb, rest)?;
     print!(rt; "{answer}")
 }

@@ -2,11 +2,14 @@
 #![tactic(auto)]
 
 use acc_cli::{acc, help_text};
-use acc_diagnose::explain;
+use acc_diagnose::{explain, system_reason};
 use acc_io::{FolderShelf, StdSink};
 use std::io::{ErrorKind, Write};
 use std::process::ExitCode;
 use std::{env, io};
+
+/// The status for a file that isn't given.
+const FILE: u8 = 6;
 
 /// The status for want of memory.
 const MEMORY: u8 = 9;
@@ -27,6 +30,19 @@ fn tell(rt: &HostRuntime, status: u8, words: &[String]) {
     let told = explain(rt.alloc(), status, words, &mut shelf, &usage);
     match rt.stderr().write_all(&told) {
         Ok(()) | Err(_) => {}
+    }
+    if status == FILE {
+        tell_reason(rt, words);
+    }
+}
+
+/// Tells on standard error the system's reason why a file isn't given, if it has one.
+fn tell_reason(rt: &HostRuntime, words: &[String]) {
+    let names = words.get(1..).unwrap_or(&[]);
+    if let Ok(reason) = system_reason(rt, rt.alloc(), names) {
+        match rt.stderr().write_all(reason.as_bytes()) {
+            Ok(()) | Err(_) => {}
+        }
     }
 }
 
