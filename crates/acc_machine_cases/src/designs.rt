@@ -1,5 +1,5 @@
 //! Designs that are read.
-ghost use Rattle.std.specs.Prelude.{IfOk, IfSome};
+ghost use Rattle.std.specs.Prelude.{IsTrue};
 ghost use Rattle.acc_base.specs.Runnable.{IsRunnable};
 
 use acc_base::designs::Design;
@@ -8,24 +8,18 @@ use acc_parse::{ParseError, parse};
 use std::alloc::{AllocError, Global};
 
 /// The design of a text, if it is one.
-pub fn read(alloc: Global, text: &[u8]) -> Result<Option<Design>, AllocError> {
-    match parse(alloc, text) {
+pub fn read(alloc: Global, text: &str) -> Result<Option<Design>, AllocError> {
+    match parse(alloc, text.as_bytes()) {
         Ok(design) => Ok(Some(design)),
         Err(ParseError::Memory) => Err(AllocError),
         Err(_) => Ok(None),
     }
 }
 
-/// The design of a text, if it keeps the form rules.
+/// Whether a design keeps the form rules, so that it can be run.
 #[tactic(auto, using(crate::proofs::Runs::formed_runs))]
-pub fn formed(alloc: Global, text: &[u8]) -> Result<Option<Design>, AllocError>
-    ensures { IfOk result (λ design. IfSome design IsRunnable) }
+pub fn is_formed(design: &Design) -> bool
+    ensures { IsTrue result → IsRunnable design.now }
 {
-    let Some(design) = read(alloc, text)? else {
-        return Ok(None);
-    };
-    if well_formed(&design).is_err() {
-        return Ok(None);
-    }
-    Ok(Some(design))
+    well_formed(design).is_ok()
 }

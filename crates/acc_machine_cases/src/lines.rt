@@ -1,15 +1,15 @@
 //! Single lines of a play.
-use crate::causes::cause;
-use crate::designs::read;
-use crate::words::{list, number, said, small};
 use acc_base::designs::{At, Design};
 use acc_base::machines::{Outcome, Reply, Turn};
 use acc_base::sequences::Seq;
+use acc_case_words::causes::cause;
+use acc_case_words::words::{list, number, small};
 use acc_script::{
     push_events, push_full, push_over, push_reply, push_stuck, push_turn, push_unbegun,
     push_unfinished, push_unsettled,
 };
 use std::alloc::{AllocError, Global};
+use std::fmt::Write;
 
 /// The places of two transactions, by number from 1.
 const PLACES: [u64; 2] = [9, 7];
@@ -87,20 +87,34 @@ fn push_outcome(
     push_reply(out, place, &reply)
 }
 
-fn told(alloc: Global, design: &Design, words: &[&str]) -> Result<Vec<u8>, AllocError> {
-    let mut out = Vec::new(alloc);
-    if let [place, rest @ ..] = words {
-        push_line(alloc, &mut out, design, number(place), rest)?;
+/// Pushes the line of those words.
+fn push_told(
+    alloc: Global,
+    out: &mut Vec<u8>,
+    design: &Design,
+    words: &[&str],
+) -> Result<(), AllocError> {
+    match words {
+        [place, rest @ ..] => push_line(alloc, out, design, number(place), rest),
+        [] => Ok(()),
     }
-    Ok(out)
 }
 
 /// The line of those words.
-pub fn line(alloc: Global, design: &str, words: &str) -> Result<String, AllocError> {
+fn told(alloc: Global, design: &Design, words: &str) -> Result<Vec<u8>, AllocError> {
     let words: Vec<&str> = words.split(' ').collect(alloc)?;
-    let Some(design) = read(alloc, design.as_bytes())? else {
-        return said(alloc, "no design");
-    };
-    let line = told(alloc, &design, words.as_slice())?;
-    format!(in alloc; "{:?}", std::str::from_utf8(line.as_slice()).ok())
+    let mut line = Vec::new(alloc);
+    push_told(alloc, &mut line, design, words.as_slice())?;
+    Ok(line)
+}
+
+/// Pushes the line of those words, in quotation marks.
+pub fn push_line_of(
+    alloc: Global,
+    out: &mut String,
+    design: &Design,
+    words: &str,
+) -> Result<(), AllocError> {
+    let line = told(alloc, design, words)?;
+    write!(out, "{:?}", std::str::from_utf8(line.as_slice()).ok())
 }

@@ -4,35 +4,50 @@
 //! from 0 on; a list has commas, and '-' is none.
 #![tactic(auto)]
 
-mod causes;
 mod designs;
+mod escapes;
 mod events;
 mod lines;
-mod rows;
 mod scripts;
 mod steps;
-mod words;
 
+use acc_base::designs::Design;
+use acc_case_words::words::parted;
 use std::alloc::{AllocError, Global};
 use std::io;
 
-/// What a question answers.
-fn answer(alloc: Global, design: &str, question: &str) -> Result<String, AllocError> {
-    let (verb, rest) = words::parted(question, " ");
+/// Pushes what a question answers.
+fn push_answer(
+    alloc: Global,
+    out: &mut String,
+    design: &Design,
+    question: &str,
+) -> Result<(), AllocError> {
+    let (verb, rest) = parted(question, " ");
     match verb {
-        "events" => events::answer(alloc, design, rest),
-        "effect" => steps::effect_of(alloc, design, rest),
-        "look" => steps::look_at(alloc, design, rest),
-        "script" => scripts::script(alloc, design, rest),
-        "order" => scripts::ordered(alloc, rest),
-        "play" => scripts::played(alloc, design),
-        "line" => lines::line(alloc, design, rest),
-        _ => words::said(alloc, "no question"),
+        "events" => events::push_answers(alloc, out, design, rest),
+        "effect" => steps::push_effect_of(alloc, out, design, rest),
+        "look" => steps::push_look_of(alloc, out, design, rest),
+        "script" => scripts::push_script(alloc, out, design, rest),
+        "order" => scripts::push_order(alloc, out, rest),
+        "play" => scripts::push_play(alloc, out, design),
+        "line" => lines::push_line_of(alloc, out, design, rest),
+        _ => out.push_str("no question"),
     }
 }
 
+/// What a question answers.
+fn answer(alloc: Global, design: Option<&Design>, question: &str) -> Result<String, AllocError> {
+    let mut out = String::new(alloc);
+    match design {
+        Some(design) => push_answer(alloc, &mut out, design, question)?,
+        None => out.push_str("no design")?,
+    }
+    Ok(out)
+}
+
 /// Answers a question, and prints both; a line with '#' is a remark.
-fn play(rt: &impl Print, alloc: Global, design: &str, line: &str) -> io::Result<()> {
+fn play(rt: &impl Print, alloc: Global, design: Option<&Design>, line: &str) -> io::Result<()> {
     if line.is_empty() || line.starts_with('#') || line.starts_with("design ") {
         return rt.println(line);
     }
@@ -42,13 +57,13 @@ fn play(rt: &impl Print, alloc: Global, design: &str, line: &str) -> io::Result<
 
 fn main(rt: HostRuntime) -> io::Result<()> {
     let alloc = rt.alloc();
-    let mut design = String::new(alloc);
+    let mut design = None;
     for line in rt.lines(alloc) {
         let line = line?;
         if let Some(text) = line.strip_prefix("design ") {
-            design = String::from_str(alloc, text)?;
+            design = designs::read(alloc, text)?;
         }
-        play(&rt, alloc, &design, &line)?;
+        play(&rt, alloc, design.as_ref(), &line)?;
     }
     Ok(())
 }

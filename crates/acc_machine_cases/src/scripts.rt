@@ -1,8 +1,9 @@
 //! Scripts and orders, and the play of no calls.
-use crate::designs::{formed, read};
-use crate::words::{bytes, number, parted, said};
+use crate::designs::is_formed;
+use crate::escapes::bytes;
 use acc_base::designs::Design;
 use acc_base::machines::Call;
+use acc_case_words::words::{number, parted};
 use acc_play::play;
 use acc_script::{ScriptError, calls, order};
 use std::alloc::{AllocError, Global};
@@ -34,45 +35,36 @@ fn push_error(out: &mut String, error: ScriptError) -> Result<(), AllocError> {
     }
 }
 
-fn push_script(
+/// Pushes the calls of a script, or why it is refused.
+pub fn push_script(
     alloc: Global,
     out: &mut String,
     design: &Design,
-    text: &[u8],
+    text: &str,
 ) -> Result<(), AllocError> {
-    match calls(alloc, design, text) {
+    let text = bytes(alloc, text)?;
+    match calls(alloc, design, text.as_slice()) {
         Ok(calls) => push_calls(out, calls.as_slice()),
         Err(error) => push_error(out, error),
     }
 }
 
-/// The calls of a script.
-pub fn script(alloc: Global, design: &str, text: &str) -> Result<String, AllocError> {
-    let Some(design) = read(alloc, design.as_bytes())? else {
-        return said(alloc, "no design");
-    };
-    let mut out = String::new(alloc);
-    push_script(alloc, &mut out, &design, bytes(alloc, text)?.as_slice())?;
-    Ok(out)
-}
-
-/// The places of an order over so many calls.
-pub fn ordered(alloc: Global, words: &str) -> Result<String, AllocError> {
-    let mut out = String::new(alloc);
+/// Pushes the places of an order over so many calls, or why it is refused.
+pub fn push_order(alloc: Global, out: &mut String, words: &str) -> Result<(), AllocError> {
     let (places, text) = parted(words, " ");
-    match order(alloc, number(places), bytes(alloc, text)?.as_slice()) {
-        Ok(places) => write!(out, "{:?}", places.as_slice())?,
-        Err(error) => push_error(&mut out, error)?,
+    let text = bytes(alloc, text)?;
+    match order(alloc, number(places), text.as_slice()) {
+        Ok(places) => write!(out, "{:?}", places.as_slice()),
+        Err(error) => push_error(out, error),
     }
-    Ok(out)
 }
 
-/// The play of no calls.
-pub fn played(alloc: Global, design: &str) -> Result<String, AllocError> {
-    let Some(design) = formed(alloc, design.as_bytes())? else {
-        return said(alloc, "no design");
-    };
-    let told = play(alloc, &design, &[], &[])?;
+/// Pushes the text of the play of no calls, and how many events it has.
+pub fn push_play(alloc: Global, out: &mut String, design: &Design) -> Result<(), AllocError> {
+    if !is_formed(design) {
+        return out.push_str("no design");
+    }
+    let told = play(alloc, design, &[], &[])?;
     let count = told.history.len();
-    format!(in alloc; "{:?} {count}", told.text.as_slice())
+    write!(out, "{:?} {count}", told.text.as_slice())
 }

@@ -6,13 +6,13 @@ ghost use Rattle.acc_base.specs.Tables.{IsInOrder};
 ghost use Rattle.acc_base.specs.Runnable.{IsRunnable, IsSmallFrame};
 ghost use Rattle.acc_store.specs.Bounds.{AreWithin};
 
-use crate::designs::formed;
-use crate::rows::push_row;
-use crate::words::{list, said, small};
+use crate::designs::is_formed;
 use acc_base::designs::{Design, Side};
 use acc_base::machines::Frame;
 use acc_base::sequences::Seq;
 use acc_base::tables::{Key, Row};
+use acc_case_words::rows::push_row;
+use acc_case_words::words::{list, small};
 use acc_step::{StepEffect, StepError, effect, look};
 use acc_store::{MapStore, Store, StoreError, Write as RowWrite};
 use std::alloc::{AllocError, Global};
@@ -125,57 +125,101 @@ fn side(word: &str) -> Side {
     }
 }
 
-/// What a step does.
-fn effect_over(alloc: Global, design: &Design, words: &[&str]) -> Result<String, AllocError>
-    requires { IsRunnable design.now }
+/// Pushes what a step does over a store of that word.
+fn push_effect_over(
+    alloc: Global,
+    out: &mut String,
+    design: &Design,
+    frame: &Frame,
+    value: &str,
+) -> Result<(), AllocError>
+    requires runnable { IsRunnable design.now }
+    requires fits { IsSmallFrame frame.now }
 {
-    let [on, point, value, locals] = words else {
-        return said(alloc, "no question");
-    };
-    let Some(frame) = frame(alloc, small(point), side(on), list(alloc, locals)?) else {
-        return said(alloc, "no frame");
-    };
-    let mut out = String::new(alloc);
-    let Ok(store) = store(alloc, value) else {
-        return Err(AllocError);
-    };
-    push_ended(&mut out, effect(alloc, design, &frame, side(on), &store))?;
-    Ok(out)
-}
-
-/// How a step looks, and the locals after its reads with two places more, which held 7.
-fn look_over(alloc: Global, design: &Design, words: &[&str]) -> Result<String, AllocError>
-    requires { IsRunnable design.now }
-{
-    let [on, point, value, locals] = words else {
-        return said(alloc, "no question");
-    };
-    let Some(frame) = frame(alloc, small(point), side(on), list(alloc, locals)?) else {
-        return said(alloc, "no frame");
-    };
-    let mut after = [7; 48];
-    let Ok(store) = store(alloc, value) else {
-        return Err(AllocError);
-    };
-    let outlook = look(design, &frame, side(on), &store, &mut after);
-    let shown = after.get(..frame.locals.len().saturating_add(2));
-    format!(in alloc; "{outlook:?}, {shown:?}")
-}
-
-/// What the step of those words does.
-pub fn effect_of(alloc: Global, design: &str, words: &str) -> Result<String, AllocError> {
-    let words: Vec<&str> = words.split(' ').collect(alloc)?;
-    match formed(alloc, design.as_bytes())? {
-        Some(design) => effect_over(alloc, &design, words.as_slice()),
-        None => said(alloc, "no design"),
+    match store(alloc, value) {
+        Ok(store) => push_ended(out, effect(alloc, design, frame, frame.side, &store)),
+        Err(StoreError::Memory) => Err(AllocError),
     }
 }
 
-/// How the step of those words looks.
-pub fn look_at(alloc: Global, design: &str, words: &str) -> Result<String, AllocError> {
+/// Pushes how a step looks over a store, and the locals after its reads with two places more, which held 7.
+fn push_look(
+    out: &mut String,
+    design: &Design,
+    frame: &Frame,
+    store: &MapStore,
+) -> Result<(), AllocError>
+    requires runnable { IsRunnable design.now }
+    requires fits { IsSmallFrame frame.now }
+    requires order { IsInOrder store.now }
+    requires within { AreWithin (2 ^ 120) store.now }
+{
+    let mut after = [7; 48];
+    let outlook = look(design, frame, frame.side, store, &mut after);
+    let shown = after.get(..frame.locals.len().saturating_add(2));
+    write!(out, "{outlook:?}, {shown:?}")
+}
+
+/// Pushes how a step looks over a store of that word.
+fn push_look_over(
+    alloc: Global,
+    out: &mut String,
+    design: &Design,
+    frame: &Frame,
+    value: &str,
+) -> Result<(), AllocError>
+    requires runnable { IsRunnable design.now }
+    requires fits { IsSmallFrame frame.now }
+{
+    match store(alloc, value) {
+        Ok(store) => push_look(out, design, frame, &store),
+        Err(StoreError::Memory) => Err(AllocError),
+    }
+}
+
+/// The frame of those words, if they are one's, and the word of the store.
+fn asked<'a>(alloc: Global, words: &'a str) -> Result<Option<(Frame, &'a str)>, AllocError>
+    ensures { IfOk result (λ found. IfSome found (λ pair. IsSmallFrame pair.0)) }
+{
     let words: Vec<&str> = words.split(' ').collect(alloc)?;
-    match formed(alloc, design.as_bytes())? {
-        Some(design) => look_over(alloc, &design, words.as_slice()),
-        None => said(alloc, "no design"),
+    let [on, point, value, locals] = words.as_slice() else {
+        return Ok(None);
+    };
+    let locals = list(alloc, locals)?;
+    match frame(alloc, small(point), side(on), locals) {
+        Some(frame) => Ok(Some((frame, *value))),
+        None => Ok(None),
+    }
+}
+
+/// Pushes what the step of those words does.
+pub fn push_effect_of(
+    alloc: Global,
+    out: &mut String,
+    design: &Design,
+    words: &str,
+) -> Result<(), AllocError> {
+    if !is_formed(design) {
+        return out.push_str("no design");
+    }
+    match asked(alloc, words)? {
+        Some((frame, value)) => push_effect_over(alloc, out, design, &frame, value),
+        None => out.push_str("no frame"),
+    }
+}
+
+/// Pushes how the step of those words looks.
+pub fn push_look_of(
+    alloc: Global,
+    out: &mut String,
+    design: &Design,
+    words: &str,
+) -> Result<(), AllocError> {
+    if !is_formed(design) {
+        return out.push_str("no design");
+    }
+    match asked(alloc, words)? {
+        Some((frame, value)) => push_look_over(alloc, out, design, &frame, value),
+        None => out.push_str("no frame"),
     }
 }

@@ -1,10 +1,11 @@
 //! A case: its files, its script and its order.
-use crate::schedules::{accepted, scheduled};
+use crate::schedules::scheduled;
+use acc_case_designs::accepted_file;
 use acc_io::{StdSink, write_all};
 use acc_lift::Accepted;
 use std::alloc::{AllocError, Global};
+use std::io;
 use std::rt::Files;
-use std::{fs, io};
 
 /// The bytes of a text, with a line feed for each `;`.
 fn lines(alloc: Global, text: &str) -> Result<Vec<u8>, AllocError> {
@@ -31,9 +32,7 @@ fn play<R: Print + AllocGlobal>(rt: &R, design: &Accepted, rest: &str) -> io::Re
 pub fn answer<R: Files + Print + AllocGlobal>(rt: &R, line: &str) -> io::Result<()> {
     let (files, rest) = line.split_once(": ").unwrap_or((line, ""));
     let (design, certificate) = files.split_once(' ').unwrap_or((files, ""));
-    let design = fs::read_to_string(rt, design)?;
-    let certificate = fs::read_to_string(rt, certificate)?;
-    match accepted(rt.alloc(), design.as_bytes(), certificate.as_bytes())? {
+    match accepted_file(rt, design, certificate)? {
         Some(design) => play(rt, &design, rest),
         None => println!(rt; "not accepted"),
     }

@@ -1,32 +1,11 @@
-//! Accepted designs, and schedules over them.
+//! Schedules over accepted designs.
 ghost use Rattle.acc_play.specs.Stages.{AllFit};
 
-use acc_accept::accept;
 use acc_base::machines::Call;
-use acc_cert_read::certificates::read;
 use acc_lift::Accepted;
-use acc_parse::parse;
 use acc_schedule::schedule;
 use acc_script::{calls, order};
 use std::alloc::{AllocError, Global};
-
-/// The design, if it is accepted with the certificate.
-pub fn accepted(
-    alloc: Global,
-    design: &[u8],
-    certificate: &[u8],
-) -> Result<Option<Accepted>, AllocError> {
-    let Ok(design) = parse(alloc, design) else {
-        return Ok(None);
-    };
-    let Ok(certificate) = read(alloc, certificate) else {
-        return Ok(None);
-    };
-    match accept(alloc, design, &certificate) {
-        Ok(design) => Ok(Some(design)),
-        Err(_) => Ok(None),
-    }
-}
 
 /// The lines of calls in an order.
 fn scheduled_calls(

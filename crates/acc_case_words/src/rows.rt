@@ -16,17 +16,21 @@ pub fn push_row(out: &mut String, row: &Row) -> Result<(), AllocError> {
     )
 }
 
-fn push_rows(alloc: Global, out: &mut String, store: &MapStore) -> Result<(), AllocError> {
-    let plain = match store.rows(alloc) {
-        Ok(plain) => plain,
-        Err(StoreError::Memory) => return Err(AllocError),
-    };
-    out.push_str("rows")?;
-    for row in plain.rows.as_slice() {
+fn push_each(out: &mut String, rows: &[Row]) -> Result<(), AllocError> {
+    for row in rows {
         out.push_str(" ")?;
         push_row(out, row)?;
     }
     Ok(())
+}
+
+/// Pushes the rows of a store.
+fn push_rows(alloc: Global, out: &mut String, store: &MapStore) -> Result<(), AllocError> {
+    out.push_str("rows")?;
+    match store.rows(alloc) {
+        Ok(plain) => push_each(out, plain.rows.as_slice()),
+        Err(StoreError::Memory) => Err(AllocError),
+    }
 }
 
 /// Pushes what a look-up of a key answers.
@@ -53,6 +57,20 @@ fn push_look_up(
     }
 }
 
+/// Pushes what a look-up of a key in words answers.
+fn push_at(
+    alloc: Global,
+    out: &mut String,
+    store: &MapStore,
+    verb: &str,
+    table: u32,
+    key: &str,
+    col: u32,
+) -> Result<(), AllocError> {
+    let key = list(alloc, key)?;
+    push_look_up(out, store, verb, table, key.as_slice(), col)
+}
+
 /// Pushes what a question about the rows answers.
 pub fn push_row_answer(
     alloc: Global,
@@ -62,14 +80,8 @@ pub fn push_row_answer(
 ) -> Result<(), AllocError> {
     match words {
         ["rows"] => push_rows(alloc, out, store),
-        [verb, table, key] => {
-            let key = list(alloc, key)?;
-            push_look_up(out, store, verb, small(table), key.as_slice(), 0)
-        }
-        [verb, table, key, col] => {
-            let key = list(alloc, key)?;
-            push_look_up(out, store, verb, small(table), key.as_slice(), small(col))
-        }
+        [verb, table, key] => push_at(alloc, out, store, verb, small(table), key, 0),
+        [verb, table, key, col] => push_at(alloc, out, store, verb, small(table), key, small(col)),
         _ => out.push_str("no question"),
     }
 }

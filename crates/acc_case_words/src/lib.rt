@@ -1,0 +1,7 @@
+//! What words of a case stand for, and how answers are spelled: what programs that play cases have in common.
+#![tactic(auto)]
+
+pub mod causes;
+pub mod events;
+pub mod rows;
+pub mod words;

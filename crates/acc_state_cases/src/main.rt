@@ -1,0 +1,76 @@
+//! Single calls of the machine with locks, and questions about entries, over designs that are accepted with a certificate: prints each
+//! line of the input, and what it answers.
+//!
+//! `design FILE CERTIFICATE` gives the design of the lines behind it, by two files of the folder; a line with '#' is a remark. A number
+//! stands for a type, a point or a table, from 0 on, or for a transaction; a list has commas, and '-' is none.
+//!
+//! - `state ITEM; ITEM ..` makes calls of a fresh state, and asks about it. `begin CALL` gives the new number, `full` or `crowd`, for a
+//!   call as scripts spell it; `turn T` and `crash T` what they answer, or that there is no such transaction; `take EVENT` whether the
+//!   event is taken; `stuck`, `events`, `unfinished`, `is_unfinished T`, `reply T` and questions about rows their answers. `fill N CALL`
+//!   begins a call N times; `spend N CALL` begins it and turns it to its end, until there are at least N events.
+//! - `replay EVENT; EVENT ..` does events again: how many there are then, and the rows; or which of them, from 0, isn't lawful.
+//! - `compatible TYPE POINT LOCALS TYPE POINT LOCALS` tells by which entry two places aren't compatible.
+//! - `forbids TYPE POINT LOCALS SIDE TYPE POINT LOCALS` tells by which entry the first place forbids a step at the second.
+#![tactic(auto)]
+
+mod begins;
+mod entries;
+mod replays;
+mod states;
+mod turns;
+
+use acc_case_designs::accepted_file;
+use acc_case_words::words::parted;
+use acc_lift::Accepted;
+use std::alloc::{AllocError, Global};
+use std::io;
+
+/// Pushes what a question answers.
+fn push_answer(
+    alloc: Global,
+    out: &mut String,
+    design: &Accepted,
+    question: &str,
+) -> Result<(), AllocError> {
+    let (verb, rest) = parted(question, " ");
+    match verb {
+        "state" => states::push_answers(alloc, out, design, rest),
+        "replay" => replays::push_replayed(alloc, out, design, rest),
+        "compatible" => entries::push_clash(alloc, out, design, rest),
+        "forbids" => entries::push_forbidding(alloc, out, design, rest),
+        _ => out.push_str("no question"),
+    }
+}
+
+/// What a question answers.
+fn answer(alloc: Global, design: Option<&Accepted>, question: &str) -> Result<String, AllocError> {
+    let mut out = String::new(alloc);
+    match design {
+        Some(design) => push_answer(alloc, &mut out, design, question)?,
+        None => out.push_str("no design")?,
+    }
+    Ok(out)
+}
+
+/// Answers a question, and prints both; a line with '#' is a remark.
+fn play(rt: &impl Print, alloc: Global, design: Option<&Accepted>, line: &str) -> io::Result<()> {
+    if line.is_empty() || line.starts_with('#') || line.starts_with("design ") {
+        return rt.println(line);
+    }
+    let said = answer(alloc, design, line)?;
+    println!(rt; "{line} -> {said}")
+}
+
+fn main(rt: HostRuntime) -> io::Result<()> {
+    let alloc = rt.alloc();
+    let mut design = None;
+    for line in rt.lines(alloc) {
+        let line = line?;
+        if let Some(files) = line.strip_prefix("design ") {
+            let (text, certificate) = parted(files, " ");
+            design = accepted_file(&rt, text, certificate)?;
+        }
+        play(&rt, alloc, design.as_ref(), &line)?;
+    }
+    Ok(())
+}
