@@ -1,3 +1,4 @@
 pub mod CallFields
 pub mod Unbegun
 pub mod InSteps
+pub mod Tails

@@ -1,3 +1,5 @@
 pub mod Keeping
 pub mod Lags
 pub mod Calls
+pub mod Acks
+pub mod Ready

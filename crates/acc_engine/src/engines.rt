@@ -2,11 +2,12 @@
 ghost use Rattle.std.specs.Prelude.{◌≡◌};
 ghost use Rattle.acc_engine.specs.Calls.{answer_for};
 
+use crate::acks::has_turn;
 use crate::errors::{Drawn, EngineError};
 use crate::marks::lowest;
 use crate::noting::{note, put};
 use crate::places::prepare;
-use acc_base::machines::{Call, Turn};
+use acc_base::machines::{Call, Reply, Turn};
 use acc_base::sequences::Seq;
 use acc_disk::Disk;
 use acc_machine::{BeginError, State};
@@ -56,16 +57,19 @@ impl<'a, S: Store, D: Disk> Model for Engine<'a, S, D> {
 
 impl<'a, S: Store, D: Disk> Engine<'a, S, D> {
     ghost use Rattle.std.specs.Prelude.{◌≡◌, ◌≢◌, ◌≤◌, ◌<◌, ◌+◌, ◌-◌, ◌^◌, ◌++◌, [], map, drop};
-    ghost use Rattle.std.specs.Prelude.{List, ℕ, length, false, true, IfOk, IfErr, OnOk, OnErr, Ok, Err, Some};
+    ghost use Rattle.std.specs.Prelude.{List, ℕ, length, false, true, IfOk, IfErr, OnOk, OnErr, Ok, Err, Some, option_copied};
     ghost use Rattle.acc_io.specs.Causes.{Rose};
     ghost use Rattle.acc_disk.specs.Crashes.{Only, IsCalm};
     ghost use Rattle.acc_disk.specs.Moments.{AtAnyMoment};
     ghost use Rattle.acc_wal.specs.Fronts.{CountsFront};
     ghost use Rattle.acc_wal.specs.Spellings.{body};
     ghost use Rattle.acc_plain.specs.Turned.{IsUnfinished};
+    ghost use Rattle.acc_machine.specs.Kept.{IsKept};
     ghost use Rattle.acc_machine.specs.Turns.{IsTurn, AddsBy};
     ghost use Rattle.acc_engine.specs.Keeping.{CallsFit, begin_of, BeginsFrom, is_begun};
-    ghost use Rattle.acc_engine.specs.Calls.{StaysBut, RefusesTurn, RefusesSettling, Draws, DrawsLowest};
+    ghost use Rattle.acc_engine.specs.Acks.{durable_reply};
+    ghost use Rattle.acc_engine.specs.Calls.{StaysBut, IsUnmoved, RefusesTurn, RefusesSettling, Draws, DrawsLowest};
+    ghost use Rattle.acc_engine.specs.Ready.{IsReady};
     ghost use Rattle.acc_engine.specs.declared.errors.EngineError.TheVariants.{Failed};
 
     /// An engine over a state and its settled journal, for these calls, of which none is begun. It takes no memory.
@@ -91,22 +95,54 @@ impl<'a, S: Store, D: Disk> Engine<'a, S, D> {
         }
     }
 
-    /// The state. Since the engine was made no crash came, and the calls that began are those of the marked places, each once.
-    /// It takes no memory.
+    /// The state, which is good. Since the engine was made no crash came, and the calls that began are those of the marked places,
+    /// each once. It takes no memory.
     pub fn state(&self) -> &State<'a, S>
         ensures state { (result.now.world ≡ self.now.state) × (result.now.design ≡ self.now.design) }
+        ensures kept { IsKept self.now.design self.now.state }
         ensures begins { BeginsFrom self.now.calls self.now.begun (drop self.now.found self.now.state.events) }
     {
         &self.state
     }
 
+    /// How many places there are, one a call.
+    pub fn places(&self) -> usize
+        ensures { result ≡ length self.now.calls }
+    {
+        self.calls.len()
+    }
+
+    /// Whether that place, counted from 1, is begun.
+    pub fn is_begun(&self, place: u64) -> bool
+        requires low { 1 ≤ place }
+        ensures { result ≡ is_begun self.now.begun (place - 1) }
+    {
+        match self.begun.get((place - 1) as usize) {
+            Some(mark) => *mark,
+            None => false,
+        }
+    }
+
     /// How many events are durable. Unless the engine has failed, the disk's bytes are a journal of just these.
     pub fn settled(&self) -> usize
         ensures count { result ≡ self.now.settled }
+        ensures within { self.now.settled ≤ length self.now.state.events }
         ensures counts { self.now.failed ≡ false → (file : List ℕ) → D.told self.now.disk ≡ Some file
             → CountsFront self.now.base self.now.state.events self.now.settled file }
     {
         self.wal.durable().len()
+    }
+
+    /// The reply of a transaction, once it has ended and its end is durable. It takes no memory, and goes over the events that aren't
+    /// durable.
+    pub fn ack(&self, t: u64) -> Option<&Reply>
+        ensures { option_copied result ≡ durable_reply self.now t }
+    {
+        if has_turn(self.wal.tail(), t) {
+            None
+        } else {
+            self.state.reply(t)
+        }
     }
 
     /// Makes the history durable, and tells how many events it has. It takes no memory.
@@ -129,6 +165,7 @@ impl<'a, S: Store, D: Disk> Engine<'a, S, D> {
             → Only file (D.may_leave self.old.disk)
             → AtAnyMoment D.clock D.left_since self.old.disk self.new.disk
             (CountsFront self.old.base self.old.state.events self.old.settled) }
+        ensures ready { IsReady D.told D.may_leave self.old → OnOk result (IsReady D.told D.may_leave self.new) }
     {
         match self.wal.settle() {
             Ok(()) => Ok(self.wal.durable().len() as u64),
@@ -168,11 +205,10 @@ impl<'a, S: Store, D: Disk> Engine<'a, S, D> {
         requires high { place ≤ length self.old.calls }
         requires fresh { is_begun self.old.begun (place - 1) ≡ false }
         ensures ok { IfOk result (λ drawn. Draws drawn (place - 1) self.old self.new) }
-        ensures err { OnErr result (self.new.state ≡ self.old.state) }
+        ensures err { OnErr result (IsUnmoved self.old self.new) }
         ensures why { IfErr result (λ error. RefusesTurn error self.old.failed) }
         ensures failed { self.old.failed ≡ true → (result ≡ Err Failed) × (self.new ≡ self.old) }
         ensures stays { StaysBut self.old self.new }
-        ensures others { (p : ℕ) → p ≢ place - 1 → is_begun self.new.begun p ≡ is_begun self.old.begun p }
     {
         let index = (place - 1) as usize;
         let event = match prepare(&mut self.wal, &mut self.begun, self.calls.as_slice(), index) {
@@ -192,7 +228,7 @@ impl<'a, S: Store, D: Disk> Engine<'a, S, D> {
     /// Begins the lowest place that isn't begun. It makes no call of the disk.
     pub fn draw(&mut self) -> Result<Drawn, EngineError>
         ensures ok { IfOk result (λ drawn. DrawsLowest drawn self.old self.new) }
-        ensures err { OnErr result (self.new.state ≡ self.old.state) }
+        ensures err { OnErr result (IsUnmoved self.old self.new) }
         ensures why { IfErr result (λ error. RefusesTurn error self.old.failed) }
         ensures failed { self.old.failed ≡ true → (result ≡ Err Failed) × (self.new ≡ self.old) }
         ensures stays { StaysBut self.old self.new }

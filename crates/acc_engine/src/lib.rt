@@ -1,6 +1,7 @@
 //! The engine: a state and its journal in step, and the calls of a script.
 #![tactic(auto)]
 
+mod acks;
 mod engines;
 mod errors;
 mod marks;

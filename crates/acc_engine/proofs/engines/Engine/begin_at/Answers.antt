@@ -1,7 +1,7 @@
 use Rattle.std.proofs.Common.{◌≡◌, ◌-◌, ◌+◌, ◌^◌, ◌<◌, ◌∙◌, List, Bool, Some, false, true, length, get_or, slice_get, ap, subst, sym, arith}
 use Rattle.std.specs.Prelude.{All}
 use Rattle.std.proofs.lemmas.Option.{same_Some}
-use Rattle.std.proofs.lemmas.List.{get_or-set_same}
+use Rattle.std.proofs.lemmas.List.{get_or-set_same, get_or-set_other}
 use Rattle.acc_base.specs.declared.bounds.TheConstants.{MOST_EVENTS, MOST_UNFINISHED}
 use Rattle.acc_base.specs.declared.designs.Design.{Design}
 use Rattle.acc_base.specs.declared.machines.Call.{Call}
@@ -63,6 +63,7 @@ returns-in-Ok-begin-clause-ok g c =
     let inside = c.self.inside in
     let p = c.args.place - 1 in
     let marks = c.prepare.new.begun.items in
+    let begun : inside.begun.items ≡ c.args.self.now.begun = ap (λ (j : Journalled g.row.D.Denot). j.begun) c.self.view_is in
     let calls : inside.calls ≡ c.args.self.now.calls = ap (λ (j : Journalled g.row.D.Denot). j.calls) c.self.view_is in
     let design : inside.state.design ≡ c.args.self.now.design = ap (λ (j : Journalled g.row.D.Denot). j.design) c.self.view_is in
     let state : inside.state.world ≡ c.args.self.now.state = ap (λ (j : Journalled g.row.D.Denot). j.state) c.self.view_is in
@@ -80,6 +81,7 @@ returns-in-Ok-begin-clause-ok g c =
             (subst (λ (w : World). after_event inside.state.design w (Begin call) ≡ Some after) state answer.1);
         number = answer.0 ∙ ap next_number state;
         here = get_or-set_same marks p true false lt;
+        others = λ q other. get_or-set_other marks p q true false other ∙ c.prepare.ensures.marks q ∙ ap (λ (l : List Bool). get_or l q false) begun;
       },
       subst (λ (w : World). length w.events < MOST_EVENTS) state answer.2.0,
       subst (λ (w : World). length (unfinished w) < MOST_UNFINISHED) state answer.2.1,

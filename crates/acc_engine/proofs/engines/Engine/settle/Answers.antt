@@ -1,4 +1,4 @@
-use Rattle.std.proofs.Common.{◌≡◌, List, ℕ, length, false, Some, ◌∙◌, ap, subst}
+use Rattle.std.proofs.Common.{◌≡◌, List, ℕ, length, false, Some, inl, sym, ◌∙◌, ap, subst}
 use Rattle.acc_base.specs.declared.machines.Event.{Event}
 use Rattle.acc_disk.specs.Crashes.{Only}
 use Rattle.acc_disk.specs.Moments.{AtAnyMoment}
@@ -7,7 +7,9 @@ use Rattle.acc_wal.proofs.FrontLemmas.{front_of_either}
 use Rattle.acc_wal.proofs.Moments.{weaker}
 use Rattle.acc_engine.specs.Keeping.{Journalled}
 use Rattle.acc_engine.proofs.InSteps.{in_step_settled}
+use Rattle.acc_engine.specs.Ready.{IsReady}
 use Rattle.acc_engine.proofs.engines.Engine.settle.Goals as goal
+use Rattle.acc_engine.proofs.engines.Engine.settle.Goals.{in-Ok, in-Err-Spent, in-Err}
 
 pub invariant_of-self : goal.invariant_of-self
 invariant_of-self g c =
@@ -24,3 +26,23 @@ returns-clause-moments g c unfailed =
     weaker g.D.Disk.clock g.D.Disk.left_since _ _ _ _
     (λ image either. subst (λ (h : List Event). CountsFront wal.base h (length wal.durable) image) c.self.invariant.same (front_of_either wal.base image wal.durable wal.tail either))
     (c.settle.ensures.moments unspent file told only))
+
+pub returns-clause-ready : goal.returns-clause-ready
+returns-clause-ready g c ready =
+    let inside = c.self.inside in
+    let new = c.settle.new.self in
+    let was = subst (IsReady g.D.Disk.told g.D.Disk.may_leave) (sym c.self.view_is) ready in
+    let kept = in_step_settled inside.state.design inside.state.world inside.wal new inside.found inside.calls inside.begun.items inside.lowest c.self.invariant c.settle.result c.settle.ensures.ok c.settle.ensures.err in
+    elim c.match-settle.branch [
+      | in-Ok w ↦
+          rw w.result-is
+          (record {
+            unfailed = w.in-Ok.ensures.ok.spent;
+            calm = w.in-Ok.ensures.calm was.calm;
+            counts = λ file told.
+                subst (λ (h : List Event). CountsFront new.base h (length new.durable) file) kept.same
+                (front_of_either new.base file new.durable new.tail (inl (w.durable.ensures.counts w.in-Ok.ensures.ok.spent file told)));
+          })
+      | in-Err-Spent w ↦ rw w.result-is tt
+      | in-Err w ↦ rw w.result-is tt
+    ]
