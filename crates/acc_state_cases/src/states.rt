@@ -2,6 +2,7 @@
 ghost use Rattle.std.specs.Prelude.{◌≡◌};
 
 use crate::begins::push_call;
+use crate::dumps::push_dump;
 use crate::turns::{push_crashed, push_taken, push_turned};
 use acc_case_words::events::{event, push_reply, push_unfinished};
 use acc_case_words::rows::push_row_answer;
@@ -64,6 +65,7 @@ fn push_item(
         "begin" | "fill" | "spend" => push_call(alloc, out, design, state, verb, rest),
         "turn" => push_turned(out, state, number(rest)),
         "crash" => push_crashed(out, state, number(rest)),
+        "dump" => push_dump(alloc, out, design.design(), state.store()),
         _ => push_asked(alloc, out, state, item),
     }
 }
