@@ -1,0 +1,7 @@
+pub mod Parts
+pub mod Atoms
+pub mod Targets
+pub mod Choices
+pub mod Making
+pub mod Instances
+pub mod Lists
