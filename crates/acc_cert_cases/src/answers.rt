@@ -1,8 +1,9 @@
 //! The answers.
-use crate::{designs, sequents, texts};
+use crate::texts;
 use acc_axioms::nodes::{Cert, Proof};
 use acc_base::designs::Design;
 use acc_base::sequents::Sequent;
+use acc_case_sequents::{designs, sequents};
 use acc_cert::{CertError, read, write};
 use acc_proof::checks::proves;
 use acc_proof::errors::ProofError;

@@ -10,9 +10,7 @@
 #![tactic(auto)]
 
 mod answers;
-mod designs;
 mod given;
-mod sequents;
 mod texts;
 
 use given::Given;
