@@ -1,5 +1,6 @@
 -- Keeping the better one of two, item by item, keeps the least of all.
-use Rattle.std.proofs.Common.{◌≡◌, ℕ, ◌<◌, zero, suc, length, get_or, ◌∙◌, Bool, true, false, List, [], ◌∷◌, Option, Some, None, IsTrue, Contains, IfSome, IfNone, if◌then◌else◌, fold, refl, sym, arith}
+use Rattle.std.proofs.Common.{◌≡◌, ℕ, ◌<◌, zero, suc, length, get_or, ◌∙◌, Bool, true, false, List, [], ◌∷◌, Option, Some, None, IsTrue}
+use Rattle.std.proofs.Common.{Contains, IfSome, IfNone, if◌then◌else◌, fold, refl, sym, arith}
 use Rattle.std.proofs.lemmas.List.Elements.{All-nil, All-cons, All-head, All-tail, Contains-append_right}
 use Rattle.std.proofs.lemmas.Bool.{false≢true}
 use Rattle.acc_base.specs.Leasts.{IsLeast, better}
@@ -15,10 +16,12 @@ with_lesser : {X : Type 0} (is_less : X → X → Bool) → IsOrder is_less → 
     IsTrue (is_less y x) → IsLeast is_less (y ∷ ys) r → IsLeast is_less (x ∷ y ∷ ys) r
 with_lesser is_less order x y ys r below h = record {
   there = Contains-append_right (x ∷ []) (y ∷ ys) r h.there;
-  least = All-cons (λ z. ¬ IsTrue (is_less z r)) x (y ∷ ys) (λ t. All-head (λ z. ¬ IsTrue (is_less z r)) y ys h.least (order.transitive y x r below t)) h.least;
+  least = All-cons (λ z. ¬ IsTrue (is_less z r)) x (y ∷ ys)
+      (λ t. All-head (λ z. ¬ IsTrue (is_less z r)) y ys h.least (order.transitive y x r below t)) h.least;
 }
 
-there_behind : {X : Type 0} (x y : X) (ys : List X) (r : X) (k : ℕ) → k < length (x ∷ ys) → get_or (x ∷ ys) k r ≡ r → Contains (x ∷ y ∷ ys) r
+there_behind : {X : Type 0} (x y : X) (ys : List X) (r : X) (k : ℕ) → k < length (x ∷ ys) → get_or (x ∷ ys) k r ≡ r →
+    Contains (x ∷ y ∷ ys) r
 there_behind x y ys r zero below is = (0, omega arith, is)
 there_behind x y ys r (suc k) below is = (suc (suc k), omega arith, is)
 
@@ -29,7 +32,9 @@ with_greater is_less order x y ys r above h =
     let first : ¬ IsTrue (is_less x r) = All-head (λ z. ¬ IsTrue (is_less z r)) x ys h.least in
     record {
       there = there_behind x y ys r h.there.0 h.there.1 h.there.2;
-      least = All-cons (λ z. ¬ IsTrue (is_less z r)) x (y ∷ ys) first (All-cons (λ z. ¬ IsTrue (is_less z r)) y ys (order.rising y x r above first) (All-tail (λ z. ¬ IsTrue (is_less z r)) x ys h.least));
+      least = All-cons (λ z. ¬ IsTrue (is_less z r)) x (y ∷ ys) first
+          (All-cons (λ z. ¬ IsTrue (is_less z r)) y ys (order.rising y x r above first)
+          (All-tail (λ z. ¬ IsTrue (is_less z r)) x ys h.least));
     }
 
 pub some_weaker : {X : Type 0} (P Q : X → Type 0) (o : Option X) → ((x : X) → P x → Q x) → IfSome o P → IfSome o Q
@@ -44,9 +49,12 @@ least_of_more is_less order x [] = record {
   least = All-cons (λ z. ¬ IsTrue (is_less z x)) x [] (order.irreflexive x) (All-nil (λ z. ¬ IsTrue (is_less z x)));
 }
 least_of_more is_less order x (y ∷ ys) =
-    elim (is_less y x) as (λ b. is_less y x ≡ b → IfSome (fold (better is_less) (if b then Some y else Some x) ys) (IsLeast is_less (x ∷ y ∷ ys))) [
-      | true ↦ λ e. some_weaker (IsLeast is_less (y ∷ ys)) (IsLeast is_less (x ∷ y ∷ ys)) (fold (better is_less) (Some y) ys) (λ r h. with_lesser is_less order x y ys r e h) (least_of_more is_less order y ys)
-      | false ↦ λ e. some_weaker (IsLeast is_less (x ∷ ys)) (IsLeast is_less (x ∷ y ∷ ys)) (fold (better is_less) (Some x) ys) (λ r h. with_greater is_less order x y ys r (λ t. false≢true (sym e ∙ t)) h) (least_of_more is_less order x ys)
+    elim (is_less y x) as (λ b. is_less y x ≡ b →
+    IfSome (fold (better is_less) (if b then Some y else Some x) ys) (IsLeast is_less (x ∷ y ∷ ys))) [
+      | true ↦ λ e. some_weaker (IsLeast is_less (y ∷ ys)) (IsLeast is_less (x ∷ y ∷ ys)) (fold (better is_less) (Some y) ys)
+          (λ r h. with_lesser is_less order x y ys r e h) (least_of_more is_less order y ys)
+      | false ↦ λ e. some_weaker (IsLeast is_less (x ∷ ys)) (IsLeast is_less (x ∷ y ∷ ys)) (fold (better is_less) (Some x) ys)
+          (λ r h. with_greater is_less order x y ys r (λ t. false≢true (sym e ∙ t)) h) (least_of_more is_less order x ys)
     ] refl
 
 -- what is kept of items is the least of them

@@ -11,7 +11,8 @@ use Rattle.acc_axioms.specs.declared.nodes.Proof.{Proof}
 use Rattle.acc_axioms.specs.declared.nodes.Cert.{Cert}
 use Rattle.acc_cert.specs.Spelled.{pair, index, signed}
 use Rattle.acc_cert.specs.SpelledNodes.{mults, axiom_number, key, key_and_number, arguments, node_data, proof, cert}
-use Rattle.acc_cert.proofs.Sizes.{IsPlain, none, more, whole, number_plain, text_plain, pair_plain, each_plain, lins_plain, unknown_plain, form_plain}
+use Rattle.acc_cert.proofs.Sizes.{IsPlain, none, more, whole, number_plain, text_plain, pair_plain, each_plain, lins_plain, unknown_plain}
+use Rattle.acc_cert.proofs.Sizes.{form_plain}
 
 mults_plain : (m : Mults) → IsPlain 2 (mults m)
 mults_plain m = each_plain (pair index signed) 1 pair_plain m.of
@@ -41,9 +42,13 @@ arguments_plain (schema.Fresh t k) = key_plain t k
 node_plain : (n : Node) → IsPlain 10 (node_data n)
 node_plain (node.Split f) = whole (more (text_plain (codes "split")) (omega arith) (more (form_plain f) (omega arith) none))
 node_plain (node.Inst h ls ms) =
-    whole (more (text_plain (codes "inst")) (omega arith) (more (number_plain h) (omega arith) (more (lins_plain ls) (omega arith) (more (each_plain mults 2 mults_plain ms) (omega arith) none))))
+    whole (more (text_plain (codes "inst")) (omega arith)
+    (more (number_plain h) (omega arith) (more (lins_plain ls) (omega arith)
+    (more (each_plain mults 2 mults_plain ms) (omega arith) none))))
 node_plain (node.Axiom x ms) =
-    whole (more (text_plain (codes "axiom")) (omega arith) (more (number_plain (axiom_number x)) (omega arith) (more (arguments_plain x) (omega arith) (more (each_plain mults 2 mults_plain ms) (omega arith) none))))
+    whole (more (text_plain (codes "axiom")) (omega arith)
+    (more (number_plain (axiom_number x)) (omega arith)
+    (more (arguments_plain x) (omega arith) (more (each_plain mults 2 mults_plain ms) (omega arith) none))))
 node_plain (node.Leaf m) = whole (more (text_plain (codes "leaf")) (omega arith) (more (mults_plain m) (omega arith) none))
 
 proof_plain : (p : Proof) → IsPlain 11 (proof p)

@@ -65,14 +65,18 @@ narrow_read z h = ap given (number_read w64 is_narrow narrow_holds z h)
 
 coefficient_read : (p : ℕ × ℤ) → bounds.pair bounds.index is_narrow p ≡ true → two 0 index_of narrow_of (pair index signed p) ≡ Good p
 coefficient_read p h =
-    two_read index_of (index p.0) p.0 (index_read p.0 (first_so (bounds.index p.0) (is_narrow p.1) h)) narrow_of (signed p.1) p.1 (narrow_read p.1 (second_so (bounds.index p.0) (is_narrow p.1) h))
+    two_read index_of (index p.0) p.0 (index_read p.0 (first_so (bounds.index p.0) (is_narrow p.1) h)) narrow_of (signed p.1) p.1
+    (narrow_read p.1 (second_so (bounds.index p.0) (is_narrow p.1) h))
 
 pub lin_read : (l : Lin) → bounds.lin l ≡ true → lin_of (lin l) ≡ Good l
 lin_read l h =
     let all : Bool = list_all (bounds.pair bounds.index is_narrow) l.coeffs in
-    let a = each_read (pair index signed) (two 0 index_of narrow_of) (bounds.pair bounds.index is_narrow) coefficient_read l.coeffs (first_so all (is_narrow l.constant) h) in
+    let a = each_read (pair index signed) (two 0 index_of narrow_of) (bounds.pair bounds.index is_narrow) coefficient_read l.coeffs
+    (first_so all (is_narrow l.constant) h) in
     let b = narrow_read l.constant (second_so all (is_narrow l.constant) h) in
-    ap (gives (λ p. record { coeffs = p.0; constant = p.1 })) (two_read (list_of (two 0 index_of narrow_of)) (each (pair index signed) l.coeffs) l.coeffs a narrow_of (signed l.constant) l.constant b)
+    ap (gives (λ p. record { coeffs = p.0; constant = p.1 }))
+    (two_read (list_of (two 0 index_of narrow_of)) (each (pair index signed) l.coeffs) l.coeffs a narrow_of (signed l.constant)
+    l.constant b)
 
 pub lins_read : (ls : List Lin) → bounds.lins ls ≡ true → lins_of (lins ls) ≡ Good ls
 lins_read ls h = each_read lin lin_of bounds.lin lin_read ls h
@@ -80,11 +84,14 @@ lins_read ls h = each_read lin lin_of bounds.lin lin_read ls h
 module _ (t : ℕ) (ls : List Lin) where
   pub key_read : (bounds.index t && bounds.lins ls) ≡ true → two 0 index_of lins_of (array_of (index t ∷ lins ls ∷ [])) ≡ Good (t, ls)
   key_read h =
-      two_read index_of (index t) t (index_read t (first_so (bounds.index t) (bounds.lins ls) h)) lins_of (lins ls) ls (lins_read ls (second_so (bounds.index t) (bounds.lins ls) h))
+      two_read index_of (index t) t (index_read t (first_so (bounds.index t) (bounds.lins ls) h)) lins_of (lins ls) ls
+      (lins_read ls (second_so (bounds.index t) (bounds.lins ls) h))
 
-  key_behind : (bounds.index t && bounds.lins ls) ≡ true → (w : Data) → two 1 index_of lins_of (array_of (w ∷ index t ∷ lins ls ∷ [])) ≡ Good (t, ls)
+  key_behind : (bounds.index t && bounds.lins ls) ≡ true → (w : Data) →
+      two 1 index_of lins_of (array_of (w ∷ index t ∷ lins ls ∷ [])) ≡ Good (t, ls)
   key_behind h w =
-      two_behind index_of (index t) t (index_read t (first_so (bounds.index t) (bounds.lins ls) h)) lins_of (lins ls) ls (lins_read ls (second_so (bounds.index t) (bounds.lins ls) h)) w
+      two_behind index_of (index t) t (index_read t (first_so (bounds.index t) (bounds.lins ls) h)) lins_of (lins ls) ls
+      (lins_read ls (second_so (bounds.index t) (bounds.lins ls) h)) w
 
   module _ (n : ℕ) (h : (bounds.index t && (bounds.lins ls && bounds.index n)) ≡ true) where
     later : (bounds.lins ls && bounds.index n) ≡ true
@@ -92,11 +99,15 @@ module _ (t : ℕ) (ls : List Lin) where
 
     pub key_number_read : three 0 index_of lins_of index_of (array_of (index t ∷ lins ls ∷ index n ∷ [])) ≡ Good (t, ls, n)
     key_number_read =
-        three_read index_of (index t) t (index_read t (first_so (bounds.index t) (bounds.lins ls && bounds.index n) h)) lins_of (lins ls) ls (lins_read ls (first_so (bounds.lins ls) (bounds.index n) later)) index_of (index n) n (index_read n (second_so (bounds.lins ls) (bounds.index n) later))
+        three_read index_of (index t) t (index_read t (first_so (bounds.index t) (bounds.lins ls && bounds.index n) h)) lins_of (lins ls) ls
+        (lins_read ls (first_so (bounds.lins ls) (bounds.index n) later)) index_of (index n) n
+        (index_read n (second_so (bounds.lins ls) (bounds.index n) later))
 
     key_number_behind : (w : Data) → three 1 index_of lins_of index_of (array_of (w ∷ index t ∷ lins ls ∷ index n ∷ [])) ≡ Good (t, ls, n)
     key_number_behind w =
-        three_behind index_of (index t) t (index_read t (first_so (bounds.index t) (bounds.lins ls && bounds.index n) h)) lins_of (lins ls) ls (lins_read ls (first_so (bounds.lins ls) (bounds.index n) later)) index_of (index n) n (index_read n (second_so (bounds.lins ls) (bounds.index n) later)) w
+        three_behind index_of (index t) t (index_read t (first_so (bounds.index t) (bounds.lins ls && bounds.index n) h)) lins_of (lins ls)
+        ls (lins_read ls (first_so (bounds.lins ls) (bounds.index n) later)) index_of (index n) n
+        (index_read n (second_so (bounds.lins ls) (bounds.index n) later)) w
 
 pub atom_read : (a : Atom) → bounds.atom_in a ≡ true → atom_of (atom_data a) ≡ Good a
 atom_read atom.One h = refl
@@ -108,15 +119,21 @@ atom_read (atom.Sum t k c) h = ap (gives (λ p. atom.Sum p.0 p.1 p.2)) (key_numb
 
 pub unknown_read : (u : Unknown) → bounds.unknown u ≡ true → unknown_of (unknown u) ≡ Good u
 unknown_read u h =
-    ap (gives (λ p. record { under = p.0; atom = p.1 })) (two_read lins_of (lins u.under) u.under (lins_read u.under (first_so (bounds.lins u.under) (bounds.atom_in u.atom) h)) atom_of (atom_data u.atom) u.atom (atom_read u.atom (second_so (bounds.lins u.under) (bounds.atom_in u.atom) h)))
+    ap (gives (λ p. record { under = p.0; atom = p.1 }))
+    (two_read lins_of (lins u.under) u.under (lins_read u.under (first_so (bounds.lins u.under) (bounds.atom_in u.atom) h)) atom_of
+    (atom_data u.atom) u.atom (atom_read u.atom (second_so (bounds.lins u.under) (bounds.atom_in u.atom) h)))
 
 term_read : (p : Unknown × ℤ) → bounds.pair bounds.unknown is_wide p ≡ true → two 0 unknown_of wide_of (pair unknown signed p) ≡ Good p
 term_read p h =
-    two_read unknown_of (unknown p.0) p.0 (unknown_read p.0 (first_so (bounds.unknown p.0) (is_wide p.1) h)) wide_of (signed p.1) p.1 (wide_read p.1 (second_so (bounds.unknown p.0) (is_wide p.1) h))
+    two_read unknown_of (unknown p.0) p.0 (unknown_read p.0 (first_so (bounds.unknown p.0) (is_wide p.1) h)) wide_of (signed p.1) p.1
+    (wide_read p.1 (second_so (bounds.unknown p.0) (is_wide p.1) h))
 
 pub form_read : (f : Form) → bounds.form f ≡ true → form_of (form f) ≡ Good f
 form_read f h =
     let all : Bool = list_all (bounds.pair bounds.unknown is_wide) f.terms in
-    let a = each_read (pair unknown signed) (two 0 unknown_of wide_of) (bounds.pair bounds.unknown is_wide) term_read f.terms (first_so all (is_wide f.constant) h) in
+    let a = each_read (pair unknown signed) (two 0 unknown_of wide_of) (bounds.pair bounds.unknown is_wide) term_read f.terms
+    (first_so all (is_wide f.constant) h) in
     let b = wide_read f.constant (second_so all (is_wide f.constant) h) in
-    ap (gives (λ p. record { terms = p.0; constant = p.1 })) (two_read (list_of (two 0 unknown_of wide_of)) (each (pair unknown signed) f.terms) f.terms a wide_of (signed f.constant) f.constant b)
+    ap (gives (λ p. record { terms = p.0; constant = p.1 }))
+    (two_read (list_of (two 0 unknown_of wide_of)) (each (pair unknown signed) f.terms) f.terms a wide_of (signed f.constant) f.constant
+    b)

@@ -48,7 +48,8 @@ pair_plain p = whole (more (number_plain p.0) (omega arith) (more (text_plain (s
 
 pub lin_plain : (l : Lin) → IsPlain 3 (lin l)
 lin_plain l =
-    whole (more (each_plain (pair index signed) 1 pair_plain l.coeffs) (omega arith) (more (text_plain (signed_decimal l.constant)) (omega arith) none))
+    whole (more (each_plain (pair index signed) 1 pair_plain l.coeffs) (omega arith)
+    (more (text_plain (signed_decimal l.constant)) (omega arith) none))
 
 pub lins_plain : (ls : List Lin) → IsPlain 4 (lins ls)
 lins_plain ls = each_plain lin 3 lin_plain ls
@@ -60,9 +61,11 @@ pub atom_plain : (a : Atom) → IsPlain 5 (atom_data a)
 atom_plain atom.One = whole (more (text_plain (codes "one")) (omega arith) none)
 atom_plain (atom.Var x) = whole (more (text_plain (codes "var")) (omega arith) (more (number_plain x) (omega arith) none))
 atom_plain (atom.Has t k) = whole (more (text_plain (codes "has")) (omega arith) (key_plain t k none))
-atom_plain (atom.Col t k c) = whole (more (text_plain (codes "col")) (omega arith) (key_plain t k (more (number_plain c) (omega arith) none)))
+atom_plain (atom.Col t k c) = whole (more (text_plain (codes "col")) (omega arith)
+    (key_plain t k (more (number_plain c) (omega arith) none)))
 atom_plain (atom.Count t k) = whole (more (text_plain (codes "count")) (omega arith) (key_plain t k none))
-atom_plain (atom.Sum t k c) = whole (more (text_plain (codes "sum")) (omega arith) (key_plain t k (more (number_plain c) (omega arith) none)))
+atom_plain (atom.Sum t k c) = whole (more (text_plain (codes "sum")) (omega arith)
+    (key_plain t k (more (number_plain c) (omega arith) none)))
 
 pub unknown_plain : (u : Unknown) → IsPlain 6 (unknown u)
 unknown_plain u = whole (more (lins_plain u.under) (omega arith) (more (atom_plain u.atom) (omega arith) none))
@@ -72,4 +75,5 @@ term_plain p = whole (more (unknown_plain p.0) (omega arith) (more (text_plain (
 
 pub form_plain : (f : Form) → IsPlain 9 (form f)
 form_plain f =
-    whole (more (each_plain (pair unknown signed) 7 term_plain f.terms) (omega arith) (more (text_plain (signed_decimal f.constant)) (omega arith) none))
+    whole (more (each_plain (pair unknown signed) 7 term_plain f.terms) (omega arith)
+    (more (text_plain (signed_decimal f.constant)) (omega arith) none))

@@ -1,5 +1,6 @@
 -- Which texts spell a number.
-use Rattle.std.proofs.Common.{◌≡◌, ℕ, ◌^◌, ◌<◌, ◌≤◌, Bool, true, false, List, [], ◌∷◌, refl, sym, ap, subst, ◌∙◌, arith, suc, ℤ, pos, negsuc, neg_ℤ, Option, None, Some, FitsSigned}
+use Rattle.std.proofs.Common.{◌≡◌, ℕ, ◌^◌, ◌<◌, ◌≤◌, Bool, true, false, List, [], ◌∷◌, refl, sym, ap, subst, ◌∙◌, arith, suc, ℤ, pos}
+use Rattle.std.proofs.Common.{negsuc, neg_ℤ, Option, None, Some, FitsSigned}
 use Rattle.std.specs.Prelude.{◌==◌, ◌&&◌, if◌then◌else◌}
 use Rattle.std.specs.Int.Signed.{mag}
 use mir.Syntax.{Width}

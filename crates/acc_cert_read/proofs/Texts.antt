@@ -12,4 +12,8 @@ of_text bytes h = rw (is_utf8-from_IsUtf8 bytes h) refl
 
 pub of_others : (bytes : List ℕ) → ¬ IsUtf8 bytes → cert_in bytes ≡ Off []
 of_others bytes broken =
-    elim (is_utf8 bytes) as (λ b. is_utf8 bytes ≡ b → (if b then and_then (given (read bytes)) cert_of else Off []) ≡ Off []) [ true ↦ λ e. absurd (broken (IsUtf8-from_is_utf8 bytes e)) | false ↦ λ e. refl ] refl
+    elim (is_utf8 bytes) as (λ b. is_utf8 bytes ≡ b → (if b then and_then (given (read bytes)) cert_of else Off []) ≡ Off []) [
+      | true ↦
+          λ e. absurd (broken (IsUtf8-from_is_utf8 bytes e))
+      | false ↦ λ e. refl
+    ] refl

@@ -1,5 +1,6 @@
 -- How numbers stand in certificates.
-use Rattle.std.specs.Prelude.{ℕ, ◌^◌, Bool, ◌&&◌, nat_lt, nat_le, if◌then◌else◌, List, Option, Some, None, option_and_then, ℤ, pos, unsigned_abs}
+use Rattle.std.specs.Prelude.{ℕ, ◌^◌, Bool, ◌&&◌, nat_lt, nat_le, if◌then◌else◌, List, Option, Some, None, option_and_then, ℤ, pos}
+use Rattle.std.specs.Prelude.{unsigned_abs}
 use Rattle.std.specs.Fmt.{signed_decimal}
 use Rattle.std.specs.Str.{bytes_eq}
 use Rattle.std.specs.Str.Parse.{signed_digits_value}

@@ -17,7 +17,8 @@ use Rattle.acc_cli.proofs.UnbegunLemmas.{leaves_unbegun}
 
 -- the files were given, and the command ended so
 ends_so : (held : List ℕ → Told) (counts counts' : Counts) (words : List (List ℕ)) (command : Command) (reply : Reply) (ending : Ending)
-    → command_of words ≡ Some command → (runs : Runs held counts counts' command (files_of command words) reply) → runs.1 ≡ ending → EndsSo held counts counts' words ending
+    → command_of words ≡ Some command → (runs : Runs held counts counts' command (files_of command words) reply) → runs.1 ≡ ending →
+    EndsSo held counts counts' words ending
 ends_so held counts counts' words command reply ending is runs same = record {
   command = command;
   form = is;
@@ -40,7 +41,8 @@ same_ending : (a b : Ending) (status : Status) → status ≡ Ran a → status �
 same_ending a b status h k = let e : Ran a ≡ Ran b = sym h ∙ k in cc
 
 -- the causes where the status is the one that is meant
-meant_causes : (held : List ℕ → Told) (counts counts' : Counts) (sink_fault : Type 0) (words : List (List ℕ)) (form : Option Command) (reply : Reply)
+meant_causes : (held : List ℕ → Told) (counts counts' : Counts) (sink_fault : Type 0) (words : List (List ℕ)) (form : Option Command)
+    (reply : Reply)
     → command_of words ≡ form → MeansForm held counts counts' words form reply → HasCauses held counts counts' words sink_fault reply.status
 meant_causes held counts counts' sink_fault words None reply is meant = record {
   usage = λ _. (is, meant.1);
@@ -53,7 +55,15 @@ meant_causes held counts counts' sink_fault words None reply is meant = record {
 meant_causes held counts counts' sink_fault words (Some command) reply is (inl refuses) = record {
   usage = λ h. let e : File ≡ Usage = sym refuses.0 ∙ h in absurd cc;
   usage_only = λ h. let e : Some command ≡ None = sym is ∙ h in cc;
-  file = λ _. record { command = command; form = is; name = refuses.2.0; error = refuses.2.1; first = refuses.2.2; text = reply.text; printed = refuses.2.3 };
+  file = λ _. record {
+    command = command;
+    form = is;
+    name = refuses.2.0;
+    error = refuses.2.1;
+    first = refuses.2.2;
+    text = reply.text;
+    printed = refuses.2.3;
+  };
   sink = λ h. let e : File ≡ Sink = sym refuses.0 ∙ h in absurd cc;
   unbegun = λ h. let e : File ≡ Ran Unbegun = sym refuses.0 ∙ h in absurd cc;
   ran = λ ending h. let e : File ≡ Ran ending = sym refuses.0 ∙ h in cc;
@@ -70,14 +80,18 @@ meant_causes held counts counts' sink_fault words (Some command) reply is (inr r
 
 -- the sink's fault behind a command that was done
 done_before : (held : List ℕ → Told) (counts counts' : Counts) (words : List (List ℕ)) (form : Option Command) (reply : Reply)
-    → command_of words ≡ form → MeansForm held counts counts' words form reply → reply.status ≡ Ran Done → EndsSo held counts counts' words Done
+    → command_of words ≡ form → MeansForm held counts counts' words form reply → reply.status ≡ Ran Done →
+    EndsSo held counts counts' words Done
 done_before held counts counts' words None reply is meant done = (let e : Ran Done ≡ Usage = sym done ∙ meant.0 in absurd cc)
-done_before held counts counts' words (Some command) reply is (inl refuses) done = (let e : Ran Done ≡ File = sym done ∙ refuses.0 in absurd cc)
+done_before held counts counts' words (Some command) reply is (inl refuses) done =
+    (let e : Ran Done ≡ File = sym done ∙ refuses.0 in absurd cc)
 done_before held counts counts' words (Some command) reply is (inr runs) done =
     ends_so held counts counts' words command reply Done is runs (same_ending runs.1 Done reply.status runs.4 done)
 
-sink_causes : (held : List ℕ → Told) (counts counts' : Counts) (sink_fault : Type 0) (words : List (List ℕ)) (form : Option Command) (reply : Reply)
-    → command_of words ≡ form → MeansForm held counts counts' words form reply → reply.status ≡ Ran Done → sink_fault → HasCauses held counts counts' words sink_fault Sink
+sink_causes : (held : List ℕ → Told) (counts counts' : Counts) (sink_fault : Type 0) (words : List (List ℕ)) (form : Option Command)
+    (reply : Reply)
+    → command_of words ≡ form → MeansForm held counts counts' words form reply → reply.status ≡ Ran Done → sink_fault →
+    HasCauses held counts counts' words sink_fault Sink
 sink_causes held counts counts' sink_fault words form reply is meant done rose =
     let before : EndsSo held counts counts' words Done = done_before held counts counts' words form reply is meant done in
     record {
@@ -89,7 +103,8 @@ sink_causes held counts counts' sink_fault words form reply is meant done rose =
       ran = λ ending h. cc;
     }
 
-pub causes_of : (held : List ℕ → Told) (counts counts' : Counts) (sink_fault : Type 0) (words : List (List ℕ)) (old new : Option (List ℕ)) (status : Status) (history : List Event)
+pub causes_of : (held : List ℕ → Told) (counts counts' : Counts) (sink_fault : Type 0) (words : List (List ℕ)) (old new : Option (List ℕ))
+    (status : Status) (history : List Event)
     → Answered (Meant held counts counts' words) old new sink_fault status history → HasCauses held counts counts' words sink_fault status
 causes_of held counts counts' sink_fault words old new status history (inl none) = record {
   usage = λ h. let e : Memory ≡ Usage = sym none.0 ∙ h in absurd cc;

@@ -1,5 +1,6 @@
 -- A command line means one answer, on a shelf that tells what stands at each name, where no read fails.
-use Rattle.std.proofs.Common.{◌≡◌, ℕ, zero, suc, List, [], ◌∷◌, ◌++◌, length, Option, None, Some, refl, sym, ap, subst, ◌∙◌, inl, inr, arith}
+use Rattle.std.proofs.Common.{◌≡◌, ℕ, zero, suc, List, [], ◌∷◌, ◌++◌, length, Option, None, Some, refl, sym, ap, subst, ◌∙◌, inl, inr}
+use Rattle.std.proofs.Common.{arith}
 use Rattle.std.specs.Prelude.{◌≢◌}
 use Rattle.acc_io.specs.Causes.{one_more, Rose}
 use Rattle.acc_io.specs.Counted.{after_files, after_refusal}
@@ -113,11 +114,14 @@ must_speak n counts now Absent text name none is said = tt
 must_speak n counts now (Long m) text name none is said = tt
 must_speak n counts now Memory text name none is said = said
 
-one_text : (name label : List ℕ) (e f : ShelfError) (t u : List ℕ) → name ≡ label → e ≡ f → Speaks e → SaysRefused name e t → SaysRefused label f u → t ≡ u
+one_text : (name label : List ℕ) (e f : ShelfError) (t u : List ℕ) → name ≡ label → e ≡ f → Speaks e → SaysRefused name e t →
+    SaysRefused label f u → t ≡ u
 one_text name label Failed f t u same is s h k = absurd s
 one_text name label Memory f t u same is s h k = absurd s
-one_text name label Absent f t u same is s h k = h ∙ sym (subst (λ x. SaysRefused x Absent u) (sym same) (subst (λ x. SaysRefused label x u) (sym is) k))
-one_text name label (Long n) f t u same is s h k = h ∙ sym (subst (λ x. SaysRefused x (Long n) u) (sym same) (subst (λ x. SaysRefused label x u) (sym is) k))
+one_text name label Absent f t u same is s h k =
+    h ∙ sym (subst (λ x. SaysRefused x Absent u) (sym same) (subst (λ x. SaysRefused label x u) (sym is) k))
+one_text name label (Long n) f t u same is s h k =
+    h ∙ sym (subst (λ x. SaysRefused x (Long n) u) (sym same) (subst (λ x. SaysRefused label x u) (sym is) k))
 
 -- ---- answers
 
@@ -127,24 +131,30 @@ module _ (held : List ℕ → Told) (tells : (name : List ℕ) → held name ≢
   both_refuse names a b (status, history, (name, e, h, said)) (status', history', (label, f, k, told)) =
       let s = must_speak (length h.before) counts one e a.text name first h.counted said in
       let t = must_speak (length k.before) counts other f b.text label second k.counted told in
-      let same = one_first held tells h.before k.before h.after k.after h.files k.files name label e f s t (sym h.place ∙ k.place) h.read k.read h.refused k.refused in
+      let same = one_first held tells h.before k.before h.after k.after h.files k.files name label e f s t (sym h.place ∙ k.place) h.read
+      k.read h.refused k.refused in
       let text = one_text name label e f a.text b.text same.0 same.1 s said told in
       λ i. record { status = (status ∙ sym status') i; text = text i; history = (history ∙ sym history') i }
 
-  given_and_refused : (names files : List (List ℕ)) (now : Counts) (b : Reply) → ¬ Rose counts.faults now.faults → AreFiles held names files → RefusesFile held counts now names b → ⊥
+  given_and_refused : (names files : List (List ℕ)) (now : Counts) (b : Reply) → ¬ Rose counts.faults now.faults →
+      AreFiles held names files → RefusesFile held counts now names b → ⊥
   given_and_refused names files now b none given (status, history, (label, f, k, told)) =
       let t = must_speak (length k.before) counts now f b.text label none k.counted told in
-      given_or_refused held tells k.before k.after files k.files label f t (subst (λ ns. AreFiles held ns files) k.place given) k.read k.refused
+      given_or_refused held tells k.before k.after files k.files label f t (subst (λ ns. AreFiles held ns files) k.place given) k.read
+      k.refused
 
-  both_run : (command : Command) (names : List (List ℕ)) (a b : Reply) → Runs held counts one command names a → Runs held counts other command names b → a ≡ b
+  both_run : (command : Command) (names : List (List ℕ)) (a b : Reply) → Runs held counts one command names a →
+      Runs held counts other command names b → a ≡ b
   both_run command names a b (files, ending, given, counted, status, means) (files', ending', given', counted', status', means') =
       let same : files' ≡ files = one_files held tells names files' files given' given in
-      let said = one_meaning command files (record { ending = ending; text = a.text; history = a.history }) (record { ending = ending'; text = b.text; history = b.history })
+      let said = one_meaning command files (record { ending = ending; text = a.text; history = a.history })
+      (record { ending = ending'; text = b.text; history = b.history })
       means (subst (λ fs. Means command fs (record { ending = ending'; text = b.text; history = b.history })) same means') in
       let ended : a.status ≡ b.status = status ∙ ap (λ (s : Said). Ran s.ending) said ∙ sym status' in
       λ i. record { status = ended i; text = (said i).text; history = (said i).history }
 
-  pub of_form : (form : Option Command) (words : List (List ℕ)) (a b : Reply) → MeansForm held counts one words form a → MeansForm held counts other words form b → a ≡ b
+  pub of_form : (form : Option Command) (words : List (List ℕ)) (a b : Reply) → MeansForm held counts one words form a →
+      MeansForm held counts other words form b → a ≡ b
   of_form None words a b h k = λ i. record { status = (h.0 ∙ sym k.0) i; text = (h.2 ∙ sym k.2) i; history = (h.3 ∙ sym k.3) i }
   of_form (Some command) words a b (inl h) (inl k) = both_refuse (files_of command words) a b h k
   of_form (Some command) words a b (inl h) (inr k) = absurd (given_and_refused (files_of command words) k.0 one a first k.2 h)

@@ -18,11 +18,14 @@ if_ok (Err e) f h = h
 all_none : {X : Type 0} (P : X → Type 0) → All P []
 all_none P = λ k d lt. absurd (omega arith)
 
-all_said : {X : Type 0} (Line : List ℕ → List X → Type 0) (P : X → Type 0) → ((line : List ℕ) (here : List X) → Line line here → All P here) → (lines : List (List ℕ)) (items : List X) → AreSaid Line lines items → All P items
+all_said : {X : Type 0} (Line : List ℕ → List X → Type 0) (P : X → Type 0) →
+    ((line : List ℕ) (here : List X) → Line line here → All P here) → (lines : List (List ℕ)) (items : List X) → AreSaid Line lines items →
+    All P items
 all_said Line P each [] items h = subst (All P) (sym h) (all_none P)
 all_said Line P each (line ∷ lines) items h = by (is_skipped line) h (all_said Line P each lines)
   where
-    by : (b : Bool) → MatchBool b (AreSaid Line lines items) (Says Line line (AreSaid Line lines) items) → ((rest : List _) → AreSaid Line lines rest → All P rest) → All P items
+    by : (b : Bool) → MatchBool b (AreSaid Line lines items) (Says Line line (AreSaid Line lines) items) →
+        ((rest : List _) → AreSaid Line lines rest → All P rest) → All P items
     by true k ih = ih items k
     by false k ih = subst (All P) (sym k.parts) (All-append P k.here k.behind (each line k.here k.said) (ih k.behind k.rest))
 
@@ -31,7 +34,9 @@ all_one P x h = All-cons P x [] h (all_none P)
 
 -- each call of a script fits its type
 pub calls_fit : (d : Design) (text : List ℕ) (calls : List Call) → IsScript d text calls → AllFit d calls
-calls_fit d text calls h = all_said (SaysCall d) (λ call. call_fits (slice_get d.types call.ty) call ≡ true) (λ line here s. subst (All (λ call. call_fits (slice_get d.types call.ty) call ≡ true)) (sym s.alone) (all_one (λ call. call_fits (slice_get d.types call.ty) call ≡ true) s.call s.asked.fits)) (lines_of text) calls h.said
+calls_fit d text calls h = all_said (SaysCall d) (λ call. call_fits (slice_get d.types call.ty) call ≡ true)
+    (λ line here s. subst (All (λ call. call_fits (slice_get d.types call.ty) call ≡ true)) (sym s.alone)
+    (all_one (λ call. call_fits (slice_get d.types call.ty) call ≡ true) s.call s.asked.fits)) (lines_of text) calls h.said
 
 -- each number of an order is a place
 pub places_within : (places : ℕ) (text numbers : List ℕ) → IsOrder places text numbers → All (IsPlace places) numbers

@@ -8,7 +8,8 @@ use Rattle.acc_disk.proofs.Steps.{length-overwritten}
 use Rattle.acc_disk.proofs.Orders.{apart, unwritten_before, settled_in_order}
 
 module _ (standing : Standing) (old new : List ℕ → Type 0) (within : (image : List ℕ) → old image → IsImage standing image) where
-  pub images_after_write : (at : ℕ) (bytes : List ℕ) → at ≤ length standing.bytes → Follows (Torn at (length bytes)) old new → (image : List ℕ) → new image → IsImage (after_write at bytes standing) image
+  pub images_after_write : (at : ℕ) (bytes : List ℕ) → at ≤ length standing.bytes → Follows (Torn at (length bytes)) old new →
+      (image : List ℕ) → new image → IsImage (after_write at bytes standing) image
   images_after_write at bytes fits follows image left =
       let from = follows image left in
       let was = within from.0 from.1 in
@@ -22,7 +23,8 @@ module _ (standing : Standing) (old new : List ℕ → Type 0) (within : (image 
             ∙ was.untouched i lt (unwritten_before at (length bytes) i standing.written un);
       }
 
-  pub images_after_cut : (to : ℕ) → to ≤ length standing.bytes → Follows (PartlyCut to) old new → (image : List ℕ) → new image → IsImage (after_cut to standing) image
+  pub images_after_cut : (to : ℕ) → to ≤ length standing.bytes → Follows (PartlyCut to) old new → (image : List ℕ) → new image →
+      IsImage (after_cut to standing) image
   images_after_cut to fits follows image left =
       let from = follows image left in
       let was = within from.0 from.1 in
@@ -31,7 +33,8 @@ module _ (standing : Standing) (old new : List ℕ → Type 0) (within : (image 
         no_shorter = omega (arith, was.no_shorter, cut.no_shorter, long);
         no_longer = omega (arith, was.no_longer, cut.no_longer);
         untouched = λ i lt un.
-            cut.below i (omega (arith, lt, was.no_shorter, cut.no_shorter, long)) (omega (arith, lt, long)) ∙ was.untouched i (omega (arith, lt)) un;
+            cut.below i (omega (arith, lt, was.no_shorter, cut.no_shorter, long)) (omega (arith, lt, long)) ∙ was.untouched i
+            (omega (arith, lt)) un;
       }
 
   -- a call that changes nothing, and a sync that fails
@@ -39,5 +42,6 @@ module _ (standing : Standing) (old new : List ℕ → Type 0) (within : (image 
   images_after_look no_more image left = within image (no_more image left)
 
 -- a sync that answers Ok, and a calm disk
-pub images_when_calm : (file : List ℕ) (may_leave : List ℕ → Type 0) → Only file may_leave → (image : List ℕ) → may_leave image → IsImage (settled file) image
+pub images_when_calm : (file : List ℕ) (may_leave : List ℕ → Type 0) → Only file may_leave → (image : List ℕ) → may_leave image →
+    IsImage (settled file) image
 images_when_calm file may_leave only image left = subst (IsImage (settled file)) (sym (only image left)) (settled_in_order file).present

@@ -10,7 +10,8 @@ use Rattle.acc_disk.proofs.Steps.{length-overwritten, overwritten_below, overwri
 pub apart : (at count i : ℕ) (written : List (ℕ × ℕ)) → is_written (written ++ (at, count) ∷ []) i ≡ false → (i < at) ⊎ (at + count ≤ i)
 apart at count i written un = grind (arith, nat_tests, list_any-append)
 
-pub unwritten_before : (at count i : ℕ) (written : List (ℕ × ℕ)) → is_written (written ++ (at, count) ∷ []) i ≡ false → is_written written i ≡ false
+pub unwritten_before : (at count i : ℕ) (written : List (ℕ × ℕ)) → is_written (written ++ (at, count) ∷ []) i ≡ false →
+    is_written written i ≡ false
 unwritten_before at count i written un = grind (arith, nat_tests, list_any-append)
 
 pub settled_in_order : (bytes : List ℕ) → IsInOrder (settled bytes)
@@ -20,7 +21,8 @@ settled_in_order bytes = record {
   present = record { no_shorter = omega arith; no_longer = omega arith; untouched = λ i lt un. refl };
 }
 
-pub write_in_order : (standing : Standing) (at : ℕ) (bytes : List ℕ) → IsInOrder standing → at ≤ length standing.bytes → IsInOrder (after_write at bytes standing)
+pub write_in_order : (standing : Standing) (at : ℕ) (bytes : List ℕ) → IsInOrder standing → at ≤ length standing.bytes →
+    IsInOrder (after_write at bytes standing)
 write_in_order standing at bytes order fits =
     let long = length-overwritten at bytes standing.bytes fits in
     let short = order.present.no_shorter in record {

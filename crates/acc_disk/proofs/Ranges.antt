@@ -1,6 +1,7 @@
 -- What stays of a file that was written or cut in part, as its front and its end.
 use Rattle.std.proofs.Common.{◌≡◌, ℕ, ◌+◌, ◌<◌, ◌≤◌, List, ◌++◌, length, take, drop, refl, sym, ◌∙◌, ap, arith}
-use Rattle.std.proofs.lemmas.List.{places, ext_get_or, get_or-take, get_or-drop, length-take-le, length-drop, take_at, drop_at, append_assoc}
+use Rattle.std.proofs.lemmas.List.{places, ext_get_or, get_or-take, get_or-drop, length-take-le, length-drop, take_at, drop_at}
+use Rattle.std.proofs.lemmas.List.{append_assoc}
 use Rattle.acc_disk.specs.Crashes.{overwritten, HoldsAt, Torn, PartlyCut}
 
 -- the front up to the written range
@@ -47,5 +48,6 @@ pub overwritten-holds : (at : ℕ) (bytes file : List ℕ) → at ≤ length fil
 overwritten-holds at bytes file fits =
     let front : length (take at file) ≡ at = length-take-le at file fits in
     ap (λ rest. take (length bytes) rest)
-    (ap (λ whole. drop at whole) (append_assoc (take at file) bytes (drop (at + length bytes) file)) ∙ drop_at (take at file) (bytes ++ drop (at + length bytes) file) at front)
+    (ap (λ whole. drop at whole) (append_assoc (take at file) bytes (drop (at + length bytes) file)) ∙ drop_at (take at file)
+    (bytes ++ drop (at + length bytes) file) at front)
     ∙ take_at bytes (drop (at + length bytes) file) (length bytes) refl

@@ -21,7 +21,8 @@ present-unchanged old new same =
     ap (λ changes. after_all changes (settled new.start.items)) same.past
     ∙ ap (λ start. after_all old.past.items (settled start)) same.start
 
-pub stands_still : (old new : History) → IsUnchanged old new → Elapses (change_count old) (change_count new) (LeftSince old) (LeftSince new) (IsImage (present new))
+pub stands_still : (old new : History) → IsUnchanged old new →
+    Elapses (change_count old) (change_count new) (LeftSince old) (LeftSince new) (IsImage (present new))
 stands_still old new same =
     let count_is : change_count new ≡ change_count old = ap length same.past in record {
       later = omega (arith, count_is);
@@ -54,7 +55,8 @@ module _ (number : ℕ) (step : Standing → Standing) (old new : History) (adva
       ∙ ap (λ start. after_all (take count old.past.items) (settled start)) advances.start
 
   -- a moment is an old one, or the new one
-  old_or_new : (time : ℕ) (image : List ℕ) → (left : LeftSince new time image) → (left.count ≤ change_count old) ⊎ (change_count new ≤ left.count)
+  old_or_new : (time : ℕ) (image : List ℕ) → (left : LeftSince new time image) → (left.count ≤ change_count old) ⊎
+      (change_count new ≤ left.count)
   old_or_new time image left = grind (arith, change_count-advanced, left.within)
 
   pub goes_on : Elapses (change_count old) (change_count new) (LeftSince old) (LeftSince new) (IsImage (present new))
@@ -83,17 +85,22 @@ module _ (number : ℕ) (step : Standing → Standing) (old new : History) (adva
   bytes-advanced = sym new.kept ∙ ap (λ standing. standing.bytes) advances.steps
 
 -- what a crash may leave after a write, a cut or a sync
-pub left_by_write : (number at : ℕ) (bytes : List ℕ) (old new : History) → Advances number (after_write at bytes) old new → at ≤ length old.bytes.items → Follows (Torn at (length bytes)) (IsImage (present old)) (IsImage (present new))
+pub left_by_write : (number at : ℕ) (bytes : List ℕ) (old new : History) → Advances number (after_write at bytes) old new →
+    at ≤ length old.bytes.items → Follows (Torn at (length bytes)) (IsImage (present old)) (IsImage (present new))
 left_by_write number at bytes old new advances fits image is =
-    write_follows (present old) at bytes old.in_order (omega (arith, fits, ap length old.kept)) image (subst (λ standing. IsImage standing image) advances.steps is)
+    write_follows (present old) at bytes old.in_order (omega (arith, fits, ap length old.kept)) image
+    (subst (λ standing. IsImage standing image) advances.steps is)
 
-pub left_by_cut : (number to : ℕ) (old new : History) → Advances number (after_cut to) old new → to ≤ length old.bytes.items → Follows (PartlyCut to) (IsImage (present old)) (IsImage (present new))
+pub left_by_cut : (number to : ℕ) (old new : History) → Advances number (after_cut to) old new → to ≤ length old.bytes.items →
+    Follows (PartlyCut to) (IsImage (present old)) (IsImage (present new))
 left_by_cut number to old new advances fits image is =
-    cut_follows (present old) to old.in_order (omega (arith, fits, ap length old.kept)) image (subst (λ standing. IsImage standing image) advances.steps is)
+    cut_follows (present old) to old.in_order (omega (arith, fits, ap length old.kept)) image
+    (subst (λ standing. IsImage standing image) advances.steps is)
 
 -- bytes with nothing done since the sync are all that a crash may leave
 pub settled_alone : (bytes image : List ℕ) → IsImage (settled bytes) image → image ≡ bytes
-settled_alone bytes image is = ext_get_or 0 image bytes (omega (arith, is.no_shorter, is.no_longer)) (λ i lt. is.untouched i (omega (arith, lt, is.no_longer)) refl)
+settled_alone bytes image is = ext_get_or 0 image bytes (omega (arith, is.no_shorter, is.no_longer))
+    (λ i lt. is.untouched i (omega (arith, lt, is.no_longer)) refl)
 
 pub left_by_sync : (number : ℕ) (old new : History) → Advances number after_sync old new → Only new.bytes.items (IsImage (present new))
 left_by_sync number old new advances image is =

@@ -1,6 +1,7 @@
 -- What the calls of a disk do to its bytes, and what a crash leaves of them. Places in a file count from 0.
 -- The contract of every disk speaks of this.
-use Rattle.std.specs.Prelude.{◌≡◌, ℕ, ◌+◌, ◌-◌, ◌<◌, ◌≤◌, min, max, List, ◌++◌, length, take, drop, slice_index, Option, None, Some, IsSomeAnd, ⊤}
+use Rattle.std.specs.Prelude.{◌≡◌, ℕ, ◌+◌, ◌-◌, ◌<◌, ◌≤◌, min, max, List, ◌++◌, length, take, drop, slice_index, Option, None, Some}
+use Rattle.std.specs.Prelude.{IsSomeAnd, ⊤}
 
 -- the file with these bytes at that place, over what stood there and past the old end
 abbrev pub overwritten : ℕ → List ℕ → List ℕ → List ℕ

@@ -28,7 +28,8 @@ asked : (ask : Option ℕ) → ask_fits ask ≡ true → IfSome ask (λ n. n < 0
 asked None h = tt
 asked (Some n) h = let le : n ≤ 65536 = grind (arith, nat_tests) in omega arith
 
-fit_by : (d : Design) (call : Call) (x : Option TxType) → IsWellFormed d → slice_get d.types call.ty ≡ x → call_fits x call ≡ true → CallFits call
+fit_by : (d : Design) (call : Call) (x : Option TxType) → IsWellFormed d → slice_get d.types call.ty ≡ x → call_fits x call ≡ true →
+    CallFits call
 fit_by d call None formed at h = absurd cc
 fit_by d call (Some x) formed at h =
     let count = length call.params == x.params in

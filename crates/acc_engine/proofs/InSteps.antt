@@ -1,9 +1,12 @@
 -- An engine stays in step with its journal.
-use Rattle.std.proofs.Common.{zero, suc, get_or, set, slice_get, ◌≡◌, ◌⊎◌, inl, inr, drop, take, Option, Some, None, Bool, true, false, ◌≤◌, ◌<◌, ◌+◌, ◌^◌, ◌++◌, ℕ, List, [], ◌∷◌, length, Result, Ok, Err, refl, sym, ◌∙◌, ap, subst, arith, append_assoc, length-append}
+use Rattle.std.proofs.Common.{zero, suc, get_or, set, slice_get, ◌≡◌, ◌⊎◌, inl, inr, drop, take, Option, Some, None, Bool, true, false, ◌≤◌}
+use Rattle.std.proofs.Common.{◌<◌, ◌+◌, ◌^◌, ◌++◌, ℕ, List, [], ◌∷◌, length, Result, Ok, Err, refl, sym, ◌∙◌, ap, subst, arith}
+use Rattle.std.proofs.Common.{append_assoc, length-append}
 use Rattle.std.specs.Prelude.{OnOk, OnErr, ◌==◌, ◌≢◌, map, IsSome, IsSomeAnd}
 use Rattle.std.specs.List.{filter_map, cons_option, count_by}
 use Rattle.std.proofs.lemmas.Bool.Decides.{nat_tests}
-use Rattle.std.proofs.lemmas.List.{append-nil, flat_map_more, drop-append-le, drop_all, take_all, take_at, get_or-set_same, get_or-set_other}
+use Rattle.std.proofs.lemmas.List.{append-nil, flat_map_more, drop-append-le, drop_all, take_all, take_at, get_or-set_same}
+use Rattle.std.proofs.lemmas.List.{get_or-set_other}
 use Rattle.std.proofs.lemmas.List.Sums.{count_by_more_yes, count_by_more_no}
 use Rattle.std.proofs.lemmas.List.Elements.{All-nil, All-push, filter_map-append}
 use Rattle.acc_base.specs.declared.designs.Design.{Design}
@@ -118,7 +121,8 @@ lags_turns t (Turned cause) events wal not lags = lags
 lags_turns t (Back at) events wal not lags = lags
 lags_turns t Ended events wal not lags = lags
 
-pub caught_up : {D : Type 0} (t : ℕ) (events : List Event) (old new : Journal D) (result : Event) (turns : AddsTurn t (old.durable ++ old.tail) events)
+pub caught_up : {D : Type 0} (t : ℕ) (events : List Event) (old new : Journal D) (result : Event)
+    (turns : AddsTurn t (old.durable ++ old.tail) events)
     → result ≡ turns.event → Pushes result old new → old.spent ≡ false → CatchesUp events old new
 unfolding body
 caught_up t events old new result turns is p unspent = record {
@@ -142,12 +146,14 @@ caught_up t events old new result turns is p unspent = record {
       );
 }
 
-filter_map-none : (events : List Event) (event : Event) → call_of event ≡ None → filter_map call_of (events ++ event ∷ []) ≡ filter_map call_of events
+filter_map-none : (events : List Event) (event : Event) → call_of event ≡ None →
+    filter_map call_of (events ++ event ∷ []) ≡ filter_map call_of events
 filter_map-none events event none =
     filter_map-append call_of events (event ∷ []) ∙ ap (λ (o : Option Call). filter_map call_of events ++ cons_option o []) none
     ∙ append-nil (filter_map call_of events)
 
-turn_begins : (calls : List Call) (marks : List Bool) (events : List Event) (t : ℕ) (event : Event) → IsTurnEvent t event → BeginsFrom calls marks events → BeginsFrom calls marks (events ++ event ∷ [])
+turn_begins : (calls : List Call) (marks : List Bool) (events : List Event) (t : ℕ) (event : Event) → IsTurnEvent t event →
+    BeginsFrom calls marks events → BeginsFrom calls marks (events ++ event ∷ [])
 turn_begins calls marks events t event of b = record {
   no_crash = All-push IsNoCrash events event b.no_crash (turn_no_crash t event of);
   places = b.places;
@@ -162,14 +168,36 @@ adds_or t (Turned cause) old new a = inr a
 adds_or t (Back at) old new a = inr a
 adds_or t Ended old new a = inr a
 
-pub lags : {D : Type 0} (t : ℕ) (turn : Turn) (old new : World) (wal : Journal D) → AddsBy old new t turn → wal.durable ++ wal.tail ≡ old.events → Lags t turn new.events wal
+pub lags : {D : Type 0} (t : ℕ) (turn : Turn) (old new : World) (wal : Journal D) → AddsBy old new t turn →
+    wal.durable ++ wal.tail ≡ old.events → Lags t turn new.events wal
 lags t (Blocked u entry) old new wal a is = is ∙ ap (λ (w : World). w.events) (sym a)
-lags t (Stepped at) old new wal a is = record { event = a.event; of_turn = a.of_turn; added = a.added ∙ ap (λ (l : List Event). l ++ a.event ∷ []) (sym is) }
-lags t (Turned cause) old new wal a is = record { event = a.event; of_turn = a.of_turn; added = a.added ∙ ap (λ (l : List Event). l ++ a.event ∷ []) (sym is) }
-lags t (Back at) old new wal a is = record { event = a.event; of_turn = a.of_turn; added = a.added ∙ ap (λ (l : List Event). l ++ a.event ∷ []) (sym is) }
-lags t Ended old new wal a is = record { event = a.event; of_turn = a.of_turn; added = a.added ∙ ap (λ (l : List Event). l ++ a.event ∷ []) (sym is) }
+lags t (Stepped at) old new wal a is = record {
+  event = a.event;
+  of_turn = a.of_turn;
+  added =
+      a.added ∙ ap (λ (l : List Event). l ++ a.event ∷ []) (sym is);
+}
+lags t (Turned cause) old new wal a is = record {
+  event = a.event;
+  of_turn = a.of_turn;
+  added =
+      a.added ∙ ap (λ (l : List Event). l ++ a.event ∷ []) (sym is);
+}
+lags t (Back at) old new wal a is = record {
+  event = a.event;
+  of_turn = a.of_turn;
+  added =
+      a.added ∙ ap (λ (l : List Event). l ++ a.event ∷ []) (sym is);
+}
+lags t Ended old new wal a is = record {
+  event = a.event;
+  of_turn = a.of_turn;
+  added =
+      a.added ∙ ap (λ (l : List Event). l ++ a.event ∷ []) (sym is);
+}
 
-module _ {D : Type 0} (d d2 : Design) (w w2 : World) (old mid new : Journal D) (found : ℕ) (calls : List Call) (marks : List Bool) (lowest : ℕ)
+module _ {D : Type 0} (d d2 : Design) (w w2 : World) (old mid new : Journal D) (found : ℕ) (calls : List Call) (marks : List Bool)
+    (lowest : ℕ)
     (k : IsInStep d w old.durable old.tail found calls marks lowest) (l : KeepsLists old mid) where
   pub turn_short : length (body mid.tail) + 14 < 2 ^ 32
   turn_short =
@@ -203,7 +231,8 @@ module _ {D : Type 0} (d d2 : Design) (w w2 : World) (old mid new : Journal D) (
         state = kept;
         same = up.same;
         within = omega (arith, k.within, ap length turns.added, length-append w.events (turns.event ∷ []));
-        begins = subst (BeginsFrom calls marks) (sym later) (turn_begins calls marks (drop found w.events) t turns.event turns.of_turn k.begins);
+        begins = subst (BeginsFrom calls marks) (sym later)
+            (turn_begins calls marks (drop found w.events) t turns.event turns.of_turn k.begins);
         fits = subst (λ (x : Design). CallsFit x calls) (sym is) k.fits;
         spelled = k.spelled;
         whole = k.whole;
@@ -237,9 +266,11 @@ count_more f xs x = by (f x) refl
 
     by : (b : Bool) → f x ≡ b → count_by f (xs ++ x ∷ []) ≡ count_by f xs + times_begun b
     by true e =
-        ap (count_by f) (sym whole) ∙ count_by_more_yes f (xs ++ x ∷ []) (length xs) x here (ap f item ∙ e) ∙ ap (λ (l : List ℕ). count_by f l + 1) front
+        ap (count_by f) (sym whole) ∙ count_by_more_yes f (xs ++ x ∷ []) (length xs) x here (ap f item ∙ e) ∙ ap
+        (λ (l : List ℕ). count_by f l + 1) front
     by false e =
-        ap (count_by f) (sym whole) ∙ count_by_more_no f (xs ++ x ∷ []) (length xs) x here (ap f item ∙ e) ∙ ap (count_by f) front ∙ sum_none
+        ap (count_by f) (sym whole) ∙ count_by_more_no f (xs ++ x ∷ []) (length xs) x here (ap f item ∙ e) ∙ ap (count_by f) front ∙
+        sum_none
       where
         sum_none : count_by f xs ≡ count_by f xs + 0
         sum_none = omega arith
@@ -267,7 +298,8 @@ still_below (b ∷ marks) zero (suc q) h = h
 still_below (b ∷ marks) (suc p) zero h = h
 still_below (b ∷ marks) (suc p) (suc q) h = still_below marks p q h
 
-begin_begins : (calls : List Call) (marks : List Bool) (events : List Event) (p : ℕ) (call : Call) → p < length marks → get_or marks p false ≡ false
+begin_begins : (calls : List Call) (marks : List Bool) (events : List Event) (p : ℕ) (call : Call) → p < length marks →
+    get_or marks p false ≡ false
     → slice_get calls p ≡ Some call → BeginsFrom calls marks events → BeginsFrom calls (set marks p true) (events ++ Begin call ∷ [])
 begin_begins calls marks events p call lt fresh is b = record {
   no_crash = All-push IsNoCrash events (Begin call) b.no_crash tt;
@@ -281,7 +313,8 @@ begin_begins calls marks events p call lt fresh is b = record {
 }
 
 -- other marks of the same places
-module _ {D : Type 0} (d : Design) (w : World) (old mid : Journal D) (found : ℕ) (calls : List Call) (old_marks marks : List Bool) (lowest : ℕ)
+module _ {D : Type 0} (d : Design) (w : World) (old mid : Journal D) (found : ℕ) (calls : List Call) (old_marks marks : List Bool)
+    (lowest : ℕ)
     (k : IsInStep d w old.durable old.tail found calls old_marks lowest) (l : KeepsLists old mid)
     (same : unbegun marks calls ≡ unbegun old_marks calls) (kept_marks : (q : ℕ) → is_begun marks q ≡ is_begun old_marks q) where
   pub in_step_widened : IsInStep d w mid.durable mid.tail found calls marks lowest
@@ -303,7 +336,8 @@ module _ {D : Type 0} (d : Design) (w : World) (old mid : Journal D) (found : �
   }
 
 -- the place's call begins
-module _ {D : Type 0} (d d2 : Design) (w w2 : World) (mid new : Journal D) (found : ℕ) (calls : List Call) (marks : List Bool) (lowest p : ℕ)
+module _ {D : Type 0} (d d2 : Design) (w w2 : World) (mid new : Journal D) (found : ℕ) (calls : List Call) (marks : List Bool)
+    (lowest p : ℕ)
     (call : Call) (k : IsInStep d w mid.durable mid.tail found calls marks lowest) (lt : p < length marks)
     (fresh : get_or marks p false ≡ false) (is : slice_get calls p ≡ Some call) where
   pub begin_short : length (body mid.tail) + length (event_bytes (Begin call)) < 2 ^ 32
@@ -323,14 +357,16 @@ module _ {D : Type 0} (d d2 : Design) (w w2 : World) (mid new : Journal D) (foun
   unfolding body
   in_step_begun lawful same push =
       let more = event_logged d w (Begin call) w2 lawful.event in
-      let later : drop found w2.events ≡ drop found w.events ++ Begin call ∷ [] = ap (drop found) more ∙ drop-append-le found w.events (Begin call ∷ []) k.within in
+      let later : drop found w2.events ≡ drop found w.events ++ Begin call ∷ [] =
+      ap (drop found) more ∙ drop-append-le found w.events (Begin call ∷ []) k.within in
       record {
         state = kept_after d d2 w w2 (Begin call) k.state same lawful;
         same =
             ap (λ (es : List Event). es ++ new.tail) push.durable ∙ ap (λ (es : List Event). mid.durable ++ es) push.tail
             ∙ sym (append_assoc mid.durable mid.tail (Begin call ∷ [])) ∙ ap (λ (es : List Event). es ++ Begin call ∷ []) k.same ∙ sym more;
         within = omega (arith, k.within, ap length more, length-append w.events (Begin call ∷ []));
-        begins = subst (BeginsFrom calls (set marks p true)) (sym later) (begin_begins calls marks (drop found w.events) p call lt fresh is k.begins);
+        begins = subst (BeginsFrom calls (set marks p true)) (sym later)
+            (begin_begins calls marks (drop found w.events) p call lt fresh is k.begins);
         fits = subst (λ (x : Design). CallsFit x calls) (sym same) k.fits;
         spelled = k.spelled + length (event_bytes (Begin call));
         whole = omega (arith, k.whole, unbegun_set p marks calls call lt fresh is);
@@ -349,7 +385,8 @@ module _ {D : Type 0} (d d2 : Design) (w w2 : World) (mid new : Journal D) (foun
 
 -- ---- a new engine
 
-pub in_step_new : (d : Design) (w : World) (durable tail : List Event) (found : ℕ) (calls : List Call) (marks : List Bool) → IsKept d w → durable ≡ w.events
+pub in_step_new : (d : Design) (w : World) (durable tail : List Event) (found : ℕ) (calls : List Call) (marks : List Bool) → IsKept d w →
+    durable ≡ w.events
     → tail ≡ [] → CallsFit d calls → length (body (map begin_of calls)) < 2 ^ 31 → marks ≡ [] → found ≡ length w.events
     → IsInStep d w durable tail found calls marks 0
 unfolding body
@@ -361,7 +398,13 @@ in_step_new d w durable tail found calls marks kept same none fits few no_marks 
       within = omega (arith, is);
       begins =
           subst (BeginsFrom calls marks) (sym rest)
-          (record { no_crash = All-nil IsNoCrash; places = []; are = refl; once = λ p. ap (λ (m : List Bool). times_begun (is_begun m p)) (sym no_marks) });
+          (record {
+            no_crash = All-nil IsNoCrash;
+            places = [];
+            are = refl;
+            once =
+                λ p. ap (λ (m : List Bool). times_begun (is_begun m p)) (sym no_marks);
+          });
       fits = fits;
       spelled = 0;
       whole = omega (arith, few, unbegun_all calls, ap (λ (m : List Bool). unbegun m calls) no_marks);
@@ -376,7 +419,8 @@ same_world d old new call Full a = a.0
 same_world d old new call Crowd a = a.0
 same_world d old new call Memory a = a
 
-pub in_step_same : (d d2 : Design) (w w2 : World) (durable tail : List Event) (found : ℕ) (calls : List Call) (marks : List Bool) (lowest : ℕ)
+pub in_step_same : (d d2 : Design) (w w2 : World) (durable tail : List Event) (found : ℕ) (calls : List Call) (marks : List Bool)
+    (lowest : ℕ)
     → IsInStep d w durable tail found calls marks lowest → d2 ≡ d → w2 ≡ w → IsInStep d2 w2 durable tail found calls marks lowest
 in_step_same d d2 w w2 durable tail found calls marks lowest k is same =
     subst (λ (x : Design). IsInStep x w2 durable tail found calls marks lowest) (sym is)

@@ -1,5 +1,6 @@
 -- A transaction with a turn in the tail hadn't ended before it; another has the reply that it had.
-use Rattle.std.proofs.Common.{◌≡◌, ℕ, zero, suc, ◌+◌, ◌-◌, ◌<◌, List, [], ◌∷◌, ◌++◌, length, take, Bool, true, false, Option, Some, None, refl, sym, ap, subst, ◌∙◌, arith, set, slice_get}
+use Rattle.std.proofs.Common.{◌≡◌, ℕ, zero, suc, ◌+◌, ◌-◌, ◌<◌, List, [], ◌∷◌, ◌++◌, length, take, Bool, true, false, Option, Some, None}
+use Rattle.std.proofs.Common.{refl, sym, ap, subst, ◌∙◌, arith, set, slice_get}
 use Rattle.std.specs.Prelude.{◌==◌, ◌||◌, option_and_then, if◌then◌else◌}
 use Rattle.std.specs.List.{list_any}
 use Rattle.std.proofs.lemmas.Bool.Decides.{nat_tests}
@@ -12,7 +13,8 @@ use Rattle.acc_base.specs.declared.machines.Event.TheVariants.{Begin, Step, Abor
 use Rattle.acc_base.specs.declared.machines.Frame.{Frame}
 use Rattle.acc_base.specs.declared.machines.Transaction.{Transaction}
 use Rattle.acc_base.specs.declared.machines.Transaction.TheVariants.{Forward, Undoing, Ended}
-use Rattle.acc_base.specs.Machine.{World, start, world, begun, next_number, call_fits, transaction_at, reply_in, reply_at, changed, becomes, became, with_begun, after_event, after_events}
+use Rattle.acc_base.specs.Machine.{World, start, world, begun, next_number, call_fits, transaction_at, reply_in, reply_at, changed, becomes}
+use Rattle.acc_base.specs.Machine.{became, with_begun, after_event, after_events}
 use Rattle.acc_lift.proofs.Transactions.{set_other}
 use Rattle.acc_engine.specs.Acks.{is_turn_of}
 
@@ -35,7 +37,8 @@ reply_pushed ts f t = by (t == 0)
     by true = refl
     by false = pushed ts f (t - 1)
 
-begin_keeps : (d : Design) (call_frame : Frame) (w v w2 : World) (b : Bool) (t : ℕ) → v.transactions ≡ w.transactions ++ Forward call_frame ∷ []
+begin_keeps : (d : Design) (call_frame : Frame) (w v w2 : World) (b : Bool) (t : ℕ) →
+    v.transactions ≡ w.transactions ++ Forward call_frame ∷ []
     → (if b then Some v else None) ≡ Some w2 → reply_at t w2 ≡ reply_at t w
 begin_keeps d f w v w2 true t is h =
     subst (λ (z : World). reply_at t z ≡ reply_at t w) (same_Some v w2 h)
@@ -58,7 +61,8 @@ nobody d db (Abort u c) x h = none-some x h
 nobody d db (Undo u) x h = none-some x h
 
 -- a number that is 0 is nobody's
-from_one : (d : Design) (w : World) (e : Event) (u : ℕ) (x : List Row × Transaction) → changed d w.rows e (transaction_at u w.transactions) ≡ Some x
+from_one : (d : Design) (w : World) (e : Event) (u : ℕ) (x : List Row × Transaction) →
+    changed d w.rows e (transaction_at u w.transactions) ≡ Some x
     → 0 < u
 from_one d w e zero x h = absurd (nobody d w.rows e x h)
 from_one d w e (suc u) x h = omega arith
@@ -154,18 +158,20 @@ events_open d w w2 (e ∷ events) t h some = by (is_turn_of t e) refl some (even
 
 -- ---- a history whose front is durable
 
-module _ (d : Design) (w : World) (durable tail : List Event) (t : ℕ) (run : world d w.events ≡ Some w) (same : durable ++ tail ≡ w.events) where
-  fronts : take (length durable) w.events ≡ durable
-  fronts = ap (take (length durable)) (sym same) ∙ take_at durable tail (length durable) refl
+module _ (d : Design) (w : World) (durable tail : List Event) (t : ℕ) (run : world d w.events ≡ Some w) (same : durable ++ tail ≡ w.events)
+  where
+    fronts : take (length durable) w.events ≡ durable
+    fronts = ap (take (length durable)) (sym same) ∙ take_at durable tail (length durable) refl
 
-  halves : (v : World) × (after_events d start durable ≡ Some v) × (after_events d v tail ≡ Some w)
-  halves = between d start w durable tail (ap (after_events d start) same ∙ run)
+    halves : (v : World) × (after_events d start durable ≡ Some v) × (after_events d v tail ≡ Some w)
+    halves = between d start w durable tail (ap (after_events d start) same ∙ run)
 
-  there : option_and_then (reply_at t) (world d (take (length durable) w.events)) ≡ reply_at t halves.0
-  there = ap (λ (l : List Event). option_and_then (reply_at t) (world d l)) fronts ∙ ap (option_and_then (reply_at t)) halves.1
+    there : option_and_then (reply_at t) (world d (take (length durable) w.events)) ≡ reply_at t halves.0
+    there = ap (λ (l : List Event). option_and_then (reply_at t) (world d l)) fronts ∙ ap (option_and_then (reply_at t)) halves.1
 
-  pub reply_there : list_any (is_turn_of t) tail ≡ false → reply_at t w ≡ option_and_then (reply_at t) (world d (take (length durable) w.events))
-  reply_there none = events_keep d halves.0 w tail t halves.2 none ∙ sym there
+    pub reply_there : list_any (is_turn_of t) tail ≡ false →
+        reply_at t w ≡ option_and_then (reply_at t) (world d (take (length durable) w.events))
+    reply_there none = events_keep d halves.0 w tail t halves.2 none ∙ sym there
 
-  pub none_there : list_any (is_turn_of t) tail ≡ true → None ≡ option_and_then (reply_at t) (world d (take (length durable) w.events))
-  none_there some = sym (events_open d halves.0 w tail t halves.2 some) ∙ sym there
+    pub none_there : list_any (is_turn_of t) tail ≡ true → None ≡ option_and_then (reply_at t) (world d (take (length durable) w.events))
+    none_there some = sym (events_open d halves.0 w tail t halves.2 some) ∙ sym there

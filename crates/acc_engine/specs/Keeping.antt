@@ -1,5 +1,6 @@
 -- What an engine shows, and what it keeps.
-use Rattle.std.specs.Prelude.{◌≡◌, ◌≤◌, ◌<◌, ◌+◌, ◌*◌, ◌^◌, ◌++◌, [], ◌∷◌, ℕ, Bool, true, false, ◌==◌, List, length, drop, All, Option, Some, None, slice_get, slice_index_or, ⊤}
+use Rattle.std.specs.Prelude.{◌≡◌, ◌≤◌, ◌<◌, ◌+◌, ◌*◌, ◌^◌, ◌++◌, [], ◌∷◌, ℕ, Bool, true, false, ◌==◌, List, length, drop, All, Option}
+use Rattle.std.specs.Prelude.{Some, None, slice_get, slice_index_or, ⊤}
 use Rattle.std.specs.List.{filter_map, count_by}
 use Rattle.acc_base.specs.declared.designs.Design.{Design}
 use Rattle.acc_base.specs.declared.machines.Call.{Call}

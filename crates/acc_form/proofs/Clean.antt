@@ -1,5 +1,6 @@
 -- Marks that are ends alone, part by part.
-use Rattle.std.proofs.Common.{◌≡◌, ℕ, ◌+◌, ◌<◌, ◌≤◌, ◌==◌, zero, suc, Bool, true, false, not, if◌then◌else◌, List, [], ◌∷◌, ◌++◌, length, get_or, refl, sym, subst, ◌∙◌, inl, inr, arith}
+use Rattle.std.proofs.Common.{◌≡◌, ℕ, ◌+◌, ◌<◌, ◌≤◌, ◌==◌, zero, suc, Bool, true, false, not, if◌then◌else◌, List, [], ◌∷◌, ◌++◌, length}
+use Rattle.std.proofs.Common.{get_or, refl, sym, subst, ◌∙◌, inl, inr, arith}
 use Rattle.std.specs.List.{list_all}
 use Rattle.std.proofs.lemmas.Bool.{false≢true, and_parts, and_from, cases_lt}
 use Rattle.std.proofs.lemmas.Bool.Decides.{nat_tests}
@@ -51,7 +52,8 @@ each_from i marks (x ∷ xs) h zero d l =
     let at : i + 0 ≡ i = omega arith in rw at (clean_parts (marks i x) (numbered_from (i + 1) marks xs) h).0
 each_from {T} i marks (x ∷ xs) h (suc k) d l =
     let at : i + 1 + k ≡ i + suc k = omega arith in
-    subst (λ (n : ℕ). Clean (marks n (get_or xs k d))) at (each_from (i + 1) marks xs (clean_parts (marks i x) (numbered_from (i + 1) marks xs) h).1 k d (omega arith))
+    subst (λ (n : ℕ). Clean (marks n (get_or xs k d))) at
+    (each_from (i + 1) marks xs (clean_parts (marks i x) (numbered_from (i + 1) marks xs) h).1 k d (omega arith))
 
 all_from : {T : Type 0} (i : ℕ) (marks : ℕ → T → List Mark) (xs : List T) →
     ((k : ℕ) (d : T) → k < length xs → Clean (marks (i + k) (get_or xs k d))) → Clean (numbered_from i marks xs)
@@ -59,7 +61,8 @@ all_from i marks [] f = refl
 all_from i marks (x ∷ xs) f =
     let at : i + 0 ≡ i = omega arith in
     clean_from (marks i x) (numbered_from (i + 1) marks xs) (rw at at (f 0 x (omega arith)))
-    (all_from (i + 1) marks xs (λ k d l. let next : i + suc k ≡ i + 1 + k = omega arith in subst (λ (n : ℕ). Clean (marks n (get_or xs k d))) next (f (suc k) d (omega arith))))
+    (all_from (i + 1) marks xs (λ k d l. let next : i + suc k ≡ i + 1 + k = omega arith in
+    subst (λ (n : ℕ). Clean (marks n (get_or xs k d))) next (f (suc k) d (omega arith))))
 
 -- marks that are clean exactly where an item isn't one too many and keeps P
 pub record Asks {T : Type 0} (marks : ℕ → T → List Mark) (most : ℕ) (P : ℕ → T → Type 0) : Type 0 where
@@ -72,7 +75,8 @@ few_of_clean : {T : Type 0} (marks : ℕ → T → List Mark) (most : ℕ) (P : 
 few_of_clean marks most P asks [] f = omega arith
 few_of_clean marks most P asks (x ∷ xs) f =
     elim (cases_lt most (length (x ∷ xs))) [
-      | inl l ↦ let no : not (most == most) ≡ true = (asks.opens most (get_or (x ∷ xs) most x) (f most x l)).0 in absurd (grind (arith, nat_tests))
+      | inl l ↦ let no : not (most == most) ≡ true = (asks.opens most (get_or (x ∷ xs) most x) (f most x l)).0 in
+          absurd (grind (arith, nat_tests))
       | inr l ↦ l
     ]
 

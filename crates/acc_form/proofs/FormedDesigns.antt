@@ -61,7 +61,8 @@ design_opens d inside h =
     let f = clean_parts (numbered (entry_marks d.types d.entries) d.entries) (numbered hint_marks d.hints) e.1 in
     let tables = each_of_clean (table_marks d.tables) 64 (IsTableFormed d.tables) (table_asks d.tables) d.tables a.0 in
     let types = each_of_clean (type_marks d.tables d.types) 64 (IsTypeFormed d.tables d.types) (type_asks d.tables d.types) d.types e.0 in
-    let entries = each_of_clean (entry_marks d.types d.entries) 1024 (IsEntryFormed d.types d.entries) (entry_asks d.types d.entries) d.entries f.0 in
+    let entries = each_of_clean (entry_marks d.types d.entries) 1024 (IsEntryFormed d.types d.entries) (entry_asks d.types d.entries)
+    d.entries f.0 in
     let hints = each_of_clean hint_marks 1024 (λ i h. IsHintFormed h) hint_asks d.hints f.1 in
     record {
       in_range = inside;
@@ -78,9 +79,13 @@ design_opens d inside h =
 
 pub design_shuts : (d : Design) → IsWellFormed d → Clean (design_marks d)
 design_shuts d f =
-    clean_from (numbered (table_marks d.tables) d.tables) _ (clean_of_each (table_marks d.tables) 64 (IsTableFormed d.tables) (table_asks d.tables) d.tables f.few_tables f.tables) (
+    clean_from (numbered (table_marks d.tables) d.tables) _
+    (clean_of_each (table_marks d.tables) 64 (IsTableFormed d.tables) (table_asks d.tables) d.tables f.few_tables f.tables) (
     clean_from (numbered (clause_marks d.tables [] 128) d.always) _ (clauses_shut d.tables [] 128 d.always f.always) (
-    clean_from (numbered (type_marks d.tables d.types) d.types) _ (clean_of_each (type_marks d.tables d.types) 64 (IsTypeFormed d.tables d.types) (type_asks d.tables d.types) d.types f.few_types f.types) (
+    clean_from (numbered (type_marks d.tables d.types) d.types) _
+    (clean_of_each (type_marks d.tables d.types) 64 (IsTypeFormed d.tables d.types) (type_asks d.tables d.types) d.types f.few_types
+    f.types) (
     clean_from (numbered (entry_marks d.types d.entries) d.entries) (numbered hint_marks d.hints)
-    (clean_of_each (entry_marks d.types d.entries) 1024 (IsEntryFormed d.types d.entries) (entry_asks d.types d.entries) d.entries f.few_entries f.entries)
+    (clean_of_each (entry_marks d.types d.entries) 1024 (IsEntryFormed d.types d.entries) (entry_asks d.types d.entries) d.entries
+    f.few_entries f.entries)
     (clean_of_each hint_marks 1024 (λ i h. IsHintFormed h) hint_asks d.hints f.few_hints f.hints))))

@@ -19,7 +19,8 @@ use Rattle.acc_form.proofs.Clean.{Clean, Asks, asks, keeps, clean_parts, clean_f
 
 -- ---- clauses
 
-clause_asks : (tables : List Table) (names : List (List ℕ)) (most : ℕ) → Asks (clause_marks tables names most) most (λ i c. IsClauseFormed tables names c)
+clause_asks : (tables : List Table) (names : List (List ℕ)) (most : ℕ) →
+    Asks (clause_marks tables names most) most (λ i c. IsClauseFormed tables names c)
 clause_asks tables names most = record {
   opens = λ i c h.
       let a = asks 2 (clause_fits tables c) _ h in
@@ -36,13 +37,15 @@ clause_asks tables names most = record {
 pub clauses_open : (tables : List Table) (names : List (List ℕ)) (most : ℕ) (cs : List Clause) →
     Clean (numbered (clause_marks tables names most) cs) → AreClausesFormed tables names most cs
 clauses_open tables names most cs h =
-    let all = each_of_clean (clause_marks tables names most) most (λ i c. IsClauseFormed tables names c) (clause_asks tables names most) cs h in
+    let all = each_of_clean (clause_marks tables names most) most (λ i c. IsClauseFormed tables names c) (clause_asks tables names most) cs
+    h in
     record { few = all.0; each = all.1 }
 
 pub clauses_shut : (tables : List Table) (names : List (List ℕ)) (most : ℕ) (cs : List Clause) →
     AreClausesFormed tables names most cs → Clean (numbered (clause_marks tables names most) cs)
 clauses_shut tables names most cs all =
-    clean_of_each (clause_marks tables names most) most (λ i c. IsClauseFormed tables names c) (clause_asks tables names most) cs all.few all.each
+    clean_of_each (clause_marks tables names most) most (λ i c. IsClauseFormed tables names c) (clause_asks tables names most) cs all.few
+    all.each
 
 -- ---- reads and actions
 
@@ -65,7 +68,8 @@ read_asks tables t side = record {
       keeps 11 (assigns_local t r) _ p.assigns (keeps 12 (may_read side r) ending p.allowed refl)))));
 }
 
-action_asks : (tables : List Table) (t : TxType) (is_bare : Bool) → Asks (action_marks tables t is_bare) 16 (λ i a. IsActionFormed tables t is_bare a)
+action_asks : (tables : List Table) (t : TxType) (is_bare : Bool) →
+    Asks (action_marks tables t is_bare) 16 (λ i a. IsActionFormed tables t is_bare a)
 action_asks tables t is_bare = record {
   opens = λ i x h.
       let a = asks 2 (action_fits tables x) _ h in
@@ -99,7 +103,8 @@ path_opens tables t side is_bare count i p h =
     let m = asks 9 (refuses_plainly p.actions p.target) _ k.1 in
     let n = asks 13 (not is_bare || is_undone p.target) ending m.1 in
     let l = and_parts (not (i == 16)) (guard_small p.guard) a.0 in
-    let all = each_of_clean (action_marks tables t is_bare) 16 (λ i x. IsActionFormed tables t is_bare x) (action_asks tables t is_bare) p.actions e.0 in
+    let all = each_of_clean (action_marks tables t is_bare) 16 (λ i x. IsActionFormed tables t is_bare x) (action_asks tables t is_bare)
+    p.actions e.0 in
     (l.0, (record { guard = l.1; few = all.0; actions = all.1; limits = f.0; number = g.0; ends = k.0; plain = m.0; bare = n.0 }, b.0))
 
 path_shuts : (tables : List Table) (t : TxType) (side : Side) (is_bare : Bool) (count i : ℕ) (p : Path) →
@@ -110,7 +115,8 @@ path_shuts tables t side is_bare count i p n q =
     keeps 4 (not (i == 16) && guard_small p.guard) _ (and_from (not (i == 16)) (guard_small p.guard) n x.guard) (
     keeps 7 (nat_lt (i + 1) count || (length p.guard == 0)) _ q.1 (
     clean_from (numbered (action_marks tables t is_bare) p.actions) (target_marks t side is_bare p)
-    (clean_of_each (action_marks tables t is_bare) 16 (λ i x. IsActionFormed tables t is_bare x) (action_asks tables t is_bare) p.actions x.few x.actions) (
+    (clean_of_each (action_marks tables t is_bare) 16 (λ i x. IsActionFormed tables t is_bare x) (action_asks tables t is_bare) p.actions
+    x.few x.actions) (
     keeps 4 (target_small t.points p.target) _ x.limits (
     keeps 5 (refuses_by_number p.target) _ x.number (
     keeps 8 (may_end side p.target) _ x.ends (
@@ -138,7 +144,8 @@ step_opens tables t side is_bare s h =
     let count = length s.paths in
     let a = clean_parts (numbered (read_marks tables t side) s.reads) (numbered (path_marks tables t side is_bare count) s.paths) h in
     let reads = each_of_clean (read_marks tables t side) 32 (λ i r. IsReadFormed tables t side r) (read_asks tables t side) s.reads a.0 in
-    let paths = each_of_clean (path_marks tables t side is_bare count) 16 (IsPathOf tables t side is_bare count) (path_asks tables t side is_bare count) s.paths a.1 in
+    let paths = each_of_clean (path_marks tables t side is_bare count) 16 (IsPathOf tables t side is_bare count)
+    (path_asks tables t side is_bare count) s.paths a.1 in
     record {
       few_reads = reads.0;
       reads = reads.1;
@@ -153,6 +160,8 @@ unfolding IsPathOf
 step_shuts tables t side is_bare s f =
     let count = length s.paths in
     clean_from (numbered (read_marks tables t side) s.reads) (numbered (path_marks tables t side is_bare count) s.paths)
-    (clean_of_each (read_marks tables t side) 32 (λ i r. IsReadFormed tables t side r) (read_asks tables t side) s.reads f.few_reads f.reads)
-    (clean_of_each (path_marks tables t side is_bare count) 16 (IsPathOf tables t side is_bare count) (path_asks tables t side is_bare count) s.paths f.few_paths
+    (clean_of_each (read_marks tables t side) 32 (λ i r. IsReadFormed tables t side r) (read_asks tables t side) s.reads f.few_reads
+    f.reads)
+    (clean_of_each (path_marks tables t side is_bare count) 16 (IsPathOf tables t side is_bare count)
+    (path_asks tables t side is_bare count) s.paths f.few_paths
     (λ i d l. (f.paths i d l, asked_last i count (length (get_or s.paths i d).guard) l (f.last i d l))))

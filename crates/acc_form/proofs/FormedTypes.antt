@@ -1,5 +1,6 @@
 -- The marks on a type are ends alone exactly where it is well-formed.
-use Rattle.std.proofs.Common.{◌≡◌, ℕ, ◌≤◌, ◌==◌, zero, suc, true, false, ◌&&◌, not, nat_le, if◌then◌else◌, List, [], ◌∷◌, ◌++◌, length, take, drop, refl, sym, ap, ◌∙◌, arith}
+use Rattle.std.proofs.Common.{◌≡◌, ℕ, ◌≤◌, ◌==◌, zero, suc, true, false, ◌&&◌, not, nat_le, if◌then◌else◌, List, [], ◌∷◌, ◌++◌, length}
+use Rattle.std.proofs.Common.{take, drop, refl, sym, ap, ◌∙◌, arith}
 use Rattle.std.specs.List.{list_all, slice_get}
 use Rattle.std.proofs.lemmas.Bool.{and_parts, and_from, leb-true, le-leb}
 use Rattle.std.proofs.lemmas.List.{take-append-drop, drop_all}
@@ -20,11 +21,13 @@ use Rattle.acc_form.proofs.FormedSteps.{clauses_open, clauses_shut}
 -- ---- the locals of a type
 
 -- what holds of all of a list's front and back holds of the whole list, and the other way round
-all_of_parts : (n : ℕ) (xs : List (List ℕ)) → list_all is_short (take n xs) ≡ true → list_all is_short (drop n xs) ≡ true → list_all is_short xs ≡ true
+all_of_parts : (n : ℕ) (xs : List (List ℕ)) → list_all is_short (take n xs) ≡ true → list_all is_short (drop n xs) ≡ true →
+    list_all is_short xs ≡ true
 all_of_parts n xs h g =
     ap (list_all is_short) (sym (take-append-drop n xs)) ∙ list_all-append is_short (take n xs) (drop n xs) ∙ and_from _ _ h g
 
-parts_of_all : (n : ℕ) (xs : List (List ℕ)) → list_all is_short xs ≡ true → (list_all is_short (take n xs) ≡ true) × (list_all is_short (drop n xs) ≡ true)
+parts_of_all : (n : ℕ) (xs : List (List ℕ)) → list_all is_short xs ≡ true → (list_all is_short (take n xs) ≡ true) ×
+    (list_all is_short (drop n xs) ≡ true)
 parts_of_all n xs h =
     and_parts _ _ (sym (list_all-append is_short (take n xs) (drop n xs)) ∙ ap (list_all is_short) (take-append-drop n xs) ∙ h)
 
@@ -55,7 +58,8 @@ some_others t h =
 locals_open : (t : TxType) → t.params ≤ 48 → Clean (locals_marks t) → HasLocals t
 unfolding locals_rest
 locals_open t few h =
-    elim (nat_le (length t.locals) t.params) as (λ b. nat_le (length t.locals) t.params ≡ b → Clean (if b then [] else locals_rest t) → HasLocals t) [
+    elim (nat_le (length t.locals) t.params) as (λ b. nat_le (length t.locals) t.params ≡ b → Clean (if b then [] else locals_rest t) →
+    HasLocals t) [
       | true ↦ λ e g. no_others t few (leb-true (length t.locals) t.params e)
       | false ↦ λ e g. some_others t g
     ] refl h
@@ -64,7 +68,8 @@ locals_shut : (t : TxType) → HasLocals t → Clean (locals_marks t)
 unfolding locals_rest
 locals_shut t f =
     clean_unless (nat_le (length t.locals) t.params) (locals_rest t) (
-    keeps 4 (nat_le (length t.locals) 48 && list_all is_short (drop t.params t.locals)) _ (and_from _ _ (le-leb (length t.locals) 48 f.few) f.others) (
+    keeps 4 (nat_le (length t.locals) 48 && list_all is_short (drop t.params t.locals)) _
+    (and_from _ _ (le-leb (length t.locals) 48 f.few) f.others) (
     keeps 6 (are_new (take t.params t.locals) (drop t.params t.locals)) ending f.new refl))
 
 -- a returned name is one of the locals'
@@ -132,7 +137,8 @@ type_shuts tables types i t n f =
     clean_from (returns_marks t) _ (returns_shut t f.locals) (
     clean_from (locals_marks t) _ (locals_shut t locals) (
     clean_from (numbered (clause_marks tables t.locals 64) t.posts) _ (clauses_shut tables t.locals 64 t.posts f.posts) (
-    clean_from (numbered (clause_marks tables t.locals 64) t.repairs) (numbered (point_marks tables t) t.points) (clauses_shut tables t.locals 64 t.repairs f.repairs)
+    clean_from (numbered (clause_marks tables t.locals 64) t.repairs) (numbered (point_marks tables t) t.points)
+    (clauses_shut tables t.locals 64 t.repairs f.repairs)
     (clean_of_each (point_marks tables t) 32 (IsPointFormed tables t) (point_asks tables t) t.points f.few_points f.points)))))
 
 pub type_asks : (tables : List Table) (types : List TxType) → Asks (type_marks tables types) 64 (IsTypeFormed tables types)

@@ -11,7 +11,8 @@ use Rattle.acc_base.specs.declared.designs.Point.{Point}
 use Rattle.acc_base.specs.declared.designs.TxType.{TxType}
 use Rattle.acc_base.specs.declared.designs.Entry.{Entry}
 use Rattle.acc_base.specs.declared.designs.Design.{Design}
-use Rattle.acc_form.specs.Ranges.{lin_in, lin_rel_in, clause_in, read_in, action_in, target_in, path_in, step_in, point_in, head_in, clauses_in, type_in, at_in, locals_of, pair_in, entry_in, hint_in, design_in}
+use Rattle.acc_form.specs.Ranges.{lin_in, lin_rel_in, clause_in, read_in, action_in, target_in, path_in, step_in, point_in, head_in}
+use Rattle.acc_form.specs.Ranges.{clauses_in, type_in, at_in, locals_of, pair_in, entry_in, hint_in, design_in}
 
 not_empty : (n : ℕ) → not (n == 0) ≡ true → 0 < n
 not_empty n h = grind (arith, nat_tests)
@@ -23,7 +24,8 @@ pub record PathInRange (tables : List Table) (vars points : ℕ) (p : Path) : Ty
   pub actions : All (λ a. IsTrue (action_in tables vars a)) p.actions
   pub target : IsTrue (target_in points p.target)
 
-pub path_range : (tables : List Table) (vars points : ℕ) (p : Path) → IsTrue (path_in tables vars points p) → PathInRange tables vars points p
+pub path_range : (tables : List Table) (vars points : ℕ) (p : Path) → IsTrue (path_in tables vars points p) →
+    PathInRange tables vars points p
 path_range tables vars points p h =
     let a = and_parts (list_all (lin_rel_in vars) p.guard && list_all (action_in tables vars) p.actions) (target_in points p.target) h in
     let b = and_parts (list_all (lin_rel_in vars) p.guard) (list_all (action_in tables vars) p.actions) a.0 in
@@ -38,9 +40,11 @@ pub record StepInRange (tables : List Table) (vars points : ℕ) (s : Step) : Ty
   pub reads : All (λ r. IsTrue (read_in tables vars r)) s.reads
   pub paths : All (PathInRange tables vars points) s.paths
 
-pub step_range : (tables : List Table) (vars points : ℕ) (s : Step) → IsTrue (step_in tables vars points s) → StepInRange tables vars points s
+pub step_range : (tables : List Table) (vars points : ℕ) (s : Step) → IsTrue (step_in tables vars points s) →
+    StepInRange tables vars points s
 step_range tables vars points s h =
-    let a = and_parts (not (length s.paths == 0) && list_all (read_in tables vars) s.reads) (list_all (path_in tables vars points) s.paths) h in
+    let a = and_parts (not (length s.paths == 0) && list_all (read_in tables vars) s.reads) (list_all (path_in tables vars points) s.paths)
+    h in
     let b = and_parts (not (length s.paths == 0)) (list_all (read_in tables vars) s.reads) a.0 in
     record {
       some = not_empty (length s.paths) b.0;
@@ -56,9 +60,11 @@ pub record PointInRange (tables : List Table) (vars points : ℕ) (p : Point) : 
   pub next : StepInRange tables vars points p.next
   pub undo : StepInRange tables vars points p.undo
 
-pub point_range : (tables : List Table) (vars points : ℕ) (p : Point) → IsTrue (point_in tables vars points p) → PointInRange tables vars points p
+pub point_range : (tables : List Table) (vars points : ℕ) (p : Point) → IsTrue (point_in tables vars points p) →
+    PointInRange tables vars points p
 point_range tables vars points p h =
-    let a = and_parts (list_all (clause_in tables vars) p.clauses && lin_in vars p.variant && step_in tables vars points p.next) (step_in tables vars points p.undo) h in
+    let a = and_parts (list_all (clause_in tables vars) p.clauses && lin_in vars p.variant && step_in tables vars points p.next)
+    (step_in tables vars points p.undo) h in
     let b = and_parts (list_all (clause_in tables vars) p.clauses && lin_in vars p.variant) (step_in tables vars points p.next) a.0 in
     let e = and_parts (list_all (clause_in tables vars) p.clauses) (lin_in vars p.variant) b.0 in
     record {

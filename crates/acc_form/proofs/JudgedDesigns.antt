@@ -16,14 +16,16 @@ use Rattle.acc_form.specs.Marks.{ending, asked}
 use Rattle.acc_form.specs.Sizes.{is_short, returns_small}
 use Rattle.acc_form.specs.Names.{are_distinct, are_new, names_type}
 use Rattle.acc_form.specs.Ends.{is_limit}
-use Rattle.acc_form.specs.Statements.{table_marks, clause_marks, head_marks, returns_marks, locals_marks, point_marks, type_marks, entry_marks, hint_marks, design_marks}
+use Rattle.acc_form.specs.Statements.{table_marks, clause_marks, head_marks, returns_marks, locals_marks, point_marks, type_marks}
+use Rattle.acc_form.specs.Statements.{entry_marks, hint_marks, design_marks}
 use Rattle.acc_print.specs.Lists.{spaced, listed}
 use Rattle.acc_print.specs.Names.{name_at, outside, within}
 use Rattle.acc_print.specs.Values.{lin_text}
 use Rattle.acc_print.specs.Clauses.{clause_text, clause_line}
 use Rattle.acc_print.specs.Types.{names_lines, point_lines, type_lines}
 use Rattle.acc_print.specs.Designs.{table_line, side_text, scope_at, pair_text, entry_line, hint_line, printed}
-use Rattle.acc_form.specs.Judged.{judged_table, judged_always, judged_clause, judged_point, type_name_marks, judged_head, judged_returns, judged_locals, judged_type, judged_entry, judged_hint, judged}
+use Rattle.acc_form.specs.Judged.{judged_table, judged_always, judged_clause, judged_point, type_name_marks, judged_head, judged_returns}
+use Rattle.acc_form.specs.Judged.{judged_locals, judged_type, judged_entry, judged_hint, judged}
 use Rattle.acc_form.proofs.StatementEnds.{one_statement, asks}
 use Rattle.acc_form.proofs.StatementCounts.{table_counts, clause_counts, entry_counts, hint_counts}
 use Rattle.acc_form.proofs.JudgedMarks.{Judges, rejudged, one_judged, judged_unless, both_judged, each_judged, behind_two}

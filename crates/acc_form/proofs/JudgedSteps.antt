@@ -16,14 +16,16 @@ use Rattle.acc_base.specs.declared.designs.TxType.{TxType}
 use Rattle.acc_form.specs.Marks.{ending, asked, numbered}
 use Rattle.acc_form.specs.Sizes.{is_short, lin_small, guard_small}
 use Rattle.acc_form.specs.Names.{names_point}
-use Rattle.acc_form.specs.Statements.{clause_marks, read_marks, action_marks, target_marks, path_marks, step_marks, is_zero, variant_marks, point_marks}
+use Rattle.acc_form.specs.Statements.{clause_marks, read_marks, action_marks, target_marks, path_marks, step_marks, is_zero, variant_marks}
+use Rattle.acc_form.specs.Statements.{point_marks}
 use Rattle.acc_print.specs.Lists.{listed}
 use Rattle.acc_print.specs.Names.{within}
 use Rattle.acc_print.specs.Values.{lin_text, lin_rel_text}
 use Rattle.acc_print.specs.Clauses.{clause_text, clause_line}
 use Rattle.acc_print.specs.Steps.{read_text, read_line, action_text, action_line, target_text, path_lines, step_lines}
 use Rattle.acc_print.specs.Types.{variant_lines, sides_lines, point_lines}
-use Rattle.acc_form.specs.Judged.{judged_clause, judged_read, judged_action, guard_marks, judged_path, side_word, judged_step, judged_variant, point_name_marks, judged_point}
+use Rattle.acc_form.specs.Judged.{judged_clause, judged_read, judged_action, guard_marks, judged_path, side_word, judged_step}
+use Rattle.acc_form.specs.Judged.{judged_variant, point_name_marks, judged_point}
 use Rattle.acc_form.proofs.StatementEnds.{one_statement, asks}
 use Rattle.acc_form.proofs.StatementCounts.{clause_counts, read_counts, action_counts, target_counts, same_zero}
 use Rattle.acc_form.proofs.JudgedMarks.{Judges, rejudged, one_judged, judged_unless, both_judged, each_judged, behind_two}

@@ -1,5 +1,6 @@
 -- What a walk keeps of marks is the first of the faults that they stand for; where there is none, each mark is an end.
-use Rattle.std.proofs.Common.{◌≡◌, ℕ, true, false, List, [], ◌∷◌, Option, None, Some, IsTrue, IfNone, IfSome, MatchOption, Contains, fold, refl, sym, ap, subst, ◌∙◌, arith}
+use Rattle.std.proofs.Common.{◌≡◌, ℕ, true, false, List, [], ◌∷◌, Option, None, Some, IsTrue, IfNone, IfSome, MatchOption, Contains, fold}
+use Rattle.std.proofs.Common.{refl, sym, ap, subst, ◌∙◌, arith}
 use Rattle.std.proofs.lemmas.Bool.{false≢true}
 use Rattle.std.proofs.lemmas.List.Elements.{All-nil, All-cons}
 use Rattle.acc_base.specs.declared.designs.Design.{Design}
@@ -42,8 +43,11 @@ pub first_of_design : (d : Design) (w v : Walk) → design_in d ≡ true → w �
 first_of_design d w v inside begun ended =
     let faults = form_faults d in
     let kept : v.first ≡ fold (better is_before) None faults =
-    ap (λ (u : Walk). u.first) (ended ∙ ap (λ (u : Walk). after u (design_marks d)) begun) ∙ first_after start (design_marks d) ∙ ap (λ (fs : List (ℕ × ℕ)). fold (better is_before) None fs) (sym (faults_in d inside)) in
-    subst (λ (o : Option (ℕ × ℕ)). MatchOption o (faults ≡ []) (IsLeast is_before faults)) (sym kept) (matched (fold (better is_before) None faults) (faults ≡ []) (IsLeast is_before faults) (none_of is_before faults) (least_of is_before before_is_order faults))
+    ap (λ (u : Walk). u.first) (ended ∙ ap (λ (u : Walk). after u (design_marks d)) begun) ∙ first_after start (design_marks d) ∙ ap
+    (λ (fs : List (ℕ × ℕ)). fold (better is_before) None fs) (sym (faults_in d inside)) in
+    subst (λ (o : Option (ℕ × ℕ)). MatchOption o (faults ≡ []) (IsLeast is_before faults)) (sym kept)
+    (matched (fold (better is_before) None faults) (faults ≡ []) (IsLeast is_before faults) (none_of is_before faults)
+    (least_of is_before before_is_order faults))
 
 -- ---- a number out of range is the first fault
 

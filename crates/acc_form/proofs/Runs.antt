@@ -1,5 +1,6 @@
 -- A well-formed design can be run.
-use Rattle.std.proofs.Common.{◌≡◌, ℕ, ◌≤◌, ◌==◌, zero, suc, Bool, true, false, ◌&&◌, nat_le, List, [], ◌∷◌, length, get_or, Option, None, Some, slice_get, All, arith}
+use Rattle.std.proofs.Common.{◌≡◌, ℕ, ◌≤◌, ◌==◌, zero, suc, Bool, true, false, ◌&&◌, nat_le, List, [], ◌∷◌, length, get_or, Option, None}
+use Rattle.std.proofs.Common.{Some, slice_get, All, arith}
 use Rattle.std.specs.List.{list_all}
 use Rattle.std.proofs.lemmas.Bool.{false≢true, and_parts, leb-true, ltb-true, eqb-true}
 use Rattle.std.proofs.lemmas.Bool.Decides.{nat_tests}
@@ -51,17 +52,21 @@ few_of_key tables all t k =
     at_table (λ o. is_key o k ≡ true → length k ≤ 6) (λ h. absurd (false≢true h))
     (λ x small h. let e = eqb-true (length k) x.width h in omega (arith, small.width)) tables all t
 
-few_of_prefix : (tables : List Table) → All IsTableSmall tables → (t : ℕ) (p : List Lin) → is_prefix (slice_get tables t) p ≡ true → length p ≤ 6
+few_of_prefix : (tables : List Table) → All IsTableSmall tables → (t : ℕ) (p : List Lin) → is_prefix (slice_get tables t) p ≡ true →
+    length p ≤ 6
 few_of_prefix tables all t p =
     at_table (λ o. is_prefix o p ≡ true → length p ≤ 6) (λ h. absurd (false≢true h))
-    (λ x small h. let e = leb-true (length p) x.width (and_parts (nat_le 1 (length p)) (nat_le (length p) x.width) h).1 in omega (arith, small.width)) tables all t
+    (λ x small h. let e = leb-true (length p) x.width (and_parts (nat_le 1 (length p)) (nat_le (length p) x.width) h).1 in
+    omega (arith, small.width)) tables all t
 
-few_of_short : (tables : List Table) → All IsTableSmall tables → (t : ℕ) (p : List Lin) → is_short_prefix (slice_get tables t) p ≡ true → length p ≤ 6
+few_of_short : (tables : List Table) → All IsTableSmall tables → (t : ℕ) (p : List Lin) → is_short_prefix (slice_get tables t) p ≡ true →
+    length p ≤ 6
 few_of_short tables all t p =
     at_table (λ o. is_short_prefix o p ≡ true → length p ≤ 6) (λ h. absurd (false≢true h))
     (λ x small h. let e = ltb-true (length p) x.width h in omega (arith, small.width)) tables all t
 
-few_values : (tables : List Table) → All IsTableSmall tables → (t : ℕ) (vs : List Lin) → fills (slice_get tables t) vs ≡ true → length vs ≤ 12
+few_values : (tables : List Table) → All IsTableSmall tables → (t : ℕ) (vs : List Lin) → fills (slice_get tables t) vs ≡ true →
+    length vs ≤ 12
 few_values tables all t vs =
     at_table (λ o. fills o vs ≡ true → length vs ≤ 12) (λ h. absurd (false≢true h))
     (λ x small h. let e = eqb-true (length vs) (length x.cols) h in omega (arith, small.columns)) tables all t
@@ -117,7 +122,8 @@ step_runs tables all t side is_bare s f = record {
   few = omega (arith, f.few_paths);
 }
 
-point_runs : (tables : List Table) → All IsTableSmall tables → (t : TxType) (i : ℕ) (p : Point) → IsPointFormed tables t i p → IsRunnablePoint p
+point_runs : (tables : List Table) → All IsTableSmall tables → (t : TxType) (i : ℕ) (p : Point) → IsPointFormed tables t i p →
+    IsRunnablePoint p
 point_runs tables all t i p f = record {
   next = step_runs tables all t Next false p.next f.next;
   undo = step_runs tables all t Undo (i == 0) p.undo f.undo;

@@ -1,5 +1,6 @@
 -- What single form rules say in other words.
-use Rattle.std.proofs.Common.{◌≡◌, ℕ, ◌-◌, ◌<◌, ◌≤◌, ◌==◌, Bool, true, false, ◌||◌, not, nat_le, nat_lt, List, [], ◌∷◌, length, get_or, Option, None, Some, slice_get, All, ℤ, pos, ◌+ℤ◌, ◌*ℤ◌, refl, ap, arith}
+use Rattle.std.proofs.Common.{◌≡◌, ℕ, ◌-◌, ◌<◌, ◌≤◌, ◌==◌, Bool, true, false, ◌||◌, not, nat_le, nat_lt, List, [], ◌∷◌, length, get_or}
+use Rattle.std.proofs.Common.{Option, None, Some, slice_get, All, ℤ, pos, ◌+ℤ◌, ◌*ℤ◌, refl, ap, arith}
 use Rattle.std.specs.Ordering.{int_eq}
 use Rattle.std.proofs.lemmas.Bool.{false≢true, and_parts, leb-true, ltb-true, eqb-true}
 use Rattle.std.proofs.lemmas.Bool.Decides.{Decides-int_eq}
@@ -69,7 +70,8 @@ own_of_private true key h g = g
 own_of_private false key h g = absurd (false≢true h)
 
 -- a write to a private table has `self` alone as the last component of its key
-pub private_key : (t : Table) (me : ℕ) (k : List Lin) → t.own ≡ true → may_write (Some t) me k ≡ true → slice_get k (length k - 1) ≡ Some (alone me)
+pub private_key : (t : Table) (me : ℕ) (k : List Lin) → t.own ≡ true → may_write (Some t) me k ≡ true →
+    slice_get k (length k - 1) ≡ Some (alone me)
 private_key t me k private h = own_component me (slice_get k (length k - 1)) (own_of_private t.own (is_own_key me k) private h)
 
 -- ---- reads, paths, start points
@@ -101,5 +103,6 @@ no_actions tables t [] all = refl
 no_actions tables t (a ∷ rest) all = absurd (false≢true (All-head (IsActionFormed tables t true) a rest all).allowed)
 
 -- a path of a start point's undo does nothing and ends undone
-pub bare_path : (tables : List Table) (t : TxType) (side : Side) (p : Path) → IsPathFormed tables t side true p → (p.actions ≡ []) × (p.target ≡ Undone)
+pub bare_path : (tables : List Table) (t : TxType) (side : Side) (p : Path) → IsPathFormed tables t side true p → (p.actions ≡ []) ×
+    (p.target ≡ Undone)
 bare_path tables t side p f = (no_actions tables t p.actions f.actions, undone p.target f.bare)

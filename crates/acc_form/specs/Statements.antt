@@ -3,8 +3,10 @@ use Rattle.std.specs.Prelude.{ℕ, ◌+◌, Bool, false, not, ◌&&◌, ◌||◌
 use Rattle.std.specs.Prelude.{if◌then◌else◌}
 use Rattle.std.specs.List.{list_all, list_any}
 use Rattle.std.specs.Ordering.{int_eq}
-use Rattle.acc_base.specs.declared.rules.TheConstants.{ASSIGNED, ENDS, ENTRIES, LAST_PATHS, LIMITS, NAMES, NUMBERS, PAIRS, PRIVATE_KEYS, REFUSALS, SHORT_PREFIXES, STARTS, START_UNDOS, UNDO_READS, WIDTHS}
-use Rattle.acc_base.specs.declared.bounds.TheConstants.{MOST_ACTIONS, MOST_CLAUSES, MOST_ENTRIES, MOST_HINTS, MOST_LOCALS, MOST_PATHS, MOST_POINTS, MOST_READS}
+use Rattle.acc_base.specs.declared.rules.TheConstants.{ASSIGNED, ENDS, ENTRIES, LAST_PATHS, LIMITS, NAMES, NUMBERS, PAIRS, PRIVATE_KEYS}
+use Rattle.acc_base.specs.declared.rules.TheConstants.{REFUSALS, SHORT_PREFIXES, STARTS, START_UNDOS, UNDO_READS, WIDTHS}
+use Rattle.acc_base.specs.declared.bounds.TheConstants.{MOST_ACTIONS, MOST_CLAUSES, MOST_ENTRIES, MOST_HINTS, MOST_LOCALS, MOST_PATHS}
+use Rattle.acc_base.specs.declared.bounds.TheConstants.{MOST_POINTS, MOST_READS}
 use Rattle.acc_base.specs.declared.bounds.TheConstants.{MOST_TABLES, MOST_TYPES}
 use Rattle.acc_base.specs.declared.forms.Lin.{Lin}
 use Rattle.acc_base.specs.declared.forms.Clause.{Clause}

@@ -1,5 +1,6 @@
 -- Items as long as one starts, as a row: the reader is exact for the rows in which no item runs into what is spelled behind it.
-use Rattle.std.proofs.Common.{◌≡◌, ℕ, zero, suc, ◌<◌, Bool, true, false, List, [], ◌∷◌, ◌++◌, length, Ok, Err, refl, sym, ap, subst, ◌∙◌, append_assoc, arith, inl, inr}
+use Rattle.std.proofs.Common.{◌≡◌, ℕ, zero, suc, ◌<◌, Bool, true, false, List, [], ◌∷◌, ◌++◌, length, Ok, Err, refl, sym, ap, subst, ◌∙◌}
+use Rattle.std.proofs.Common.{append_assoc, arith, inl, inr}
 use Rattle.std.proofs.lemmas.List.{append-nil, append_cancel_right}
 use Rattle.acc_grammar.specs.Readers.{AllIn, OutcomeOf, ◌>>=◌, joined, item_and, many_for, many}
 use Rattle.acc_grammar.specs.Runs.{IsRow}
@@ -10,7 +11,10 @@ use Rattle.acc_grammar.proofs.Many.{Runs, many_exact}
 abbrev pub Closed : {S T : Type 0} → (List S → Bool) → List T → List S → Type 0
 Closed starts ts rest = starts rest ≡ false
 
-module _ {S T : Type 0} {Q : S → Type 0} {spell : T → List S} {P : T → Type 0} {goes : T → List S → Type 0} {item : List S → OutcomeOf S T} (e : Exact Q spell P goes item) (starts : List S → Bool) (head : ByHead starts) (nothing : starts [] ≡ false) (yes : (t : T) (rest : List S) → P t → goes t rest → starts (spell t ++ rest) ≡ true) (long : (t : T) → P t → 0 < length (spell t)) (out : (t : T) (rest : List S) → P t → starts rest ≡ false → goes t rest) where
+module _ {S T : Type 0} {Q : S → Type 0} {spell : T → List S} {P : T → Type 0} {goes : T → List S → Type 0} {item : List S → OutcomeOf S T}
+    (e : Exact Q spell P goes item) (starts : List S → Bool) (head : ByHead starts) (nothing : starts [] ≡ false)
+    (yes : (t : T) (rest : List S) → P t → goes t rest → starts (spell t ++ rest) ≡ true) (long : (t : T) → P t → 0 < length (spell t))
+    (out : (t : T) (rest : List S) → P t → starts rest ≡ false → goes t rest) where
   -- what may follow an item is judged by its first sign, or there is none
   near : (t : T) (front rest : List S) → P t → goes t (front ++ rest) → goes t front
   near t [] rest p g = out t [] p nothing
@@ -43,8 +47,20 @@ module _ {S T : Type 0} {Q : S → Type 0} {spell : T → List S} {P : T → Typ
     pub plain : AllIn Q more
     pub behind : (t : T) → P t → goes t ws → goes t (front ++ more)
 
-  stopped : (ws rest : List S) (front more : List S) (tree : T) → ws ≡ front ++ rest → P tree → front ++ more ≡ spell tree → AllIn Q more → Goal ws rest
-  stopped ws rest [] more tree split fits viable plain = record { front = []; split = split; more = []; trees = []; fits = tt; viable = refl; plain = tt; behind = λ t p g. out t [] p nothing }
+  stopped : (ws rest : List S) (front more : List S) (tree : T) → ws ≡ front ++ rest → P tree → front ++ more ≡ spell tree → AllIn Q more →
+      Goal ws rest
+  stopped ws rest [] more tree split fits viable plain =
+      record {
+        front = [];
+        split = split;
+        more = [];
+        trees = [];
+        fits = tt;
+        viable = refl;
+        plain = tt;
+        behind =
+            λ t p g. out t [] p nothing;
+      }
   stopped ws rest (w ∷ front) more tree split fits viable plain = record {
     front = w ∷ front;
     split = split;

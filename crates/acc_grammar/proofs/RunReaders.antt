@@ -1,5 +1,6 @@
 -- The readers of signs that pass a test are exact.
-use Rattle.std.proofs.Common.{◌≡◌, ℕ, ◌≤◌, Bool, true, false, List, [], ◌∷◌, ◌++◌, length, take, drop, Ok, Err, refl, sym, ap, subst, ◌∙◌, arith, inl, inr, ◌⊎◌, length-append}
+use Rattle.std.proofs.Common.{◌≡◌, ℕ, ◌≤◌, Bool, true, false, List, [], ◌∷◌, ◌++◌, length, take, drop, Ok, Err, refl, sym, ap, subst, ◌∙◌}
+use Rattle.std.proofs.Common.{arith, inl, inr, ◌⊎◌, length-append}
 use Rattle.std.proofs.lemmas.List.{take_at, drop_at}
 use Rattle.std.specs.List.{prefix_len}
 use Rattle.acc_grammar.specs.Runs.{EachPasses, IsRun, next_is, run, behind_run, one_at, run_at, front_at, absent_at}
@@ -26,7 +27,8 @@ pub run_stops : {S : Type 0} (test : S → Bool) (ss : List S) → next_is test 
 run_stops test [] = refl
 run_stops test (s ∷ ss) = elim (flag (test s)) [ inl h ↦ rw h (run_stops test ss) | inr h ↦ rw h h ]
 
-pub run_again : {S : Type 0} (test : S → Bool) (w rest : List S) → EachPasses test w → next_is test rest ≡ false → (run test (w ++ rest) ≡ w) × (behind_run test (w ++ rest) ≡ rest)
+pub run_again : {S : Type 0} (test : S → Bool) (w rest : List S) → EachPasses test w → next_is test rest ≡ false →
+    (run test (w ++ rest) ≡ w) × (behind_run test (w ++ rest) ≡ rest)
 run_again test [] [] p h = (refl, refl)
 run_again test [] (r ∷ rest) p h = (rw h refl, rw h refl)
 run_again {S} test (s ∷ ss) rest p h = let k = run_again test ss rest p.1 h in (rw p.0 (ap (λ (z : List S). s ∷ z) k.0), rw p.0 k.1)
@@ -36,16 +38,19 @@ pub run_fits : {S : Type 0} (test : S → Bool) (ss : List S) → length (run te
 run_fits test ss = omega (arith, ap length (run_splits test ss), length-append (run test ss) (behind_run test ss))
 
 pub take_run : {S : Type 0} (test : S → Bool) (ss : List S) → take (length (run test ss)) ss ≡ run test ss
-take_run test ss = ap (take (length (run test ss))) (run_splits test ss) ∙ take_at (run test ss) (behind_run test ss) (length (run test ss)) refl
+take_run test ss = ap (take (length (run test ss))) (run_splits test ss) ∙ take_at (run test ss) (behind_run test ss) (length (run test ss))
+    refl
 
 pub drop_run : {S : Type 0} (test : S → Bool) (ss : List S) → drop (length (run test ss)) ss ≡ behind_run test ss
-drop_run test ss = ap (drop (length (run test ss))) (run_splits test ss) ∙ drop_at (run test ss) (behind_run test ss) (length (run test ss)) refl
+drop_run test ss = ap (drop (length (run test ss))) (run_splits test ss) ∙ drop_at (run test ss) (behind_run test ss) (length (run test ss))
+    refl
 
 pub prefix_is_run : {S : Type 0} (test : S → Bool) (ss : List S) → prefix_len test ss ≡ length (run test ss)
 prefix_is_run test [] = refl
 prefix_is_run test (s ∷ ss) = elim (flag (test s)) [ inl h ↦ rw h (omega (arith, prefix_is_run test ss)) | inr h ↦ rw h refl ]
 
-module _ {S : Type 0} (test : S → Bool) (ss w rest : List S) (n : ℕ) (len : n ≡ prefix_len test ss) (front : w ≡ take n ss) (back : rest ≡ drop n ss) where
+module _ {S : Type 0} (test : S → Bool) (ss w rest : List S) (n : ℕ) (len : n ≡ prefix_len test ss) (front : w ≡ take n ss)
+    (back : rest ≡ drop n ss) where
   -- what was cut off is the run, and what is left stands behind it
   pub cut_run : w ≡ run test ss
   cut_run = front ∙ ap (λ (k : ℕ). take k ss) (len ∙ prefix_is_run test ss) ∙ take_run test ss
@@ -94,13 +99,25 @@ module _ {S : Type 0} (Q : S → Type 0) (test : S → Bool) (some : S) (good : 
   unfolding one_at
   one_takes [] t rest e = absurd cc
   one_takes (s ∷ ss) t rest e = elim (chosen (test s) (Ok (s, ss)) (Err (s ∷ ss)) (Ok (t, rest)) e) [
-    | inl h ↦ (let z : S × List S = (s, ss) in subst (λ (z : S × List S). (s ∷ ss ≡ just z.0 ++ z.1) × Passes test z.0 × Free z.0 z.1) (ok_is z (t, rest) h.1) (refl, h.0, tt))
+    | inl h ↦ (let z : S × List S = (s, ss) in subst (λ (z : S × List S). (s ∷ ss ≡ just z.0 ++ z.1) × Passes test z.0 × Free z.0 z.1)
+        (ok_is z (t, rest) h.1) (refl, h.0, tt))
     | inr h ↦ absurd (let wrong = h.1 in cc)
   ]
 
   one_stops : (ss rest : List S) → one_at test ss ≡ Err rest → Stops Q just (Passes test) (one_at test) ss rest
   unfolding one_at
-  one_stops [] rest e = let is : [] ≡ rest = cc in record { front = []; split = is; more = some ∷ []; tree = some; fits = good; viable = refl; plain = (plain, tt); stuck = λ w others after k. absurd cc }
+  one_stops [] rest e = let is : [] ≡ rest = cc in
+      record {
+        front = [];
+        split = is;
+        more = some ∷ [];
+        tree = some;
+        fits = good;
+        viable = refl;
+        plain = (plain, tt);
+        stuck =
+            λ w others after k. absurd cc;
+      }
   one_stops (s ∷ ss) rest e = elim (chosen (test s) (Ok (s, ss)) (Err (s ∷ ss)) (Err rest) e) [
     | inl h ↦ absurd (let wrong = h.1 in cc)
     | inr h ↦ (let same = h.1 in let is : s ∷ ss ≡ rest = cc in record {
@@ -131,7 +148,8 @@ module _ {S : Type 0} (Q : S → Type 0) (test : S → Bool) (some : S) (good : 
     some_plain = (plain, tt);
   }
 
-module _ {S : Type 0} (Q : S → Type 0) (first test : S → Bool) (some : S) (good : first some ≡ true) (plain : Q some) (sub : (s : S) → first s ≡ true → test s ≡ true) where
+module _ {S : Type 0} (Q : S → Type 0) (first test : S → Bool) (some : S) (good : first some ≡ true) (plain : Q some) (sub : (s : S) →
+    first s ≡ true → test s ≡ true) where
   run_is : (ss : List S) → next_is first ss ≡ true → IsRun first test (run test ss)
   run_is [] h = absurd cc
   run_is (s ∷ ss) h = let k = sub s h in rw k (h, run_passes test ss)
@@ -141,7 +159,8 @@ module _ {S : Type 0} (Q : S → Type 0) (first test : S → Bool) (some : S) (g
   run_takes ss w rest e =
       elim (chosen (next_is first ss) (Ok (run test ss, behind_run test ss)) (Err ss) (Ok (w, rest)) e) [
         | inl h ↦ (let one : List S × List S = (run test ss, behind_run test ss) in
-            subst (λ (z : List S × List S). (ss ≡ z.0 ++ z.1) × IsRun first test z.0 × Apart test z.0 z.1) (ok_is one (w, rest) h.1) (run_splits test ss, run_is ss h.0, run_stops test ss))
+            subst (λ (z : List S × List S). (ss ≡ z.0 ++ z.1) × IsRun first test z.0 × Apart test z.0 z.1) (ok_is one (w, rest) h.1)
+            (run_splits test ss, run_is ss h.0, run_stops test ss))
         | inr h ↦ absurd (let wrong = h.1 in cc)
       ]
 
@@ -169,7 +188,16 @@ module _ {S : Type 0} (Q : S → Type 0) (first test : S → Bool) (some : S) (g
 
   -- the longest run
   pub run_exact : Exact Q itself (IsRun first test) (Apart test) (run_at first test)
-  run_exact = record { takes = run_takes; again = run_reads; stops = run_halts; heads = λ t w more after g. g; some = some ∷ []; some_fits = (good, tt); some_plain = (plain, tt) }
+  run_exact = record {
+    takes = run_takes;
+    again = run_reads;
+    stops = run_halts;
+    heads = λ t w more after g. g;
+    some = some ∷ [];
+    some_fits =
+        (good, tt);
+    some_plain = (plain, tt);
+  }
 
 -- the longest front of signs that pass
 pub front_exact : {S : Type 0} (Q : S → Type 0) (test : S → Bool) → Exact Q itself (EachPasses test) (Apart test) (front_at test)
@@ -187,7 +215,8 @@ front_exact {S} Q test = record {
     takes : (ss w rest : List S) → front_at test ss ≡ Ok (w, rest) → (ss ≡ w ++ rest) × EachPasses test w × Apart test w rest
     takes ss w rest e =
         let one : List S × List S = (run test ss, behind_run test ss) in
-        subst (λ (z : List S × List S). (ss ≡ z.0 ++ z.1) × EachPasses test z.0 × Apart test z.0 z.1) (ok_is one (w, rest) e) (run_splits test ss, run_passes test ss, run_stops test ss)
+        subst (λ (z : List S × List S). (ss ≡ z.0 ++ z.1) × EachPasses test z.0 × Apart test z.0 z.1) (ok_is one (w, rest) e)
+        (run_splits test ss, run_passes test ss, run_stops test ss)
 
 -- nothing, and no sign that passes behind it
 pub absent_exact : {S : Type 0} (Q : S → Type 0) (test : S → Bool) → Exact Q nothing All (Apart test) (absent_at test)
@@ -195,7 +224,8 @@ unfolding absent_at
 absent_exact {S} Q test = record {
   takes = λ ss t rest e. elim (chosen (next_is test ss) (Err ss) (Ok (tt, ss)) (Ok (t, rest)) e) [
     | inl h ↦ absurd (let wrong = h.1 in cc)
-    | inr h ↦ (let is : ss ≡ rest = ap (λ (z : Unit {0} × List S). z.1) (ok_is (tt, ss) (t, rest) h.1) in (is, tt, subst (λ (z : List S). next_is test z ≡ false) is h.0))
+    | inr h ↦ (let is : ss ≡ rest = ap (λ (z : Unit {0} × List S). z.1) (ok_is (tt, ss) (t, rest) h.1) in
+        (is, tt, subst (λ (z : List S). next_is test z ≡ false) is h.0))
   ];
   again = λ t rest p g. rw g refl;
   stops = λ ss rest e. elim (chosen (next_is test ss) (Err ss) (Ok (tt, ss)) (Err rest) e) [

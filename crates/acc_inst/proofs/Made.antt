@@ -18,13 +18,17 @@ module _ (q : Sequent) (hints : List Lin) (insts : List Chosen) where
   -- the instances of the lists are those that are listed
   listed_has : (l : Listed) → listed q hints insts ≡ Ok l → l.insts ≡ insts
   listed_has l e =
-      by (splits_of q hints (map (instance_of q) insts)) (list_any (is_instance_wide q) insts) (nat_lt 256 (length (splits_of q hints (map (instance_of q) insts)))) e
+      by (splits_of q hints (map (instance_of q) insts)) (list_any (is_instance_wide q) insts)
+      (nat_lt 256 (length (splits_of q hints (map (instance_of q) insts)))) e
     where
-      by : (splits : List Form) (wide many : Bool) → (if wide then Err Wide else (if many then Err Crowded else Ok (record { splits = splits; insts = insts }))) ≡ Ok l → l.insts ≡ insts
+      by : (splits : List Form) (wide many : Bool) →
+          (if wide then Err Wide else (if many then Err Crowded else Ok (record { splits = splits; insts = insts }))) ≡ Ok l →
+          l.insts ≡ insts
       by splits true many e = absurd (cc)
       by splits false true e = absurd (cc)
       by splits false false e = cc
 
-  pub made_of : (r : Result Made InstError) → instances_of q hints ≡ Ok insts → IfOk r (λ m. listed q hints insts ≡ Ok m.listed) → IfOk r (λ m. All (IsOf q) m.listed.insts)
+  pub made_of : (r : Result Made InstError) → instances_of q hints ≡ Ok insts → IfOk r (λ m. listed q hints insts ≡ Ok m.listed) →
+      IfOk r (λ m. All (IsOf q) m.listed.insts)
   made_of (Ok m) e h = subst (All (IsOf q)) (sym (listed_has m.listed h)) (listed_are_of q hints insts e)
   made_of (Err x) e h = tt

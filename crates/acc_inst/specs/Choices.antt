@@ -1,5 +1,6 @@
 -- Values for a hypothesis's own variables, read off targets.
-use Rattle.std.specs.Prelude.{◌==◌, ◌+◌, ℕ, Bool, true, false, ◌&&◌, if◌then◌else◌, List, [], ◌∷◌, ◌++◌, length, Option, Some, None, nat_lt, slice_get, Ok, pos}
+use Rattle.std.specs.Prelude.{◌==◌, ◌+◌, ℕ, Bool, true, false, ◌&&◌, if◌then◌else◌, List, [], ◌∷◌, ◌++◌, length, Option, Some, None, nat_lt}
+use Rattle.std.specs.Prelude.{slice_get, Ok, pos}
 use Rattle.std.specs.List.{fold, list_all, list_any}
 use Rattle.acc_base.specs.declared.forms.Lin.{Lin}
 use Rattle.acc_base.specs.Sums.{Term}
@@ -72,7 +73,8 @@ news_of taken places = fold (with_new taken) [] places
 
 abbrev pub with_taken : List Pattern → Pattern → List Pattern
 with_taken taken p =
-    if list_any is_there (news_of taken p.places) then taken ++ record { table = p.table; places = p.places; news = news_of taken p.places } ∷ [] else taken
+    if list_any is_there (news_of taken p.places) then taken ++ record { table = p.table; places = p.places; news = news_of taken p.places }
+    ∷ [] else taken
 
 -- ---- values
 
@@ -132,4 +134,5 @@ with_whole targets so_far found p = if is_whole p then with_targets targets p fo
 
 abbrev pub by_patterns : List Target → List Text → List Pattern → Listing (List (List Lin))
 by_patterns targets vars patterns =
-    if list_any is_whole patterns then steps (with_whole targets (nothings vars)) [] patterns else together targets vars (fold with_taken [] patterns)
+    if list_any is_whole patterns then steps (with_whole targets (nothings vars)) [] patterns else together targets vars
+    (fold with_taken [] patterns)

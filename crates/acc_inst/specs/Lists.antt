@@ -1,5 +1,6 @@
 -- The lists of a sequent: its instances, and the forms to split by.
-use Rattle.std.specs.Prelude.{ℕ, Bool, true, false, ◌||◌, ◌&&◌, if◌then◌else◌, List, [], ◌∷◌, ◌++◌, length, map, Ok, Err, nat_lt, ℤ, pos, negsuc}
+use Rattle.std.specs.Prelude.{ℕ, Bool, true, false, ◌||◌, ◌&&◌, if◌then◌else◌, List, [], ◌∷◌, ◌++◌, length, map, Ok, Err, nat_lt, ℤ, pos}
+use Rattle.std.specs.Prelude.{negsuc}
 use Rattle.std.specs.List.{fold, list_any}
 use Rattle.std.specs.Ordering.{int_eq}
 use Rattle.acc_base.specs.declared.forms.Lin.{Lin}

@@ -4,7 +4,9 @@ ghost use Rattle.std.specs.List.{fold, list_all, list_any};
 ghost use Rattle.acc_inst.specs.Parts.{Answers, Leaves, chain, steps, with_few};
 ghost use Rattle.acc_inst.specs.Targets.{same_lins};
 ghost use Rattle.acc_instances.specs.Instances.{zero_lin};
-ghost use Rattle.acc_inst.specs.Choices.{with_place, places_of, is_there, is_whole, reaches, fits, place_at, has_place, is_had, with_new, news_of, with_taken, value_by, with_value, values_by, with_nothing, nothings, with_target, with_targets, grown, grow, has_targets, with_lack, have_all, together, with_whole, by_patterns};
+ghost use Rattle.acc_inst.specs.Choices.{with_place, places_of, is_there, is_whole, reaches, fits, place_at, has_place, is_had, with_new};
+ghost use Rattle.acc_inst.specs.Choices.{news_of, with_taken, value_by, with_value, values_by, with_nothing, nothings, with_target};
+ghost use Rattle.acc_inst.specs.Choices.{with_targets, grown, grow, has_targets, with_lack, have_all, together, with_whole, by_patterns};
 
 use crate::atoms::{place_in, same_lins};
 use crate::listing::InstError;

@@ -1,6 +1,7 @@
 //! Lists the splits and instances of sequents: a question a line of the input, with the answers.
 //!
-//! `sequent JSON` and `hints JSON` give the sequent and the hints of the questions behind them, as `acc_case_sequents` says. `lists` answers
+//! `sequent JSON` and `hints JSON` give the sequent and the hints of the questions behind them, as `acc_case_sequents` says. `lists`
+//! answers
 //! the splits and then the instances, as nodes of a certificate without multipliers; `counts` answers how many there are.
 #![tactic(auto)]
 

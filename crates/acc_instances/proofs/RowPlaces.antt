@@ -1,5 +1,6 @@
 -- Rows that are found by their place.
-use Rattle.std.proofs.Common.{◌≡◌, ℕ, Bool, true, false, cond, List, [], ◌∷◌, length, take, refl, ap, sym, ◌∙◌, subst, arith, Some, None, ℤ, ◌==◌}
+use Rattle.std.proofs.Common.{◌≡◌, ℕ, Bool, true, false, cond, List, [], ◌∷◌, length, take, refl, ap, sym, ◌∙◌, subst, arith, Some, None, ℤ}
+use Rattle.std.proofs.Common.{◌==◌}
 use Rattle.std.specs.Prelude.{◌&&◌, find}
 use Rattle.std.specs.List.{starts_with, AllByRecursion}
 use Rattle.std.specs.Ordering.{int_eq, is_eq}
@@ -29,9 +30,12 @@ module _ {X : Type 0} (P : X → Type 0) where
       by false g ih = ih g
 
 -- the same place, where keys are as long as each other
-pub same_place : (t u : ℕ) (k q : List ℤ) → (t ≡ u → length q ≡ length k) → is_eq (place_cmp (u, q) (t, k)) ≡ ((t == u) && starts_with int_eq k q)
+pub same_place : (t u : ℕ) (k q : List ℤ) → (t ≡ u → length q ≡ length k) →
+    is_eq (place_cmp (u, q) (t, k)) ≡ ((t == u) && starts_with int_eq k q)
 same_place t u k q long =
-    same_from_decides (is_eq (place_cmp (u, q) (t, k))) ((t == u) && starts_with int_eq k q) (Decides-like (is_eq (place_cmp (u, q) (t, k))) to back (Equal-is (place_cmp (u, q) (t, k)))) (Decides-and (t == u) (starts_with int_eq k q) (Decides-eqb t u) (ints_decide q (take (length q) k)))
+    same_from_decides (is_eq (place_cmp (u, q) (t, k))) ((t == u) && starts_with int_eq k q)
+    (Decides-like (is_eq (place_cmp (u, q) (t, k))) to back (Equal-is (place_cmp (u, q) (t, k))))
+    (Decides-and (t == u) (starts_with int_eq k q) (Decides-eqb t u) (ints_decide q (take (length q) k)))
   where
     whole : length q ≡ length k → take (length q) k ≡ k
     whole e = take_all (length q) k (omega (arith, e))

@@ -29,7 +29,8 @@ module _ (db : List Row) (env : List ℤ) where
   worth-append (x ∷ xs) ys = let h = worth-append xs ys in omega (arith, ints, h)
 
   -- m times parts, where what has to be 0 is 0
-  pub parts_worth : (under : List Lin) (m : ℤ) (ps : List Part) → worth (map (part_summand under m) ps) ≡ (if all_zero env under then m *ℤ parts_value db env ps else pos 0)
+  pub parts_worth : (under : List Lin) (m : ℤ) (ps : List Part) →
+      worth (map (part_summand under m) ps) ≡ (if all_zero env under then m *ℤ parts_value db env ps else pos 0)
   parts_worth under m [] = by (all_zero env under)
     where
       by : (b : Bool) → pos 0 ≡ (if b then m *ℤ pos 0 else pos 0)
@@ -37,7 +38,9 @@ module _ (db : List Row) (env : List ℤ) where
       by false = refl
   parts_worth under m (p ∷ ps) = by (all_zero env under) (parts_worth under m ps)
     where
-      by : (b : Bool) → worth (map (part_summand under m) ps) ≡ (if b then m *ℤ parts_value db env ps else pos 0) → (m *ℤ p.1) *ℤ (if b then atom_value db env p.0 else pos 0) +ℤ worth (map (part_summand under m) ps) ≡ (if b then m *ℤ parts_value db env (p ∷ ps) else pos 0)
+      by : (b : Bool) → worth (map (part_summand under m) ps) ≡ (if b then m *ℤ parts_value db env ps else pos 0) →
+          (m *ℤ p.1) *ℤ (if b then atom_value db env p.0 else pos 0) +ℤ worth (map (part_summand under m) ps) ≡
+          (if b then m *ℤ parts_value db env (p ∷ ps) else pos 0)
       by true h =
           let one = times_times m p.1 (atom_value db env p.0) in
           let both = times_sum m (part_value db env p) (parts_value db env ps) in
@@ -48,7 +51,9 @@ module _ (db : List Row) (env : List ℤ) where
   summand_value : (s : Term) (g : Form) → form_value db env (with_summand s g) ≡ form_value db env g +ℤ product_value db env s
   summand_value s g = by (is_bare_one s.0) refl
     where
-      by : (b : Bool) → is_bare_one s.0 ≡ b → form_value db env (if b then record g { constant = g.constant +ℤ s.1 } else record g { terms = g.terms ++ s ∷ [] }) ≡ form_value db env g +ℤ product_value db env s
+      by : (b : Bool) → is_bare_one s.0 ≡ b → form_value db env
+          (if b then record g { constant = g.constant +ℤ s.1 } else record g { terms = g.terms ++ s ∷ [] }) ≡ form_value db env g +ℤ
+          product_value db env s
       by true e =
           let same = ap (λ (u : Unknown). s.1 *ℤ unknown_value db env u) ((unknown_decides s.0 (unknown [] One)).0 e) in
           let one = times_one s.1 in

@@ -64,7 +64,8 @@ apart_digit (b ∷ bs) h = digit_inner b h
 -- ---- the marks
 
 -- what holds of each mark, holds of the one that a byte is
-mark_case : (P : ℕ × Sign → Type 0) (ms : List (ℕ × Sign)) → AllIn P ms → (b : ℕ) → is_some (mark_among ms b) ≡ true → P (b, unwrap_or (mark_among ms b) sign.End)
+mark_case : (P : ℕ × Sign → Type 0) (ms : List (ℕ × Sign)) → AllIn P ms → (b : ℕ) → is_some (mark_among ms b) ≡ true →
+    P (b, unwrap_or (mark_among ms b) sign.End)
 mark_case P [] all b h = absurd cc
 mark_case P (m ∷ ms) all b h = elim (flag (b == m.0)) [
   | inl k ↦ rw k (subst (λ (c : ℕ). P (c, m.1)) (sym (eqb-true b m.0 k)) all.0)
@@ -75,7 +76,8 @@ pub mark_has : (P : ℕ × Sign → Type 0) → AllIn P marks → (b : ℕ) → 
 mark_has P all b h = mark_case P marks all b h
 
 -- what holds of each mark and of End, holds of the sign that any byte is taken for
-mark_any : (P : Sign → Type 0) (ms : List (ℕ × Sign)) → P sign.End → AllIn (λ m. P m.1) ms → (b : ℕ) → P (unwrap_or (mark_among ms b) sign.End)
+mark_any : (P : Sign → Type 0) (ms : List (ℕ × Sign)) → P sign.End → AllIn (λ m. P m.1) ms → (b : ℕ) →
+    P (unwrap_or (mark_among ms b) sign.End)
 mark_any P [] end all b = end
 mark_any P (m ∷ ms) end all b = elim (flag (b == m.0)) [ inl k ↦ rw k all.0 | inr k ↦ rw k (mark_any P ms end all.1 b) ]
 
@@ -83,7 +85,8 @@ pub mark_all : (P : Sign → Type 0) → P sign.End → AllIn (λ m. P m.1) mark
 mark_all P end all b = mark_any P marks end all b
 
 -- a byte that passes a test which no mark passes is no mark
-none_among : (test : ℕ → Bool) (ms : List (ℕ × Sign)) → AllIn (λ m. test m.0 ≡ false) ms → (b : ℕ) → test b ≡ true → is_some (mark_among ms b) ≡ false
+none_among : (test : ℕ → Bool) (ms : List (ℕ × Sign)) → AllIn (λ m. test m.0 ≡ false) ms → (b : ℕ) → test b ≡ true →
+    is_some (mark_among ms b) ≡ false
 none_among test [] all b h = refl
 none_among test (m ∷ ms) all b h = let k = byte_apart test m.0 all.0 b h in rw k (none_among test ms all.1 b h)
 

@@ -1,5 +1,6 @@
 -- A word is looked up among the keywords of its length.
-use Rattle.std.proofs.Common.{◌≡◌, ℕ, Bool, true, false, cond, List, [], ◌∷◌, length, eq-eqb, Option, Some, None, refl, sym, ap, ◌∙◌, inl, inr}
+use Rattle.std.proofs.Common.{◌≡◌, ℕ, Bool, true, false, cond, List, [], ◌∷◌, length, eq-eqb, Option, Some, None, refl, sym, ap, ◌∙◌, inl}
+use Rattle.std.proofs.Common.{inr}
 use Rattle.std.specs.Prelude.{◌==◌, ◌&&◌, nat_le, filter}
 use Rattle.std.specs.List.{list_all}
 use Rattle.std.specs.Str.{bytes_eq}
@@ -12,7 +13,8 @@ use Rattle.acc_lex.specs.Keywords.{keywords, sign_in, keyword_of, keywords_of}
 
 apart_by_length : (w k : List ℕ) → (length k == length w) ≡ false → bytes_eq w k ≡ false
 apart_by_length w k h = elim (flag (bytes_eq w k)) [
-  | inl e ↦ absurd (let same = (bytes_eq-Decides w k).0 e in let wrong = sym (eq-eqb (length k) (length w) (ap length (sym same))) ∙ h in cc)
+  | inl e ↦ absurd (let same = (bytes_eq-Decides w k).0 e in let wrong = sym (eq-eqb (length k) (length w) (ap length (sym same))) ∙ h in
+      cc)
   | inr e ↦ e
 ]
 
@@ -31,7 +33,8 @@ keyword_is w n h = by_length keywords w ∙ ap (λ (m : ℕ). sign_in (keywords_
 abbrev fits : ℕ → Bool
 fits n = nat_le 2 n && nat_le n 8
 
-none_in : (ks : List (List ℕ × Sign)) (w : List ℕ) → list_all (λ k. fits (length k.0)) ks ≡ true → fits (length w) ≡ false → sign_in ks w ≡ None
+none_in : (ks : List (List ℕ × Sign)) (w : List ℕ) → list_all (λ k. fits (length k.0)) ks ≡ true → fits (length w) ≡ false →
+    sign_in ks w ≡ None
 none_in [] w h out = refl
 none_in (k ∷ ks) w h out =
     let here = and_both (fits (length k.0)) (list_all (λ k. fits (length k.0)) ks) h in

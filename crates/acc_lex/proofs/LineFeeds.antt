@@ -9,7 +9,9 @@ use Rattle.acc_lex.specs.declared.words.Sign.{Sign}
 use Rattle.acc_lex.specs.declared.words.Sign.TheVariants as sign
 use Rattle.acc_lex.specs.declared.words.Word.{Word}
 use Rattle.acc_lex.specs.ByteKinds.{is_plain, is_letter, is_digit, is_leading, is_inner}
-use Rattle.acc_lex.specs.Spellings.{Token, Letters, Digits, Mark, Item, Statement, Line, Comment, Statements, mark_bytes, token_bytes, blanks, item_bytes, statement_bytes, next_statement, line_bytes, next_line, lines_bytes, IsToken, IsItem, ItemParted, IsStatement, IsLine, AreLines}
+use Rattle.acc_lex.specs.Spellings.{Token, Letters, Digits, Mark, Item, Statement, Line, Comment, Statements, mark_bytes, token_bytes}
+use Rattle.acc_lex.specs.Spellings.{blanks, item_bytes, statement_bytes, next_statement, line_bytes, next_line, lines_bytes, IsToken}
+use Rattle.acc_lex.specs.Spellings.{IsItem, ItemParted, IsStatement, IsLine, AreLines}
 use Rattle.acc_lex.specs.LineWords.{line_words, lines_words}
 use Rattle.acc_lex.specs.Texts.{IsLexed}
 use Rattle.acc_lex.proofs.ByteFacts.{byte_apart}
@@ -65,18 +67,24 @@ unfed_token (Mark s) h = unfed_mark s
 
 unfed_items : (is : List Item) → IsRow item_bytes IsItem ItemParted is → Unfed (joined item_bytes is)
 unfed_items [] h = tt
-unfed_items (i ∷ is) h = unfed_append (item_bytes i) (joined item_bytes is) (unfed_append (token_bytes i.token) (blanks i.spaces) (unfed_token i.token h.0) (unfed_blanks i.spaces)) (unfed_items is h.2)
+unfed_items (i ∷ is) h = unfed_append (item_bytes i) (joined item_bytes is)
+    (unfed_append (token_bytes i.token) (blanks i.spaces) (unfed_token i.token h.0) (unfed_blanks i.spaces)) (unfed_items is h.2)
 
 unfed_statement : (s : Statement) → IsStatement s → Unfed (statement_bytes s)
 unfed_statement s h = unfed_append (blanks s.spaces) (joined item_bytes s.items) (unfed_blanks s.spaces) (unfed_items s.items h)
 
 unfed_next : (others : List Statement) → AllIn IsStatement others → Unfed (joined next_statement others)
 unfed_next [] h = tt
-unfed_next (s ∷ others) h = (refl, unfed_append (statement_bytes s) (joined next_statement others) (unfed_statement s h.0) (unfed_next others h.1))
+unfed_next (s ∷ others) h = (
+  refl,
+  unfed_append (statement_bytes s) (joined next_statement others) (unfed_statement s h.0)
+      (unfed_next others h.1),
+)
 
 unfed_line : (l : Line) → IsLine l → Unfed (line_bytes l)
 unfed_line (Comment n bytes) h = unfed_append (blanks n) (35 ∷ bytes) (unfed_blanks n) (refl, unfed_by is_plain refl bytes h)
-unfed_line (Statements s others) h = unfed_append (statement_bytes s) (joined next_statement others) (unfed_statement s h.0) (unfed_next others h.1)
+unfed_line (Statements s others) h = unfed_append (statement_bytes s) (joined next_statement others) (unfed_statement s h.0)
+    (unfed_next others h.1)
 
 -- ---- texts put together
 
@@ -89,7 +97,9 @@ pub lexed_both : (a b : List ℕ) (v w : List Word) → IsLexed a v → IsLexed 
 lexed_both a b v w k l = record {
   lines = (k.lines.0, k.lines.1 ++ (l.lines.0 ∷ l.lines.1));
   fit = (k.fit.0, AllIn-append IsLine k.lines.1 (l.lines.0 ∷ l.lines.1) k.fit.1 l.fit);
-  spelled = (λ i. k.spelled i ++ (10 ∷ l.spelled i)) ∙ append_assoc (line_bytes k.lines.0) (joined next_line k.lines.1) (10 ∷ lines_bytes l.lines) ∙ ap (λ (z : List ℕ). line_bytes k.lines.0 ++ z) (sym (joined_append next_line k.lines.1 (l.lines.0 ∷ l.lines.1)));
+  spelled = (λ i. k.spelled i ++ (10 ∷ l.spelled i)) ∙ append_assoc (line_bytes k.lines.0) (joined next_line k.lines.1)
+      (10 ∷ lines_bytes l.lines) ∙ ap (λ (z : List ℕ). line_bytes k.lines.0 ++ z)
+      (sym (joined_append next_line k.lines.1 (l.lines.0 ∷ l.lines.1)));
   mean = (λ i. k.mean i ++ l.mean i) ∙ sym (joined_append line_words (k.lines.0 ∷ k.lines.1) (l.lines.0 ∷ l.lines.1));
 }
 
@@ -117,7 +127,10 @@ pub one_line : (l : Line) → IsLine l → IsLexed (line_bytes l) (line_words l)
 one_line l h = record { lines = (l, []); fit = (h, tt); spelled = sym (append-nil (line_bytes l)); mean = sym (append-nil (line_words l)) }
 
 -- a line, and behind it what the further lines are cut into
-cut_behind : (l m : Line) (others : List Line) (a rest b : List ℕ) → IsLine l → AreLines (m, others) → a ≡ line_bytes l ++ rest → 10 ∷ lines_bytes (m, others) ≡ rest ++ (10 ∷ b) → ((c : List ℕ) → lines_bytes (m, others) ≡ c ++ (10 ∷ b) → IsCut c b (lines_words (m, others))) → IsCut a b (line_words l ++ lines_words (m, others))
+cut_behind : (l m : Line) (others : List Line) (a rest b : List ℕ) → IsLine l → AreLines (m, others) → a ≡ line_bytes l ++ rest →
+    10 ∷ lines_bytes (m, others) ≡ rest ++ (10 ∷ b) →
+    ((c : List ℕ) → lines_bytes (m, others) ≡ c ++ (10 ∷ b) → IsCut c b (lines_words (m, others))) →
+    IsCut a b (line_words l ++ lines_words (m, others))
 cut_behind l m others a [] b h fit here e again = record {
   front = line_words l;
   back = lines_words (m, others);
@@ -130,12 +143,14 @@ cut_behind l m others a (c ∷ rest) b h fit here e again =
     let k = again rest cc in record {
       front = line_words l ++ k.front;
       back = k.back;
-      first = subst (λ (z : List ℕ). IsLexed z (line_words l ++ k.front)) (sym (here ∙ (λ i. line_bytes l ++ (sym feed i ∷ rest)))) (lexed_both (line_bytes l) rest (line_words l) k.front (one_line l h) k.first);
+      first = subst (λ (z : List ℕ). IsLexed z (line_words l ++ k.front)) (sym (here ∙ (λ i. line_bytes l ++ (sym feed i ∷ rest))))
+          (lexed_both (line_bytes l) rest (line_words l) k.front (one_line l h) k.first);
       second = k.second;
       whole = (λ i. line_words l ++ k.whole i) ∙ sym (append_assoc (line_words l) k.front k.back);
     }
 
-cut_lines : (others : List Line) (l : Line) (a b : List ℕ) → AreLines (l, others) → lines_bytes (l, others) ≡ a ++ (10 ∷ b) → IsCut a b (lines_words (l, others))
+cut_lines : (others : List Line) (l : Line) (a b : List ℕ) → AreLines (l, others) → lines_bytes (l, others) ≡ a ++ (10 ∷ b) →
+    IsCut a b (lines_words (l, others))
 cut_lines [] l a b fit e = let k = behind_line (line_bytes l) [] a b (unfed_line l fit.0) e in absurd (none k.0 k.2)
   where
     none : (rest : List ℕ) → [] ≡ rest ++ (10 ∷ b) → ⊥

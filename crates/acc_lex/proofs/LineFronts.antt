@@ -57,7 +57,8 @@ without_feed a v k =
 -- whole lines, and a text
 pub fed_both : (f b : List ℕ) (v w : List Word) → IsFed f → IsLexed f v → IsLexed b w → IsLexed (f ++ b) (v ++ w)
 fed_both f b v w h k l = elim (fed_cases f h) [
-  | inl e ↦ subst (λ (z : List ℕ). IsLexed (z ++ b) (v ++ w)) (sym e) (subst (λ (z : List Word). IsLexed b (z ++ w)) (sym (no_words f v e k)) l)
+  | inl e ↦ subst (λ (z : List ℕ). IsLexed (z ++ b) (v ++ w)) (sym e)
+      (subst (λ (z : List Word). IsLexed b (z ++ w)) (sym (no_words f v e k)) l)
   | inr s ↦ (
       let first = without_feed s.0 v (subst (λ (z : List ℕ). IsLexed z v) s.1 k) in
       let is : s.0 ++ (10 ∷ b) ≡ f ++ b = sym (append_assoc s.0 (10 ∷ []) b) ∙ ap (λ (z : List ℕ). z ++ b) (sym s.1) in

@@ -1,5 +1,6 @@
 -- The readers of lines, and of a whole text, are exact.
-use Rattle.std.proofs.Common.{◌≡◌, ℕ, ◌<◌, true, false, List, [], ◌∷◌, ◌++◌, length, refl, sym, ap, subst, ◌∙◌, append_assoc, arith, inl, inr}
+use Rattle.std.proofs.Common.{◌≡◌, ℕ, ◌<◌, true, false, List, [], ◌∷◌, ◌++◌, length, refl, sym, ap, subst, ◌∙◌, append_assoc, arith, inl}
+use Rattle.std.proofs.Common.{inr}
 use Rattle.std.proofs.lemmas.List.{append-nil}
 use Rattle.acc_grammar.specs.Readers.{AllIn, joined}
 use Rattle.acc_grammar.specs.Runs.{EachPasses, next_is}
@@ -7,8 +8,10 @@ use Rattle.acc_grammar.proofs.Exact.{bind_assoc, Exact, All, Each, seq_exact, Ma
 use Rattle.acc_grammar.proofs.Many.{Shrinks, item_shrinks, Runs, many_exact}
 use Rattle.acc_grammar.proofs.RunReaders.{next_head, Passes, one_exact, front_exact, absent_exact}
 use Rattle.acc_lex.specs.ByteKinds.{is_byte, is_space, is_plain}
-use Rattle.acc_lex.specs.Spellings.{Item, Statement, Line, Comment, Statements, blanks, item_bytes, next_statement, line_bytes, next_line, lines_bytes, IsStatement, IsLine, AreLines}
-use Rattle.acc_lex.specs.Readings.{is_inside, next_statement_at, next_statements_at, Body, Remark, Rest, remark_at, rest_at, body_at, line_of, line_at, next_line_at, next_lines_at, is_any, lines_at}
+use Rattle.acc_lex.specs.Spellings.{Item, Statement, Line, Comment, Statements, blanks, item_bytes, next_statement, line_bytes, next_line}
+use Rattle.acc_lex.specs.Spellings.{lines_bytes, IsStatement, IsLine, AreLines}
+use Rattle.acc_lex.specs.Readings.{is_inside, next_statement_at, next_statements_at, Body, Remark, Rest, remark_at, rest_at, body_at}
+use Rattle.acc_lex.specs.Readings.{line_of, line_at, next_line_at, next_lines_at, is_any, lines_at}
 use Rattle.acc_lex.proofs.ByteFacts.{Byte, is_the}
 use Rattle.acc_lex.proofs.TokenReaders.{starts_token}
 use Rattle.acc_lex.proofs.Statements.{spaces_exact, AreItems, items_exact, none_behind, StatementGoes, next_statement_exact}
@@ -32,7 +35,8 @@ next_shorter = item_shrinks next_statement_exact (next_is (is_byte 59)) (next_he
 abbrev Ends : List ℕ → Type 0
 Ends rest = (next_is is_inside rest ≡ false) × (next_is (is_byte 59) rest ≡ false)
 
-ends_behind : (others : List Statement) (rest : List ℕ) → next_is is_inside (joined next_statement others ++ rest) ≡ false → NextGoes others rest → Ends rest
+ends_behind : (others : List Statement) (rest : List ℕ) → next_is is_inside (joined next_statement others ++ rest) ≡ false →
+    NextGoes others rest → Ends rest
 ends_behind [] rest s g = (s, g)
 ends_behind (o ∷ others) rest s g = ends_behind others rest g.0 g.1
 
@@ -68,24 +72,32 @@ IsRemark = Made (λ (p : ℕ × List ℕ). Remark p.1) (Each (Passes (is_byte 35
 
 remark_exact : Exact Byte body_bytes IsRemark BodyGoes remark_at
 unfolding remark_at
-remark_exact = same_exact (λ bs. simp bind_assoc) (made_exact (seq_exact (one_exact Byte (is_byte 35) 35 refl tt) (front_exact Byte is_plain)) (λ p. Remark p.1) body_bytes BodyGoes (λ a p. λ i. sym (is_the 35 a.0 p.0) i ∷ a.1) (λ a rest g. g.1) (λ a rest p g. (tt, g)) body_heads)
+remark_exact = same_exact (λ bs. simp bind_assoc)
+    (made_exact (seq_exact (one_exact Byte (is_byte 35) 35 refl tt) (front_exact Byte is_plain)) (λ p. Remark p.1) body_bytes BodyGoes
+    (λ a p. λ i. sym (is_the 35 a.0 p.0) i ∷ a.1) (λ a rest g. g.1) (λ a rest p g. (tt, g)) body_heads)
 
 abbrev IsRest : Body → Type 0
 IsRest = Made (λ (p : List Item × List Statement). Rest p.0 p.1) (Each AreItems (AllIn IsStatement))
 
 rest_exact : Exact Byte body_bytes IsRest BodyGoes rest_at
 unfolding rest_at
-rest_exact = same_exact (λ bs. simp bind_assoc) (made_exact (seq_exact items_exact next_statements_exact) (λ p. Rest p.0 p.1) body_bytes BodyGoes (λ a p. refl) (λ a rest g. ends_behind a.1 rest g.0 g.1) (λ a rest p g. (comes_next a.1 rest g, goes_next a.1 rest g)) body_heads)
+rest_exact = same_exact (λ bs. simp bind_assoc)
+    (made_exact (seq_exact items_exact next_statements_exact) (λ p. Rest p.0 p.1) body_bytes BodyGoes (λ a p. refl)
+    (λ a rest g. ends_behind a.1 rest g.0 g.1) (λ a rest p g. (comes_next a.1 rest g, goes_next a.1 rest g)) body_heads)
 
 -- a line without a comment doesn't go on with #, nor with a space
-behind_rest : (c : ℕ) → starts_token c ≡ false → is_byte c 10 ≡ false → is_byte c 59 ≡ false → (is : List Item) (others : List Statement) (rest : List ℕ) → AreItems is → Ends rest → next_is (is_byte c) (body_bytes (Rest is others) ++ rest) ≡ false
+behind_rest : (c : ℕ) → starts_token c ≡ false → is_byte c 10 ≡ false → is_byte c 59 ≡ false →
+    (is : List Item) (others : List Statement) (rest : List ℕ) → AreItems is → Ends rest →
+    next_is (is_byte c) (body_bytes (Rest is others) ++ rest) ≡ false
 behind_rest c n a b is others rest h g =
-    ap (next_is (is_byte c)) (append_assoc (joined item_bytes is) (joined next_statement others) rest) ∙ none_behind c n a b is (joined next_statement others ++ rest) h (comes_next others rest g)
+    ap (next_is (is_byte c)) (append_assoc (joined item_bytes is) (joined next_statement others) rest) ∙ none_behind c n a b is
+    (joined next_statement others ++ rest) h (comes_next others rest g)
 
 pub body_exact : Exact Byte body_bytes IsBody BodyGoes body_at
 unfolding body_at
 body_exact =
-    trees_exact (either_exact remark_exact rest_exact (next_is (is_byte 35)) (next_head (is_byte 35)) (λ b rest m g. subst (λ (z : Body). next_is (is_byte 35) (body_bytes z ++ rest) ≡ true) m.2 refl) no_remark) from to
+    trees_exact (either_exact remark_exact rest_exact (next_is (is_byte 35)) (next_head (is_byte 35))
+    (λ b rest m g. subst (λ (z : Body). next_is (is_byte 35) (body_bytes z ++ rest) ≡ true) m.2 refl) no_remark) from to
   where
     no_remark : (b : Body) (rest : List ℕ) → IsRest b → BodyGoes b rest → next_is (is_byte 35) (body_bytes b ++ rest) ≡ false
     no_remark (Remark bytes) rest m g = absurd (let wrong = m.2 in cc)
@@ -113,7 +125,10 @@ line_heads (Statements s others) w more after g = g
 pub line_exact : Exact Byte line_bytes IsLine LineGoes line_at
 unfolding line_at
 line_exact =
-    trees_exact (same_exact (λ bs. simp bind_assoc) (made_exact (seq_exact spaces_exact body_exact) line line_bytes LineGoes (λ a p. spelled a.0 a.1) (λ a rest g. from a.0 a.1 rest g.1) (λ a rest p g. (no_space a.1 rest p.1 (to a.0 a.1 rest g), to a.0 a.1 rest g)) line_heads)) (λ l m. subst IsLine m.2 (fits m.0.0 m.0.1 m.1.1)) trees
+    trees_exact (same_exact (λ bs. simp bind_assoc)
+    (made_exact (seq_exact spaces_exact body_exact) line line_bytes LineGoes (λ a p. spelled a.0 a.1)
+    (λ a rest g. from a.0 a.1 rest g.1) (λ a rest p g. (no_space a.1 rest p.1 (to a.0 a.1 rest g), to a.0 a.1 rest g)) line_heads))
+    (λ l m. subst IsLine m.2 (fits m.0.0 m.0.1 m.1.1)) trees
   where
     line : ℕ × Body → Line
     line p = line_of p.0 p.1
@@ -145,7 +160,10 @@ line_exact =
 pub next_line_exact : Exact Byte next_line IsLine LineGoes next_line_at
 unfolding next_line_at
 next_line_exact =
-    trees_exact (same_exact (λ bs. simp bind_assoc) (made_exact (seq_exact (one_exact Byte (is_byte 10) 10 refl tt) line_exact) behind next_line LineGoes (λ a p. λ i. sym (is_the 10 a.0 p.0) i ∷ line_bytes a.1) (λ a rest g. g.1) (λ a rest p g. (tt, g)) line_heads)) (λ l m. subst IsLine m.2 m.1.1) (λ l h. ((10, l), (refl, h), refl))
+    trees_exact (same_exact (λ bs. simp bind_assoc)
+    (made_exact (seq_exact (one_exact Byte (is_byte 10) 10 refl tt) line_exact) behind next_line LineGoes
+    (λ a p. λ i. sym (is_the 10 a.0 p.0) i ∷ line_bytes a.1) (λ a rest g. g.1) (λ a rest p g. (tt, g)) line_heads))
+    (λ l m. subst IsLine m.2 m.1.1) (λ l h. ((10, l), (refl, h), refl))
   where
     behind : ℕ × Line → Line
     behind p = p.1
@@ -189,10 +207,19 @@ Parts = Line × (List Line × Unit {0})
 pub lines_exact : Exact Byte lines_bytes AreLines TextGoes lines_at
 unfolding lines_at
 lines_exact =
-    trees_exact (same_exact (λ bs. simp bind_assoc) (made_exact (seq_exact line_exact (seq_exact next_lines_exact (absent_exact Byte is_any))) lines lines_bytes TextGoes (λ a p. ap (λ (z : List ℕ). line_bytes a.0 ++ z) (sym (append-nil (joined next_line a.1.0)))) (λ a rest g. g.1.1) (λ a rest p g. to a.0 a.1.0 rest (nothing_left rest g)) (λ ls w more after g. g))) (λ ls m. subst AreLines m.2 (m.1.0, m.1.1.0)) (λ ls h. ((ls.0, (ls.1, tt)), (h.0, (h.1, tt)), refl))
+    trees_exact (same_exact (λ bs. simp bind_assoc)
+    (made_exact (seq_exact line_exact (seq_exact next_lines_exact (absent_exact Byte is_any))) lines lines_bytes TextGoes
+    (λ a p. ap (λ (z : List ℕ). line_bytes a.0 ++ z) (sym (append-nil (joined next_line a.1.0)))) (λ a rest g. g.1.1)
+    (λ a rest p g. to a.0 a.1.0 rest (nothing_left rest g)) (λ ls w more after g. g))) (λ ls m. subst AreLines m.2 (m.1.0, m.1.1.0))
+    (λ ls h. ((ls.0, (ls.1, tt)), (h.0, (h.1, tt)), refl))
   where
     lines : Parts → Line × List Line
     lines p = (p.0, p.1.0)
 
-    to : (l : Line) (others : List Line) (rest : List ℕ) → rest ≡ [] → LineGoes l ((joined next_line others ++ []) ++ rest) × (LinesGoes others rest × (next_is is_any rest ≡ false))
-    to l others rest is = rw is (subst (LineGoes l) (sym (append-nil (joined next_line others ++ []) ∙ append-nil (joined next_line others))) (line_ends l others), (lines_end others, refl))
+    to : (l : Line) (others : List Line) (rest : List ℕ) → rest ≡ [] → LineGoes l ((joined next_line others ++ []) ++ rest) ×
+        (LinesGoes others rest × (next_is is_any rest ≡ false))
+    to l others rest is = rw is (
+      subst (LineGoes l)
+          (sym (append-nil (joined next_line others ++ []) ∙ append-nil (joined next_line others))) (line_ends l others),
+      (lines_end others, refl),
+    )

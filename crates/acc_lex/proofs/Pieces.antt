@@ -1,5 +1,6 @@
 -- The parts of a text with their bytes: a text is its pieces, one behind the other.
-use Rattle.std.proofs.Common.{◌≡◌, ◌≢◌, ℕ, ◌+◌, Bool, true, List, [], ◌∷◌, ◌++◌, length, Option, Some, None, refl, sym, ap, ◌∙◌, arith, length-append, inl, inr}
+use Rattle.std.proofs.Common.{◌≡◌, ◌≢◌, ℕ, ◌+◌, Bool, true, List, [], ◌∷◌, ◌++◌, length, Option, Some, None, refl, sym, ap, ◌∙◌, arith}
+use Rattle.std.proofs.Common.{length-append, inl, inr}
 use Rattle.std.specs.Prelude.{◌==◌, not, map, count_by}
 use Rattle.std.proofs.lemmas.List.{append-nil, length-replicate, map-append}
 use Rattle.std.proofs.lemmas.List.Sums.{sum_by-append}
@@ -16,8 +17,11 @@ use Rattle.acc_lex.specs.declared.parts.Shape.TheVariants as shape
 use Rattle.acc_lex.specs.declared.tokens.Kind.{Kind}
 use Rattle.acc_lex.specs.ByteKinds.{is_plain}
 use Rattle.acc_lex.specs.Keywords.{sign_in}
-use Rattle.acc_lex.specs.Spellings.{Token, Letters, Digits, Mark, Item, Statement, Line, Comment, Statements, mark_bytes, token_bytes, blanks, item_bytes, statement_bytes, next_statement, line_bytes, next_line, lines_bytes, IsToken, IsItem, ItemParted, IsStatement, IsLine, AreLines}
-use Rattle.acc_lex.specs.LineTokens.{part, gap, shape_of, item_parts, statement_parts, next_statement_parts, line_parts, next_line_parts, lines_parts, parts_len, kind_of, feeds_of}
+use Rattle.acc_lex.specs.Spellings.{Token, Letters, Digits, Mark, Item, Statement, Line, Comment, Statements, mark_bytes, token_bytes}
+use Rattle.acc_lex.specs.Spellings.{blanks, item_bytes, statement_bytes, next_statement, line_bytes, next_line, lines_bytes, IsToken}
+use Rattle.acc_lex.specs.Spellings.{IsItem, ItemParted, IsStatement, IsLine, AreLines}
+use Rattle.acc_lex.specs.LineTokens.{part, gap, shape_of, item_parts, statement_parts, next_statement_parts, line_parts, next_line_parts}
+use Rattle.acc_lex.specs.LineTokens.{lines_parts, parts_len, kind_of, feeds_of}
 use Rattle.acc_lex.specs.Slices.{mark_signs, IsOf}
 use Rattle.acc_lex.proofs.LineFeeds.{Unfed, unfed_blanks, unfed_token, unfed_by, joined_append}
 
@@ -65,7 +69,8 @@ gap_bytes (b ∷ bs) = append-nil (b ∷ bs)
 both_bytes : (a b : List Piece) (v w : List ℕ) → joined bytes_of a ≡ v → joined bytes_of b ≡ w → joined bytes_of (a ++ b) ≡ v ++ w
 both_bytes a b v w h k = joined_append bytes_of a b ∙ (λ i. h i ++ k i)
 
-each_bytes : {T : Type 0} (f : T → List Piece) (g : T → List ℕ) → ((t : T) → joined bytes_of (f t) ≡ g t) → (ts : List T) → joined bytes_of (joined f ts) ≡ joined g ts
+each_bytes : {T : Type 0} (f : T → List Piece) (g : T → List ℕ) → ((t : T) → joined bytes_of (f t) ≡ g t) → (ts : List T) →
+    joined bytes_of (joined f ts) ≡ joined g ts
 each_bytes f g h [] = refl
 each_bytes f g h (t ∷ ts) = both_bytes (f t) (joined f ts) (g t) (joined g ts) (h t) (each_bytes f g h ts)
 
@@ -73,21 +78,26 @@ item_bytes_are : (i : Item) → joined bytes_of (item_pieces i) ≡ item_bytes i
 item_bytes_are i = ap (λ (z : List ℕ). token_bytes i.token ++ z) (gap_bytes (blanks i.spaces))
 
 statement_bytes_are : (s : Statement) → joined bytes_of (statement_pieces s) ≡ statement_bytes s
-statement_bytes_are s = both_bytes (gap_piece (blanks s.spaces)) (joined item_pieces s.items) (blanks s.spaces) (joined item_bytes s.items) (gap_bytes (blanks s.spaces)) (each_bytes item_pieces item_bytes item_bytes_are s.items)
+statement_bytes_are s = both_bytes (gap_piece (blanks s.spaces)) (joined item_pieces s.items) (blanks s.spaces) (joined item_bytes s.items)
+    (gap_bytes (blanks s.spaces)) (each_bytes item_pieces item_bytes item_bytes_are s.items)
 
 next_bytes_are : (s : Statement) → joined bytes_of (next_statement_pieces s) ≡ next_statement s
 next_bytes_are s = ap (λ (z : List ℕ). 59 ∷ z) (statement_bytes_are s)
 
 line_bytes_are : (l : Line) → joined bytes_of (line_pieces l) ≡ line_bytes l
-line_bytes_are (Comment n bytes) = both_bytes (gap_piece (blanks n)) (gap_piece (35 ∷ bytes)) (blanks n) (35 ∷ bytes) (gap_bytes (blanks n)) (gap_bytes (35 ∷ bytes))
-line_bytes_are (Statements s others) = both_bytes (statement_pieces s) (joined next_statement_pieces others) (statement_bytes s) (joined next_statement others) (statement_bytes_are s) (each_bytes next_statement_pieces next_statement next_bytes_are others)
+line_bytes_are (Comment n bytes) = both_bytes (gap_piece (blanks n)) (gap_piece (35 ∷ bytes)) (blanks n) (35 ∷ bytes) (gap_bytes (blanks n))
+    (gap_bytes (35 ∷ bytes))
+line_bytes_are (Statements s others) = both_bytes (statement_pieces s) (joined next_statement_pieces others) (statement_bytes s)
+    (joined next_statement others) (statement_bytes_are s) (each_bytes next_statement_pieces next_statement next_bytes_are others)
 
 next_line_bytes_are : (l : Line) → joined bytes_of (next_line_pieces l) ≡ next_line l
 next_line_bytes_are l = ap (λ (z : List ℕ). 10 ∷ z) (line_bytes_are l)
 
 pub lines_bytes_are : (ls : Line × List Line) → joined bytes_of (lines_pieces ls) ≡ lines_bytes ls
 lines_bytes_are ls =
-    both_bytes (line_pieces ls.0 ++ joined next_line_pieces ls.1) (piece shape.Last []) (lines_bytes ls) [] (both_bytes (line_pieces ls.0) (joined next_line_pieces ls.1) (line_bytes ls.0) (joined next_line ls.1) (line_bytes_are ls.0) (each_bytes next_line_pieces next_line next_line_bytes_are ls.1)) refl ∙ append-nil (lines_bytes ls)
+    both_bytes (line_pieces ls.0 ++ joined next_line_pieces ls.1) (piece shape.Last []) (lines_bytes ls) []
+    (both_bytes (line_pieces ls.0) (joined next_line_pieces ls.1) (line_bytes ls.0) (joined next_line ls.1) (line_bytes_are ls.0)
+    (each_bytes next_line_pieces next_line next_line_bytes_are ls.1)) refl ∙ append-nil (lines_bytes ls)
 
 -- ---- their lengths are the parts
 
@@ -97,7 +107,8 @@ part_of p = record { shape = p.shape; len = length p.bytes }
 map_both : (a b : List Piece) (v w : List Part) → map part_of a ≡ v → map part_of b ≡ w → map part_of (a ++ b) ≡ v ++ w
 map_both a b v w h k = map-append part_of a b ∙ (λ i. h i ++ k i)
 
-each_parts : {T : Type 0} (f : T → List Piece) (g : T → List Part) → ((t : T) → map part_of (f t) ≡ g t) → (ts : List T) → map part_of (joined f ts) ≡ joined g ts
+each_parts : {T : Type 0} (f : T → List Piece) (g : T → List Part) → ((t : T) → map part_of (f t) ≡ g t) → (ts : List T) →
+    map part_of (joined f ts) ≡ joined g ts
 each_parts f g h [] = refl
 each_parts f g h (t ∷ ts) = map_both (f t) (joined f ts) (g t) (joined g ts) (h t) (each_parts f g h ts)
 
@@ -112,24 +123,31 @@ spaces_parts : (n : ℕ) → map part_of (gap_piece (blanks n)) ≡ gap n
 spaces_parts n = gap_parts (blanks n) n (length-replicate n 32)
 
 item_parts_are : (i : Item) → map part_of (item_pieces i) ≡ item_parts i
-item_parts_are i = map_both (piece (shape_of i.token) (token_bytes i.token)) (gap_piece (blanks i.spaces)) (part (shape_of i.token) (length (token_bytes i.token))) (gap i.spaces) refl (spaces_parts i.spaces)
+item_parts_are i = map_both (piece (shape_of i.token) (token_bytes i.token)) (gap_piece (blanks i.spaces))
+    (part (shape_of i.token) (length (token_bytes i.token))) (gap i.spaces) refl (spaces_parts i.spaces)
 
 statement_parts_are : (s : Statement) → map part_of (statement_pieces s) ≡ statement_parts s
-statement_parts_are s = map_both (gap_piece (blanks s.spaces)) (joined item_pieces s.items) (gap s.spaces) (joined item_parts s.items) (spaces_parts s.spaces) (each_parts item_pieces item_parts item_parts_are s.items)
+statement_parts_are s = map_both (gap_piece (blanks s.spaces)) (joined item_pieces s.items) (gap s.spaces) (joined item_parts s.items)
+    (spaces_parts s.spaces) (each_parts item_pieces item_parts item_parts_are s.items)
 
 next_parts_are : (s : Statement) → map part_of (next_statement_pieces s) ≡ next_statement_parts s
 next_parts_are s = ap (λ (z : List Part). part shape.Stop 1 ++ z) (statement_parts_are s)
 
 line_parts_are : (l : Line) → map part_of (line_pieces l) ≡ line_parts l
-line_parts_are (Comment n bytes) = map_both (gap_piece (blanks n)) (gap_piece (35 ∷ bytes)) (gap n) (gap (1 + length bytes)) (spaces_parts n) (gap_parts (35 ∷ bytes) (1 + length bytes) (omega arith))
-line_parts_are (Statements s others) = map_both (statement_pieces s) (joined next_statement_pieces others) (statement_parts s) (joined next_statement_parts others) (statement_parts_are s) (each_parts next_statement_pieces next_statement_parts next_parts_are others)
+line_parts_are (Comment n bytes) = map_both (gap_piece (blanks n)) (gap_piece (35 ∷ bytes)) (gap n) (gap (1 + length bytes))
+    (spaces_parts n) (gap_parts (35 ∷ bytes) (1 + length bytes) (omega arith))
+line_parts_are (Statements s others) = map_both (statement_pieces s) (joined next_statement_pieces others) (statement_parts s)
+    (joined next_statement_parts others) (statement_parts_are s)
+    (each_parts next_statement_pieces next_statement_parts next_parts_are others)
 
 next_line_parts_are : (l : Line) → map part_of (next_line_pieces l) ≡ next_line_parts l
 next_line_parts_are l = ap (λ (z : List Part). part shape.Feed 1 ++ z) (line_parts_are l)
 
 pub lines_parts_are : (ls : Line × List Line) → map part_of (lines_pieces ls) ≡ lines_parts ls
 lines_parts_are ls =
-    map_both (line_pieces ls.0 ++ joined next_line_pieces ls.1) (piece shape.Last []) (line_parts ls.0 ++ joined next_line_parts ls.1) (part shape.Last 0) (map_both (line_pieces ls.0) (joined next_line_pieces ls.1) (line_parts ls.0) (joined next_line_parts ls.1) (line_parts_are ls.0) (each_parts next_line_pieces next_line_parts next_line_parts_are ls.1)) refl
+    map_both (line_pieces ls.0 ++ joined next_line_pieces ls.1) (piece shape.Last []) (line_parts ls.0 ++ joined next_line_parts ls.1)
+    (part shape.Last 0) (map_both (line_pieces ls.0) (joined next_line_pieces ls.1) (line_parts ls.0) (joined next_line_parts ls.1)
+    (line_parts_are ls.0) (each_parts next_line_pieces next_line_parts next_line_parts_are ls.1)) refl
 
 parts_long : (ps : List Piece) → parts_len (map part_of ps) ≡ length (joined bytes_of ps)
 parts_long [] = refl
@@ -190,12 +208,16 @@ token_is (Mark s) h = (((s, mark_found s h), no_feeds (mark_bytes s) (unfed_toke
 
 items_are : (is : List Item) → IsRow item_bytes IsItem ItemParted is → AllIn IsPiece (joined item_pieces is)
 items_are [] h = tt
-items_are (i ∷ is) h = AllIn-append IsPiece (item_pieces i) (joined item_pieces is) (AllIn-append IsPiece (piece (shape_of i.token) (token_bytes i.token)) (gap_piece (blanks i.spaces)) (token_is i.token h.0) (gap_is (blanks i.spaces) (unfed_blanks i.spaces))) (items_are is h.2)
+items_are (i ∷ is) h = AllIn-append IsPiece (item_pieces i) (joined item_pieces is)
+    (AllIn-append IsPiece (piece (shape_of i.token) (token_bytes i.token)) (gap_piece (blanks i.spaces)) (token_is i.token h.0)
+    (gap_is (blanks i.spaces) (unfed_blanks i.spaces))) (items_are is h.2)
 
 statement_is : (s : Statement) → IsStatement s → AllIn IsPiece (statement_pieces s)
-statement_is s h = AllIn-append IsPiece (gap_piece (blanks s.spaces)) (joined item_pieces s.items) (gap_is (blanks s.spaces) (unfed_blanks s.spaces)) (items_are s.items h)
+statement_is s h = AllIn-append IsPiece (gap_piece (blanks s.spaces)) (joined item_pieces s.items)
+    (gap_is (blanks s.spaces) (unfed_blanks s.spaces)) (items_are s.items h)
 
-each_is : {T : Type 0} (f : T → List Piece) (P : T → Type 0) → ((t : T) → P t → AllIn IsPiece (f t)) → (ts : List T) → AllIn P ts → AllIn IsPiece (joined f ts)
+each_is : {T : Type 0} (f : T → List Piece) (P : T → Type 0) → ((t : T) → P t → AllIn IsPiece (f t)) → (ts : List T) → AllIn P ts →
+    AllIn IsPiece (joined f ts)
 each_is f P h [] k = tt
 each_is f P h (t ∷ ts) k = AllIn-append IsPiece (f t) (joined f ts) (h t k.0) (each_is f P h ts k.1)
 
@@ -203,11 +225,15 @@ next_is_piece : (s : Statement) → IsStatement s → AllIn IsPiece (next_statem
 next_is_piece s h = ((inl refl, refl), statement_is s h)
 
 line_is : (l : Line) → IsLine l → AllIn IsPiece (line_pieces l)
-line_is (Comment n bytes) h = AllIn-append IsPiece (gap_piece (blanks n)) (gap_piece (35 ∷ bytes)) (gap_is (blanks n) (unfed_blanks n)) (gap_is (35 ∷ bytes) (refl, unfed_by is_plain refl bytes h))
-line_is (Statements s others) h = AllIn-append IsPiece (statement_pieces s) (joined next_statement_pieces others) (statement_is s h.0) (each_is next_statement_pieces IsStatement next_is_piece others h.1)
+line_is (Comment n bytes) h = AllIn-append IsPiece (gap_piece (blanks n)) (gap_piece (35 ∷ bytes)) (gap_is (blanks n) (unfed_blanks n))
+    (gap_is (35 ∷ bytes) (refl, unfed_by is_plain refl bytes h))
+line_is (Statements s others) h = AllIn-append IsPiece (statement_pieces s) (joined next_statement_pieces others) (statement_is s h.0)
+    (each_is next_statement_pieces IsStatement next_is_piece others h.1)
 
 next_line_is : (l : Line) → IsLine l → AllIn IsPiece (next_line_pieces l)
 next_line_is l h = ((inr (inl refl), refl), line_is l h)
 
 pub lines_are : (ls : Line × List Line) → AreLines ls → AllIn IsPiece (lines_pieces ls)
-lines_are ls h = AllIn-append IsPiece (line_pieces ls.0 ++ joined next_line_pieces ls.1) (piece shape.Last []) (AllIn-append IsPiece (line_pieces ls.0) (joined next_line_pieces ls.1) (line_is ls.0 h.0) (each_is next_line_pieces IsLine next_line_is ls.1 h.1)) ((inr (inr refl), refl), tt)
+lines_are ls h = AllIn-append IsPiece (line_pieces ls.0 ++ joined next_line_pieces ls.1) (piece shape.Last [])
+    (AllIn-append IsPiece (line_pieces ls.0) (joined next_line_pieces ls.1) (line_is ls.0 h.0)
+    (each_is next_line_pieces IsLine next_line_is ls.1 h.1)) ((inr (inr refl), refl), tt)

@@ -11,7 +11,8 @@ use Rattle.acc_lex.specs.declared.words.Sign.TheVariants as sign
 use Rattle.acc_lex.specs.declared.words.Word.{Word}
 use Rattle.acc_lex.specs.declared.words.Word.TheVariants as word
 use Rattle.acc_lex.specs.Keywords.{keywords, sign_in, keyword_of}
-use Rattle.acc_lex.specs.Spellings.{Token, Letters, Digits, Mark, Item, Line, Comment, Statements, mark_bytes, item_bytes, IsToken, IsItem, ItemParted, IsStatement, IsLine}
+use Rattle.acc_lex.specs.Spellings.{Token, Letters, Digits, Mark, Item, Line, Comment, Statements, mark_bytes, item_bytes, IsToken, IsItem}
+use Rattle.acc_lex.specs.Spellings.{ItemParted, IsStatement, IsLine}
 use Rattle.acc_lex.specs.LineWords.{name_or_sign, token_word, item_word, ended, statement_words, line_words}
 use Rattle.acc_lex.specs.Texts.{IsLexed}
 use Rattle.acc_lex.proofs.ByteFacts.{and_both}
@@ -35,7 +36,8 @@ InStatements fresh (w ∷ ws) = MatchBool (is_end w) ((fresh ≡ false) × InSta
 abbrev StepOf : Bool → List Word → Bool → Type 0
 StepOf fresh ws b = MatchBool b ((fresh ≡ false) × InStatements true ws) (InStatements false ws)
 
-pub at_end : (fresh : Bool) (w : Word) (ws : List Word) → is_end w ≡ true → InStatements fresh (w ∷ ws) → (fresh ≡ false) × InStatements true ws
+pub at_end : (fresh : Bool) (w : Word) (ws : List Word) → is_end w ≡ true → InStatements fresh (w ∷ ws) → (fresh ≡ false) ×
+    InStatements true ws
 at_end fresh w ws e h = subst (StepOf fresh ws) e h
 
 pub at_other : (fresh : Bool) (w : Word) (ws : List Word) → is_end w ≡ false → InStatements fresh (w ∷ ws) → InStatements false ws
@@ -91,9 +93,11 @@ items_in (i ∷ is) h = subst (StepOf false (map item_word is ++ word.Sign sign.
 
 statement_in : (is : List Item) → IsRow item_bytes IsItem ItemParted is → InStatements true (ended (map item_word is))
 statement_in [] h = refl
-statement_in (i ∷ is) h = subst (StepOf true (map item_word is ++ word.Sign sign.End ∷ [])) (sym (token_no_end i.token h.0)) (items_in is h.2)
+statement_in (i ∷ is) h = subst (StepOf true (map item_word is ++ word.Sign sign.End ∷ [])) (sym (token_no_end i.token h.0))
+    (items_in is h.2)
 
-joined_in : {T : Type 0} (words : T → List Word) (P : T → Type 0) → ((t : T) → P t → InStatements true (words t)) → (ts : List T) → AllIn P ts → InStatements true (joined words ts)
+joined_in : {T : Type 0} (words : T → List Word) (P : T → Type 0) → ((t : T) → P t → InStatements true (words t)) → (ts : List T) →
+    AllIn P ts → InStatements true (joined words ts)
 joined_in words P each [] h = refl
 joined_in words P each (t ∷ ts) h = in_both true (words t) (joined words ts) (each t h.0) (joined_in words P each ts h.1)
 

@@ -1,6 +1,7 @@
 -- A text is read from left to right, up to the first byte with which no text goes on. Only the code speaks of this; Spellings
 -- says what a text is.
-use Rattle.std.specs.Prelude.{ℕ, ◌+◌, Bool, true, false, ◌==◌, not, ◌||◌, List, [], ◌∷◌, ◌++◌, length, Option, Some, None, is_some, unwrap_or, Ok, if◌then◌else◌}
+use Rattle.std.specs.Prelude.{ℕ, ◌+◌, Bool, true, false, ◌==◌, not, ◌||◌, List, [], ◌∷◌, ◌++◌, length, Option, Some, None, is_some}
+use Rattle.std.specs.Prelude.{unwrap_or, Ok, if◌then◌else◌}
 use Rattle.acc_grammar.specs.Readers.{OutcomeOf, ◌>>=◌, joined, many}
 use Rattle.acc_grammar.specs.Runs.{next_is, one_at, run_at, front_at, absent_at}
 use Rattle.acc_lex.specs.declared.words.Sign.{Sign}

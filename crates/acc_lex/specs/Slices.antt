@@ -1,5 +1,6 @@
 -- What the slices of tokens are, and the words that they mean.
-use Rattle.std.specs.Prelude.{◌≡◌, ℕ, ◌+◌, ◌≤◌, ◌==◌, Bool, true, false, List, [], ◌∷◌, ◌++◌, length, take, count_by, slice_range, Option, codes, unwrap_or, ◌⊎◌}
+use Rattle.std.specs.Prelude.{◌≡◌, ℕ, ◌+◌, ◌≤◌, ◌==◌, Bool, true, false, List, [], ◌∷◌, ◌++◌, length, take, count_by, slice_range, Option}
+use Rattle.std.specs.Prelude.{codes, unwrap_or, ◌⊎◌}
 use Rattle.acc_grammar.specs.Runs.{EachPasses, IsRun}
 use Rattle.acc_lex.specs.declared.words.Sign.{Sign}
 use Rattle.acc_lex.specs.declared.words.Sign.TheVariants as sign

@@ -6,8 +6,11 @@ ghost use Rattle.acc_grammar.specs.Answers.{Gives, GivesAs, Adds};
 ghost use Rattle.acc_lex.specs.ByteKinds.{is_byte, is_plain, is_letter, is_digit, is_leading, is_inner};
 ghost use Rattle.acc_lex.specs.declared.words.Sign.{Sign as SignValue};
 ghost use Rattle.acc_lex.specs.declared.tokens.Token.{Token as TokenValue};
-ghost use Rattle.acc_lex.specs.LineTokens.{part, gap, shape_of, item_parts, statement_parts, next_statement_parts, line_parts, next_line_parts, lines_parts};
-ghost use Rattle.acc_lex.specs.Readings.{spaces_at, letters_at, zero_at, whole_at, pair_at, arrow_at, equal_at, mark_at, token_at, is_inside, item_at, items_at, statement_at, next_statement_at, next_statements_at, body_parts, remark_at, rest_at, body_at, line_at, next_line_at, next_lines_at, is_any, lines_at};
+ghost use Rattle.acc_lex.specs.LineTokens.{part, gap, shape_of, item_parts, statement_parts, next_statement_parts, line_parts};
+ghost use Rattle.acc_lex.specs.LineTokens.{next_line_parts, lines_parts};
+ghost use Rattle.acc_lex.specs.Readings.{spaces_at, letters_at, zero_at, whole_at, pair_at, arrow_at, equal_at, mark_at, token_at};
+ghost use Rattle.acc_lex.specs.Readings.{is_inside, item_at, items_at, statement_at, next_statement_at, next_statements_at, body_parts};
+ghost use Rattle.acc_lex.specs.Readings.{remark_at, rest_at, body_at, line_at, next_line_at, next_lines_at, is_any, lines_at};
 ghost use Rattle.acc_lex.specs.Slices.{line_number, IsSlice, InOrder, words_of};
 ghost use Rattle.acc_lex.specs.Texts.{IsLexed, HasTokens, TokenAnswers};
 

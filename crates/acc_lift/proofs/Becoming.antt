@@ -1,5 +1,6 @@
 -- A state in which one transaction has become another is steady, where the new one is kept and the rows are.
-use Rattle.std.proofs.Common.{◌≡◌, ℕ, ◌+◌, ◌-◌, ◌*◌, ◌<◌, ◌≤◌, ◌^◌, ◌⊎◌, inl, inr, List, [], ◌∷◌, ◌++◌, length, Bool, true, false, sym, subst, refl, ap, ◌∙◌, arith, Some, pos, length-append, length-set}
+use Rattle.std.proofs.Common.{◌≡◌, ℕ, ◌+◌, ◌-◌, ◌*◌, ◌<◌, ◌≤◌, ◌^◌, ◌⊎◌, inl, inr, List, [], ◌∷◌, ◌++◌, length, Bool, true, false, sym}
+use Rattle.std.proofs.Common.{subst, refl, ap, ◌∙◌, arith, Some, pos, length-append, length-set}
 use Rattle.std.specs.Prelude.{All, Contains, ◌≢◌, ◌==◌, IsTrue, slice_get, option_and_then}
 use Rattle.std.specs.List.{AllByRecursion}
 use Rattle.std.proofs.lemmas.Option.{same_Some}

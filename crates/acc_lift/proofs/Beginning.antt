@@ -1,5 +1,6 @@
 -- A transaction that begins keeps a state steady.
-use Rattle.std.proofs.Common.{◌≡◌, ℕ, ◌+◌, ◌-◌, ◌*◌, ◌<◌, ◌≤◌, ◌^◌, ◌⊎◌, inl, inr, [], ◌∷◌, ◌++◌, length, replicate, true, sym, subst, refl, ap, ◌∙◌, arith, Option, Some, None, pos, length-append}
+use Rattle.std.proofs.Common.{◌≡◌, ℕ, ◌+◌, ◌-◌, ◌*◌, ◌<◌, ◌≤◌, ◌^◌, ◌⊎◌, inl, inr, [], ◌∷◌, ◌++◌, length, replicate, true, sym, subst, refl}
+use Rattle.std.proofs.Common.{ap, ◌∙◌, arith, Option, Some, None, pos, length-append}
 use Rattle.std.proofs.lemmas.List.{length-replicate}
 use Rattle.std.specs.Prelude.{◌≢◌, ◌&&◌, ◌==◌, nat_le, IsTrue, slice_get, sum_by}
 use Rattle.std.specs.List.{list_all}
@@ -19,7 +20,8 @@ use Rattle.acc_base.specs.declared.machines.Transaction.{Transaction}
 use Rattle.acc_base.specs.declared.machines.Transaction.TheVariants.{Forward, Undoing, Ended}
 use Rattle.acc_base.specs.Numbers.{IsSmall, is_small}
 use Rattle.acc_base.specs.Assertions.{Holds}
-use Rattle.acc_base.specs.Machine.{World, transaction_at, frame_in, unfinished, next_number, limit_of, call_fits, ask_fits, locals_in, begun, with_begun}
+use Rattle.acc_base.specs.Machine.{World, transaction_at, frame_in, unfinished, next_number, limit_of, call_fits, ask_fits, locals_in}
+use Rattle.acc_base.specs.Machine.{begun, with_begun}
 use Rattle.acc_base.proofs.Smalls.{all_small}
 use Rattle.acc_base.specs.Fits.{IsFrame}
 use Rattle.acc_base.specs.Entries.{at_of}

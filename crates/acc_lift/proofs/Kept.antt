@@ -1,5 +1,6 @@
 -- The rows that a step leaves: their shapes, their keys, how far from 0 their values lie, and whose the private ones are.
-use Rattle.std.proofs.Common.{◌≡◌, ℕ, zero, suc, ◌+◌, ◌*◌, ◌≤◌, ◌^◌, ◌⊎◌, inl, inr, List, [], ◌∷◌, Bool, true, false, cond, sym, subst, refl, ap, ◌∙◌, arith, Some, ℤ, pos, ◌+ℤ◌, get_or, set, length-set}
+use Rattle.std.proofs.Common.{◌≡◌, ℕ, zero, suc, ◌+◌, ◌*◌, ◌≤◌, ◌^◌, ◌⊎◌, inl, inr, List, [], ◌∷◌, Bool, true, false, cond, sym, subst}
+use Rattle.std.proofs.Common.{refl, ap, ◌∙◌, arith, Some, ℤ, pos, ◌+ℤ◌, get_or, set, length-set}
 use Rattle.std.proofs.lemmas.List.{length-map}
 use Rattle.std.specs.Prelude.{All, ◌/◌, ◌&&◌, ◌||◌, ◌==◌, not, find, count_by, slice_get, unsigned_abs}
 use Rattle.std.specs.List.{list_all, list_any, AllByRecursion}

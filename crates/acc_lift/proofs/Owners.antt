@@ -1,5 +1,6 @@
 -- Whose the private rows are: a key that ends in the own number, tables that a type puts into, and rows after actions.
-use Rattle.std.proofs.Common.{◌≡◌, ℕ, zero, suc, ◌-◌, List, [], ◌∷◌, length, Bool, true, false, sym, subst, refl, ap, ◌∙◌, arith, Option, Some, None, ℤ, pos, ◌+ℤ◌, ◌*ℤ◌}
+use Rattle.std.proofs.Common.{◌≡◌, ℕ, zero, suc, ◌-◌, List, [], ◌∷◌, length, Bool, true, false, sym, subst, refl, ap, ◌∙◌, arith, Option}
+use Rattle.std.proofs.Common.{Some, None, ℤ, pos, ◌+ℤ◌, ◌*ℤ◌}
 use Rattle.std.specs.Prelude.{All, ◌||◌, ⊤, IsTrue, slice_get, option_and_then}
 use Rattle.std.specs.List.{list_all, list_any, AllByRecursion}
 use Rattle.std.proofs.lemmas.Int.{ints}

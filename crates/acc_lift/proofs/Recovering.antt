@@ -1,5 +1,6 @@
 -- From each steady state crashes and undo turns lead to an idle one, and there are at most as many of them as the rests add up to.
-use Rattle.std.proofs.Common.{◌≡◌, ℕ, zero, suc, ◌+◌, ◌-◌, ◌≤◌, ◌⊎◌, inl, inr, List, [], ◌∷◌, length, Bool, true, false, sym, subst, refl, ap, ◌∙◌, arith, Option, Some, None, set}
+use Rattle.std.proofs.Common.{◌≡◌, ℕ, zero, suc, ◌+◌, ◌-◌, ◌≤◌, ◌⊎◌, inl, inr, List, [], ◌∷◌, length, Bool, true, false, sym, subst, refl}
+use Rattle.std.proofs.Common.{ap, ◌∙◌, arith, Option, Some, None, set}
 use Rattle.std.specs.Prelude.{slice_get, sum_by}
 use Rattle.std.specs.List.{filter_map, cons_option}
 use Rattle.std.proofs.lemmas.Option.{same_Some, none-some}
@@ -14,7 +15,8 @@ use Rattle.acc_base.specs.declared.machines.Event.TheVariants.{Abort, Undo}
 use Rattle.acc_base.specs.declared.machines.Outcome.TheVariants.{Compensated}
 use Rattle.acc_base.specs.declared.machines.Transaction.{Transaction}
 use Rattle.acc_base.specs.declared.machines.Transaction.TheVariants.{Forward, Undoing, Ended}
-use Rattle.acc_base.specs.Machine.{World, transaction_at, frame_in, unfinished, limit_of, turned, undone, changed, became, becomes, after_event}
+use Rattle.acc_base.specs.Machine.{World, transaction_at, frame_in, unfinished, limit_of, turned, undone, changed, became, becomes}
+use Rattle.acc_base.specs.Machine.{after_event}
 use Rattle.acc_base.specs.Soundness.{variant_of, IsSound}
 use Rattle.acc_lift.specs.RunRules.{HasRunRules}
 use Rattle.acc_lift.specs.Laws.{IsBackward, crashed, undone_by}

@@ -1,5 +1,6 @@
 -- What a step that goes on or ends leaves, whichever side it is on.
-use Rattle.std.proofs.Common.{◌≡◌, ℕ, ◌+◌, ◌*◌, ◌<◌, ◌≤◌, ◌^◌, ◌⊎◌, inl, inr, List, [], length, sym, subst, refl, ap, ◌∙◌, arith, Option, Some, None, pos}
+use Rattle.std.proofs.Common.{◌≡◌, ℕ, ◌+◌, ◌*◌, ◌<◌, ◌≤◌, ◌^◌, ◌⊎◌, inl, inr, List, [], length, sym, subst, refl, ap, ◌∙◌, arith, Option}
+use Rattle.std.proofs.Common.{Some, None, pos}
 use Rattle.std.specs.Prelude.{All, Contains, ◌≢◌, IsTrue, slice_get, slice_index_or}
 use Rattle.std.specs.List.{AllByRecursion}
 use Rattle.std.proofs.lemmas.Option.{same_Some}

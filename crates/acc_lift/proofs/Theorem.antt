@@ -1,5 +1,6 @@
 -- The invariant: each lawful event takes a good state to a good one; what follows for runs and idle states.
-use Rattle.std.proofs.Common.{◌≡◌, ℕ, ◌-◌, ◌*◌, ◌^◌, List, [], ◌∷◌, ◌++◌, Bool, true, false, sym, subst, refl, ap, ◌∙◌, if◌then◌else◌, arith, Option, Some, None}
+use Rattle.std.proofs.Common.{◌≡◌, ℕ, ◌-◌, ◌*◌, ◌^◌, List, [], ◌∷◌, ◌++◌, Bool, true, false, sym, subst, refl, ap, ◌∙◌, if◌then◌else◌}
+use Rattle.std.proofs.Common.{arith, Option, Some, None}
 use Rattle.std.specs.Prelude.{IsFalse, IsTrue, slice_get, option_and_then}
 use Rattle.std.proofs.lemmas.Option.{same_Some, none-some, cond_some}
 use Rattle.std.proofs.lemmas.List.Elements.{All-nil, All-weaker}
@@ -19,7 +20,9 @@ use Rattle.std.specs.List.Sorted.{IsStrictlySortedBy}
 use Rattle.acc_base.specs.Numbers.{IsSmall}
 use Rattle.acc_base.specs.Reads.{Reading}
 use Rattle.acc_base.specs.Effects.{Effect, Goes, Refuses, OutOfRange, effect_of}
-use Rattle.acc_base.specs.Machine.{World, start, transaction_at, unfinished, stop_of, may_turn, call_fits, moved, committed, forward_to, back_to, with_rows, forward_by, back_by, step_by, stepped, turned, undone, became, becomes, with_begun, changed, after_event, after_events, world}
+use Rattle.acc_base.specs.Machine.{World, start, transaction_at, unfinished, stop_of, may_turn, call_fits, moved, committed, forward_to}
+use Rattle.acc_base.specs.Machine.{back_to, with_rows, forward_by, back_by, step_by, stepped, turned, undone, became, becomes, with_begun}
+use Rattle.acc_base.specs.Machine.{changed, after_event, after_events, world}
 use Rattle.acc_base.proofs.RowOrder.{order_to}
 use Rattle.acc_base.specs.Shapes.{RowFits}
 use Rattle.acc_base.specs.Fits.{RowsFit}

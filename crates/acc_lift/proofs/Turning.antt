@@ -1,5 +1,6 @@
 -- A forward step, an undo step and a turn keep a state steady.
-use Rattle.std.proofs.Common.{◌≡◌, ℕ, ◌+◌, ◌*◌, ◌<◌, ◌^◌, ◌⊎◌, inl, inr, List, [], ◌∷◌, length, Bool, true, false, sym, subst, refl, ap, ◌∙◌, if◌then◌else◌, arith, Option, Some, None, pos, ◌≤ℤ◌, ◌<ℤ◌, ℤ, get_or, set}
+use Rattle.std.proofs.Common.{◌≡◌, ℕ, ◌+◌, ◌*◌, ◌<◌, ◌^◌, ◌⊎◌, inl, inr, List, [], ◌∷◌, length, Bool, true, false, sym, subst, refl, ap}
+use Rattle.std.proofs.Common.{◌∙◌, if◌then◌else◌, arith, Option, Some, None, pos, ◌≤ℤ◌, ◌<ℤ◌, ℤ, get_or, set}
 use Rattle.std.specs.Prelude.{All, ◌≢◌, IsTrue, nat_lt, slice_get}
 use Rattle.std.specs.List.{list_all}
 use Rattle.std.proofs.lemmas.Option.{same_Some, none-some, cond_some}

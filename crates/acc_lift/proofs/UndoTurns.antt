@@ -18,7 +18,8 @@ use Rattle.acc_base.specs.declared.machines.Transaction.TheVariants.{Undoing, En
 use Rattle.acc_base.specs.Linear.{variables}
 use Rattle.acc_base.specs.Reads.{Reading, unread, after_reads}
 use Rattle.acc_base.specs.Actions.{after_actions}
-use Rattle.acc_base.specs.Effects.{step_of, Effect, Goes, Refuses, OutOfRange, taken_path, leads, path_end, path_effect, choice, reads_end, step_effect, effect_of}
+use Rattle.acc_base.specs.Effects.{step_of, Effect, Goes, Refuses, OutOfRange, taken_path, leads, path_end, path_effect, choice, reads_end}
+use Rattle.acc_base.specs.Effects.{step_effect, effect_of}
 use Rattle.acc_base.specs.Machine.{World, transaction_at, became, becomes, moved, back_to, back_by, with_rows, undone, after_event}
 use Rattle.acc_base.specs.Runnable.{CanEnd}
 use Rattle.acc_base.proofs.EffectParts.{parts}

@@ -1,5 +1,6 @@
 -- Compensation ends: whatever the others do, a lawful run has at most one undo turn more of a transaction than its variant.
-use Rattle.std.proofs.Common.{◌≡◌, ℕ, ◌+◌, ◌≤◌, ◌⊎◌, inl, inr, List, [], ◌∷◌, Bool, true, false, cond, sym, subst, refl, ap, ◌∙◌, arith, Option, Some, None}
+use Rattle.std.proofs.Common.{◌≡◌, ℕ, ◌+◌, ◌≤◌, ◌⊎◌, inl, inr, List, [], ◌∷◌, Bool, true, false, cond, sym, subst, refl, ap, ◌∙◌, arith}
+use Rattle.std.proofs.Common.{Option, Some, None}
 use Rattle.std.specs.Prelude.{◌≢◌, ◌==◌, slice_get, unsigned_abs, count_by}
 use Rattle.std.proofs.lemmas.Int.{ints}
 use Rattle.std.proofs.lemmas.Option.{same_Some, none-some, cond_some}
@@ -17,7 +18,8 @@ use Rattle.acc_base.specs.declared.machines.Outcome.TheVariants.{Compensated}
 use Rattle.acc_base.specs.declared.machines.Reply.{Reply}
 use Rattle.acc_base.specs.declared.machines.Transaction.{Transaction}
 use Rattle.acc_base.specs.declared.machines.Transaction.TheVariants.{Forward, Undoing, Ended}
-use Rattle.acc_base.specs.Machine.{World, transaction_at, call_fits, begun, next_number, with_begun, became, becomes, stepped, turned, undone, changed, after_event}
+use Rattle.acc_base.specs.Machine.{World, transaction_at, call_fits, begun, next_number, with_begun, became, becomes, stepped, turned}
+use Rattle.acc_base.specs.Machine.{undone, changed, after_event}
 use Rattle.acc_base.specs.Soundness.{variant_of, IsSound}
 use Rattle.acc_lift.specs.RunRules.{HasRunRules}
 use Rattle.acc_base.specs.Lawful.{LeadLawfully}

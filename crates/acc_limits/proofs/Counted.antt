@@ -7,7 +7,8 @@ use Rattle.acc_limits.specs.Marks.{Mark, past, counted_from, counted}
 use Rattle.acc_limits.specs.Walks.{after}
 
 counted_from_push : {T : Type 0} (i n : ℕ) (limit : Limit) (most : ℕ) (marks : T → List Mark) (xs : List T) (x : T) →
-    n ≡ i + length xs → counted_from i limit most marks (xs ++ x ∷ []) ≡ counted_from i limit most marks xs ++ (past limit (n == most) ++ marks x)
+    n ≡ i + length xs → counted_from i limit most marks (xs ++ x ∷ []) ≡ counted_from i limit most marks xs ++
+    (past limit (n == most) ++ marks x)
 counted_from_push i n limit most marks [] x e =
     let here : n ≡ i = omega arith in rw here (grind (arith, common_steps))
 counted_from_push i n limit most marks (y ∷ ys) x e =
@@ -19,8 +20,10 @@ pub counted_push : {T : Type 0} (limit : Limit) (most : ℕ) (marks : T → List
 counted_push limit most marks xs x n e = counted_from_push 0 n limit most marks xs x (omega arith)
 
 -- the walk that has met one more item of a list
-pub counted_next : {T : Type 0} (limit : Limit) (most : ℕ) (marks : T → List Mark) (xs : List T) (i : ℕ) (x : T) (start before within behind : Walk) →
-    before ≡ after start (counted limit most marks (take i xs)) → within ≡ after before (past limit (i == most)) → behind ≡ after within (marks x) →
+pub counted_next : {T : Type 0} (limit : Limit) (most : ℕ) (marks : T → List Mark) (xs : List T) (i : ℕ) (x : T)
+    (start before within behind : Walk) →
+    before ≡ after start (counted limit most marks (take i xs)) → within ≡ after before (past limit (i == most)) →
+    behind ≡ after within (marks x) →
     i < length xs → x ≡ get_or xs i x → behind ≡ after start (counted limit most marks (take (i + 1) xs))
 counted_next limit most marks xs i x start before within behind e f g l h =
     let more = counted_push limit most marks (take i xs) x i (grind (arith, common_steps)) in

@@ -1,5 +1,6 @@
 -- Each fault of a design stands at one of its statements, since each part ends with a statement's end.
-use Rattle.std.proofs.Common.{◌≡◌, ℕ, ◌+◌, ◌<◌, ◌≤◌, ◌==◌, List, [], ◌∷◌, ◌++◌, All, refl, sym, ap, subst, ◌∙◌, arith, append_assoc, append-nil, length, nat_lt, ◌||◌}
+use Rattle.std.proofs.Common.{◌≡◌, ℕ, ◌+◌, ◌<◌, ◌≤◌, ◌==◌, List, [], ◌∷◌, ◌++◌, All, refl, sym, ap, subst, ◌∙◌, arith, append_assoc}
+use Rattle.std.proofs.Common.{append-nil, length, nat_lt, ◌||◌}
 use Rattle.std.specs.List.{flat_map}
 use Rattle.std.proofs.lemmas.List.Elements.{All-nil, All-cons, All-append, All-weaker}
 use Rattle.acc_syntax.specs.declared.trees.ClauseTree.{ClauseTree}
@@ -15,7 +16,8 @@ use Rattle.acc_limits.specs.declared.limits.Limit.{Limit}
 use Rattle.acc_limits.specs.declared.limits.Limit.TheVariants as limit
 use Rattle.acc_limits.specs.Marks.{Mark, Past, End, ending, past, counted_from, counted}
 use Rattle.acc_limits.specs.Words.{name_marks, number_marks, clause_marks, point_name_marks, pairs_marks}
-use Rattle.acc_limits.specs.Statements.{table_marks, clause_statement_marks, target_marks, path_marks, step_marks, point_marks, head_marks, returns_marks, locals_marks, type_marks, entry_marks, hint_marks, design_marks}
+use Rattle.acc_limits.specs.Statements.{table_marks, clause_statement_marks, target_marks, path_marks, step_marks, point_marks, head_marks}
+use Rattle.acc_limits.specs.Statements.{returns_marks, locals_marks, type_marks, entry_marks, hint_marks, design_marks}
 use Rattle.acc_statements.specs.Counts.{statements_of}
 use Rattle.acc_limits.specs.Faults.{placed, limit_faults}
 use Rattle.acc_limits.proofs.WordEndings.{endings, endings-append}
@@ -79,7 +81,11 @@ pub last_end : EndsLast ending
 last_end = record { front = []; same = refl }
 
 pub last_behind : (xs ys : List Mark) → EndsLast ys → EndsLast (xs ++ ys)
-last_behind xs ys h = record { front = xs ++ h.front; same = ap (λ (zs : List Mark). xs ++ zs) h.same ∙ sym (append_assoc xs h.front ending) }
+last_behind xs ys h = record {
+  front = xs ++ h.front;
+  same =
+      ap (λ (zs : List Mark). xs ++ zs) h.same ∙ sym (append_assoc xs h.front ending);
+}
 
 pub last_counted : {T : Type 0} (i : ℕ) (limit : Limit) (most : ℕ) (marks : T → List Mark) (ys : List Mark) (xs : List T) →
     ((x : T) → EndsLast (marks x)) → EndsLast ys → EndsLast (ys ++ counted_from i limit most marks xs)
@@ -87,8 +93,10 @@ last_counted i limit most marks ys [] f h = subst EndsLast (sym (append-nil ys))
 last_counted i limit most marks ys (x ∷ xs) f h =
     let passed = past limit (i == most) in
     let rest = counted_from (i + 1) limit most marks xs in
-    let same : ((ys ++ passed) ++ marks x) ++ rest ≡ ys ++ (passed ++ (marks x ++ rest)) = append_assoc (ys ++ passed) (marks x) rest ∙ append_assoc ys passed (marks x ++ rest) in
-    subst EndsLast same (last_counted (i + 1) limit most marks ((ys ++ passed) ++ marks x) xs f (last_behind (ys ++ passed) (marks x) (f x)))
+    let same : ((ys ++ passed) ++ marks x) ++ rest ≡ ys ++ (passed ++ (marks x ++ rest)) =
+    append_assoc (ys ++ passed) (marks x) rest ∙ append_assoc ys passed (marks x ++ rest) in
+    subst EndsLast same (last_counted (i + 1) limit most marks ((ys ++ passed) ++ marks x) xs f
+    (last_behind (ys ++ passed) (marks x) (f x)))
 
 pub ended_counted : {T : Type 0} (i : ℕ) (limit : Limit) (most : ℕ) (marks : T → List Mark) (xs : List T) →
     ((x : T) → EndsLast (marks x)) → AreEnded (counted_from i limit most marks xs)
@@ -97,7 +105,8 @@ ended_counted i limit most marks (x ∷ xs) f =
     let passed = past limit (i == most) in
     let rest = counted_from (i + 1) limit most marks xs in
     let here : AreEnded (passed ++ marks x) = ended_last (passed ++ marks x) (last_behind passed (marks x) (f x)) in
-    subst AreEnded (append_assoc passed (marks x) rest) (ended_append (passed ++ marks x) rest here (ended_counted (i + 1) limit most marks xs f))
+    subst AreEnded (append_assoc passed (marks x) rest)
+    (ended_append (passed ++ marks x) rest here (ended_counted (i + 1) limit most marks xs f))
 
 -- ---- the parts of a design
 
@@ -116,10 +125,12 @@ path_last : (p : PathTree) → EndsLast (path_marks p)
 path_last p = last_behind _ _ (last_behind ending _ (last_behind _ (target_marks p.target) (last_behind _ ending last_end)))
 
 step_last : (s : StepTree) → EndsLast (step_marks s)
-step_last s = last_behind ending _ (last_behind _ _ (last_counted 0 limit.Paths 15 path_marks (path_marks s.first) s.others path_last (path_last s.first)))
+step_last s = last_behind ending _ (last_behind _ _
+    (last_counted 0 limit.Paths 15 path_marks (path_marks s.first) s.others path_last (path_last s.first)))
 
 point_last : (p : PointTree) → EndsLast (point_marks p)
-point_last p = last_behind _ _ (last_behind ending _ (last_behind _ _ (last_behind _ _ (last_behind (step_marks p.next) (step_marks p.undo) (step_last p.undo)))))
+point_last p = last_behind _ _ (last_behind ending _
+    (last_behind _ _ (last_behind _ _ (last_behind (step_marks p.next) (step_marks p.undo) (step_last p.undo)))))
 
 type_last : (t : TypeTree) → EndsLast (type_marks t)
 type_last t =
@@ -150,4 +161,5 @@ design_ended d =
 -- each fault stands at one of the statements
 pub faults_within : (d : DesignTree) → All (λ f. f.0 < statements_of d) (limit_faults d)
 unfolding limit_faults
-faults_within d = under_more (0 + endings (design_marks d)) (statements_of d) (placed 0 (design_marks d)) (omega (arith, design_endings d)) ((design_ended d).under 0)
+faults_within d = under_more (0 + endings (design_marks d)) (statements_of d) (placed 0 (design_marks d)) (omega (arith, design_endings d))
+    ((design_ended d).under 0)

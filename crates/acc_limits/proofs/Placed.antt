@@ -1,5 +1,6 @@
 -- What a walk keeps of marks is what is best of the faults that they stand for.
-use Rattle.std.proofs.Common.{◌≡◌, ℕ, ◌+◌, ◌-◌, ◌^◌, ◌<◌, Bool, true, false, ◌&&◌, List, [], ◌∷◌, Option, None, if◌then◌else◌, cond, nat_lt, nat_le, fold, map, refl, ap, arith, ◌∙◌}
+use Rattle.std.proofs.Common.{◌≡◌, ℕ, ◌+◌, ◌-◌, ◌^◌, ◌<◌, Bool, true, false, ◌&&◌, List, [], ◌∷◌, Option, None, if◌then◌else◌, cond, nat_lt}
+use Rattle.std.proofs.Common.{nat_le, fold, map, refl, ap, arith, ◌∙◌}
 use Rattle.std.proofs.lemmas.Bool.Decides.{nat_tests}
 use Rattle.acc_syntax.specs.declared.trees.DesignTree.{DesignTree}
 use Rattle.acc_statements.specs.Counts.{statements_of}
@@ -28,10 +29,12 @@ unfolding noted
 first_after w [] h = refl
 first_after w (Past l ∷ ms) h = first_after (noted w (Past l)) ms h
 first_after w (End ∷ ms) h =
-    ap (λ (v : Walk). (after v ms).first) (noted_end w (omega arith)) ∙ first_after (record w { statement = w.statement + 1 }) ms (omega arith)
+    ap (λ (v : Walk). (after v ms).first) (noted_end w (omega arith)) ∙ first_after (record w { statement = w.statement + 1 }) ms
+    (omega arith)
 
 kept_if : (b : Bool) (lowest : Option Limit) (n : ℕ) (l : Limit) (rest : List (ℕ × Limit)) →
-    fold (better is_lower) (if b then better is_lower lowest l else lowest) (map (λ f. f.1) rest) ≡ fold (better is_lower) lowest (map (λ f. f.1) (cond b ((n, l) ∷ rest) rest))
+    fold (better is_lower) (if b then better is_lower lowest l else lowest) (map (λ f. f.1) rest) ≡ fold (better is_lower) lowest
+    (map (λ f. f.1) (cond b ((n, l) ∷ rest) rest))
 kept_if true lowest n l rest = refl
 kept_if false lowest n l rest = refl
 
@@ -43,22 +46,27 @@ lowest_after w [] h = refl
 lowest_after w (Past l ∷ ms) h =
     lowest_after (noted w (Past l)) ms h ∙ kept_if (nat_le w.from w.statement && nat_lt w.statement w.to) w.lowest w.statement l _
 lowest_after w (End ∷ ms) h =
-    ap (λ (v : Walk). (after v ms).lowest) (noted_end w (omega arith)) ∙ lowest_after (record w { statement = w.statement + 1 }) ms (omega arith)
+    ap (λ (v : Walk). (after v ms).lowest) (noted_end w (omega arith)) ∙ lowest_after (record w { statement = w.statement + 1 }) ms
+    (omega arith)
 
 -- a walk at the first statement
 abbrev pub start : ℕ → ℕ → Walk
 start from to = record { statement = 0; first = None; from = from; to = to; lowest = None }
 
 -- the first fault of a design
-pub first_of_design : (from to : ℕ) (d : DesignTree) (w v : Walk) → statements_of d < 2 ^ 64 → w ≡ start from to → v ≡ after w (design_marks d) →
+pub first_of_design : (from to : ℕ) (d : DesignTree) (w v : Walk) → statements_of d < 2 ^ 64 → w ≡ start from to →
+    v ≡ after w (design_marks d) →
     v.first ≡ fold (better is_before) None (limit_faults d)
 unfolding limit_faults
 first_of_design from to d w v few begun ended =
-    ap (λ (u : Walk). u.first) (ended ∙ ap (λ (u : Walk). after u (design_marks d)) begun) ∙ first_after (start from to) (design_marks d) (omega (arith, design_endings d))
+    ap (λ (u : Walk). u.first) (ended ∙ ap (λ (u : Walk). after u (design_marks d)) begun) ∙ first_after (start from to) (design_marks d)
+    (omega (arith, design_endings d))
 
 -- the lowest limit on some statements of a design
-pub lowest_of_design : (from to : ℕ) (d : DesignTree) (w v : Walk) → statements_of d < 2 ^ 64 → w ≡ start from to → v ≡ after w (design_marks d) →
+pub lowest_of_design : (from to : ℕ) (d : DesignTree) (w v : Walk) → statements_of d < 2 ^ 64 → w ≡ start from to →
+    v ≡ after w (design_marks d) →
     v.lowest ≡ fold (better is_lower) None (limits_on from to (limit_faults d))
 unfolding limit_faults
 lowest_of_design from to d w v few begun ended =
-    ap (λ (u : Walk). u.lowest) (ended ∙ ap (λ (u : Walk). after u (design_marks d)) begun) ∙ lowest_after (start from to) (design_marks d) (omega (arith, design_endings d))
+    ap (λ (u : Walk). u.lowest) (ended ∙ ap (λ (u : Walk). after u (design_marks d)) begun) ∙ lowest_after (start from to) (design_marks d)
+    (omega (arith, design_endings d))

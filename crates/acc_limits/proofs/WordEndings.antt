@@ -27,7 +27,10 @@ use Rattle.acc_syntax.specs.declared.trees.PairTree.{PairTree}
 use Rattle.acc_syntax.specs.declared.trees.Pairs.{Pairs}
 use Rattle.acc_limits.specs.declared.limits.Limit.{Limit}
 use Rattle.acc_limits.specs.Marks.{Mark, Past, End, ending, past}
-use Rattle.acc_limits.specs.Words.{name_marks, number_marks, small_number_marks, names_marks, variable_marks, term_marks, signed_term_marks, sum_marks, sums_marks, place_marks, cell_marks, lin_rel_marks, guard_marks, operand_marks, form_term_marks, signed_form_term_marks, form_marks, form_rel_marks, binder_marks, premises_marks, clause_marks, point_name_marks, pair_marks, pairs_marks}
+use Rattle.acc_limits.specs.Words.{name_marks, number_marks, small_number_marks, names_marks, variable_marks, term_marks, signed_term_marks}
+use Rattle.acc_limits.specs.Words.{sum_marks, sums_marks, place_marks, cell_marks, lin_rel_marks, guard_marks, operand_marks}
+use Rattle.acc_limits.specs.Words.{form_term_marks, signed_form_term_marks, form_marks, form_rel_marks, binder_marks, premises_marks}
+use Rattle.acc_limits.specs.Words.{clause_marks, point_name_marks, pair_marks, pairs_marks}
 
 -- how many statements end
 abbrev pub endings : List Mark → ℕ
@@ -113,7 +116,8 @@ lin_rel_none r = past_part 0 (sum_marks r.left) _ (sum_none r.left) (sum_none r.
 
 pub guard_none : (g : Option LinRels) → HasEndings 0 (guard_marks g)
 guard_none None = no_marks
-guard_none (Some rs) = past_part 0 _ _ (passed _ _) (past_part 0 (lin_rel_marks rs.first) _ (lin_rel_none rs.first) (each_none lin_rel_marks rs.others lin_rel_none))
+guard_none (Some rs) = past_part 0 _ _ (passed _ _)
+    (past_part 0 (lin_rel_marks rs.first) _ (lin_rel_none rs.first) (each_none lin_rel_marks rs.others lin_rel_none))
 
 operand_none : (o : Operand) → HasEndings 0 (operand_marks o)
 operand_none (operands.Variable x) = variable_none x
@@ -131,7 +135,8 @@ signed_form_term_none : (s : SignedFormTerm) → HasEndings 0 (signed_form_term_
 signed_form_term_none s = form_term_none s.term
 
 form_none : (f : FormTree) → HasEndings 0 (form_marks f)
-form_none f = past_part 0 (form_term_marks f.first) _ (form_term_none f.first) (each_none signed_form_term_marks f.others signed_form_term_none)
+form_none f = past_part 0 (form_term_marks f.first) _ (form_term_none f.first)
+    (each_none signed_form_term_marks f.others signed_form_term_none)
 
 form_rel_none : (r : FormRelTree) → HasEndings 0 (form_rel_marks r)
 form_rel_none r = past_part 0 (form_marks r.left) _ (form_none r.left) (form_none r.right)
@@ -142,10 +147,12 @@ binder_none (Some ns) = past_part 0 _ _ (passed _ _) (names_none ns)
 
 premises_none : (rs : Option FormRels) → HasEndings 0 (premises_marks rs)
 premises_none None = no_marks
-premises_none (Some rs) = past_part 0 _ _ (passed _ _) (past_part 0 (form_rel_marks rs.first) _ (form_rel_none rs.first) (each_none form_rel_marks rs.others form_rel_none))
+premises_none (Some rs) = past_part 0 _ _ (passed _ _)
+    (past_part 0 (form_rel_marks rs.first) _ (form_rel_none rs.first) (each_none form_rel_marks rs.others form_rel_none))
 
 pub clause_none : (c : ClauseTree) → HasEndings 0 (clause_marks c)
-clause_none c = past_part 0 (binder_marks c.variables) _ (binder_none c.variables) (past_part 0 (premises_marks c.guards) _ (premises_none c.guards) (form_rel_none c.relation))
+clause_none c = past_part 0 (binder_marks c.variables) _ (binder_none c.variables)
+    (past_part 0 (premises_marks c.guards) _ (premises_none c.guards) (form_rel_none c.relation))
 
 pub point_name_none : (p : PointName) → HasEndings 0 (point_name_marks p)
 point_name_none p = past_part 0 (name_marks p.type_name) _ (name_none p.type_name) (name_none p.point)

@@ -1,7 +1,8 @@
 -- The marks on a design's statements, part by part.
 use Rattle.std.specs.Prelude.{ℕ, ◌+◌, ◌-◌, ◌||◌, List, [], ◌++◌, length, Option, Some, None, nat_lt}
 use Rattle.std.specs.List.{flat_map}
-use Rattle.acc_base.specs.declared.bounds.TheConstants.{MOST_ACTIONS, MOST_ALWAYS, MOST_CLAUSES, MOST_COLUMNS, MOST_ENTRIES, MOST_HINTS, MOST_KEY_PARTS}
+use Rattle.acc_base.specs.declared.bounds.TheConstants.{MOST_ACTIONS, MOST_ALWAYS, MOST_CLAUSES, MOST_COLUMNS, MOST_ENTRIES, MOST_HINTS}
+use Rattle.acc_base.specs.declared.bounds.TheConstants.{MOST_KEY_PARTS}
 use Rattle.acc_base.specs.declared.bounds.TheConstants.{MOST_LOCALS, MOST_PATHS, MOST_POINTS, MOST_READS, MOST_TABLES, MOST_TYPES}
 use Rattle.acc_syntax.specs.declared.trees.Sum.{Sum}
 use Rattle.acc_syntax.specs.declared.trees.Sums.{Sums}
@@ -23,7 +24,8 @@ use Rattle.acc_syntax.specs.declared.trees.HintTree.{HintTree}
 use Rattle.acc_syntax.specs.declared.trees.DesignTree.{DesignTree}
 use Rattle.acc_limits.specs.declared.limits.Limit.TheVariants as limit
 use Rattle.acc_limits.specs.Marks.{Mark, ending, past, counted}
-use Rattle.acc_limits.specs.Words.{name_marks, number_marks, small_number_marks, names_marks, variable_marks, sum_marks, sums_marks, place_marks, cell_marks, guard_marks, clause_marks, point_name_marks, pairs_marks}
+use Rattle.acc_limits.specs.Words.{name_marks, number_marks, small_number_marks, names_marks, variable_marks, sum_marks, sums_marks}
+use Rattle.acc_limits.specs.Words.{place_marks, cell_marks, guard_marks, clause_marks, point_name_marks, pairs_marks}
 
 -- ---- single statements
 

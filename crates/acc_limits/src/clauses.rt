@@ -1,7 +1,8 @@
 //! Clauses, as parts of the statement at hand.
 ghost use Rattle.std.specs.Prelude.{◌≡◌};
 ghost use Rattle.std.specs.List.{flat_map};
-ghost use Rattle.acc_limits.specs.Words.{operand_marks, form_term_marks, signed_form_term_marks, form_marks, form_rel_marks, binder_marks, premises_marks, clause_marks};
+ghost use Rattle.acc_limits.specs.Words.{operand_marks, form_term_marks, signed_form_term_marks, form_marks, form_rel_marks, binder_marks};
+ghost use Rattle.acc_limits.specs.Words.{premises_marks, clause_marks};
 ghost use Rattle.acc_limits.specs.Walks.{after};
 
 use crate::limits::Limit;

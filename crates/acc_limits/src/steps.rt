@@ -1,7 +1,8 @@
 //! The statements of a step: its reads, and its paths with what they write and where they end.
 ghost use Rattle.std.specs.Prelude.{◌≡◌, ◌-◌};
 ghost use Rattle.acc_limits.specs.Marks.{counted};
-ghost use Rattle.acc_limits.specs.Statements.{read_words_marks, read_marks, values_marks, action_words_marks, action_marks, target_words_marks, target_marks, path_marks, step_marks};
+ghost use Rattle.acc_limits.specs.Statements.{read_words_marks, read_marks, values_marks, action_words_marks, action_marks};
+ghost use Rattle.acc_limits.specs.Statements.{target_words_marks, target_marks, path_marks, step_marks};
 ghost use Rattle.acc_limits.specs.Walks.{after};
 
 use crate::limits::Limit;

@@ -1,7 +1,8 @@
 //! The statements of tables, clauses, points, types, entries and hints.
 ghost use Rattle.std.specs.Prelude.{◌≡◌, ◌-◌, length};
 ghost use Rattle.acc_limits.specs.Marks.{counted};
-ghost use Rattle.acc_limits.specs.Statements.{table_marks, clause_statement_marks, returns_marks, locals_marks, variant_marks, point_marks, head_marks, type_marks, entry_marks, hint_marks};
+ghost use Rattle.acc_limits.specs.Statements.{table_marks, clause_statement_marks, returns_marks, locals_marks, variant_marks, point_marks};
+ghost use Rattle.acc_limits.specs.Statements.{head_marks, type_marks, entry_marks, hint_marks};
 ghost use Rattle.acc_limits.specs.Walks.{after};
 
 use crate::clauses::meet_clause;

@@ -1,7 +1,9 @@
 //! Names, numbers and linear values, as parts of the statement at hand.
 ghost use Rattle.std.specs.Prelude.{◌≡◌};
 ghost use Rattle.std.specs.List.{flat_map};
-ghost use Rattle.acc_limits.specs.Words.{name_marks, number_marks, small_number_marks, names_marks, variable_marks, term_marks, signed_term_marks, sum_marks, sums_marks, place_marks, cell_marks, lin_rel_marks, guard_marks, point_name_marks, pair_marks, pairs_marks};
+ghost use Rattle.acc_limits.specs.Words.{name_marks, number_marks, small_number_marks, names_marks, variable_marks, term_marks};
+ghost use Rattle.acc_limits.specs.Words.{signed_term_marks, sum_marks, sums_marks, place_marks, cell_marks, lin_rel_marks, guard_marks};
+ghost use Rattle.acc_limits.specs.Words.{point_name_marks, pair_marks, pairs_marks};
 ghost use Rattle.acc_limits.specs.Walks.{after};
 
 use crate::limits::Limit;

@@ -17,7 +17,8 @@ use Rattle.acc_limits.proofs.Ended.{AreEnded, EndsLast, under_more, ended_last, 
 use Rattle.acc_meaning.specs.Scopes.{Scope}
 use Rattle.acc_meaning.specs.Designs.{outside}
 use Rattle.acc_meaning.specs.Types.{type_scope}
-use Rattle.acc_meaning.specs.Sizes.{clause_statement_sizes, path_sizes, step_sizes, point_sizes, names_sizes, type_sizes, table_sizes, entry_sizes, hint_sizes, design_sizes, size_faults}
+use Rattle.acc_meaning.specs.Sizes.{clause_statement_sizes, path_sizes, step_sizes, point_sizes, names_sizes, type_sizes, table_sizes}
+use Rattle.acc_meaning.specs.Sizes.{entry_sizes, hint_sizes, design_sizes, size_faults}
 use Rattle.acc_meaning.proofs.Endings.{design_endings}
 
 -- ---- items, one behind another
@@ -43,12 +44,15 @@ step_last : (s : Scope) (st : StepTree) → EndsLast (step_sizes s st)
 step_last s st = last_behind ending _ (last_behind _ _ (last_each (path_sizes s) st.first st.others (path_last s)))
 
 point_last : (s : Scope) (p : PointTree) → EndsLast (point_sizes s p)
-point_last s p = last_behind ending _ (last_behind _ _ (last_behind _ _ (last_behind (step_sizes s p.next) (step_sizes s p.undo) (step_last s p.undo))))
+point_last s p = last_behind ending _ (last_behind _ _
+    (last_behind _ _ (last_behind (step_sizes s p.next) (step_sizes s p.undo) (step_last s p.undo))))
 
 type_last : (tables : List TableTree) (t : TypeTree) → EndsLast (type_sizes tables t)
 type_last tables t =
     let s = type_scope tables t in
-    last_behind ending _ (last_behind ending _ (last_behind (names_sizes t.returns) _ (last_behind (names_sizes t.locals) _ (last_behind (flat_map (clause_statement_sizes s) t.ensured) _ (last_behind (flat_map (clause_statement_sizes s) t.repaired) _ (last_each (point_sizes s) t.first t.others (point_last s)))))))
+    last_behind ending _ (last_behind ending _ (last_behind (names_sizes t.returns) _
+    (last_behind (names_sizes t.locals) _ (last_behind (flat_map (clause_statement_sizes s) t.ensured) _
+    (last_behind (flat_map (clause_statement_sizes s) t.repaired) _ (last_each (point_sizes s) t.first t.others (point_last s)))))))
 
 hint_last : (types : List TypeTree) (h : HintTree) → EndsLast (hint_sizes types h)
 hint_last types h = last_behind _ ending last_end
@@ -63,4 +67,5 @@ design_ended d =
 -- each of them stands at one of the statements
 pub faults_within : (d : DesignTree) → All (λ f. f.0 < statements_of d) (size_faults d)
 unfolding size_faults
-faults_within d = under_more (0 + endings (design_sizes d)) (statements_of d) (placed 0 (design_sizes d)) (omega (arith, design_endings d)) ((design_ended d).under 0)
+faults_within d = under_more (0 + endings (design_sizes d)) (statements_of d) (placed 0 (design_sizes d)) (omega (arith, design_endings d))
+    ((design_ended d).under 0)

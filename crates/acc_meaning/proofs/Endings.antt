@@ -39,17 +39,23 @@ use Rattle.acc_meaning.specs.Forms.{rel_terms, all_form_rels, clause_scope}
 use Rattle.acc_meaning.specs.Steps.{all_paths}
 use Rattle.acc_meaning.specs.Types.{type_scope}
 use Rattle.acc_meaning.specs.Designs.{outside, variables_at}
-use Rattle.acc_meaning.specs.Sizes.{size_mark, term_sizes, terms_sizes, sum_sizes, sums_sizes, values_sizes, lin_rel_sizes, guard_sizes, place_sizes, operand_sizes, form_term_sizes, signed_form_term_sizes, form_sizes, rel_sizes, clause_sizes, clause_statement_sizes, read_words_sizes, read_sizes, action_words_sizes, action_sizes, path_sizes, step_sizes, variant_sizes, point_sizes, names_sizes, type_sizes, table_sizes, entry_sizes, hint_sizes, design_sizes}
+use Rattle.acc_meaning.specs.Sizes.{size_mark, term_sizes, terms_sizes, sum_sizes, sums_sizes, values_sizes, lin_rel_sizes, guard_sizes}
+use Rattle.acc_meaning.specs.Sizes.{place_sizes, operand_sizes, form_term_sizes, signed_form_term_sizes, form_sizes, rel_sizes}
+use Rattle.acc_meaning.specs.Sizes.{clause_sizes, clause_statement_sizes, read_words_sizes, read_sizes, action_words_sizes, action_sizes}
+use Rattle.acc_meaning.specs.Sizes.{path_sizes, step_sizes, variant_sizes, point_sizes, names_sizes, type_sizes, table_sizes, entry_sizes}
+use Rattle.acc_meaning.specs.Sizes.{hint_sizes, design_sizes}
 
 -- ---- items, one behind another
 
-each_sum : {T : Type 0} (marks : T → List Mark) (count : T → ℕ) (xs : List T) → ((x : T) → HasEndings (count x) (marks x)) → HasEndings (sum_by count xs) (flat_map marks xs)
+each_sum : {T : Type 0} (marks : T → List Mark) (count : T → ℕ) (xs : List T) → ((x : T) → HasEndings (count x) (marks x)) →
+    HasEndings (sum_by count xs) (flat_map marks xs)
 each_sum marks count [] h = no_marks
 each_sum marks count (x ∷ xs) h =
     let whole = behind (count x) (sum_by count xs) (marks x) (flat_map marks xs) (h x) (each_sum marks count xs h) in
     record { is = omega (arith, whole.is, sum_by-cons count x xs) }
 
-each_one : {T : Type 0} (marks : T → List Mark) (xs : List T) → ((x : T) → HasEndings 1 (marks x)) → HasEndings (length xs) (flat_map marks xs)
+each_one : {T : Type 0} (marks : T → List Mark) (xs : List T) → ((x : T) → HasEndings 1 (marks x)) →
+    HasEndings (length xs) (flat_map marks xs)
 each_one marks [] h = no_marks
 each_one marks (x ∷ xs) h =
     let whole = behind 1 (length xs) (marks x) (flat_map marks xs) (h x) (each_one marks xs h) in
@@ -65,7 +71,8 @@ size_none : (n : ℤ) → HasEndings 0 (size_mark n)
 size_none n = passed limit.NumberSize (not (is_small n))
 
 terms_none : {K : Type 0} (t : Terms K) → HasEndings 0 (terms_sizes t)
-terms_none t = past_part 0 (flat_map term_sizes t.terms) (size_mark t.constant) (each_none term_sizes t.terms (λ x. size_none x.1)) (size_none t.constant)
+terms_none t = past_part 0 (flat_map term_sizes t.terms) (size_mark t.constant) (each_none term_sizes t.terms (λ x. size_none x.1))
+    (size_none t.constant)
 
 sum_none : (v : Variables) (s : Sum) → HasEndings 0 (sum_sizes v s)
 sum_none v s = terms_none {K = ℕ} (terms_of v s)
@@ -96,13 +103,16 @@ form_term_none s (form_terms.Plain o) = operand_none s o
 form_term_none s (form_terms.Product n o) = operand_none s o
 
 form_none : (s : Scope) (f : FormTree) → HasEndings 0 (form_sizes s f)
-form_none s f = past_part 0 (form_term_sizes s f.first) _ (form_term_none s f.first) (each_none (signed_form_term_sizes s) f.others (λ t. form_term_none s t.term))
+form_none s f = past_part 0 (form_term_sizes s f.first) _ (form_term_none s f.first)
+    (each_none (signed_form_term_sizes s) f.others (λ t. form_term_none s t.term))
 
 rel_none : (s : Scope) (r : FormRelTree) → HasEndings 0 (rel_sizes s r)
-rel_none s r = past_part 0 (form_sizes s r.left) _ (form_none s r.left) (past_part 0 (form_sizes s r.right) _ (form_none s r.right) (terms_none {K = Unknown} (rel_terms s r)))
+rel_none s r = past_part 0 (form_sizes s r.left) _ (form_none s r.left)
+    (past_part 0 (form_sizes s r.right) _ (form_none s r.right) (terms_none {K = Unknown} (rel_terms s r)))
 
 clause_none : (s : Scope) (c : ClauseTree) → HasEndings 0 (clause_sizes s c)
-clause_none s c = past_part 0 _ _ (each_none (rel_sizes (clause_scope s c)) (all_form_rels c.guards) (rel_none (clause_scope s c))) (rel_none (clause_scope s c) c.relation)
+clause_none s c = past_part 0 _ _ (each_none (rel_sizes (clause_scope s c)) (all_form_rels c.guards) (rel_none (clause_scope s c)))
+    (rel_none (clause_scope s c) c.relation)
 
 read_none : (s : Scope) (r : ReadTree) → HasEndings 0 (read_words_sizes s r)
 read_none s (read.Let x v) = sum_none s.variables v
@@ -148,8 +158,10 @@ variant_endings v (Some s) = ended (sum_sizes v s) (sum_none v s)
 
 path_endings : (s : Scope) (p : PathTree) → HasEndings (path_statements p) (path_sizes s p)
 path_endings s p =
-    let rest = behind (length p.actions) 1 (flat_map (action_sizes s) p.actions) ending (each_one (action_sizes s) p.actions (action_one s)) end_last in
-    let whole = past_part (1 + (length p.actions + 1)) (guard_sizes s.variables p.guard) _ (guard_none s.variables p.guard) (end_then (length p.actions + 1) _ rest) in
+    let rest = behind (length p.actions) 1 (flat_map (action_sizes s) p.actions) ending (each_one (action_sizes s) p.actions (action_one s))
+    end_last in
+    let whole = past_part (1 + (length p.actions + 1)) (guard_sizes s.variables p.guard) _ (guard_none s.variables p.guard)
+    (end_then (length p.actions + 1) _ rest) in
     record { is = omega (arith, whole.is) }
 
 step_endings : (s : Scope) (st : StepTree) → HasEndings (step_statements st) (step_sizes s st)
@@ -161,8 +173,10 @@ step_endings s st =
 
 point_endings : (s : Scope) (p : PointTree) → HasEndings (point_statements p) (point_sizes s p)
 point_endings s p =
-    let steps = behind (step_statements p.next) (step_statements p.undo) (step_sizes s p.next) (step_sizes s p.undo) (step_endings s p.next) (step_endings s p.undo) in
-    let holds = behind (length p.holds) _ (flat_map (clause_statement_sizes s) p.holds) _ (each_one (clause_statement_sizes s) p.holds (clause_one s)) steps in
+    let steps = behind (step_statements p.next) (step_statements p.undo) (step_sizes s p.next) (step_sizes s p.undo) (step_endings s p.next)
+    (step_endings s p.undo) in
+    let holds = behind (length p.holds) _ (flat_map (clause_statement_sizes s) p.holds) _
+    (each_one (clause_statement_sizes s) p.holds (clause_one s)) steps in
     let rest = behind (if_there p.variant) _ (variant_sizes s.variables p.variant) _ (variant_endings s.variables p.variant) holds in
     let whole = end_then _ _ rest in
     record { is = omega (arith, whole.is) }
@@ -171,8 +185,10 @@ type_endings : (tables : List TableTree) (t : TypeTree) → HasEndings (type_sta
 type_endings tables t =
     let s = type_scope tables t in
     let points = each_sum (point_sizes s) point_statements (t.first ∷ t.others) (point_endings s) in
-    let repaired = behind (length t.repaired) _ (flat_map (clause_statement_sizes s) t.repaired) _ (each_one (clause_statement_sizes s) t.repaired (clause_one s)) points in
-    let ensured = behind (length t.ensured) _ (flat_map (clause_statement_sizes s) t.ensured) _ (each_one (clause_statement_sizes s) t.ensured (clause_one s)) repaired in
+    let repaired = behind (length t.repaired) _ (flat_map (clause_statement_sizes s) t.repaired) _
+    (each_one (clause_statement_sizes s) t.repaired (clause_one s)) points in
+    let ensured = behind (length t.ensured) _ (flat_map (clause_statement_sizes s) t.ensured) _
+    (each_one (clause_statement_sizes s) t.ensured (clause_one s)) repaired in
     let locals = behind (if_there t.locals) _ (names_sizes t.locals) _ (names_endings t.locals) ensured in
     let returns = behind (if_there t.returns) _ (names_sizes t.returns) _ (names_endings t.returns) locals in
     let whole = end_then _ _ (end_then _ _ returns) in
@@ -184,7 +200,9 @@ design_endings d =
     let s = outside d.tables in
     let hints = each_one (hint_sizes d.types) d.hints (hint_one d.types) in
     let entries = behind (length d.entries) _ (flat_map entry_sizes d.entries) _ (each_one entry_sizes d.entries (λ e. end_last)) hints in
-    let types = behind (sum_by type_statements d.types) _ (flat_map (type_sizes d.tables) d.types) _ (each_sum (type_sizes d.tables) type_statements d.types (type_endings d.tables)) entries in
-    let always = behind (length d.always) _ (flat_map (clause_statement_sizes s) d.always) _ (each_one (clause_statement_sizes s) d.always (clause_one s)) types in
+    let types = behind (sum_by type_statements d.types) _ (flat_map (type_sizes d.tables) d.types) _
+    (each_sum (type_sizes d.tables) type_statements d.types (type_endings d.tables)) entries in
+    let always = behind (length d.always) _ (flat_map (clause_statement_sizes s) d.always) _
+    (each_one (clause_statement_sizes s) d.always (clause_one s)) types in
     let whole = behind (length d.tables) _ (flat_map table_sizes d.tables) _ (each_one table_sizes d.tables (λ t. end_last)) always in
     omega (arith, whole.is)

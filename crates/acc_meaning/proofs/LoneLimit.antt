@@ -37,7 +37,11 @@ use Rattle.acc_meaning.specs.Forms.{rel_terms, all_form_rels, clause_scope}
 use Rattle.acc_meaning.specs.Steps.{all_paths}
 use Rattle.acc_meaning.specs.Types.{type_scope}
 use Rattle.acc_meaning.specs.Designs.{outside, variables_at}
-use Rattle.acc_meaning.specs.Sizes.{size_mark, term_sizes, terms_sizes, sum_sizes, sums_sizes, values_sizes, lin_rel_sizes, guard_sizes, place_sizes, operand_sizes, form_term_sizes, signed_form_term_sizes, form_sizes, rel_sizes, clause_sizes, clause_statement_sizes, read_words_sizes, read_sizes, action_words_sizes, action_sizes, path_sizes, step_sizes, variant_sizes, point_sizes, names_sizes, type_sizes, table_sizes, entry_sizes, hint_sizes, design_sizes, size_faults}
+use Rattle.acc_meaning.specs.Sizes.{size_mark, term_sizes, terms_sizes, sum_sizes, sums_sizes, values_sizes, lin_rel_sizes, guard_sizes}
+use Rattle.acc_meaning.specs.Sizes.{place_sizes, operand_sizes, form_term_sizes, signed_form_term_sizes, form_sizes, rel_sizes}
+use Rattle.acc_meaning.specs.Sizes.{clause_sizes, clause_statement_sizes, read_words_sizes, read_sizes, action_words_sizes, action_sizes}
+use Rattle.acc_meaning.specs.Sizes.{path_sizes, step_sizes, variant_sizes, point_sizes, names_sizes, type_sizes, table_sizes, entry_sizes}
+use Rattle.acc_meaning.specs.Sizes.{hint_sizes, design_sizes, size_faults}
 use Rattle.acc_names.specs.Scopes.{points_in}
 
 -- a mark of no limit but that of numbers
@@ -73,7 +77,8 @@ size true = record { are = All-cons IsSize (Past limit.NumberSize) [] refl (All-
 size false = nothing
 
 terms : {K : Type 0} (t : Terms K) → AreSizes (terms_sizes t)
-terms t = both (flat_map term_sizes t.terms) (size_mark t.constant) (each term_sizes t.terms (λ x. size (not (is_small x.1)))) (size (not (is_small t.constant)))
+terms t = both (flat_map term_sizes t.terms) (size_mark t.constant) (each term_sizes t.terms (λ x. size (not (is_small x.1))))
+    (size (not (is_small t.constant)))
 
 sum : (v : Variables) (s : Sum) → AreSizes (sum_sizes v s)
 sum v s = terms {K = ℕ} (terms_of v s)
@@ -107,10 +112,12 @@ form : (s : Scope) (f : FormTree) → AreSizes (form_sizes s f)
 form s f = both (form_term_sizes s f.first) _ (form_term s f.first) (each (signed_form_term_sizes s) f.others (λ t. form_term s t.term))
 
 rel : (s : Scope) (r : FormRelTree) → AreSizes (rel_sizes s r)
-rel s r = both (form_sizes s r.left) _ (form s r.left) (both (form_sizes s r.right) _ (form s r.right) (terms {K = Unknown} (rel_terms s r)))
+rel s r = both (form_sizes s r.left) _ (form s r.left)
+    (both (form_sizes s r.right) _ (form s r.right) (terms {K = Unknown} (rel_terms s r)))
 
 clause : (s : Scope) (c : ClauseTree) → AreSizes (clause_statement_sizes s c)
-clause s c = ended (clause_sizes s c) (both (flat_map (rel_sizes (clause_scope s c)) (all_form_rels c.guards)) _ (each (rel_sizes (clause_scope s c)) (all_form_rels c.guards) (rel (clause_scope s c))) (rel (clause_scope s c) c.relation))
+clause s c = ended (clause_sizes s c) (both (flat_map (rel_sizes (clause_scope s c)) (all_form_rels c.guards)) _
+    (each (rel_sizes (clause_scope s c)) (all_form_rels c.guards) (rel (clause_scope s c))) (rel (clause_scope s c) c.relation))
 
 read_words : (s : Scope) (r : ReadTree) → AreSizes (read_words_sizes s r)
 read_words s (read.Let x v) = sum s.variables v
@@ -131,10 +138,13 @@ action_words s (action.Set c v) = both (place_sizes s c.place) _ (place s c.plac
 action_words s (action.Add c v) = both (place_sizes s c.place) _ (place s c.place) (sum s.variables v)
 
 path : (s : Scope) (p : PathTree) → AreSizes (path_sizes s p)
-path s p = both (guard_sizes s.variables p.guard) _ (guard s.variables p.guard) (end_first _ (ended (flat_map (action_sizes s) p.actions) (each (action_sizes s) p.actions (λ a. ended (action_words_sizes s a) (action_words s a)))))
+path s p = both (guard_sizes s.variables p.guard) _ (guard s.variables p.guard)
+    (end_first _ (ended (flat_map (action_sizes s) p.actions)
+    (each (action_sizes s) p.actions (λ a. ended (action_words_sizes s a) (action_words s a)))))
 
 step : (s : Scope) (st : StepTree) → AreSizes (step_sizes s st)
-step s st = end_first _ (both (flat_map (read_sizes s) st.reads) _ (each (read_sizes s) st.reads (λ r. ended (read_words_sizes s r) (read_words s r))) (each (path_sizes s) (all_paths st) (path s)))
+step s st = end_first _ (both (flat_map (read_sizes s) st.reads) _
+    (each (read_sizes s) st.reads (λ r. ended (read_words_sizes s r) (read_words s r))) (each (path_sizes s) (all_paths st) (path s)))
 
 variant : (v : Variables) (x : Option Sum) → AreSizes (variant_sizes v x)
 variant v None = nothing
@@ -145,7 +155,9 @@ names None = nothing
 names (Some ns) = end
 
 point : (s : Scope) (p : PointTree) → AreSizes (point_sizes s p)
-point s p = end_first _ (both (variant_sizes s.variables p.variant) _ (variant s.variables p.variant) (both (flat_map (clause_statement_sizes s) p.holds) _ (each (clause_statement_sizes s) p.holds (clause s)) (both (step_sizes s p.next) (step_sizes s p.undo) (step s p.next) (step s p.undo))))
+point s p = end_first _ (both (variant_sizes s.variables p.variant) _ (variant s.variables p.variant)
+    (both (flat_map (clause_statement_sizes s) p.holds) _ (each (clause_statement_sizes s) p.holds (clause s))
+    (both (step_sizes s p.next) (step_sizes s p.undo) (step s p.next) (step s p.undo))))
 
 type_is : (tables : List TableTree) (t : TypeTree) → AreSizes (type_sizes tables t)
 type_is tables t =
@@ -162,11 +174,13 @@ design d =
     both (flat_map (clause_statement_sizes s) d.always) _ (each (clause_statement_sizes s) d.always (clause s)) (
     both (flat_map (type_sizes d.tables) d.types) _ (each (type_sizes d.tables) d.types (type_is d.tables)) (
     both (flat_map entry_sizes d.entries) _ (each entry_sizes d.entries (λ e. end)) (
-    each (hint_sizes d.types) d.hints (λ h. ended (sum_sizes (variables_at d.types h.of) h.value) (sum (variables_at d.types h.of) h.value))))))
+    each (hint_sizes d.types) d.hints (λ h. ended (sum_sizes (variables_at d.types h.of) h.value)
+    (sum (variables_at d.types h.of) h.value))))))
 
 placed_sizes : (n : ℕ) (ms : List Mark) → All IsSize ms → All (λ (f : ℕ × Limit). f.1 ≡ limit.NumberSize) (placed n ms)
 placed_sizes n [] h = All-nil (λ (f : ℕ × Limit). f.1 ≡ limit.NumberSize)
-placed_sizes n (Past l ∷ ms) h = All-cons (λ (f : ℕ × Limit). f.1 ≡ limit.NumberSize) (n, l) (placed n ms) (All-head IsSize (Past l) ms h) (placed_sizes n ms (All-tail IsSize (Past l) ms h))
+placed_sizes n (Past l ∷ ms) h = All-cons (λ (f : ℕ × Limit). f.1 ≡ limit.NumberSize) (n, l) (placed n ms) (All-head IsSize (Past l) ms h)
+    (placed_sizes n ms (All-tail IsSize (Past l) ms h))
 placed_sizes n (End ∷ ms) h = placed_sizes (n + 1) ms (All-tail IsSize End ms h)
 
 pub sizes_alone : (d : DesignTree) → All (λ (f : ℕ × Limit). f.1 ≡ limit.NumberSize) (size_faults d)

@@ -3,8 +3,10 @@ ghost use Rattle.std.specs.Prelude.{◌≡◌, ◌∷◌, ◌++◌, [], map, All
 ghost use Rattle.std.specs.List.{flat_map};
 ghost use Rattle.acc_terms.specs.Parts.{negated, IsTermSized};
 ghost use Rattle.acc_limits.specs.Walks.{after};
-ghost use Rattle.acc_meaning.specs.Values.{part_of, signed, signed_part, parts_of, kept, lin_by, lin_of, lins_of, values_of, compared, is_equation, lin_rel_of, guard_of};
-ghost use Rattle.acc_meaning.specs.Sizes.{size_mark, term_sizes, terms_sizes, sum_sizes, sums_sizes, values_sizes, lin_rel_sizes, guard_sizes};
+ghost use Rattle.acc_meaning.specs.Values.{part_of, signed, signed_part, parts_of, kept, lin_by, lin_of, lins_of, values_of, compared};
+ghost use Rattle.acc_meaning.specs.Values.{is_equation, lin_rel_of, guard_of};
+ghost use Rattle.acc_meaning.specs.Sizes.{size_mark, term_sizes, terms_sizes, sum_sizes, sums_sizes, values_sizes, lin_rel_sizes};
+ghost use Rattle.acc_meaning.specs.Sizes.{guard_sizes};
 ghost use Rattle.acc_meaning.specs.Views.{variables_in};
 
 use crate::scopes::{VariableNames, variable};

@@ -18,4 +18,5 @@ least_from n (true ∷ bs) =
 least_from n (false ∷ bs) = least_from (n + 1) bs
 
 pub least_is : (bs : List Bool) (o : Option ℕ) → o ≡ position (λ b. b) bs → IsLeastOf o (marked_from 0 bs)
-least_is bs o e = let P : Option ℕ → Type 0 = λ z. IsLeastOf z (marked_from 0 bs) in subst P (sym (e ∙ position_from-zero (λ b. b) bs)) (least_from 0 bs)
+least_is bs o e = let P : Option ℕ → Type 0 = λ z. IsLeastOf z (marked_from 0 bs) in
+    subst P (sym (e ∙ position_from-zero (λ b. b) bs)) (least_from 0 bs)

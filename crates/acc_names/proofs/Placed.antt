@@ -1,5 +1,6 @@
 -- The places of names, after a name is put at the end.
-use Rattle.std.proofs.Common.{◌≡◌, ℕ, suc, ◌<◌, Bool, true, false, cond, List, [], ◌∷◌, ◌++◌, length, Option, Some, None, refl, sym, ap, ◌∙◌, inl, inr, arith}
+use Rattle.std.proofs.Common.{◌≡◌, ℕ, suc, ◌<◌, Bool, true, false, cond, List, [], ◌∷◌, ◌++◌, length, Option, Some, None, refl, sym, ap}
+use Rattle.std.proofs.Common.{◌∙◌, inl, inr, arith}
 use Rattle.std.specs.Prelude.{option_map, is_some, IfSome, ◌||◌}
 use Rattle.std.specs.Str.{bytes_eq}
 use Rattle.std.proofs.lemmas.Bool.{cases_Bool}
@@ -75,7 +76,8 @@ place_again x y ys h =
     ]
 
 -- a new name stands behind the others
-pub place_fresh : (x y : List ℕ) (ys : List (List ℕ)) → stands_in y ys ≡ false → place_of x (ys ++ y ∷ []) ≡ cond (bytes_eq y x) (Some (length ys)) (place_of x ys)
+pub place_fresh : (x y : List ℕ) (ys : List (List ℕ)) → stands_in y ys ≡ false →
+    place_of x (ys ++ y ∷ []) ≡ cond (bytes_eq y x) (Some (length ys)) (place_of x ys)
 place_fresh x y ys h =
     pushed x y ys ∙ elim (cases_Bool (bytes_eq y x)) [
       | inl e ↦ (let same = same_bytes y x e in let back = bytes_same x y (sym same) in

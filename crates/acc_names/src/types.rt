@@ -5,7 +5,8 @@ ghost use Rattle.acc_names.specs.Names.{stands_in, listed};
 ghost use Rattle.acc_names.specs.Scopes.{locals_of, points_in, point_names};
 ghost use Rattle.acc_names.specs.Views.{variables_in, scope_in};
 ghost use Rattle.acc_names.specs.Members.{members_of};
-ghost use Rattle.acc_names.specs.Faults.{variant_faults, returns_faults, head_faults, point_faults, points_faults, type_faults, types_faults};
+ghost use Rattle.acc_names.specs.Faults.{variant_faults, returns_faults, head_faults, point_faults, points_faults, type_faults};
+ghost use Rattle.acc_names.specs.Faults.{types_faults};
 
 use crate::clauses::clauses_faults;
 use crate::members::{Members, Types};

@@ -1,5 +1,6 @@
 -- A transaction as Begin makes it.
-use Rattle.std.proofs.Common.{◌≡◌, ℕ, zero, suc, ◌-◌, ◌^◌, ◌≤◌, true, List, [], length, get_or, replicate, refl, ap, sym, ◌∙◌, subst, arith, Option, Some, None, pos, length-append, ◌==◌}
+use Rattle.std.proofs.Common.{◌≡◌, ℕ, zero, suc, ◌-◌, ◌^◌, ◌≤◌, true, List, [], length, get_or, replicate, refl, ap, sym, ◌∙◌, subst, arith}
+use Rattle.std.proofs.Common.{Option, Some, None, pos, length-append, ◌==◌}
 use Rattle.std.specs.Prelude.{slice_get, IsTrue, option_and_then, nat_le, ◌&&◌}
 use Rattle.std.specs.List.{list_all, AllByRecursion}
 use Rattle.std.proofs.lemmas.Bool.{false≢true, and_parts, eqb-true}

@@ -1,5 +1,6 @@
 -- A step that a held point doesn't forbid: some pair of the entry for it differs.
-use Rattle.std.proofs.Common.{◌≡◌, ℕ, zero, suc, ◌+◌, ◌-◌, ◌<◌, Bool, true, false, cond, List, [], ◌∷◌, map, length, get_or, set, refl, ap, sym, ◌∙◌, arith, Some, ℤ, pos, negsuc, ◌+ℤ◌, ◌*ℤ◌, ◌==◌, length-set}
+use Rattle.std.proofs.Common.{◌≡◌, ℕ, zero, suc, ◌+◌, ◌-◌, ◌<◌, Bool, true, false, cond, List, [], ◌∷◌, map, length, get_or, set, refl, ap}
+use Rattle.std.proofs.Common.{sym, ◌∙◌, arith, Some, ℤ, pos, negsuc, ◌+ℤ◌, ◌*ℤ◌, ◌==◌, length-set}
 use Rattle.std.specs.Prelude.{slice_get, find, IsTrue, ◌&&◌, nat_lt}
 use Rattle.std.specs.List.{list_all, AllByRecursion}
 use Rattle.std.specs.Cmp.{first_so, second_so}

@@ -1,5 +1,6 @@
 -- What the reads of a least and a greatest component make true.
-use Rattle.std.proofs.Common.{◌≡◌, ◌⊎◌, ℕ, ◌≤◌, Bool, true, List, [], ◌∷◌, ◌++◌, length, ap, sym, ◌∙◌, subst, arith, ℤ, pos, negsuc, ◌+ℤ◌, ◌*ℤ◌, ◌<ℤ◌, ◌≤ℤ◌}
+use Rattle.std.proofs.Common.{◌≡◌, ◌⊎◌, ℕ, ◌≤◌, Bool, true, List, [], ◌∷◌, ◌++◌, length, ap, sym, ◌∙◌, subst, arith, ℤ, pos, negsuc, ◌+ℤ◌}
+use Rattle.std.proofs.Common.{◌*ℤ◌, ◌<ℤ◌, ◌≤ℤ◌}
 use Rattle.std.specs.Prelude.{◌&&◌, codes}
 use Rattle.std.specs.List.{AllByRecursion}
 use Rattle.std.specs.Int.{int_min, int_max}
@@ -17,7 +18,8 @@ use Rattle.acc_oblig.specs.Naming.{named_lins}
 use Rattle.acc_oblig.specs.Relations.{some_rows, no_rows, none_there, is_nothing, alone, below, extreme}
 use Rattle.acc_oblig.proofs.Names.{AgreesNear, lins_named}
 use Rattle.acc_oblig.proofs.FormValues.{int_le_true, int_le_holds, zero_meets, is_nothing_true}
-use Rattle.acc_oblig.proofs.Parts.{parts, passing_is, rows_with, rows_below, HasPart, none_best, best_counts, beyond_best, min_one_of, max_one_of, min_worst, max_worst}
+use Rattle.acc_oblig.proofs.Parts.{parts, passing_is, rows_with, rows_below, HasPart, none_best, best_counts, beyond_best, min_one_of}
+use Rattle.acc_oblig.proofs.Parts.{max_one_of, min_worst, max_worst}
 
 -- ---- the relations, as what they say of the rows
 

@@ -1,5 +1,6 @@
 -- What the forms of a sequent's relations are worth.
-use Rattle.std.proofs.Common.{◌≡◌, ℕ, ◌^◌, ◌≤◌, Bool, true, false, if◌then◌else◌, List, [], ◌∷◌, map, refl, ap, sym, ◌∙◌, arith, ℤ, pos, negsuc, neg_ℤ, ◌+ℤ◌, ◌*ℤ◌, ◌≤ℤ◌}
+use Rattle.std.proofs.Common.{◌≡◌, ℕ, ◌^◌, ◌≤◌, Bool, true, false, if◌then◌else◌, List, [], ◌∷◌, map, refl, ap, sym, ◌∙◌, arith, ℤ, pos}
+use Rattle.std.proofs.Common.{negsuc, neg_ℤ, ◌+ℤ◌, ◌*ℤ◌, ◌≤ℤ◌}
 use Rattle.std.specs.Prelude.{int_le, ◌&&◌}
 use Rattle.std.specs.Ordering.{int_eq}
 use Rattle.std.specs.List.{list_all}
@@ -19,7 +20,8 @@ use Rattle.acc_wp.proofs.PartValues.{one_times, minus_times}
 use Rattle.acc_base.proofs.Products.{sum_times}
 use Rattle.acc_oblig.specs.declared.naming.Naming.{Naming}
 use Rattle.acc_oblig.specs.Naming.{named_lin}
-use Rattle.acc_oblig.specs.Relations.{coefficient_term, lin_form, negated_term, negated, plus_number, at_most, at_least, is_number, is_nothing, is_value, is_lin, guard_rel, denied, not_all_none}
+use Rattle.acc_oblig.specs.Relations.{coefficient_term, lin_form, negated_term, negated, plus_number, at_most, at_least, is_number}
+use Rattle.acc_oblig.specs.Relations.{is_nothing, is_value, is_lin, guard_rel, denied, not_all_none}
 use Rattle.acc_oblig.proofs.Names.{Agrees, lin_named}
 
 -- ---- tests

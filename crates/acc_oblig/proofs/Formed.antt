@@ -1,5 +1,6 @@
 -- What the form rules give for obligations: the shapes of clauses, actions and reads.
-use Rattle.std.proofs.Common.{◌≡◌, ℕ, zero, suc, ◌+◌, ◌<◌, true, List, [], ◌∷◌, length, refl, subst, arith, Option, Some, None, ℤ, pos, ◌==◌}
+use Rattle.std.proofs.Common.{◌≡◌, ℕ, zero, suc, ◌+◌, ◌<◌, true, List, [], ◌∷◌, length, refl, subst, arith, Option, Some, None, ℤ, pos}
+use Rattle.std.proofs.Common.{◌==◌}
 use Rattle.std.specs.Prelude.{slice_get, nat_le}
 use Rattle.std.specs.List.{list_all, AllByRecursion, starts_with}
 use Rattle.std.specs.Ordering.{int_eq}
@@ -19,7 +20,8 @@ use Rattle.acc_base.specs.declared.steps.Action.TheVariants as action
 use Rattle.acc_base.specs.Sums.{Term}
 use Rattle.acc_base.specs.Shapes.{IsFullKey, IsPrefix, IsColumn, AreColumns, AtomFits, ActionFits, RowFits}
 use Rattle.acc_form.specs.Ranges.{has_column, cell_in, row_in, lin_in, atom_in, product_in, rel_in, clause_in, action_in}
-use Rattle.acc_form.specs.Widths.{is_key, is_prefix, fills, atom_fits, product_fits, rel_fits, clause_fits, action_fits, is_short_prefix, read_leaves_a_component}
+use Rattle.acc_form.specs.Widths.{is_key, is_prefix, fills, atom_fits, product_fits, rel_fits, clause_fits, action_fits, is_short_prefix}
+use Rattle.acc_form.specs.Widths.{read_leaves_a_component}
 use Rattle.acc_form.specs.Ends.{divides}
 use Rattle.acc_oblig.proofs.FormValues.{int_le_holds}
 use Rattle.acc_oblig.proofs.Judged.{RelFits, ClauseFits}

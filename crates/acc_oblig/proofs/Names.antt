@@ -1,5 +1,6 @@
 -- What a value is worth under the names of a sequent.
-use Rattle.std.proofs.Common.{◌≡◌, ℕ, zero, suc, ◌+◌, ◌≤◌, Bool, true, false, if◌then◌else◌, List, [], ◌∷◌, ◌++◌, length, map, get_or, refl, ap, sym, ◌∙◌, subst, arith, nat_lt, ℤ, pos, ◌+ℤ◌, ◌*ℤ◌}
+use Rattle.std.proofs.Common.{◌≡◌, ℕ, zero, suc, ◌+◌, ◌≤◌, Bool, true, false, if◌then◌else◌, List, [], ◌∷◌, ◌++◌, length, map, get_or, refl}
+use Rattle.std.proofs.Common.{ap, sym, ◌∙◌, subst, arith, nat_lt, ℤ, pos, ◌+ℤ◌, ◌*ℤ◌}
 use Rattle.std.specs.Prelude.{◌&&◌}
 use Rattle.std.specs.List.{list_all}
 use Rattle.std.specs.Ordering.{int_eq}
@@ -23,7 +24,8 @@ use Rattle.acc_base.specs.Truth.{atom_value, is_lin_zero, unknown_value, product
 use Rattle.acc_base.specs.Sums.{Term}
 use Rattle.acc_base.specs.RowsAfter.{rows_after}
 use Rattle.acc_oblig.specs.declared.naming.Naming.{Naming}
-use Rattle.acc_oblig.specs.Naming.{counted, own_naming, own_clause, named, named_lin, named_lins, named_atom, named_unknown, named_form, named_rel, named_action}
+use Rattle.acc_oblig.specs.Naming.{counted, own_naming, own_clause, named, named_lin, named_lins, named_atom, named_unknown, named_form}
+use Rattle.acc_oblig.specs.Naming.{named_rel, named_action}
 
 -- each variable is worth under its name what it is worth
 abbrev pub Agrees : Naming → List ℤ → List ℤ → Type 0

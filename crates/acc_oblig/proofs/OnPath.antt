@@ -1,5 +1,6 @@
 -- An effect that goes on or ends, in a well-formed design: its path, and what stands there.
-use Rattle.std.proofs.Common.{◌≡◌, ℕ, zero, suc, ◌+◌, ◌≤◌, ◌<◌, Bool, false, List, [], ◌∷◌, length, get_or, ap, sym, ◌∙◌, subst, arith, Some, ◌==◌}
+use Rattle.std.proofs.Common.{◌≡◌, ℕ, zero, suc, ◌+◌, ◌≤◌, ◌<◌, Bool, false, List, [], ◌∷◌, length, get_or, ap, sym, ◌∙◌, subst, arith}
+use Rattle.std.proofs.Common.{Some, ◌==◌}
 use Rattle.std.specs.Prelude.{slice_get, IsTrue, All, option_and_then}
 use Rattle.std.specs.List.{AllByRecursion}
 use Rattle.std.proofs.lemmas.Option.{same_Some, none-some}
@@ -25,7 +26,8 @@ use Rattle.acc_base.specs.Effects.{Goes, point_of, step_at, effect_of, taken_pat
 use Rattle.acc_base.proofs.EffectParts.{parts}
 use Rattle.acc_base.specs.Shapes.{ActionFits, RowFits}
 use Rattle.acc_form.specs.Ranges.{clause_in}
-use Rattle.acc_form.specs.WellFormed.{EachNumbered, IsClauseFormed, AreClausesFormed, IsPathFormed, IsStepFormed, IsPointFormed, IsTypeFormed, IsWellFormed}
+use Rattle.acc_form.specs.WellFormed.{EachNumbered, IsClauseFormed, AreClausesFormed, IsPathFormed, IsStepFormed, IsPointFormed}
+use Rattle.acc_form.specs.WellFormed.{IsTypeFormed, IsWellFormed}
 use Rattle.acc_form.proofs.InRange.{PathInRange, StepInRange, PointInRange, TypeInRange, design_range}
 use Rattle.acc_base.specs.Fits.{IsFrameOf, IsFrameOfSome, IsReady}
 use Rattle.acc_oblig.proofs.Guards.{taken_is}

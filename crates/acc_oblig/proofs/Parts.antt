@@ -1,5 +1,6 @@
 -- The components behind a prefix: how many rows have one, and the least and the greatest.
-use Rattle.std.proofs.Common.{◌≡◌, ◌⊎◌, inl, inr, cond, ℕ, suc, ◌+◌, ◌≤◌, Bool, true, false, List, [], ◌∷◌, ◌++◌, length, refl, ap, sym, ◌∙◌, subst, arith, Option, Some, None, ℤ, pos, ◌<ℤ◌, ◌==◌}
+use Rattle.std.proofs.Common.{◌≡◌, ◌⊎◌, inl, inr, cond, ℕ, suc, ◌+◌, ◌≤◌, Bool, true, false, List, [], ◌∷◌, ◌++◌, length, refl, ap, sym}
+use Rattle.std.proofs.Common.{◌∙◌, subst, arith, Option, Some, None, ℤ, pos, ◌<ℤ◌, ◌==◌}
 use Rattle.std.specs.Prelude.{slice_get, filter, count_by, ◌&&◌, int_lt}
 use Rattle.std.proofs.lemmas.List.Sums.{sum_by-cons}
 use Rattle.std.specs.List.{starts_with, AllByRecursion}

@@ -1,6 +1,7 @@
 -- Where a design's obligations on paths are true, each path keeps what it should: the rows that it changes are there, what its
 -- target promises holds afterwards, and what holds always.
-use Rattle.std.proofs.Common.{◌≡◌, ℕ, zero, suc, ◌+◌, ◌<◌, Bool, true, false, if◌then◌else◌, List, [], ◌∷◌, ◌++◌, take, length, refl, ap, sym, subst, arith, Option, Some, None, ℤ}
+use Rattle.std.proofs.Common.{◌≡◌, ℕ, zero, suc, ◌+◌, ◌<◌, Bool, true, false, if◌then◌else◌, List, [], ◌∷◌, ◌++◌, take, length, refl, ap}
+use Rattle.std.proofs.Common.{sym, subst, arith, Option, Some, None, ℤ}
 use Rattle.std.specs.Prelude.{slice_get, All, IsTrue, option_and_then}
 use Rattle.std.specs.List.{AllByRecursion}
 use Rattle.std.proofs.lemmas.Option.{same_Some, none-some}
@@ -34,7 +35,8 @@ use Rattle.acc_base.specs.Fits.{IsReady}
 use Rattle.acc_base.specs.Soundness.{MeetsAt, posts_of, repairs_of}
 use Rattle.acc_oblig.specs.Settings.{last_now}
 use Rattle.acc_oblig.specs.Drafts.{Place, setting_of, path_drafts, of_some, each_path}
-use Rattle.acc_oblig.specs.PathPromises.{promised, point_clauses, promise_at, promise_drafts, clause_names, always_at, always_drafts, changed_row, row_there, there_at, there_drafts}
+use Rattle.acc_oblig.specs.PathPromises.{promised, point_clauses, promise_at, promise_drafts, clause_names, always_at, always_drafts}
+use Rattle.acc_oblig.specs.PathPromises.{changed_row, row_there, there_at, there_drafts}
 use Rattle.acc_wp.proofs.PathRows.{leaves_rows_after}
 use Rattle.acc_oblig.proofs.Taken.{names_worth}
 use Rattle.acc_oblig.proofs.Judged.{DraftTrue, ClauseFits}

@@ -1,5 +1,6 @@
 -- Where the obligations on ranges are true, an undo step stays in range, and its paths share the range.
-use Rattle.std.proofs.Common.{◌≡◌, ◌≢◌, ℕ, zero, suc, ◌+◌, ◌-◌, ◌≤◌, ◌<◌, Bool, true, false, if◌then◌else◌, List, [], ◌∷◌, take, length, refl, ap, sym, ◌∙◌, subst, arith, Some}
+use Rattle.std.proofs.Common.{◌≡◌, ◌≢◌, ℕ, zero, suc, ◌+◌, ◌-◌, ◌≤◌, ◌<◌, Bool, true, false, if◌then◌else◌, List, [], ◌∷◌, take, length}
+use Rattle.std.proofs.Common.{refl, ap, sym, ◌∙◌, subst, arith, Some}
 use Rattle.std.specs.Prelude.{slice_get, option_and_then}
 use Rattle.std.specs.List.{list_all, AllByRecursion}
 use Rattle.std.proofs.lemmas.Bool.{le-ltb}
@@ -20,7 +21,8 @@ use Rattle.acc_base.specs.Linear.{variables, lin_rel_true}
 use Rattle.acc_base.specs.Reads.{Reading, unread, after_reads}
 use Rattle.acc_base.specs.Truth.{ClauseTrue}
 use Rattle.acc_base.specs.Assertions.{AllTrue, clauses_of}
-use Rattle.acc_base.specs.Effects.{Goes, OutOfRange, first_from, taken_path, leads, path_end, path_effect, choice, reads_end, step_effect, point_of, step_at, step_of, effect_of}
+use Rattle.acc_base.specs.Effects.{Goes, OutOfRange, first_from, taken_path, leads, path_end, path_effect, choice, reads_end, step_effect}
+use Rattle.acc_base.specs.Effects.{point_of, step_at, step_of, effect_of}
 use Rattle.acc_base.specs.Shapes.{RowFits}
 use Rattle.acc_form.specs.WellFormed.{IsPathFormed, IsWellFormed}
 use Rattle.acc_form.proofs.Open.{some_path_taken}
@@ -30,7 +32,8 @@ use Rattle.acc_oblig.specs.Settings.{Setting, step_vars}
 use Rattle.acc_oblig.specs.Naming.{counted}
 use Rattle.acc_oblig.specs.Drafts.{Place, each, of_some, setting_of}
 use Rattle.acc_oblig.specs.PointRules.{each_point}
-use Rattle.acc_oblig.specs.Ranges.{ReadNumber, ActionNumber, one_action_numbers, numbers_of, setting_numbers, read_range_in, action_range_in, action_range_at, range_at, range_drafts}
+use Rattle.acc_oblig.specs.Ranges.{ReadNumber, ActionNumber, one_action_numbers, numbers_of, setting_numbers, read_range_in}
+use Rattle.acc_oblig.specs.Ranges.{action_range_in, action_range_at, range_at, range_drafts}
 use Rattle.acc_base.proofs.EffectParts.{parts}
 use Rattle.acc_oblig.proofs.Guards.{taken_is}
 use Rattle.acc_oblig.proofs.Judged.{DraftTrue}

@@ -1,5 +1,6 @@
 -- Where the obligations on the numbers of reads are true, the reads of an undo step stay in range.
-use Rattle.std.proofs.Common.{◌≡◌, ℕ, ◌+◌, ◌^◌, ◌≤◌, Bool, true, false, if◌then◌else◌, List, [], ◌∷◌, ◌++◌, map, length, set, refl, ap, sym, ◌∙◌, subst, arith, Some, None, ℤ, pos, neg_ℤ, ◌+ℤ◌, ◌*ℤ◌, ◌≤ℤ◌}
+use Rattle.std.proofs.Common.{◌≡◌, ℕ, ◌+◌, ◌^◌, ◌≤◌, Bool, true, false, if◌then◌else◌, List, [], ◌∷◌, ◌++◌, map, length, set, refl, ap, sym}
+use Rattle.std.proofs.Common.{◌∙◌, subst, arith, Some, None, ℤ, pos, neg_ℤ, ◌+ℤ◌, ◌*ℤ◌, ◌≤ℤ◌}
 use Rattle.std.specs.Prelude.{unsigned_abs, ◌&&◌, option_and_then}
 use Rattle.std.specs.List.{list_all, AllByRecursion}
 use Rattle.std.proofs.Math.Seq.{get_or-append_seam}
@@ -24,7 +25,8 @@ use Rattle.acc_oblig.specs.Naming.{counted, named_lin}
 use Rattle.acc_oblig.specs.Relations.{negated, plus_number}
 use Rattle.acc_oblig.specs.Settings.{Setting, with_self, first_now, step_vars, step_bounds, step_rels, step_hyps, all_read_rels}
 use Rattle.acc_oblig.specs.Drafts.{goal_drafts}
-use Rattle.acc_oblig.specs.Ranges.{within, ReadNumber, value_asked, key_number, value_number, read_numbers, read_origin, read_range_in, setting_numbers}
+use Rattle.acc_oblig.specs.Ranges.{within, ReadNumber, value_asked, key_number, value_number, read_numbers, read_origin, read_range_in}
+use Rattle.acc_oblig.specs.Ranges.{setting_numbers}
 use Rattle.acc_oblig.proofs.Names.{Agrees, AgreesBehind, lin_named}
 use Rattle.acc_oblig.proofs.FormValues.{int_le_holds, lin_form_value, negated_value, plus_value, at_most_true, is_number_true}
 use Rattle.acc_oblig.proofs.Reading.{read_on, read_values}

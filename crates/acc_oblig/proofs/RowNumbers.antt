@@ -1,5 +1,6 @@
 -- What rows that fit give is in range: whether a row is there, how many rows there are, the least and the greatest component.
-use Rattle.std.proofs.Common.{◌≡◌, ◌⊎◌, inl, inr, ℕ, zero, suc, Bool, true, false, if◌then◌else◌, cond, List, [], ◌∷◌, length, refl, sym, subst, arith, Option, Some, None, ℤ, pos}
+use Rattle.std.proofs.Common.{◌≡◌, ◌⊎◌, inl, inr, ℕ, zero, suc, Bool, true, false, if◌then◌else◌, cond, List, [], ◌∷◌, length, refl, sym}
+use Rattle.std.proofs.Common.{subst, arith, Option, Some, None, ℤ, pos}
 use Rattle.std.specs.Prelude.{slice_get, filter, All}
 use Rattle.std.specs.List.{list_any, AllByRecursion}
 use Rattle.std.specs.Int.{int_min, int_max}

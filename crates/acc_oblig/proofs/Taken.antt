@@ -1,5 +1,6 @@
 -- What is assumed where a path is taken is true when it is taken.
-use Rattle.std.proofs.Common.{◌≡◌, ℕ, ◌+◌, ◌^◌, ◌≤◌, true, List, [], ◌∷◌, ◌++◌, map, take, length, refl, sym, ◌∙◌, subst, arith, Some, ℤ, pos}
+use Rattle.std.proofs.Common.{◌≡◌, ℕ, ◌+◌, ◌^◌, ◌≤◌, true, List, [], ◌∷◌, ◌++◌, map, take, length, refl, sym, ◌∙◌, subst, arith, Some, ℤ}
+use Rattle.std.proofs.Common.{pos}
 use Rattle.std.specs.Prelude.{IsTrue}
 use Rattle.std.specs.List.{list_all, list_any, AllByRecursion}
 use Rattle.std.proofs.Math.Seq.{get_or-append_seam}
@@ -32,7 +33,8 @@ use Rattle.acc_oblig.proofs.ReadRels.{HasDivisor}
 use Rattle.acc_oblig.proofs.FormValues.{guards_true, at_most_true, is_number_true}
 use Rattle.acc_oblig.proofs.Guards.{IsTaken, all_untaken_true}
 use Rattle.acc_oblig.proofs.Carries.{Carries, carried, carries, carries_near, carries_more, with_number}
-use Rattle.acc_oblig.proofs.Walks.{LooksBelow, TrueRel, bounds_true, ReadsTrue, near_agrees, here_agrees, reads_true, values_small, values_long}
+use Rattle.acc_oblig.proofs.Walks.{LooksBelow, TrueRel, bounds_true, ReadsTrue, near_agrees, here_agrees, reads_true, values_small}
+use Rattle.acc_oblig.proofs.Walks.{values_long}
 use Rattle.acc_oblig.proofs.Judged.{passes, passes_append}
 
 -- ---- actions under their names

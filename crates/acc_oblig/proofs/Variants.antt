@@ -1,5 +1,6 @@
 -- Where the obligations on variants are true, a variant lies from 0 to 65,536, and an undo path to a point makes it fall.
-use Rattle.std.proofs.Common.{◌≡◌, ℕ, ◌+◌, ◌^◌, ◌≤◌, true, false, List, [], ◌∷◌, take, length, refl, ap, sym, ◌∙◌, subst, arith, Some, None, ℤ, pos, negsuc, neg_ℤ, ◌+ℤ◌, ◌*ℤ◌, ◌<ℤ◌, ◌≤ℤ◌}
+use Rattle.std.proofs.Common.{◌≡◌, ℕ, ◌+◌, ◌^◌, ◌≤◌, true, false, List, [], ◌∷◌, take, length, refl, ap, sym, ◌∙◌, subst, arith, Some, None}
+use Rattle.std.proofs.Common.{ℤ, pos, negsuc, neg_ℤ, ◌+ℤ◌, ◌*ℤ◌, ◌<ℤ◌, ◌≤ℤ◌}
 use Rattle.std.specs.Prelude.{slice_get, option_and_then}
 use Rattle.std.specs.List.{AllByRecursion}
 use Rattle.std.proofs.lemmas.Int.{ints}
@@ -33,7 +34,8 @@ use Rattle.acc_oblig.specs.Naming.{named_lin}
 use Rattle.acc_oblig.specs.Relations.{negated, plus_number}
 use Rattle.acc_oblig.specs.Settings.{Setting, first_now, last_now, step_naming, after_naming, step_vars, step_hyps}
 use Rattle.acc_oblig.specs.Drafts.{Place, path_origin, path_rels, setting_of, each}
-use Rattle.acc_oblig.specs.PointRules.{rest_in, rest_drafts, each_point, variant_form, rest_origin, fall_in, fall_drafts, fall_at, point_at, variant_drafts}
+use Rattle.acc_oblig.specs.PointRules.{rest_in, rest_drafts, each_point, variant_form, rest_origin, fall_in, fall_drafts, fall_at, point_at}
+use Rattle.acc_oblig.specs.PointRules.{variant_drafts}
 use Rattle.acc_oblig.proofs.Names.{Agrees, lin_named}
 use Rattle.acc_oblig.proofs.FormValues.{int_le_holds, lin_form_value, negated_value, plus_value}
 use Rattle.acc_oblig.proofs.Carries.{carried, carried_long, self_agrees}

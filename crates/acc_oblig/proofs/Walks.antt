@@ -1,5 +1,6 @@
 -- Along the reads of a step: their relations and hypotheses, and the bounds of their values.
-use Rattle.std.proofs.Common.{◌≡◌, ℕ, suc, ◌+◌, ◌≤◌, true, List, [], ◌∷◌, ◌++◌, map, length, set, refl, ap, ◌∙◌, subst, arith, Some, ℤ, pos, ◌<ℤ◌}
+use Rattle.std.proofs.Common.{◌≡◌, ℕ, suc, ◌+◌, ◌≤◌, true, List, [], ◌∷◌, ◌++◌, map, length, set, refl, ap, ◌∙◌, subst, arith, Some, ℤ, pos}
+use Rattle.std.proofs.Common.{◌<ℤ◌}
 use Rattle.std.specs.List.{AllByRecursion}
 use Rattle.std.specs.Cmp.{first_so}
 use Rattle.std.proofs.lemmas.List.{map-set, append-nil, length-map}

@@ -1,5 +1,6 @@
 -- How obligations are made: the goals of a clause after actions, and walks over the paths of a design.
-use Rattle.std.specs.Prelude.{◌&&◌, ℕ, zero, suc, ◌+◌, Bool, ◌||◌, if◌then◌else◌, List, [], ◌∷◌, ◌++◌, length, map, take, Option, Some, None, pos, negsuc}
+use Rattle.std.specs.Prelude.{◌&&◌, ℕ, zero, suc, ◌+◌, Bool, ◌||◌, if◌then◌else◌, List, [], ◌∷◌, ◌++◌, length, map, take, Option, Some}
+use Rattle.std.specs.Prelude.{None, pos, negsuc}
 use Rattle.std.specs.List.{list_any}
 use Rattle.acc_base.specs.declared.forms.Form.{Form}
 use Rattle.acc_base.specs.declared.forms.Rel.{Rel}

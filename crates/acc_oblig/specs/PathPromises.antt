@@ -1,6 +1,7 @@
 -- The obligations on what a path leaves: what its target promises, what holds always, and the rows that it changes; and what holds
 -- always of no rows.
-use Rattle.std.specs.Prelude.{ℕ, ◌+◌, ◌==◌, Bool, false, ◌||◌, if◌then◌else◌, List, [], ◌∷◌, ◌++◌, take, Option, Some, None, slice_get, pos, negsuc}
+use Rattle.std.specs.Prelude.{ℕ, ◌+◌, ◌==◌, Bool, false, ◌||◌, if◌then◌else◌, List, [], ◌∷◌, ◌++◌, take, Option, Some, None, slice_get, pos}
+use Rattle.std.specs.Prelude.{negsuc}
 use Rattle.std.specs.List.{list_any}
 use Rattle.acc_base.specs.declared.bounds.TheConstants.{MOST_CLAUSES, MOST_ACTIONS}
 use Rattle.acc_base.specs.declared.forms.Lin.{Lin}

@@ -1,5 +1,6 @@
 -- The obligations on begins, on variants and on ends.
-use Rattle.std.specs.Prelude.{ℕ, ◌+◌, ◌-◌, Bool, true, false, ◌&&◌, if◌then◌else◌, List, [], ◌∷◌, ◌++◌, length, map, codes, replicate, Option, Some, None, slice_get, pos, negsuc, neg_ℤ}
+use Rattle.std.specs.Prelude.{ℕ, ◌+◌, ◌-◌, Bool, true, false, ◌&&◌, if◌then◌else◌, List, [], ◌∷◌, ◌++◌, length, map, codes, replicate}
+use Rattle.std.specs.Prelude.{Option, Some, None, slice_get, pos, negsuc, neg_ℤ}
 use Rattle.acc_base.specs.declared.bounds.TheConstants.{MOST_CLAUSES, LARGEST_VARIANT}
 use Rattle.acc_base.specs.declared.tables.Table.{Table}
 use Rattle.acc_base.specs.declared.forms.Lin.{Lin}
@@ -22,7 +23,8 @@ use Rattle.acc_base.specs.PrivateRows.{type_puts}
 use Rattle.acc_oblig.specs.Naming.{counted, named_lin}
 use Rattle.acc_oblig.specs.Relations.{lin_form, negated, plus_number, is_nothing, is_none, form, times, alone}
 use Rattle.acc_oblig.specs.Settings.{Setting, first_now, last_now, step_naming, step_vars, step_bounds, step_hyps}
-use Rattle.acc_oblig.specs.Drafts.{Draft, Place, each, each_number, each_path, of_some, goal_drafts, clause_drafts, path_origin, path_drafts, path_rels, setting_of}
+use Rattle.acc_oblig.specs.Drafts.{Draft, Place, each, each_number, each_path, of_some, goal_drafts, clause_drafts, path_origin}
+use Rattle.acc_oblig.specs.Drafts.{path_drafts, path_rels, setting_of}
 use Rattle.acc_oblig.specs.PathPromises.{point_clauses}
 
 -- ---- a transaction that rests at a point

@@ -1,5 +1,6 @@
 -- The obligations on ranges: the numbers of an undo step stay within bounds.
-use Rattle.std.specs.Prelude.{ℕ, ◌+◌, ◌-◌, ◌/◌, nat_lt, Bool, true, false, if◌then◌else◌, List, [], ◌∷◌, ◌++◌, length, map, count_by, Some, None, slice_get, slice_set, pos, neg_ℤ, ◌*◌}
+use Rattle.std.specs.Prelude.{ℕ, ◌+◌, ◌-◌, ◌/◌, nat_lt, Bool, true, false, if◌then◌else◌, List, [], ◌∷◌, ◌++◌, length, map, count_by, Some}
+use Rattle.std.specs.Prelude.{None, slice_get, slice_set, pos, neg_ℤ, ◌*◌}
 use Rattle.acc_base.specs.declared.bounds.TheConstants.{LARGEST_NUMBER, MOST_KEY_PARTS, MOST_COLUMNS, MOST_READS, MOST_ACTIONS}
 use Rattle.acc_base.specs.declared.forms.Lin.{Lin}
 use Rattle.acc_base.specs.declared.forms.Form.{Form}

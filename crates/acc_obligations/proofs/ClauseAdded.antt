@@ -23,5 +23,6 @@ module _ (r : Result (Unit {0}) ObligError) (old new : List Sequent) (origin : O
   clause_added w v hs rs acts n ew ev eh er ea en a =
       let e : v ≡ own + length c.vars = ev ∙ ap (λ z. z + length c.vars) ew in
       subst (Adds r old new)
-      (λ i. after_drafts (record { origin = origin; vars = e i; hyps = (eh ∙ ap hyps e) i; rels = (er ∙ ap rels e) i }) ((ea ∙ ap actions e) i)
+      (λ i. after_drafts (record { origin = origin; vars = e i; hyps = (eh ∙ ap hyps e) i; rels = (er ∙ ap rels e) i })
+      ((ea ∙ ap actions e) i)
       ((en ∙ ap (λ z. own_naming names z (length c.vars)) ew) i) c) a

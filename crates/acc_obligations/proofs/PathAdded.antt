@@ -30,5 +30,6 @@ module _ (r : Result (Unit {0}) ObligError) (old new : List Sequent) (rule : ℕ
 
 pub paths_added :
     (r : Result (Unit {0}) ObligError) (old new : List Sequent) (d : Design) (make : Place → TxType → Point → Step → Path → List Draft)
-    (ps : List PathPlace) → map stop ps ≡ stops_of d → Adds r old new (joined (at_stop make) (map stop ps)) → Adds r old new (each_path d make)
+    (ps : List PathPlace) → map stop ps ≡ stops_of d → Adds r old new (joined (at_stop make) (map stop ps)) →
+    Adds r old new (each_path d make)
 paths_added r old new d make ps e a = subst (Adds r old new) (ap (joined (at_stop make)) e ∙ each_path_is d make) a

@@ -1,5 +1,6 @@
 -- The points and paths of a well-formed design are small.
-use Rattle.std.proofs.Common.{◌≡◌, ℕ, zero, suc, ◌+◌, ◌<◌, ◌≤◌, Bool, true, false, List, [], ◌∷◌, ◌++◌, length, subst, refl, arith, Option, Some, None}
+use Rattle.std.proofs.Common.{◌≡◌, ℕ, zero, suc, ◌+◌, ◌<◌, ◌≤◌, Bool, true, false, List, [], ◌∷◌, ◌++◌, length, subst, refl, arith, Option}
+use Rattle.std.proofs.Common.{Some, None}
 use Rattle.std.specs.Prelude.{slice_get, slice_index_or, nat_le, nat_lt, All, ◌&&◌, ◌==◌}
 use Rattle.std.specs.List.{AllByRecursion, list_all}
 use Rattle.std.proofs.lemmas.Bool.{and_parts, leb-true, ltb-true}
@@ -21,7 +22,8 @@ use Rattle.acc_form.proofs.InRange.{design_range}
 use Rattle.acc_form.proofs.Runs.{table_is_small}
 use Rattle.acc_oblig.specs.Drafts.{each_from, each, step_paths}
 use Rattle.acc_oblig.proofs.OnPath.{numbered_at}
-use Rattle.acc_obligations.specs.Rooms.{HasFewVars, IsSmallEntry, IsSmallStep, IsSmallTable, IsSmallDesign, IsSmallPoint, IsSmallType, IsSmallAt, IsSmallRest, IsSmallStop}
+use Rattle.acc_obligations.specs.Rooms.{HasFewVars, IsSmallEntry, IsSmallStep, IsSmallTable, IsSmallDesign, IsSmallPoint, IsSmallType}
+use Rattle.acc_obligations.specs.Rooms.{IsSmallAt, IsSmallRest, IsSmallStop}
 use Rattle.acc_obligations.specs.Stops.{Rest, joined, rest_alone, stop_alone, rest_stops, rests_of}
 
 -- ---- what holds of each item holds of all that is joined
@@ -94,7 +96,8 @@ small_steps at side x p step a t q s =
 
 pub small_stops : (q : Rest) → IsSmallRest q → AllByRecursion IsSmallStop (rest_stops q)
 small_stops q s =
-    all_join IsSmallStop (step_paths stop_alone q.at Next q.x q.p (step_at Next q.p)) (step_paths stop_alone q.at Undo q.x q.p (step_at Undo q.p))
+    all_join IsSmallStop (step_paths stop_alone q.at Next q.x q.p (step_at Next q.p))
+    (step_paths stop_alone q.at Undo q.x q.p (step_at Undo q.p))
     (small_steps q.at Next q.x q.p q.p.next s.at s.x s.p s.p.next) (small_steps q.at Undo q.x q.p q.p.undo s.at s.x s.p s.p.undo)
 
 module _ (d : Design) (wf : IsWellFormed d) where
@@ -135,7 +138,8 @@ module _ (d : Design) (wf : IsWellFormed d) where
 
   table_width : (t : Table) → table_small t ≡ true → 1 ≤ t.width
   table_width t h =
-      let a = and_parts (is_short t.name && nat_le 1 t.width && nat_le t.width 6 && nat_le (length t.cols) 12) (list_all is_short t.cols) h in
+      let a = and_parts (is_short t.name && nat_le 1 t.width && nat_le t.width 6 && nat_le (length t.cols) 12) (list_all is_short t.cols)
+      h in
       let b = and_parts (is_short t.name && nat_le 1 t.width && nat_le t.width 6) (nat_le (length t.cols) 12) a.0 in
       let e = and_parts (is_short t.name && nat_le 1 t.width) (nat_le t.width 6) b.0 in
       leb-true 1 t.width (and_parts (is_short t.name) (nat_le 1 t.width) e.0).1

@@ -1,6 +1,7 @@
 -- Designs that are small enough for their variables, clauses and paths to be numbered.
 use Rattle.std.specs.Prelude.{ℕ, ◌≤◌, ◌<◌, length, All}
-use Rattle.acc_base.specs.declared.bounds.TheConstants.{MOST_VARIABLES, MOST_LOCALS, MOST_READS, MOST_PATHS, MOST_TYPES, MOST_POINTS, MOST_CLAUSES, MOST_ALWAYS, MOST_TABLES, MOST_KEY_PARTS}
+use Rattle.acc_base.specs.declared.bounds.TheConstants.{MOST_VARIABLES, MOST_LOCALS, MOST_READS, MOST_PATHS, MOST_TYPES, MOST_POINTS}
+use Rattle.acc_base.specs.declared.bounds.TheConstants.{MOST_CLAUSES, MOST_ALWAYS, MOST_TABLES, MOST_KEY_PARTS}
 use Rattle.acc_base.specs.declared.forms.Clause.{Clause}
 use Rattle.acc_base.specs.declared.steps.Step.{Step}
 use Rattle.acc_base.specs.declared.designs.At.{At}

@@ -1,6 +1,8 @@
 //! Forms and relations of an obligation's variables.
 ghost use Rattle.std.specs.Prelude.{◌≡◌, [], ◌∷◌, ◌++◌, map, IfOk, OnOk, pos, negsuc, neg_ℤ, ◌+ℤ◌};
-ghost use Rattle.acc_oblig.specs.Relations.{times, variable, coefficient_term, form, lin_form, negated_term, negated, plus_number, not_above, is_none, at_most, at_least, is_number, is_nothing, value_bounds, number_bounds, below, alone, not_all_none, never};
+ghost use Rattle.acc_oblig.specs.Relations.{times, variable, coefficient_term, form, lin_form, negated_term, negated, plus_number};
+ghost use Rattle.acc_oblig.specs.Relations.{not_above, is_none, at_most, at_least, is_number, is_nothing, value_bounds, number_bounds};
+ghost use Rattle.acc_oblig.specs.Relations.{below, alone, not_all_none, never};
 
 use acc_base::bounds::LARGEST_NUMBER;
 use acc_base::forms::{Atom, Form, Lin, Rel, Unknown};

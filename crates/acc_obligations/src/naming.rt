@@ -1,6 +1,7 @@
 //! Values under the names that their variables have in an obligation.
 ghost use Rattle.std.specs.Prelude.{◌+◌, ◌^◌, ◌<◌, length, ◌≡◌, ◌++◌, map, IfOk, OnOk};
-ghost use Rattle.acc_oblig.specs.Naming.{counted, own_naming, named_clause, own_clause, named, named_coeff, named_lin, named_lins, named_atom, named_unknown, named_term, named_form, named_rel, named_action};
+ghost use Rattle.acc_oblig.specs.Naming.{counted, own_naming, named_clause, own_clause, named, named_coeff, named_lin, named_lins};
+ghost use Rattle.acc_oblig.specs.Naming.{named_atom, named_unknown, named_term, named_form, named_rel, named_action};
 
 use acc_base::forms::{Atom, Clause, Form, Lin, Rel, Unknown};
 use acc_base::sequences::{Seq, copied};

@@ -2,7 +2,8 @@
 ghost use Rattle.std.specs.Prelude.{◌≡◌, ◌+◌, ◌^◌, ◌<◌, [], ◌∷◌, ◌++◌, length, map, slice_set, All, IfOk, OnOk};
 ghost use Rattle.acc_base.specs.declared.bounds.TheConstants.{MOST_VARIABLES};
 ghost use Rattle.acc_oblig.specs.Naming.{counted, own_clauses, named_action};
-ghost use Rattle.acc_oblig.specs.Settings.{with_self, first_now, last_now, step_vars, after_naming, all_read_rels, all_read_hyps, all_bounds, all_untaken, frame_bounds, step_bounds, step_rels, step_hyps, path_actions};
+ghost use Rattle.acc_oblig.specs.Settings.{with_self, first_now, last_now, step_vars, after_naming, all_read_rels, all_read_hyps};
+ghost use Rattle.acc_oblig.specs.Settings.{all_bounds, all_untaken, frame_bounds, step_bounds, step_rels, step_hyps, path_actions};
 ghost use Rattle.acc_oblig.specs.Drafts.{path_rels};
 ghost use Rattle.acc_obligations.specs.Rooms.{HasFewVars};
 ghost use Rattle.acc_obligations.specs.Seen.{seen, HasRoom};

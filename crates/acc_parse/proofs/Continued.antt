@@ -1,5 +1,6 @@
 -- Whole lines can be continued to a text of the grammar exactly where they are words that can be continued to a design's.
-use Rattle.std.proofs.Common.{◌≡◌, ℕ, ◌+◌, ◌-◌, ◌≤◌, zero, suc, true, List, [], ◌∷◌, ◌++◌, length, take, drop, refl, sym, ap, subst, ◌∙◌, arith, append_assoc, length-append, Result, Ok, Err, IfOk}
+use Rattle.std.proofs.Common.{◌≡◌, ℕ, ◌+◌, ◌-◌, ◌≤◌, zero, suc, true, List, [], ◌∷◌, ◌++◌, length, take, drop, refl, sym, ap, subst, ◌∙◌}
+use Rattle.std.proofs.Common.{arith, append_assoc, length-append, Result, Ok, Err, IfOk}
 use Rattle.std.proofs.Math.Seq.{take-append-add, take-append_seam}
 use Rattle.std.proofs.lemmas.List.{take-append-le, take-append-drop, append-nil}
 use Rattle.acc_grammar.specs.Readers.{AllIn}
@@ -55,7 +56,12 @@ all_dropped (suc n) [] h = tt
 all_dropped (suc n) (w ∷ ws) h = all_dropped n ws h.1
 
 opens_less : (v more : List Word) → AllIn CanSpell more → Opens (v ++ more) → Opens v
-opens_less v more p b = (more ++ b.0, b.1, AllIn-append CanSpell more b.0 p b.2, subst (λ (z : List Word). IsSpelling z b.1) (append_assoc v more b.0) b.3)
+opens_less v more p b = (
+  more ++ b.0,
+  b.1,
+  AllIn-append CanSpell more b.0 p b.2,
+  subst (λ (z : List Word). IsSpelling z b.1) (append_assoc v more b.0) b.3,
+)
 
 opens_within : (v w : List Word) (good : ℕ) → AllIn CanSpell w → Opens (take good (v ++ w)) → length v ≤ good → Opens v
 opens_within v w good p b le =
@@ -70,13 +76,17 @@ opens_first v w n p le b =
     subst Opens (sym is) (opens_less (take n v) (drop n v) (all_dropped n v p) (subst Opens (sym (take-append-drop n v)) b))
 
 -- the words of the first lines of a text, by how many of the text's words are good
-pub part_goes : (f rest : List ℕ) (words v : List Word) (good : ℕ) → IsFed f → IsLexed (f ++ rest) words → AreGood words good → IsLexed f v → GoesOn good v
+pub part_goes : (f rest : List ℕ) (words v : List Word) (good : ℕ) → IsFed f → IsLexed (f ++ rest) words → AreGood words good →
+    IsLexed f v → GoesOn good v
 part_goes f rest words v good h l g k =
     let p = fed_parted f rest words h l in
     let is : words ≡ v ++ p.back = p.whole ∙ ap (λ (z : List Word). z ++ p.back) (one_reading f p.front v p.first k) in
     record {
-      within = λ le. opens_within v p.back good (can_spell rest p.back p.second) (subst (λ (z : List Word). Opens (take good z)) is g.begins) le;
-      past = λ lt b. g.stops (omega (arith, lt, ap length is, length-append v p.back)) (subst (λ (z : List Word). Opens (take (good + 1) z)) (sym is) (opens_first v p.back (good + 1) (can_spell f v k) (omega (arith, lt)) b));
+      within = λ le. opens_within v p.back good (can_spell rest p.back p.second)
+          (subst (λ (z : List Word). Opens (take good z)) is g.begins) le;
+      past = λ lt b. g.stops (omega (arith, lt, ap length is, length-append v p.back))
+          (subst (λ (z : List Word). Opens (take (good + 1) z)) (sym is)
+          (opens_first v p.back (good + 1) (can_spell f v k) (omega (arith, lt)) b));
     }
 
 -- ---- good words by the tree, or by where there is none
@@ -84,7 +94,8 @@ part_goes f rest words v good h l g k =
 -- all words that spell a tree
 pub good_all : (words : List Word) (t : DesignTree) → IsSpelling words t → AreGood words (length words)
 good_all words t s = record {
-  begins = (let whole : take (length words) words ≡ words = ap (take (length words)) (sym (append-nil words)) ∙ take-append_seam words [] in subst Opens (sym whole) ([], t, tt, subst (λ (z : List Word). IsSpelling z t) (sym (append-nil words)) s));
+  begins = (let whole : take (length words) words ≡ words = ap (take (length words)) (sym (append-nil words)) ∙ take-append_seam words [] in
+      subst Opens (sym whole) ([], t, tt, subst (λ (z : List Word). IsSpelling z t) (sym (append-nil words)) s));
   stops = λ lt. absurd (omega (arith, lt));
 }
 
@@ -94,9 +105,11 @@ good_front words k s = record { begins = s.begins; stops = s.stops }
 
 -- a text whose words spell no tree
 pub no_tree : (text : List ℕ) (words : List Word) → IsLexed text words → ((t : DesignTree) → ¬ IsSpelling words t) → ¬ IsGrammatical text
-no_tree text words l never g = never g.tree (subst (λ (z : List Word). IsSpelling z g.tree) (sym (one_reading text words g.words l g.lexed)) g.spelled)
+no_tree text words l never g = never g.tree (subst (λ (z : List Word). IsSpelling z g.tree) (sym (one_reading text words g.words l g.lexed))
+    g.spelled)
 
 -- a text whose words spell a tree is of the grammar
-pub spelled_text : (text : List ℕ) (words : List Word) (r : Result DesignTree ParseError) → IsLexed text words → IfOk r (IsSpelling words) → IfOk r (λ t. (g : IsGrammatical text) × (g.tree ≡ t))
+pub spelled_text : (text : List ℕ) (words : List Word) (r : Result DesignTree ParseError) → IsLexed text words → IfOk r (IsSpelling words) →
+    IfOk r (λ t. (g : IsGrammatical text) × (g.tree ≡ t))
 spelled_text text words (Ok t) l e = (record { words = words; lexed = l; tree = t; spelled = e }, refl)
 spelled_text text words (Err f) l e = tt

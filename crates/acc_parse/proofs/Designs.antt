@@ -14,14 +14,17 @@ use Rattle.acc_parse.specs.Faults.{Refuses}
 abbrev pub IsMade : DesignTree → Design → Type 0
 IsMade tree d = IsAllowed tree × (d ≡ design_of tree)
 
-pub stands : (text : List ℕ) (tree : DesignTree) (r : Result Design ParseError) → (g : IsGrammatical text) × (g.tree ≡ tree) → IfOk r (IsMade tree) → IfOk r (IsDesignText text)
+pub stands : (text : List ℕ) (tree : DesignTree) (r : Result Design ParseError) → (g : IsGrammatical text) × (g.tree ≡ tree) →
+    IfOk r (IsMade tree) → IfOk r (IsDesignText text)
 stands text tree (Ok d) g h = record { of = g.0; allowed = subst IsAllowed (sym g.1) h.0; means = h.1 ∙ ap design_of (sym g.1) }
 stands text tree (Err e) g h = tt
 
 nothing_in : {X : Type 0} (xs : List X) (x : X) → xs ≡ [] → Contains xs x → ⊥
 nothing_in xs x e h = let c = subst (λ ys. Contains ys x) e h in omega (arith, c.1)
 
-pub only_one : (text : List ℕ) (tree : DesignTree) (r : Result Design ParseError) → ((g : IsGrammatical text) → tree ≡ g.tree) → IfOk r (IsMade tree) → IfErr r (Refuses text) → (d : Design) → IsDesignText text d → MatchResult r (λ found. found ≡ d) (λ e. e ≡ errors.Memory)
+pub only_one : (text : List ℕ) (tree : DesignTree) (r : Result Design ParseError) → ((g : IsGrammatical text) → tree ≡ g.tree) →
+    IfOk r (IsMade tree) → IfErr r (Refuses text) → (d : Design) → IsDesignText text d →
+    MatchResult r (λ found. found ≡ d) (λ e. e ≡ errors.Memory)
 only_one text tree (Ok found) same made refused d t = made.1 ∙ ap design_of (same t.of) ∙ sym t.means
 only_one text tree (Err (errors.Syntax line)) same made refused d t = absurd (refused.none t.of)
 only_one text tree (Err (errors.Name line)) same made refused d t =

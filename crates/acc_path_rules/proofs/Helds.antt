@@ -17,10 +17,12 @@ use Rattle.acc_path_rules.specs.declared.orders.Ordered.{Ordered}
 use Rattle.acc_path_rules.specs.Orders.{after_ordered}
 use Rattle.acc_path_rules.specs.Helds.{ordered_of}
 
-module _ (r : Result (Unit {0}) ObligError) (old new : List Sequent) (origin : Origin) (s : Setting) (q : Rest) (pairs : List Rel) (c : Clause) where
+module _ (r : Result (Unit {0}) ObligError) (old new : List Sequent) (origin : Origin) (s : Setting) (q : Rest) (pairs : List Rel)
+    (c : Clause) where
   pub spare_added :
       (own vars : ℕ) (o : Ordered) (acts : List Action) (n : Naming)
-      → own ≡ step_vars s + (length q.x.locals + 1) → vars ≡ own + length c.vars → o ≡ ordered_of origin s q vars pairs → acts ≡ path_actions s vars
+      → own ≡ step_vars s + (length q.x.locals + 1) → vars ≡ own + length c.vars → o ≡ ordered_of origin s q vars pairs →
+      acts ≡ path_actions s vars
       → n ≡ own_naming (held_names s (length q.x.locals)) own (length c.vars) → Adds r old new (after_ordered o acts n c)
       → Adds r old new (spare_drafts (at_case origin) s q.p.clauses (length q.x.locals) pairs c)
   spare_added own vars o acts n eo ev ed ea en a =

@@ -46,7 +46,8 @@ by_entry_is origin s side clauses held c (Some e) = by (list_any (λ p. true) e.
   where
     by :
         (b : Bool)
-        → of_some (λ (pairs : List Rel). spare_drafts origin s clauses held pairs c) (if b then Some (pairs_differ s side e.pairs ∷ []) else None)
+        → of_some (λ (pairs : List Rel). spare_drafts origin s clauses held pairs c)
+        (if b then Some (pairs_differ s side e.pairs ∷ []) else None)
         ≡ (if b then spare_drafts origin s clauses held (pairs_differ s side e.pairs ∷ []) c else [])
     by true = refl
     by false = refl
@@ -58,7 +59,8 @@ module _ (r : Result (Unit {0}) ObligError) (old new : List Sequent) (d : Design
       of_some (λ (pairs : List Rel). spare_drafts (path_origin 3 (Some held.at) k q.w) (setting_at d q) held.p.clauses
       (length held.x.locals) pairs c) o
 
-  pub spare_skipped : clause_names q.path.actions c ≡ false → Adds r old new [] → Adds r old new (at_stop (spare_at d held.at held.x held.p k c) q)
+  pub spare_skipped : clause_names q.path.actions c ≡ false → Adds r old new [] →
+      Adds r old new (at_stop (spare_at d held.at held.x held.p k c) q)
   spare_skipped e a =
       let entry = entry_for d.entries held.at q.w.at q.w.side in
       let s = setting_at d q in

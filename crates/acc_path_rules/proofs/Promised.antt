@@ -40,7 +40,8 @@ pub promise_added :
     → Adds r old new (of_some (path_drafts 1 (setting_at d q) k q.w (last_now (setting_at d q) ++ (setting_at d q).locals ∷ [])) o)
     → Adds r old new (at_stop (promise_at d k) q)
 promise_added r old new d k q o e a =
-    subst (λ o. Adds r old new (of_some (path_drafts 1 (setting_at d q) k q.w (last_now (setting_at d q) ++ (setting_at d q).locals ∷ [])) o)) e a
+    subst (λ o. Adds r old new (of_some (path_drafts 1 (setting_at d q) k q.w (last_now (setting_at d q) ++ (setting_at d q).locals ∷ []))
+    o)) e a
 
 pub got_at :
     {X : Type 0} (xs : List X) (i : ℕ) (r : Option (Bor X)) → is_some r ≡ nat_lt i (length xs) → IfSome r (λ x. x.now ≡ get_or xs i x.now)

@@ -1,5 +1,6 @@
 -- Transactions whose frames have their own numbers, and numbers in range.
-use Rattle.std.proofs.Common.{◌≡◌, ℕ, zero, suc, ◌+◌, ◌-◌, ◌<◌, ◌≤◌, ◌^◌, List, [], ◌∷◌, ◌++◌, length, Bool, true, false, Option, Some, None, refl, sym, ap, subst, arith, set, pos, length-append}
+use Rattle.std.proofs.Common.{◌≡◌, ℕ, zero, suc, ◌+◌, ◌-◌, ◌<◌, ◌≤◌, ◌^◌, List, [], ◌∷◌, ◌++◌, length, Bool, true, false, Option, Some}
+use Rattle.std.proofs.Common.{None, refl, sym, ap, subst, arith, set, pos, length-append}
 use Rattle.std.specs.Prelude.{◌==◌, ◌&&◌, nat_le, slice_get, All, IfSome, replicate}
 use Rattle.std.specs.List.{list_all}
 use Rattle.std.proofs.lemmas.Bool.Decides.{nat_tests}
@@ -92,19 +93,25 @@ call_parts x call h =
     let params = list_all is_small call.params in
     let tape = list_all is_small call.tape in
     let short = nat_le (length call.tape) 4096 in
-    let a = and_left ((((length call.params == x.params) && list_all is_small call.params) && list_all is_small call.tape) && nat_le (length call.tape) 4096) (ask_fits call.ask) h in
-    let b = and_left (((length call.params == x.params) && list_all is_small call.params) && list_all is_small call.tape) (nat_le (length call.tape) 4096) a in
+    let a = and_left ((((length call.params == x.params) && list_all is_small call.params) && list_all is_small call.tape) && nat_le
+    (length call.tape) 4096) (ask_fits call.ask) h in
+    let b = and_left (((length call.params == x.params) && list_all is_small call.params) && list_all is_small call.tape)
+    (nat_le (length call.tape) 4096) a in
     let e = and_left ((length call.params == x.params) && list_all is_small call.params) (list_all is_small call.tape) b in
     let k : (length call.params == x.params) ≡ true = and_left (length call.params == x.params) (list_all is_small call.params) e in
-    let s : nat_le (length call.tape) 4096 ≡ true = and_right (((length call.params == x.params) && list_all is_small call.params) && list_all is_small call.tape) (nat_le (length call.tape) 4096) a in
+    let s : nat_le (length call.tape) 4096 ≡ true =
+    and_right (((length call.params == x.params) && list_all is_small call.params) && list_all is_small call.tape)
+    (nat_le (length call.tape) 4096) a in
     record {
       count = grind (arith, nat_tests);
       params = all_small call.params (and_right (length call.params == x.params) (list_all is_small call.params) e);
-      tape = all_small call.tape (and_right ((length call.params == x.params) && list_all is_small call.params) (list_all is_small call.tape) b);
+      tape = all_small call.tape (and_right ((length call.params == x.params) && list_all is_small call.params)
+          (list_all is_small call.tape) b);
       short = grind (arith, nat_tests);
     }
 
-begun_by : (d : Design) (n : ℕ) (call : Call) (x : Option TxType) → IsRunnable d → slice_get d.types call.ty ≡ x → call_fits x call ≡ true → Fits n (Forward (begun d n call))
+begun_by : (d : Design) (n : ℕ) (call : Call) (x : Option TxType) → IsRunnable d → slice_get d.types call.ty ≡ x → call_fits x call ≡ true →
+    Fits n (Forward (begun d n call))
 begun_by d n call None can at h = absurd cc
 begun_by d n call (Some x) can at h =
     let parts = call_parts x call h in
@@ -127,5 +134,6 @@ begun_by d n call (Some x) can at h =
     }
 
 -- a transaction that begins fits
-pub begun_fits : (d : Design) (n : ℕ) (call : Call) → IsRunnable d → call_fits (slice_get d.types call.ty) call ≡ true → Fits n (Forward (begun d n call))
+pub begun_fits : (d : Design) (n : ℕ) (call : Call) → IsRunnable d → call_fits (slice_get d.types call.ty) call ≡ true →
+    Fits n (Forward (begun d n call))
 begun_fits d n call can h = begun_by d n call (slice_get d.types call.ty) can refl h

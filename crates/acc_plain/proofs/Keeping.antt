@@ -1,5 +1,6 @@
 -- How transactions are kept: where the frame of one stands, and what is kept after a change of it.
-use Rattle.std.proofs.Common.{◌≡◌, ℕ, zero, suc, ◌+◌, ◌-◌, ◌<◌, ◌≤◌, List, [], ◌∷◌, ◌++◌, length, map, Option, Some, None, refl, sym, ap, subst, ◌∙◌, arith, set, get_or, remove, filter_map, IfSome, IsSome, IsSomeAnd, slice_get}
+use Rattle.std.proofs.Common.{◌≡◌, ℕ, zero, suc, ◌+◌, ◌-◌, ◌<◌, ◌≤◌, List, [], ◌∷◌, ◌++◌, length, map, Option, Some, None, refl, sym, ap}
+use Rattle.std.proofs.Common.{subst, ◌∙◌, arith, set, get_or, remove, filter_map, IfSome, IsSome, IsSomeAnd, slice_get}
 use Rattle.std.specs.List.{cons_option}
 use Rattle.std.specs.Prelude.{option_and_then}
 use Rattle.std.proofs.lemmas.List.{map-set, map-append, length-map}
@@ -32,23 +33,31 @@ pub record KeepsThem (progresses : List Progress) (frames : List Frame) (ts : Li
   pub kept : AreKept progresses frames
   pub are : joined progresses frames ≡ ts
 
-pub keeps_them : (ps : List Progress) (fs : List Frame) (ts : List Transaction) → ps ≡ map progress_of ts → fs ≡ filter_map frame_in ts → AreNumbered 1 ts → KeepsThem ps fs ts
+pub keeps_them : (ps : List Progress) (fs : List Frame) (ts : List Transaction) → ps ≡ map progress_of ts → fs ≡ filter_map frame_in ts →
+    AreNumbered 1 ts → KeepsThem ps fs ts
 keeps_them ps fs ts p f n =
     let same : joined ps fs ≡ ts = (λ i. joined (p i) (f i)) ∙ joined_again ts in
     record {
-      kept = record { progresses = ap (map progress_of) same ∙ sym p; frames = ap (filter_map frame_in) same ∙ sym f; numbered = subst (AreNumbered 1) (sym same) n };
+      kept = record {
+        progresses = ap (map progress_of) same ∙ sym p;
+        frames = ap (filter_map frame_in) same ∙ sym f;
+        numbered =
+            subst (AreNumbered 1) (sym same) n;
+      };
       are = same;
     }
 
 -- ---- numbers
 
-numbered_push : (n : ℕ) (xs : List Transaction) (y : Transaction) → AreNumbered n xs → IsNumbered (n + length xs) y → AreNumbered n (xs ++ y ∷ [])
+numbered_push : (n : ℕ) (xs : List Transaction) (y : Transaction) → AreNumbered n xs → IsNumbered (n + length xs) y →
+    AreNumbered n (xs ++ y ∷ [])
 numbered_push n [] y h k = let e : n + 0 ≡ n = omega arith in (subst (λ (m : ℕ). IsNumbered m y) e k, tt)
 numbered_push n (x ∷ xs) y h k =
     let e : n + length (x ∷ xs) ≡ (n + 1) + length xs = omega arith in
     (h.0, numbered_push (n + 1) xs y h.1 (subst (λ (m : ℕ). IsNumbered m y) e k))
 
-numbered_set : (n : ℕ) (xs : List Transaction) (i : ℕ) (y : Transaction) → AreNumbered n xs → IsNumbered (n + i) y → AreNumbered n (set xs i y)
+numbered_set : (n : ℕ) (xs : List Transaction) (i : ℕ) (y : Transaction) → AreNumbered n xs → IsNumbered (n + i) y →
+    AreNumbered n (set xs i y)
 numbered_set n [] i y h k = tt
 numbered_set n (x ∷ xs) zero y h k = let e : n + 0 ≡ n = omega arith in (subst (λ (m : ℕ). IsNumbered m y) e k, h.1)
 numbered_set n (x ∷ xs) (suc i) y h k =
@@ -65,11 +74,14 @@ numbered_get n (y ∷ xs) (suc i) x h e =
     let k : (n + 1) + i ≡ n + suc i = omega arith in
     subst (λ (m : ℕ). IsNumbered m x) k (numbered_get (n + 1) xs i x h.1 e)
 
-from_on : (n : ℕ) (ts : List Transaction) → AreNumbered n ts → (i : ℕ) (d : Frame) → i < length (filter_map frame_in ts) → n ≤ (get_or (filter_map frame_in ts) i d).t
+from_on : (n : ℕ) (ts : List Transaction) → AreNumbered n ts → (i : ℕ) (d : Frame) → i < length (filter_map frame_in ts) →
+    n ≤ (get_or (filter_map frame_in ts) i d).t
 from_on n [] h i d lt = absurd (omega arith)
 from_on n (x ∷ ts) h i d lt = by (frame_in x) h.0 i lt (from_on (n + 1) ts h.1)
   where
-    by : (o : Option Frame) → IfSome o (λ f. f.t ≡ n) → (i : ℕ) → i < length (cons_option o (filter_map frame_in ts)) → ((i : ℕ) (d : Frame) → i < length (filter_map frame_in ts) → n + 1 ≤ (get_or (filter_map frame_in ts) i d).t) → n ≤ (get_or (cons_option o (filter_map frame_in ts)) i d).t
+    by : (o : Option Frame) → IfSome o (λ f. f.t ≡ n) → (i : ℕ) → i < length (cons_option o (filter_map frame_in ts)) →
+        ((i : ℕ) (d : Frame) → i < length (filter_map frame_in ts) → n + 1 ≤ (get_or (filter_map frame_in ts) i d).t) →
+        n ≤ (get_or (cons_option o (filter_map frame_in ts)) i d).t
     by None k i lt rest = let m = rest i d lt in omega arith
     by (Some f) k zero lt rest = omega (arith, k)
     by (Some f) k (suc i) lt rest = let m = rest i d (omega arith) in omega arith
@@ -78,7 +90,9 @@ pub rising : (n : ℕ) (ts : List Transaction) → AreNumbered n ts → IsRising
 rising n [] h i j d lt within = absurd (omega arith)
 rising n (x ∷ ts) h i j d lt within = by (frame_in x) h.0 i j lt within (rising (n + 1) ts h.1)
   where
-    by : (o : Option Frame) → IfSome o (λ f. f.t ≡ n) → (i j : ℕ) → i < j → j < length (cons_option o (filter_map frame_in ts)) → IsRising (filter_map frame_in ts) → (get_or (cons_option o (filter_map frame_in ts)) i d).t < (get_or (cons_option o (filter_map frame_in ts)) j d).t
+    by : (o : Option Frame) → IfSome o (λ f. f.t ≡ n) → (i j : ℕ) → i < j → j < length (cons_option o (filter_map frame_in ts)) →
+        IsRising (filter_map frame_in ts) → (get_or (cons_option o (filter_map frame_in ts)) i d).t <
+        (get_or (cons_option o (filter_map frame_in ts)) j d).t
     by None k i j lt within rest = rest i j d lt within
     by (Some f) k i zero lt within rest = absurd (omega arith)
     by (Some f) k zero (suc j) lt within rest = let m = from_on (n + 1) ts h.1 j d (omega arith) in omega (arith, k)
@@ -97,12 +111,21 @@ first_kept : (z : Transaction) (ts : List Transaction) (f : Frame) → frame_in 
 first_kept z ts f e = record {
   place = zero;
   found = ap (λ (o : Option Frame). slice_get (cons_option o (filter_map frame_in ts)) zero) e;
-  stays = λ y g is. ap (λ (o : Option Frame). cons_option o (filter_map frame_in ts)) is ∙ sym (ap (λ (o : Option Frame). set (cons_option o (filter_map frame_in ts)) zero g) e);
-  ends = λ y is. ap (λ (o : Option Frame). cons_option o (filter_map frame_in ts)) is ∙ sym (ap (λ (o : Option Frame). remove (cons_option o (filter_map frame_in ts)) zero) e);
+  stays = λ y g is. ap (λ (o : Option Frame). cons_option o (filter_map frame_in ts)) is ∙ sym
+      (ap (λ (o : Option Frame). set (cons_option o (filter_map frame_in ts)) zero g) e);
+  ends = λ y is. ap (λ (o : Option Frame). cons_option o (filter_map frame_in ts)) is ∙ sym
+      (ap (λ (o : Option Frame). remove (cons_option o (filter_map frame_in ts)) zero) e);
 }
 
-more_kept : (z : Transaction) (ts : List Transaction) (i : ℕ) (f : Frame) (o : Option Frame) → frame_in z ≡ o → IsKeptAt ts i f → IsKeptAt (z ∷ ts) (suc i) f
-more_kept z ts i f None e k = record { place = k.place; found = rw e k.found; stays = λ y g is. rw e (k.stays y g is); ends = λ y is. rw e (k.ends y is) }
+more_kept : (z : Transaction) (ts : List Transaction) (i : ℕ) (f : Frame) (o : Option Frame) → frame_in z ≡ o → IsKeptAt ts i f →
+    IsKeptAt (z ∷ ts) (suc i) f
+more_kept z ts i f None e k = record {
+  place = k.place;
+  found = rw e k.found;
+  stays = λ y g is. rw e (k.stays y g is);
+  ends =
+      λ y is. rw e (k.ends y is);
+}
 more_kept z ts i f (Some h) e k = record {
   place = suc k.place;
   found = rw e k.found;
@@ -152,7 +175,8 @@ record HasFrame (t : ℕ) (ts : List Transaction) : Type 0 where
   is : transaction_at t ts ≡ Some x
   frame : frame_in x ≡ Some f
 
-frame_of : (t : ℕ) (ts : List Transaction) (o : Option Transaction) → transaction_at t ts ≡ o → IsSomeAnd o (λ x. IsSome (frame_in x)) → HasFrame t ts
+frame_of : (t : ℕ) (ts : List Transaction) (o : Option Transaction) → transaction_at t ts ≡ o → IsSomeAnd o (λ x. IsSome (frame_in x)) →
+    HasFrame t ts
 frame_of t ts None e h = absurd h
 frame_of t ts (Some x) e h = by (frame_in x) refl h
   where
@@ -160,7 +184,8 @@ frame_of t ts (Some x) e h = by (frame_in x) refl h
     by None is k = absurd cc
     by (Some f) is k = record { x = x; f = f; is = e; frame = is }
 
-pub opened : (ps : List Progress) (fs : List Frame) (t : ℕ) → AreKept ps fs → IsSomeAnd (transaction_at t (joined ps fs)) (λ x. IsSome (frame_in x)) → IsOpen ps fs t
+pub opened : (ps : List Progress) (fs : List Frame) (t : ℕ) → AreKept ps fs →
+    IsSomeAnd (transaction_at t (joined ps fs)) (λ x. IsSome (frame_in x)) → IsOpen ps fs t
 opened ps fs t kept h =
     let ts = joined ps fs in
     let k = frame_of t ts (transaction_at t ts) refl h in
@@ -191,7 +216,11 @@ module _ (ps : List Progress) (fs : List Frame) (t : ℕ) (kept : AreKept ps fs)
   frames_rise = subst IsRising kept.frames (rising 1 (joined ps fs) kept.numbered)
 
   stands_at : IsAt fs t o.place
-  stands_at = record { within = slice_get_within fs o.place o.f o.found; number = λ d. ap (λ (f : Frame). f.t) (get_or_from_slice_get fs o.place o.f d o.found) ∙ o.number }
+  stands_at = record {
+    within = slice_get_within fs o.place o.f o.found;
+    number =
+        λ d. ap (λ (f : Frame). f.t) (get_or_from_slice_get fs o.place o.f d o.found) ∙ o.number;
+  }
 
   pub is_held : Holds fs t
   is_held = record { place = o.place; at = stands_at }
@@ -205,20 +234,25 @@ module _ (ps : List Progress) (fs : List Frame) (t : ℕ) (kept : AreKept ps fs)
 
   -- ---- what is kept after a change of it
 
-  after : (ps2 : List Progress) (fs2 : List Frame) (y : Transaction) → ps2 ≡ map progress_of (set (joined ps fs) (t - 1) y) → fs2 ≡ filter_map frame_in (set (joined ps fs) (t - 1) y) → IsNumbered t y → KeepsThem ps2 fs2 (set (joined ps fs) (t - 1) y)
+  after : (ps2 : List Progress) (fs2 : List Frame) (y : Transaction) → ps2 ≡ map progress_of (set (joined ps fs) (t - 1) y) →
+      fs2 ≡ filter_map frame_in (set (joined ps fs) (t - 1) y) → IsNumbered t y → KeepsThem ps2 fs2 (set (joined ps fs) (t - 1) y)
   after ps2 fs2 y p f n =
       let from = o.from_one in
       let same : t ≡ 1 + (t - 1) = omega arith in
-      keeps_them ps2 fs2 (set (joined ps fs) (t - 1) y) p f (numbered_set 1 (joined ps fs) (t - 1) y kept.numbered (subst (λ (m : ℕ). IsNumbered m y) same n))
+      keeps_them ps2 fs2 (set (joined ps fs) (t - 1) y) p f
+      (numbered_set 1 (joined ps fs) (t - 1) y kept.numbered (subst (λ (m : ℕ). IsNumbered m y) same n))
 
   progress_set : (y : Transaction) (p : Progress) → progress_of y ≡ p → set ps (t - 1) p ≡ map progress_of (set (joined ps fs) (t - 1) y)
   progress_set y p is =
       (λ i. set (sym kept.progresses i) (t - 1) (sym is i)) ∙ sym (map-set progress_of (joined ps fs) (t - 1) y)
 
-  pub turns_kept : (at : ℕ) (c : Cause) (fs2 : List Frame) (x : Transaction) → IsAt fs t at → ((f : Frame) → slice_get fs at ≡ Some f → fs2 ≡ set fs at (turned_back f)) → x ≡ o.x → KeepsThem (set ps (t - 1) (progress.Undoing c)) fs2 (set (joined ps fs) (t - 1) (left_by (Turns c) x))
+  pub turns_kept : (at : ℕ) (c : Cause) (fs2 : List Frame) (x : Transaction) → IsAt fs t at →
+      ((f : Frame) → slice_get fs at ≡ Some f → fs2 ≡ set fs at (turned_back f)) → x ≡ o.x →
+      KeepsThem (set ps (t - 1) (progress.Undoing c)) fs2 (set (joined ps fs) (t - 1) (left_by (Turns c) x))
   turns_kept at c fs2 x h turned is =
       let frame : frame_in (left_by (Turns c) x) ≡ Some (turned_back o.f) = turned_frame x c o.f (ap frame_in is ∙ o.frame) in
-      let frames : fs2 ≡ set fs o.place (turned_back o.f) = turned o.f (found_at at h) ∙ ap (λ (i : ℕ). set fs i (turned_back o.f)) (place_is at h) in
+      let frames : fs2 ≡ set fs o.place (turned_back o.f) =
+      turned o.f (found_at at h) ∙ ap (λ (i : ℕ). set fs i (turned_back o.f)) (place_is at h) in
       after (set ps (t - 1) (progress.Undoing c)) fs2 (left_by (Turns c) x)
       (progress_set (left_by (Turns c) x) (progress.Undoing c) (turned_progress x c o.f (ap frame_in is ∙ o.frame)))
       (frames ∙ o.stays (left_by (Turns c) x) (turned_back o.f) frame)
@@ -229,32 +263,41 @@ module _ (ps : List Progress) (fs : List Frame) (t : ℕ) (kept : AreKept ps fs)
       turned_frame (Undoing g b) c f e = let k : g ≡ f = cc in ap (λ (z : Frame). Some (turned_back z)) k
       turned_frame (Ended reply) c f e = absurd cc
 
-      turned_progress : (x : Transaction) (c : Cause) (f : Frame) → frame_in x ≡ Some f → progress_of (left_by (Turns c) x) ≡ progress.Undoing c
+      turned_progress : (x : Transaction) (c : Cause) (f : Frame) → frame_in x ≡ Some f →
+          progress_of (left_by (Turns c) x) ≡ progress.Undoing c
       turned_progress (Forward g) c f e = refl
       turned_progress (Undoing g b) c f e = refl
       turned_progress (Ended reply) c f e = absurd cc
 
-  pub stands_kept : (at : ℕ) (s : Standing) (fs2 : List Frame) (x : Transaction) → IsAt fs t at → ((f : Frame) → slice_get fs at ≡ Some f → fs2 ≡ set fs at (standing_at s f)) → x ≡ o.x → KeepsThem ps fs2 (set (joined ps fs) (t - 1) (left_by (Stands s) x))
+  pub stands_kept : (at : ℕ) (s : Standing) (fs2 : List Frame) (x : Transaction) → IsAt fs t at →
+      ((f : Frame) → slice_get fs at ≡ Some f → fs2 ≡ set fs at (standing_at s f)) → x ≡ o.x →
+      KeepsThem ps fs2 (set (joined ps fs) (t - 1) (left_by (Stands s) x))
   stands_kept at s fs2 x h stood is =
       let frame : frame_in (left_by (Stands s) x) ≡ Some (standing_at s o.f) = stood_frame x s o.f (ap frame_in is ∙ o.frame) in
-      let frames : fs2 ≡ set fs o.place (standing_at s o.f) = stood o.f (found_at at h) ∙ ap (λ (i : ℕ). set fs i (standing_at s o.f)) (place_is at h) in
+      let frames : fs2 ≡ set fs o.place (standing_at s o.f) =
+      stood o.f (found_at at h) ∙ ap (λ (i : ℕ). set fs i (standing_at s o.f)) (place_is at h) in
       let got : slice_get (joined ps fs) (t - 1) ≡ Some x = o.got ∙ ap (λ (z : Transaction). Some z) (sym is) in
       after ps fs2 (left_by (Stands s) x)
-      (sym kept.progresses ∙ ap (map progress_of) (sym (set_as_is (joined ps fs) (t - 1) x got)) ∙ map-set progress_of (joined ps fs) (t - 1) x ∙ ap (set (map progress_of (joined ps fs)) (t - 1)) (stood_progress x s o.f (ap frame_in is ∙ o.frame)) ∙ sym (map-set progress_of (joined ps fs) (t - 1) (left_by (Stands s) x)))
+      (sym kept.progresses ∙ ap (map progress_of) (sym (set_as_is (joined ps fs) (t - 1) x got)) ∙ map-set progress_of (joined ps fs)
+      (t - 1) x ∙ ap (set (map progress_of (joined ps fs)) (t - 1)) (stood_progress x s o.f (ap frame_in is ∙ o.frame)) ∙ sym
+      (map-set progress_of (joined ps fs) (t - 1) (left_by (Stands s) x)))
       (frames ∙ o.stays (left_by (Stands s) x) (standing_at s o.f) frame)
       (subst (λ (z : Option Frame). IfSome z (λ f. f.t ≡ t)) (sym frame) o.number)
     where
-      stood_frame : (x : Transaction) (s : Standing) (f : Frame) → frame_in x ≡ Some f → frame_in (left_by (Stands s) x) ≡ Some (standing_at s f)
+      stood_frame : (x : Transaction) (s : Standing) (f : Frame) → frame_in x ≡ Some f →
+          frame_in (left_by (Stands s) x) ≡ Some (standing_at s f)
       stood_frame (Forward g) s f e = let k : g ≡ f = cc in ap (λ (z : Frame). Some (standing_at s z)) k
       stood_frame (Undoing g b) s f e = let k : g ≡ f = cc in ap (λ (z : Frame). Some (standing_at s z)) k
       stood_frame (Ended reply) s f e = absurd cc
 
-      stood_progress : (x : Transaction) (s : Standing) (f : Frame) → frame_in x ≡ Some f → progress_of x ≡ progress_of (left_by (Stands s) x)
+      stood_progress : (x : Transaction) (s : Standing) (f : Frame) → frame_in x ≡ Some f →
+          progress_of x ≡ progress_of (left_by (Stands s) x)
       stood_progress (Forward g) s f e = refl
       stood_progress (Undoing g b) s f e = refl
       stood_progress (Ended reply) s f e = absurd cc
 
-  pub ends_kept : (at : ℕ) (reply : Reply) (fs2 : List Frame) (x : Transaction) → IsAt fs t at → fs2 ≡ remove fs at → x ≡ o.x → KeepsThem (set ps (t - 1) (progress.Ended reply)) fs2 (set (joined ps fs) (t - 1) (left_by (Ends reply) x))
+  pub ends_kept : (at : ℕ) (reply : Reply) (fs2 : List Frame) (x : Transaction) → IsAt fs t at → fs2 ≡ remove fs at → x ≡ o.x →
+      KeepsThem (set ps (t - 1) (progress.Ended reply)) fs2 (set (joined ps fs) (t - 1) (left_by (Ends reply) x))
   ends_kept at reply fs2 x h removed is =
       after (set ps (t - 1) (progress.Ended reply)) fs2 (left_by (Ends reply) x)
       (progress_set (left_by (Ends reply) x) (progress.Ended reply) refl)
@@ -262,9 +305,11 @@ module _ (ps : List Progress) (fs : List Frame) (t : ℕ) (kept : AreKept ps fs)
       tt
 
 -- what is read of an unfinished transaction
-pub frame_read : (ps : List Progress) (fs : List Frame) (t : ℕ) (kept : AreKept ps fs) (o : IsOpen ps fs t) (at : ℕ) (f : Frame) → IsAt fs t at → f ≡ get_or fs at f → option_and_then frame_in (transaction_at t (joined ps fs)) ≡ Some f
+pub frame_read : (ps : List Progress) (fs : List Frame) (t : ℕ) (kept : AreKept ps fs) (o : IsOpen ps fs t) (at : ℕ) (f : Frame) →
+    IsAt fs t at → f ≡ get_or fs at f → option_and_then frame_in (transaction_at t (joined ps fs)) ≡ Some f
 frame_read ps fs t kept o at f h read =
-    ap (option_and_then frame_in) o.is ∙ o.frame ∙ ap (λ (z : Frame). Some z) (sym (get_or_from_slice_get fs at o.f f (found_at ps fs t kept o at h)) ∙ sym read)
+    ap (option_and_then frame_in) o.is ∙ o.frame ∙ ap (λ (z : Frame). Some z)
+    (sym (get_or_from_slice_get fs at o.f f (found_at ps fs t kept o at h)) ∙ sym read)
 
 -- it is one of those that are kept
 pub number_within : (ps : List Progress) (fs : List Frame) (t : ℕ) (kept : AreKept ps fs) (o : IsOpen ps fs t) → t ≤ length ps
@@ -276,7 +321,8 @@ number_within ps fs t kept o =
     omega arith
 
 -- a transaction that begins
-pub begins_kept : (ps : List Progress) (fs : List Frame) (f : Frame) → AreKept ps fs → f.t ≡ length (joined ps fs) + 1 → KeepsThem (ps ++ progress.Forward ∷ []) (fs ++ f ∷ []) (joined ps fs ++ Forward f ∷ [])
+pub begins_kept : (ps : List Progress) (fs : List Frame) (f : Frame) → AreKept ps fs → f.t ≡ length (joined ps fs) + 1 →
+    KeepsThem (ps ++ progress.Forward ∷ []) (fs ++ f ∷ []) (joined ps fs ++ Forward f ∷ [])
 begins_kept ps fs f kept number =
     let ts = joined ps fs in
     let own : f.t ≡ 1 + length ts = omega (arith, number) in
@@ -286,5 +332,6 @@ begins_kept ps fs f kept number =
     (numbered_push 1 ts (Forward f) kept.numbered own)
 
 -- the transaction of that number is the one that is open
-pub same_open : (ps : List Progress) (fs : List Frame) (t : ℕ) (o : IsOpen ps fs t) (x : Transaction) → transaction_at t (joined ps fs) ≡ Some x → x ≡ o.x
+pub same_open : (ps : List Progress) (fs : List Frame) (t : ℕ) (o : IsOpen ps fs t) (x : Transaction) →
+    transaction_at t (joined ps fs) ≡ Some x → x ≡ o.x
 same_open ps fs t o x at = let e : Some x ≡ Some o.x = sym at ∙ o.is in cc

@@ -1,5 +1,6 @@
 -- An unfinished transaction of a state that is reached can take its turn.
-use Rattle.std.proofs.Common.{◌≡◌, ℕ, ◌-◌, ◌<◌, ◌≤◌, ◌^◌, List, [], ◌∷◌, ◌++◌, length, Option, Some, None, sym, ap, ◌∙◌, arith, set, length-append}
+use Rattle.std.proofs.Common.{◌≡◌, ℕ, ◌-◌, ◌<◌, ◌≤◌, ◌^◌, List, [], ◌∷◌, ◌++◌, length, Option, Some, None, sym, ap, ◌∙◌, arith, set}
+use Rattle.std.proofs.Common.{length-append}
 use Rattle.std.specs.Prelude.{slice_get, IfSome}
 use Rattle.acc_base.specs.declared.tables.Row.{Row}
 use Rattle.acc_base.specs.declared.designs.Design.{Design}
@@ -75,15 +76,23 @@ module _ (d : Design) (w : World) (t : ℕ) (r : IsReady t w) (c : Change) (chan
       let next = reached_next d w c.event (became w c.event t (written c.writes w.rows, left_by c.becomes r.x)) reached after_turn in
       let count = length-append w.events (c.event ∷ []) in
       let long : length (w.events ++ c.event ∷ []) ≤ 2 ^ 31 = omega arith in
-      sums_stay (became w c.event t (written c.writes w.rows, left_by c.becomes r.x)) (steady_reached d (became w c.event t (written c.writes w.rows, left_by c.becomes r.x)) next (omega arith)) long
+      sums_stay (became w c.event t (written c.writes w.rows, left_by c.becomes r.x))
+      (steady_reached d (became w c.event t (written c.writes w.rows, left_by c.becomes r.x)) next (omega arith)) long
 
   -- the machine's fields after the turn
-  module _ (rows : List Row) (transactions : List Transaction) (events : List Event) (left : rows ≡ written c.writes w.rows) (set_to : transactions ≡ set w.transactions (t - 1) (left_by c.becomes r.x)) (logged : events ≡ w.events ++ c.event ∷ []) where
-    fields_are : became w c.event t (written c.writes w.rows, left_by c.becomes r.x) ≡ record { rows = rows; transactions = transactions; events = events }
+  module _ (rows : List Row) (transactions : List Transaction) (events : List Event) (left : rows ≡ written c.writes w.rows)
+      (set_to : transactions ≡ set w.transactions (t - 1) (left_by c.becomes r.x)) (logged : events ≡ w.events ++ c.event ∷ []) where
+    fields_are : became w c.event t (written c.writes w.rows, left_by c.becomes r.x) ≡ record {
+      rows = rows;
+      transactions = transactions;
+      events = events;
+    }
     fields_are = λ i. record { rows = sym left i; transactions = sym set_to i; events = sym logged i }
 
     pub reached_after : IsReached d w → IsReached d (record { rows = rows; transactions = transactions; events = events })
-    reached_after reached = reached_next d w c.event (record { rows = rows; transactions = transactions; events = events }) reached (after_turn ∙ ap (λ (z : World). Some z) fields_are)
+    reached_after reached = reached_next d w c.event (record { rows = rows; transactions = transactions; events = events }) reached
+        (after_turn ∙ ap (λ (z : World). Some z) fields_are)
 
-    pub turned_so : (turn : Turn) → turn ≡ said c.event (left_by c.becomes r.x) → turn_of d w t ≡ Some (turn, record { rows = rows; transactions = transactions; events = events })
+    pub turned_so : (turn : Turn) → turn ≡ said c.event (left_by c.becomes r.x) →
+        turn_of d w t ≡ Some (turn, record { rows = rows; transactions = transactions; events = events })
     turned_so turn is = turn_is d w t r.x c r.at r.numbered change ∙ (λ i. Some (sym is i, fields_are i))

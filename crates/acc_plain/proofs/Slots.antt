@@ -1,5 +1,6 @@
 -- Frames behind some that have been taken out, and the place of a number.
-use Rattle.std.proofs.Common.{◌≡◌, ℕ, suc, ◌+◌, ◌<◌, ◌≤◌, true, false, List, [], ◌∷◌, ◌++◌, length, Some, sym, ap, ◌∙◌, arith, set, get_or, take, drop, remove, slice_get, nat_lt}
+use Rattle.std.proofs.Common.{◌≡◌, ℕ, suc, ◌+◌, ◌<◌, ◌≤◌, true, false, List, [], ◌∷◌, ◌++◌, length, Some, sym, ap, ◌∙◌, arith, set, get_or}
+use Rattle.std.proofs.Common.{take, drop, remove, slice_get, nat_lt}
 use Rattle.std.specs.List.Sorted.{IsPartitionedBy, IsPartitionPoint}
 use Rattle.std.proofs.lemmas.Bool.Decides.{nat_tests}
 use Rattle.std.proofs.lemmas.List.{drop-set-add, drop-append-le, drop-take, drop-drop, get_or-drop, length-take-le}
@@ -35,12 +36,14 @@ module _ (slots : List Frame) (gone : ℕ) (frames : List Frame) (are : drop gon
 pub below_first : (fs : List Frame) (t : ℕ) → IsRising fs → IsPartitionedBy (λ f. nat_lt f.t t) fs
 below_first fs t up i j d le within h = grind (arith, nat_tests, up i j d)
 
-pub first_not_below : (fs : List Frame) (t i : ℕ) → IsRising fs → Holds fs t → IsPartitionPoint (λ f. nat_lt f.t t ≡ true) (λ f. nat_lt f.t t ≡ false) fs i → IsAt fs t i
+pub first_not_below : (fs : List Frame) (t i : ℕ) → IsRising fs → Holds fs t →
+    IsPartitionPoint (λ f. nat_lt f.t t ≡ true) (λ f. nat_lt f.t t ≡ false) fs i → IsAt fs t i
 first_not_below fs t i up h point =
     let k = h.place in
     let within = h.at.within in
     let number = h.at.number in
-    let not_less : (d : Frame) → k < i → ⊥ = λ d less. let low = point.0 k d (omega arith) less in let own = number d in grind (arith, nat_tests) in
+    let not_less : (d : Frame) → k < i → ⊥ = λ d less. let low = point.0 k d (omega arith) less in let own = number d in
+    grind (arith, nat_tests) in
     record {
       within = place_within fs k i within not_less;
       number = λ d. let own = number d in let high = point.1 i d (omega arith) in grind (arith, nat_tests, up i k d, not_less d, high);

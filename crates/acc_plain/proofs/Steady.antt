@@ -1,5 +1,6 @@
 -- Every state that a run reaches is steady: rows in order, few and near 0, and frames that fit.
-use Rattle.std.proofs.Common.{◌≡◌, ℕ, ◌+◌, ◌-◌, ◌*◌, ◌<◌, ◌≤◌, ◌^◌, List, [], ◌∷◌, ◌++◌, length, Bool, true, false, Option, Some, None, refl, sym, ap, subst, ◌∙◌, arith, set, length-append, length-set}
+use Rattle.std.proofs.Common.{◌≡◌, ℕ, ◌+◌, ◌-◌, ◌*◌, ◌<◌, ◌≤◌, ◌^◌, List, [], ◌∷◌, ◌++◌, length, Bool, true, false, Option, Some, None}
+use Rattle.std.proofs.Common.{refl, sym, ap, subst, ◌∙◌, arith, set, length-append, length-set}
 use Rattle.std.specs.Prelude.{option_and_then, slice_get, if◌then◌else◌}
 use Rattle.std.proofs.lemmas.Option.{slice_get_within}
 use Rattle.acc_base.specs.declared.tables.Row.{Row}
@@ -19,7 +20,9 @@ use Rattle.acc_base.specs.declared.machines.Transaction.TheVariants.{Forward, Un
 use Rattle.acc_base.specs.Tables.{IsInOrder}
 use Rattle.acc_base.specs.Reads.{Reading}
 use Rattle.acc_base.specs.Effects.{Effect, Goes, Refuses, OutOfRange, effect_of}
-use Rattle.acc_base.specs.Machine.{World, start, stop_of, may_turn, after_event, after_events, becomes, became, with_begun, begun, next_number, call_fits, changed, stepped, turned, undone, step_by, forward_by, back_by, forward_to, back_to, with_rows, transaction_at, moved, committed}
+use Rattle.acc_base.specs.Machine.{World, start, stop_of, may_turn, after_event, after_events, becomes, became, with_begun, begun}
+use Rattle.acc_base.specs.Machine.{next_number, call_fits, changed, stepped, turned, undone, step_by, forward_by, back_by, forward_to}
+use Rattle.acc_base.specs.Machine.{back_to, with_rows, transaction_at, moved, committed}
 use Rattle.acc_base.specs.Runnable.{IsRunnable}
 use Rattle.acc_store.specs.Bounds.{AreWithin}
 use Rattle.acc_store.specs.Rows.{SumsFit}
@@ -45,7 +48,8 @@ pub record IsSteady (n : ℕ) (rows : List Row) (transactions : List Transaction
   pub fit : AreFit 1 transactions
 
 -- one more event that leaves the rows, and adds a transaction at most
-steady_longer : (n : ℕ) (rows : List Row) (transactions more : List Transaction) → IsSteady n rows transactions → length more ≤ n + 1 → AreFit 1 more → IsSteady (n + 1) rows more
+steady_longer : (n : ℕ) (rows : List Row) (transactions more : List Transaction) → IsSteady n rows transactions → length more ≤ n + 1 →
+    AreFit 1 more → IsSteady (n + 1) rows more
 steady_longer n rows transactions more s count fit =
     let few = s.few in
     record {
@@ -63,7 +67,8 @@ record Left (n t : ℕ) (x : List Row × Transaction) : Type 0 where
   within : AreWithin (reach n + 16 * 2 ^ 45) x.0
   fits : Fits t x.1
 
-steady_left : (n t : ℕ) (rows : List Row) (transactions : List Transaction) (x : List Row × Transaction) → IsSteady n rows transactions → 0 < t → Left n t x → IsSteady (n + 1) x.0 (set transactions (t - 1) x.1)
+steady_left : (n t : ℕ) (rows : List Row) (transactions : List Transaction) (x : List Row × Transaction) → IsSteady n rows transactions →
+    0 < t → Left n t x → IsSteady (n + 1) x.0 (set transactions (t - 1) x.1)
 steady_left n t rows transactions x s from left =
     let few = left.few in
     let counted = s.counted in
@@ -78,24 +83,35 @@ steady_left n t rows transactions x s from left =
 
 -- ---- the frame after a step
 
-stands : (n t : ℕ) (f : Frame) (after : List Row) (s : Reading) (side : Side) (p m : ℕ) → IsOwn t f → Leaves m n f after s → IsOwn t (moved side f s p)
+stands : (n t : ℕ) (f : Frame) (after : List Row) (s : Reading) (side : Side) (p m : ℕ) → IsOwn t f → Leaves m n f after s →
+    IsOwn t (moved side f s p)
 stands n t f after s Next p m own l =
     let few = own.fitting.few in
     let kept = l.kept in
-    record { number = own.number; fitting = record { locals = l.small; few = omega arith; tape = own.fitting.tape; long = own.fitting.long } }
+    record {
+      number = own.number;
+      fitting = record { locals = l.small; few = omega arith; tape = own.fitting.tape; long = own.fitting.long };
+    }
 stands n t f after s UndoSide p m own l =
     let few = own.fitting.few in
     let kept = l.kept in
-    record { number = own.number; fitting = record { locals = l.small; few = omega arith; tape = own.fitting.tape; long = own.fitting.long } }
+    record {
+      number = own.number;
+      fitting = record { locals = l.small; few = omega arith; tape = own.fitting.tape; long = own.fitting.long };
+    }
 
-module _ (d : Design) (n t : ℕ) (rows : List Row) (f : Frame) (can : IsRunnable d) (order : IsInOrder rows) (few : length rows ≤ n * 16) (within : AreWithin (reach n) rows) (own : IsOwn t f) (small : t ≤ 2 ^ 45) where
-  leaves : (side : Side) (after : List Row) (s : Reading) (i : ℕ) (to : Target) → effect_of d rows f side ≡ Goes after s i to → Leaves (n * 16) (reach n) f after s
-  leaves side after s i to e = goes_leaves d rows f side after s i to (n * 16) (reach n) e can (fits_frame t f own small) order few within (omega arith)
+module _ (d : Design) (n t : ℕ) (rows : List Row) (f : Frame) (can : IsRunnable d) (order : IsInOrder rows) (few : length rows ≤ n * 16)
+    (within : AreWithin (reach n) rows) (own : IsOwn t f) (small : t ≤ 2 ^ 45) where
+  leaves : (side : Side) (after : List Row) (s : Reading) (i : ℕ) (to : Target) → effect_of d rows f side ≡ Goes after s i to →
+      Leaves (n * 16) (reach n) f after s
+  leaves side after s i to e = goes_leaves d rows f side after s i to (n * 16) (reach n) e can (fits_frame t f own small) order few within
+      (omega arith)
 
   ended : (after : List Row) (s : Reading) (x : Transaction) → Leaves (n * 16) (reach n) f after s → Fits t x → Left n t (after, x)
   ended after s x l k = record { order = l.order; few = l.few; within = l.within; fits = k }
 
-  forward_left : (after : List Row) (s : Reading) (to : Target) (x : List Row × Transaction) → Leaves (n * 16) (reach n) f after s → with_rows after (forward_to d f s to) ≡ Some x → Left n t x
+  forward_left : (after : List Row) (s : Reading) (to : Target) (x : List Row × Transaction) → Leaves (n * 16) (reach n) f after s →
+      with_rows after (forward_to d f s to) ≡ Some x → Left n t x
   forward_left after s (ToPoint p) x l e =
       let is : (after, Forward (moved Next f s p)) ≡ x = cc in
       subst (Left n t) is (ended after s (Forward (moved Next f s p)) l (stands (reach n) t f after s Next p (n * 16) own l))
@@ -105,7 +121,8 @@ module _ (d : Design) (n t : ℕ) (rows : List Row) (f : Frame) (can : IsRunnabl
   forward_left after s Undone x l e = absurd cc
   forward_left after s (Refuse m) x l e = absurd cc
 
-  back_left : (c : Cause) (after : List Row) (s : Reading) (to : Target) (x : List Row × Transaction) → Leaves (n * 16) (reach n) f after s → with_rows after (back_to f c s to) ≡ Some x → Left n t x
+  back_left : (c : Cause) (after : List Row) (s : Reading) (to : Target) (x : List Row × Transaction) →
+      Leaves (n * 16) (reach n) f after s → with_rows after (back_to f c s to) ≡ Some x → Left n t x
   back_left c after s (ToPoint p) x l e =
       let is : (after, Undoing (moved UndoSide f s p) c) ≡ x = cc in
       subst (Left n t) is (ended after s (Undoing (moved UndoSide f s p) c) l (stands (reach n) t f after s UndoSide p (n * 16) own l))
@@ -115,12 +132,14 @@ module _ (d : Design) (n t : ℕ) (rows : List Row) (f : Frame) (can : IsRunnabl
       subst (Left n t) is (ended after s (Ended (record { t = f.t; outcome = Compensated c })) l tt)
   back_left c after s (Refuse m) x l e = absurd cc
 
-  forward_effect : (effect : Effect) (x : List Row × Transaction) → effect_of d rows f Next ≡ effect → forward_by d f effect ≡ Some x → Left n t x
+  forward_effect : (effect : Effect) (x : List Row × Transaction) → effect_of d rows f Next ≡ effect → forward_by d f effect ≡ Some x →
+      Left n t x
   forward_effect (Goes after s i to) x is e = forward_left after s to x (leaves Next after s i to is) e
   forward_effect (Refuses s m) x is e = absurd cc
   forward_effect OutOfRange x is e = absurd cc
 
-  back_effect : (c : Cause) (effect : Effect) (x : List Row × Transaction) → effect_of d rows f UndoSide ≡ effect → back_by f c effect ≡ Some x → Left n t x
+  back_effect : (c : Cause) (effect : Effect) (x : List Row × Transaction) → effect_of d rows f UndoSide ≡ effect →
+      back_by f c effect ≡ Some x → Left n t x
   back_effect c (Goes after s i to) x is e = back_left c after s to x (leaves UndoSide after s i to is) e
   back_effect c (Refuses s m) x is e = absurd cc
   back_effect c OutOfRange x is e = absurd cc
@@ -130,33 +149,55 @@ module _ (d : Design) (n t : ℕ) (rows : List Row) (f : Frame) (can : IsRunnabl
   step_left (Some c) x e = absurd cc
 
   stays : (x : Transaction) → Fits t x → Left n t (rows, x)
-  stays x k = record { order = order; few = omega arith; within = within_weaker (reach n) (reach n + 16 * 2 ^ 45) (omega arith) rows within; fits = k }
+  stays x k = record {
+    order = order;
+    few = omega arith;
+    within = within_weaker (reach n) (reach n + 16 * 2 ^ 45) (omega arith) rows within;
+    fits = k;
+  }
 
-  turn_left : (c : Cause) (b : Bool) (x : List Row × Transaction) → (if b then Some (rows, Undoing (record f { side = UndoSide }) c) else None) ≡ Some x → Left n t x
+  turn_left : (c : Cause) (b : Bool) (x : List Row × Transaction) →
+      (if b then Some (rows, Undoing (record f { side = UndoSide }) c) else None) ≡ Some x → Left n t x
   turn_left c true x e =
       let is : (rows, Undoing (record f { side = UndoSide }) c) ≡ x = cc in
-      subst (Left n t) is (stays (Undoing (record f { side = UndoSide }) c) (record { number = own.number; fitting = record { locals = own.fitting.locals; few = own.fitting.few; tape = own.fitting.tape; long = own.fitting.long } }))
+      subst (Left n t) is (stays (Undoing (record f { side = UndoSide }) c)
+      (record {
+        number = own.number;
+        fitting = record {
+          locals = own.fitting.locals;
+          few = own.fitting.few;
+          tape = own.fitting.tape;
+          long = own.fitting.long;
+        };
+      }))
   turn_left c false x e = absurd cc
 
 -- ---- an event of a transaction
 
-module _ (d : Design) (n t : ℕ) (rows : List Row) (can : IsRunnable d) (order : IsInOrder rows) (few : length rows ≤ n * 16) (within : AreWithin (reach n) rows) (small : t ≤ 2 ^ 45) where
-  left_by_step : (x : Option Transaction) (y : List Row × Transaction) → ((z : Transaction) → x ≡ Some z → Fits t z) → stepped d rows x ≡ Some y → Left n t y
+module _ (d : Design) (n t : ℕ) (rows : List Row) (can : IsRunnable d) (order : IsInOrder rows) (few : length rows ≤ n * 16)
+    (within : AreWithin (reach n) rows) (small : t ≤ 2 ^ 45) where
+  left_by_step : (x : Option Transaction) (y : List Row × Transaction) → ((z : Transaction) → x ≡ Some z → Fits t z) →
+      stepped d rows x ≡ Some y → Left n t y
   left_by_step None y fits e = absurd cc
-  left_by_step (Some (Forward f)) y fits e = step_left d n t rows f can order few within (fits (Forward f) refl) small (stop_of d rows f) y e
+  left_by_step (Some (Forward f)) y fits e = step_left d n t rows f can order few within (fits (Forward f) refl) small (stop_of d rows f) y
+      e
   left_by_step (Some (Undoing f c)) y fits e = absurd cc
   left_by_step (Some (Ended r)) y fits e = absurd cc
 
-  left_by_turn : (c : Cause) (x : Option Transaction) (y : List Row × Transaction) → ((z : Transaction) → x ≡ Some z → Fits t z) → turned d rows c x ≡ Some y → Left n t y
+  left_by_turn : (c : Cause) (x : Option Transaction) (y : List Row × Transaction) → ((z : Transaction) → x ≡ Some z → Fits t z) →
+      turned d rows c x ≡ Some y → Left n t y
   left_by_turn c None y fits e = absurd cc
-  left_by_turn c (Some (Forward f)) y fits e = turn_left d n t rows f can order few within (fits (Forward f) refl) small c (may_turn d rows f c) y e
+  left_by_turn c (Some (Forward f)) y fits e = turn_left d n t rows f can order few within (fits (Forward f) refl) small c
+      (may_turn d rows f c) y e
   left_by_turn c (Some (Undoing f b)) y fits e = absurd cc
   left_by_turn c (Some (Ended r)) y fits e = absurd cc
 
-  left_by_undo : (x : Option Transaction) (y : List Row × Transaction) → ((z : Transaction) → x ≡ Some z → Fits t z) → undone d rows x ≡ Some y → Left n t y
+  left_by_undo : (x : Option Transaction) (y : List Row × Transaction) → ((z : Transaction) → x ≡ Some z → Fits t z) →
+      undone d rows x ≡ Some y → Left n t y
   left_by_undo None y fits e = absurd cc
   left_by_undo (Some (Forward f)) y fits e = absurd cc
-  left_by_undo (Some (Undoing f c)) y fits e = back_effect d n t rows f can order few within (fits (Undoing f c) refl) small c (effect_of d rows f UndoSide) y refl e
+  left_by_undo (Some (Undoing f c)) y fits e = back_effect d n t rows f can order few within (fits (Undoing f c) refl) small c
+      (effect_of d rows f UndoSide) y refl e
   left_by_undo (Some (Ended r)) y fits e = absurd cc
 
 -- ---- an event of a state
@@ -164,7 +205,8 @@ module _ (d : Design) (n t : ℕ) (rows : List Row) (can : IsRunnable d) (order 
 abbrev pub IsSteadyWorld : World → Type 0
 IsSteadyWorld w = IsSteady (length w.events) w.rows w.transactions
 
-logged_steady : (w : World) (e : Event) (x : List Row × Transaction) (t : ℕ) → IsSteady (length w.events + 1) x.0 (set w.transactions (t - 1) x.1) → IsSteadyWorld (became w e t x)
+logged_steady : (w : World) (e : Event) (x : List Row × Transaction) (t : ℕ) →
+    IsSteady (length w.events + 1) x.0 (set w.transactions (t - 1) x.1) → IsSteadyWorld (became w e t x)
 logged_steady w e x t h =
     let count : length w.events + 1 ≡ length (w.events ++ e ∷ []) = omega (arith, length-append w.events (e ∷ [])) in
     subst (λ (m : ℕ). IsSteady m x.0 (set w.transactions (t - 1) x.1)) count h
@@ -173,7 +215,8 @@ logged_steady w e x t h =
 at_most : (t : ℕ) (ts : List Transaction) (x : Transaction) → slice_get ts (t - 1) ≡ Some x → 0 < t → t ≤ length ts
 at_most t ts x e from = let k = slice_get_within ts (t - 1) x e in omega arith
 
-pub fits_at : (w : World) (t : ℕ) (z : Transaction) → IsSteadyWorld w → transaction_at t w.transactions ≡ Some z → Fits t z × (t ≤ length w.events)
+pub fits_at : (w : World) (t : ℕ) (z : Transaction) → IsSteadyWorld w → transaction_at t w.transactions ≡ Some z → Fits t z ×
+    (t ≤ length w.events)
 fits_at w t z s at =
     let place = at_place t w.transactions z at in
     let from = place.0 in
@@ -182,7 +225,8 @@ fits_at w t z s at =
     let counted = s.counted in
     (subst (λ (m : ℕ). Fits m z) same (fit_get 1 w.transactions (t - 1) z s.fit place.1), omega arith)
 
-became_steady : (w : World) (e : Event) (t : ℕ) (o : Option (List Row × Transaction)) (w2 : World) → IsSteadyWorld w → ((y : List Row × Transaction) → o ≡ Some y → (0 < t) × Left (length w.events) t y) → becomes w e t o ≡ Some w2 → IsSteadyWorld w2
+became_steady : (w : World) (e : Event) (t : ℕ) (o : Option (List Row × Transaction)) (w2 : World) → IsSteadyWorld w →
+    ((y : List Row × Transaction) → o ≡ Some y → (0 < t) × Left (length w.events) t y) → becomes w e t o ≡ Some w2 → IsSteadyWorld w2
 became_steady w e t None w2 s left h = absurd cc
 became_steady w e t (Some y) w2 s left h =
     let is : became w e t y ≡ w2 = cc in
@@ -190,8 +234,12 @@ became_steady w e t (Some y) w2 s left h =
     subst IsSteadyWorld is (logged_steady w e y t (steady_left (length w.events) t w.rows w.transactions y s l.0 l.1))
 
 -- what an event of transaction t leaves, by what it does with a transaction
-module _ (d : Design) (w : World) (s : IsSteadyWorld w) (t : ℕ) (short : length w.events ≤ 2 ^ 45) (act : Option Transaction → Option (List Row × Transaction)) (none : act None ≡ None) (leaves_it : t ≤ 2 ^ 45 → (x : Option Transaction) (y : List Row × Transaction) → ((z : Transaction) → x ≡ Some z → Fits t z) → act x ≡ Some y → Left (length w.events) t y) where
-  event_left : (x : Option Transaction) (y : List Row × Transaction) → transaction_at t w.transactions ≡ x → act x ≡ Some y → (0 < t) × Left (length w.events) t y
+module _ (d : Design) (w : World) (s : IsSteadyWorld w) (t : ℕ) (short : length w.events ≤ 2 ^ 45) (act : Option Transaction →
+    Option (List Row × Transaction)) (none : act None ≡ None) (leaves_it : t ≤ 2 ^ 45 →
+    (x : Option Transaction) (y : List Row × Transaction) → ((z : Transaction) → x ≡ Some z → Fits t z) → act x ≡ Some y →
+    Left (length w.events) t y) where
+  event_left : (x : Option Transaction) (y : List Row × Transaction) → transaction_at t w.transactions ≡ x → act x ≡ Some y → (0 < t) ×
+      Left (length w.events) t y
   event_left None y at e = let wrong = sym none ∙ e in absurd cc
   event_left (Some z) y at e =
       let place = at_place t w.transactions z at in
@@ -199,7 +247,8 @@ module _ (d : Design) (w : World) (s : IsSteadyWorld w) (t : ℕ) (short : lengt
       let small = fit.1 in
       (place.0, leaves_it (omega arith) (Some z) y (λ v h. let same : z ≡ v = cc in subst (Fits t) same fit.0) e)
 
-begin_steady : (d : Design) (w : World) (call : Call) (b : Bool) (w2 : World) → IsRunnable d → IsSteadyWorld w → call_fits (slice_get d.types call.ty) call ≡ b → (if b then Some (with_begun d w call) else None) ≡ Some w2 → IsSteadyWorld w2
+begin_steady : (d : Design) (w : World) (call : Call) (b : Bool) (w2 : World) → IsRunnable d → IsSteadyWorld w →
+    call_fits (slice_get d.types call.ty) call ≡ b → (if b then Some (with_begun d w call) else None) ≡ Some w2 → IsSteadyWorld w2
 begin_steady d w call false w2 can s fits h = absurd cc
 begin_steady d w call true w2 can s fits h =
     let is : with_begun d w call ≡ w2 = cc in
@@ -207,27 +256,39 @@ begin_steady d w call true w2 can s fits h =
     let new = Forward (begun d (next_number w) call) in
     let counted = s.counted in
     let number : next_number w ≡ 1 + length ts = omega arith in
-    let fit : AreFit 1 (ts ++ new ∷ []) = fit_push 1 ts new s.fit (subst (λ (m : ℕ). Fits m new) number (begun_fits d (next_number w) call can fits)) in
+    let fit : AreFit 1 (ts ++ new ∷ []) = fit_push 1 ts new s.fit
+    (subst (λ (m : ℕ). Fits m new) number (begun_fits d (next_number w) call can fits)) in
     let long : length (ts ++ new ∷ []) ≤ length w.events + 1 = omega (arith, length-append ts (new ∷ [])) in
     let count : length w.events + 1 ≡ length (w.events ++ Begin call ∷ []) = omega (arith, length-append w.events (Begin call ∷ [])) in
-    subst IsSteadyWorld is (subst (λ (m : ℕ). IsSteady m w.rows (ts ++ new ∷ [])) count (steady_longer (length w.events) w.rows ts (ts ++ new ∷ []) s long fit))
+    subst IsSteadyWorld is (subst (λ (m : ℕ). IsSteady m w.rows (ts ++ new ∷ [])) count
+    (steady_longer (length w.events) w.rows ts (ts ++ new ∷ []) s long fit))
 
-steady_next : (d : Design) (w : World) (e : Event) (w2 : World) → IsRunnable d → IsSteadyWorld w → length w.events ≤ 2 ^ 45 → after_event d w e ≡ Some w2 → IsSteadyWorld w2
+steady_next : (d : Design) (w : World) (e : Event) (w2 : World) → IsRunnable d → IsSteadyWorld w → length w.events ≤ 2 ^ 45 →
+    after_event d w e ≡ Some w2 → IsSteadyWorld w2
 steady_next d w (Begin call) w2 can s short h = begin_steady d w call (call_fits (slice_get d.types call.ty) call) w2 can s refl h
 steady_next d w (Step t) w2 can s short h =
-    became_steady w (Step t) t (changed d w.rows (Step t) (transaction_at t w.transactions)) w2 s (λ y e. event_left d w s t short (stepped d w.rows) refl (left_by_step d (length w.events) t w.rows can s.order s.few s.within) (transaction_at t w.transactions) y refl e) h
+    became_steady w (Step t) t (changed d w.rows (Step t) (transaction_at t w.transactions)) w2 s
+    (λ y e. event_left d w s t short (stepped d w.rows) refl (left_by_step d (length w.events) t w.rows can s.order s.few s.within)
+    (transaction_at t w.transactions) y refl e) h
 steady_next d w (Abort t c) w2 can s short h =
-    became_steady w (Abort t c) t (changed d w.rows (Abort t c) (transaction_at t w.transactions)) w2 s (λ y e. event_left d w s t short (turned d w.rows c) refl (λ small. left_by_turn d (length w.events) t w.rows can s.order s.few s.within small c) (transaction_at t w.transactions) y refl e) h
+    became_steady w (Abort t c) t (changed d w.rows (Abort t c) (transaction_at t w.transactions)) w2 s
+    (λ y e. event_left d w s t short (turned d w.rows c) refl
+    (λ small. left_by_turn d (length w.events) t w.rows can s.order s.few s.within small c) (transaction_at t w.transactions) y refl e)
+    h
 steady_next d w (Undo t) w2 can s short h =
-    became_steady w (Undo t) t (changed d w.rows (Undo t) (transaction_at t w.transactions)) w2 s (λ y e. event_left d w s t short (undone d w.rows) refl (left_by_undo d (length w.events) t w.rows can s.order s.few s.within) (transaction_at t w.transactions) y refl e) h
+    became_steady w (Undo t) t (changed d w.rows (Undo t) (transaction_at t w.transactions)) w2 s
+    (λ y e. event_left d w s t short (undone d w.rows) refl (left_by_undo d (length w.events) t w.rows can s.order s.few s.within)
+    (transaction_at t w.transactions) y refl e) h
 
 -- ---- runs
 
-some_next : (d : Design) (rest : List Event) (o : Option World) (w2 : World) → option_and_then (λ x. after_events d x rest) o ≡ Some w2 → (x : World) × (o ≡ Some x) × (after_events d x rest ≡ Some w2)
+some_next : (d : Design) (rest : List Event) (o : Option World) (w2 : World) → option_and_then (λ x. after_events d x rest) o ≡ Some w2 →
+    (x : World) × (o ≡ Some x) × (after_events d x rest ≡ Some w2)
 some_next d rest None w2 h = absurd cc
 some_next d rest (Some x) w2 h = (x, refl, h)
 
-steady_along : (d : Design) (events : List Event) (w w2 : World) → IsRunnable d → IsSteadyWorld w → length w.events + length events ≤ 2 ^ 45 → after_events d w events ≡ Some w2 → IsSteadyWorld w2
+steady_along : (d : Design) (events : List Event) (w w2 : World) → IsRunnable d → IsSteadyWorld w →
+    length w.events + length events ≤ 2 ^ 45 → after_events d w events ≡ Some w2 → IsSteadyWorld w2
 steady_along d [] w w2 can s short h = let is : w ≡ w2 = cc in subst IsSteadyWorld is s
 steady_along d (e ∷ rest) w w2 can s short h =
     let next = some_next d rest (after_event d w e) w2 h in
@@ -236,7 +297,14 @@ steady_along d (e ∷ rest) w w2 can s short h =
     steady_along d rest next.0 w2 can (steady_next d w e next.0 can s (omega arith) next.1) (omega arith) next.2
 
 steady_start : IsSteadyWorld start
-steady_start = record { order = order_to [] tt; few = omega arith; within = λ k d lt. absurd (omega arith); counted = omega arith; fit = tt }
+steady_start = record {
+  order = order_to [] tt;
+  few = omega arith;
+  within = λ k d lt. absurd (omega arith);
+  counted = omega arith;
+  fit =
+      tt;
+}
 
 -- a state that is reached by not too many events is steady
 pub steady_reached : (d : Design) (w : World) → IsReached d w → length w.events ≤ 2 ^ 40 → IsSteadyWorld w
@@ -248,4 +316,5 @@ steady_reached d w r short = steady_along d w.events start w r.runnable steady_s
 pub sums_stay : (w : World) → IsSteadyWorld w → length w.events ≤ 2 ^ 31 → SumsFit w.rows
 sums_stay w s short =
     let few = s.few in
-    sums_fit (2 ^ 35) (2 ^ 82) w.rows (omega arith) (within_weaker (reach (length w.events)) (2 ^ 82) (omega arith) w.rows s.within) (omega arith)
+    sums_fit (2 ^ 35) (2 ^ 82) w.rows (omega arith) (within_weaker (reach (length w.events)) (2 ^ 82) (omega arith) w.rows s.within)
+    (omega arith)

@@ -21,7 +21,8 @@ use Rattle.acc_plain.specs.Change.{left_by, IsNextChange}
 use Rattle.acc_plain.specs.Taken.{IsChangeBy, if_step, if_abort}
 
 -- the change of the next turn is the event's, where that is the event
-pub next_is_by : (d : Design) (db : List Row) (x : Transaction) (e : Event) (c : Change) → IsNextChange d db x c → c.event ≡ e → IsChangeBy d db x e c
+pub next_is_by : (d : Design) (db : List Row) (x : Transaction) (e : Event) (c : Change) → IsNextChange d db x c → c.event ≡ e →
+    IsChangeBy d db x e c
 next_is_by d db x e c next is = record {
   event = is;
   changed = subst (λ (z : Event). changed d db z (Some x) ≡ Some (written c.writes db, left_by c.becomes x)) is next.changed;
@@ -33,13 +34,15 @@ IsBy d db x e o = MatchOption o (changed d db e (Some x) ≡ None) (IsChangeBy d
 
 -- ---- a step
 
-step_so : (d : Design) (db : List Row) (f : Frame) (c : Change) (stop : Option Cause) → stop_of d db f ≡ stop → forward_event f.t stop ≡ c.event → IsNextChange d db (Forward f) c → IsBy d db (Forward f) (Step f.t) (if_step c c.event)
+step_so : (d : Design) (db : List Row) (f : Frame) (c : Change) (stop : Option Cause) → stop_of d db f ≡ stop →
+    forward_event f.t stop ≡ c.event → IsNextChange d db (Forward f) c → IsBy d db (Forward f) (Step f.t) (if_step c c.event)
 step_so d db f c None at is next =
     subst (λ (e : Event). IsBy d db (Forward f) (Step f.t) (if_step c e)) is (next_is_by d db (Forward f) (Step f.t) c next (sym is))
 step_so d db f c (Some b) at is next =
     subst (λ (e : Event). IsBy d db (Forward f) (Step f.t) (if_step c e)) is (ap (step_by d db f) at)
 
-pub step_only : (d : Design) (db : List Row) (f : Frame) (c : Change) → IsNextChange d db (Forward f) c → IsBy d db (Forward f) (Step f.t) (if_step c c.event)
+pub step_only : (d : Design) (db : List Row) (f : Frame) (c : Change) → IsNextChange d db (Forward f) c →
+    IsBy d db (Forward f) (Step f.t) (if_step c c.event)
 step_only d db f c next =
     let told = next.event in
     let is : forward_event f.t (stop_of d db f) ≡ c.event = cc in
@@ -98,24 +101,32 @@ stop_free d db f Asked v k = refl
 stop_free d db f Victim v k = absurd (v refl)
 stop_free d db f Crash v k = absurd (k refl)
 
-refused_abort : (d : Design) (db : List Row) (f : Frame) (cause : Cause) → may_turn d db f cause ≡ false → changed d db (Abort f.t cause) (Some (Forward f)) ≡ None
+refused_abort : (d : Design) (db : List Row) (f : Frame) (cause : Cause) → may_turn d db f cause ≡ false →
+    changed d db (Abort f.t cause) (Some (Forward f)) ≡ None
 refused_abort d db f cause forbidden = rw forbidden refl
 
-abort_by : (d : Design) (db : List Row) (f : Frame) (cause b : Cause) (c : Change) (k : Bool) → may_turn d db f cause ≡ k → is_cause cause (Some b) ≡ k → Abort f.t b ≡ c.event → IsNextChange d db (Forward f) c → IsBy d db (Forward f) (Abort f.t cause) (if k then Some c else None)
+abort_by : (d : Design) (db : List Row) (f : Frame) (cause b : Cause) (c : Change) (k : Bool) → may_turn d db f cause ≡ k →
+    is_cause cause (Some b) ≡ k → Abort f.t b ≡ c.event → IsNextChange d db (Forward f) c →
+    IsBy d db (Forward f) (Abort f.t cause) (if k then Some c else None)
 abort_by d db f cause b c true may same is next =
     next_is_by d db (Forward f) (Abort f.t cause) c next (sym is ∙ ap (Abort f.t) (sym (same_cause cause b same)))
 abort_by d db f cause b c false may same is next = refused_abort d db f cause may
 
-abort_so : (d : Design) (db : List Row) (f : Frame) (cause : Cause) (c : Change) (stop : Option Cause) → IsStop d db f cause → stop_of d db f ≡ stop → forward_event f.t stop ≡ c.event → IsNextChange d db (Forward f) c → IsBy d db (Forward f) (Abort f.t cause) (if_abort cause c c.event)
+abort_so : (d : Design) (db : List Row) (f : Frame) (cause : Cause) (c : Change) (stop : Option Cause) → IsStop d db f cause →
+    stop_of d db f ≡ stop → forward_event f.t stop ≡ c.event → IsNextChange d db (Forward f) c →
+    IsBy d db (Forward f) (Abort f.t cause) (if_abort cause c c.event)
 abort_so d db f cause c None free at is next =
-    subst (λ (e : Event). IsBy d db (Forward f) (Abort f.t cause) (if_abort cause c e)) is (refused_abort d db f cause (free ∙ ap (is_cause cause) at ∙ no_cause cause))
+    subst (λ (e : Event). IsBy d db (Forward f) (Abort f.t cause) (if_abort cause c e)) is
+    (refused_abort d db f cause (free ∙ ap (is_cause cause) at ∙ no_cause cause))
   where
     no_cause : (z : Cause) → is_cause z None ≡ false
     no_cause z = refl
 abort_so d db f cause c (Some b) free at is next =
-    subst (λ (e : Event). IsBy d db (Forward f) (Abort f.t cause) (if_abort cause c e)) is (abort_by d db f cause b c (is_cause cause (Some b)) (free ∙ ap (is_cause cause) at) refl is next)
+    subst (λ (e : Event). IsBy d db (Forward f) (Abort f.t cause) (if_abort cause c e)) is
+    (abort_by d db f cause b c (is_cause cause (Some b)) (free ∙ ap (is_cause cause) at) refl is next)
 
-pub abort_only : (d : Design) (db : List Row) (f : Frame) (cause : Cause) (c : Change) → IsStop d db f cause → IsNextChange d db (Forward f) c → IsBy d db (Forward f) (Abort f.t cause) (if_abort cause c c.event)
+pub abort_only : (d : Design) (db : List Row) (f : Frame) (cause : Cause) (c : Change) → IsStop d db f cause →
+    IsNextChange d db (Forward f) c → IsBy d db (Forward f) (Abort f.t cause) (if_abort cause c c.event)
 abort_only d db f cause c free next =
     let told = next.event in
     let is : forward_event f.t (stop_of d db f) ≡ c.event = cc in
@@ -133,6 +144,9 @@ undo_is t (Goes db s i to) e h = let k : Undo t ≡ e = cc in sym k
 undo_is t (Refuses s n) e h = absurd cc
 undo_is t OutOfRange e h = absurd cc
 
-pub undo_only : (d : Design) (db : List Row) (f : Frame) (cause : Cause) (o : Option Change) → MatchOption o (next_event d db (Some (Undoing f cause)) ≡ None) (IsNextChange d db (Undoing f cause)) → IsBy d db (Undoing f cause) (Undo f.t) o
+pub undo_only : (d : Design) (db : List Row) (f : Frame) (cause : Cause) (o : Option Change) →
+    MatchOption o (next_event d db (Some (Undoing f cause)) ≡ None) (IsNextChange d db (Undoing f cause)) →
+    IsBy d db (Undoing f cause) (Undo f.t) o
 undo_only d db f cause None h = no_undo d f cause (effect_of d db f UndoSide) h
-undo_only d db f cause (Some c) h = next_is_by d db (Undoing f cause) (Undo f.t) c h (undo_is f.t (effect_of d db f UndoSide) c.event h.event)
+undo_only d db f cause (Some c) h = next_is_by d db (Undoing f cause) (Undo f.t) c h
+    (undo_is f.t (effect_of d db f UndoSide) c.event h.event)

@@ -1,7 +1,10 @@
 //! The machine: transactions that take their turns over a store.
-ghost use Rattle.std.specs.Prelude.{◌≡◌, ◌≤◌, ◌<◌, ◌^◌, ◌+◌, ◌-◌, [], ◌∷◌, ◌++◌, length, true, slice_get, slice_set, vec_len, All, Some, None, IfOk, IfSome, OnErr, OnOk, option_copied, option_and_then, option_map, IsNone, IsTrue, ◌↔◌, MatchOption, replicate, pos};
+ghost use Rattle.std.specs.Prelude.{◌≡◌, ◌≤◌, ◌<◌, ◌^◌, ◌+◌, ◌-◌, [], ◌∷◌, ◌++◌, length, true, slice_get, slice_set, vec_len, All, Some};
+ghost use Rattle.std.specs.Prelude.{None, IfOk, IfSome, OnErr, OnOk, option_copied, option_and_then, option_map, IsNone, IsTrue, ◌↔◌};
+ghost use Rattle.std.specs.Prelude.{MatchOption, replicate, pos};
 ghost use Rattle.acc_base.specs.Tables.{IsInOrder};
-ghost use Rattle.acc_base.specs.Machine.{start, next_number, call_fits, locals_in, begun, transaction_at, frame_in, reply_in, unfinished, after_event};
+ghost use Rattle.acc_base.specs.Machine.{start, next_number, call_fits, locals_in, begun, transaction_at, frame_in, reply_in, unfinished};
+ghost use Rattle.acc_base.specs.Machine.{after_event};
 ghost use Rattle.acc_base.specs.Turns.{next_event, said};
 ghost use Rattle.acc_base.specs.Runnable.{IsRunnable, IsSmallFrame};
 ghost use Rattle.acc_base.specs.declared.machines.Event.TheVariants.{Begin};

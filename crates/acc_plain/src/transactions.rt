@@ -1,5 +1,6 @@
 //! The transactions of a run.
-ghost use Rattle.std.specs.Prelude.{◌≡◌, ◌<◌, ◌≤◌, ◌+◌, ◌-◌, [], ◌∷◌, ◌++◌, length, Some, OnOk, OnErr, IsSome, IsSomeAnd, option_and_then, option_copied, option_map, slice_set, vec_len};
+ghost use Rattle.std.specs.Prelude.{◌≡◌, ◌<◌, ◌≤◌, ◌+◌, ◌-◌, [], ◌∷◌, ◌++◌, length, Some, OnOk, OnErr, IsSome, IsSomeAnd, option_and_then};
+ghost use Rattle.std.specs.Prelude.{option_copied, option_map, slice_set, vec_len};
 ghost use Rattle.std.specs.List.{filter_map};
 ghost use Rattle.acc_base.specs.declared.machines.Transaction.{Transaction as TheTransaction};
 ghost use Rattle.acc_base.specs.declared.machines.Transaction.TheVariants.{Forward};

@@ -1,5 +1,6 @@
 -- Plays on any machine, mention by mention, and the replies after them.
-use Rattle.std.proofs.Common.{◌≡◌, ℕ, ◌+◌, ◌-◌, ◌<◌, Bool, false, List, [], ◌∷◌, ◌++◌, length, Option, Some, None, Result, Ok, Err, refl, sym, ap, subst, ◌∙◌, append_assoc, zero, suc, add-one, arith}
+use Rattle.std.proofs.Common.{◌≡◌, ℕ, ◌+◌, ◌-◌, ◌<◌, Bool, false, List, [], ◌∷◌, ◌++◌, length, Option, Some, None, Result, Ok, Err, refl}
+use Rattle.std.proofs.Common.{sym, ap, subst, ◌∙◌, append_assoc, zero, suc, add-one, arith}
 use Rattle.std.specs.List.{flat_map, range_with_len}
 use Rattle.std.specs.Prelude.{OnOk, ◌==◌, if◌then◌else◌, slice_get, slice_set}
 use Rattle.std.proofs.lemmas.Bool.Decides.{nat_tests}
@@ -18,7 +19,8 @@ on_ok (Ok x) f h = f h
 on_ok (Err e) f h = h
 
 -- a transaction that has ended is told to be over
-pub over_goes : (m : Rules) (place : ℕ) (p : Play) (t : ℕ) (reply : Reply) → reply_at t p.world ≡ Some reply → Goes m place t p (reply_at t p.world) (IsOver place, p)
+pub over_goes : (m : Rules) (place : ℕ) (p : Play) (t : ℕ) (reply : Reply) → reply_at t p.world ≡ Some reply →
+    Goes m place t p (reply_at t p.world) (IsOver place, p)
 over_goes m place p t reply h = subst (λ (o : Option Reply). Goes m place t p o (IsOver place, p)) (sym h) refl
 
 from_one : (k : ℕ) → 0 < k → (k == 0) ≡ false
@@ -40,7 +42,8 @@ pub record IsPlayedSoFar (m : Rules) (d : Design) (calls : List Call) (order lef
   pub whole : (later : List (Told × Play)) → PlaysOn m calls p left later → Plays m calls order (mentions ++ later)
 
 -- nothing is done, where the play opens
-pub opens_play : (m : Rules) (d : Design) (calls : List Call) (order text : List ℕ) (p : Play) → text ≡ [] → p ≡ opening calls → IsPlayedSoFar m d calls order order text p
+pub opens_play : (m : Rules) (d : Design) (calls : List Call) (order text : List ℕ) (p : Play) → text ≡ [] → p ≡ opening calls →
+    IsPlayedSoFar m d calls order order text p
 opens_play m d calls order text p empty opens = record {
   mentions = [];
   text_is = empty;
@@ -52,13 +55,18 @@ after_last : (p : Play) (xs : List (Told × Play)) (x : Told × Play) → play_a
 after_last p [] x = refl
 after_last p (y ∷ ys) x = after_last y.1 ys x
 
-pub played_more : (m : Rules) (d : Design) (calls : List Call) (order left old new : List ℕ) (place : ℕ) (p : Play) (x : Told × Play) → IsPlayedSoFar m d calls order (place ∷ left) old p → Mentions m calls place p (number_of p place) x → new ≡ old ++ mention_line d x → IsPlayedSoFar m d calls order left new x.1
+pub played_more : (m : Rules) (d : Design) (calls : List Call) (order left old new : List ℕ) (place : ℕ) (p : Play) (x : Told × Play) →
+    IsPlayedSoFar m d calls order (place ∷ left) old p → Mentions m calls place p (number_of p place) x → new ≡ old ++ mention_line d x →
+    IsPlayedSoFar m d calls order left new x.1
 played_more m d calls order left old new place p x so_far mention text =
     record {
       mentions = so_far.mentions ++ x ∷ [];
-      text_is = text ∙ ap (λ (z : List ℕ). z ++ mention_line d x) so_far.text_is ∙ sym (flat_map-append (mention_line d) so_far.mentions (x ∷ []) ∙ ap (λ (z : List ℕ). flat_map (mention_line d) so_far.mentions ++ z) (append-nil (mention_line d x)));
+      text_is = text ∙ ap (λ (z : List ℕ). z ++ mention_line d x) so_far.text_is ∙ sym
+          (flat_map-append (mention_line d) so_far.mentions (x ∷ []) ∙ ap (λ (z : List ℕ). flat_map (mention_line d) so_far.mentions ++ z)
+          (append-nil (mention_line d x)));
       now = after_last (opening calls) so_far.mentions x;
-      whole = λ later h. subst (Plays m calls order) (sym (append_assoc so_far.mentions (x ∷ []) later)) (so_far.whole (x ∷ later) (mention, h));
+      whole = λ later h. subst (Plays m calls order) (sym (append_assoc so_far.mentions (x ∷ []) later))
+          (so_far.whole (x ∷ later) (mention, h));
     }
 
 -- ---- the replies, place by place
@@ -69,10 +77,13 @@ range_more a (suc n) =
     let e : (a + 1) + n ≡ a + suc n = omega arith in
     ap (λ (zs : List ℕ). a ∷ zs) (range_more (a + 1) n ∙ ap (λ (z : ℕ). range_with_len (a + 1) n ++ z ∷ []) e)
 
-pub replies_more : (p q : Play) (first text new : List ℕ) (n : ℕ) → text ≡ first ++ flat_map (reply_line p) (range_with_len 1 n) → q ≡ p → new ≡ text ++ reply_line q (n + 1) → new ≡ first ++ flat_map (reply_line p) (range_with_len 1 (n + 1))
+pub replies_more : (p q : Play) (first text new : List ℕ) (n : ℕ) → text ≡ first ++ flat_map (reply_line p) (range_with_len 1 n) → q ≡ p →
+    new ≡ text ++ reply_line q (n + 1) → new ≡ first ++ flat_map (reply_line p) (range_with_len 1 (n + 1))
 replies_more p q first text new n so_far same more =
     let f = reply_line p in
     let place : n + 1 ≡ 1 + n = omega arith in
     let whole : flat_map f (range_with_len 1 (n + 1)) ≡ flat_map f (range_with_len 1 n) ++ f (n + 1) =
-    ap (λ (k : ℕ). flat_map f (range_with_len 1 k)) (add-one n) ∙ ap (flat_map f) (range_more 1 n) ∙ flat_map-append f (range_with_len 1 n) ((1 + n) ∷ []) ∙ ap (λ (z : List ℕ). flat_map f (range_with_len 1 n) ++ z) (append-nil (f (1 + n)) ∙ ap f (sym place)) in
-    more ∙ (λ i. so_far i ++ reply_line (same i) (n + 1)) ∙ append_assoc first (flat_map f (range_with_len 1 n)) (f (n + 1)) ∙ ap (λ (z : List ℕ). first ++ z) (sym whole)
+    ap (λ (k : ℕ). flat_map f (range_with_len 1 k)) (add-one n) ∙ ap (flat_map f) (range_more 1 n) ∙ flat_map-append f (range_with_len 1 n)
+    ((1 + n) ∷ []) ∙ ap (λ (z : List ℕ). flat_map f (range_with_len 1 n) ++ z) (append-nil (f (1 + n)) ∙ ap f (sym place)) in
+    more ∙ (λ i. so_far i ++ reply_line (same i) (n + 1)) ∙ append_assoc first (flat_map f (range_with_len 1 n)) (f (n + 1)) ∙ ap
+    (λ (z : List ℕ). first ++ z) (sym whole)

@@ -50,7 +50,8 @@ module _ (r : Result (Unit {0}) ObligError) (old new : List Sequent) where
   bound_added b ty i s t l o vars hs rs g eo es ev eh er eg a =
       subst (λ (z : Setting). Adds r old new (rest_in (bound_clause b) ty i z l (bound_goal b) (step_vars z))) es
       (goals_added (rest_origin (bound_clause b) ty i) o vars (step_vars s) hs (step_hyps s (step_vars s)) rs (path_rels s (step_vars s))
-      (g ∷ []) (bound_goal b (variant_form s (first_now s) (step_vars s) l) ∷ []) eo ev (eh ∙ ap (step_hyps s) ev) (er ∙ ap (path_rels s) ev)
+      (g ∷ []) (bound_goal b (variant_form s (first_now s) (step_vars s) l) ∷ []) eo ev (eh ∙ ap (step_hyps s) ev)
+      (er ∙ ap (path_rels s) ev)
       (ap (λ f. f ∷ []) (eg ∙ ap (λ v. bound_goal b (variant_form s (first_now s) v l)) ev)) refl a)
 
   -- a path makes the variant fall
@@ -79,7 +80,8 @@ fall_wide s t w before behind o es eo ew =
 
 -- a clause whose numbers are too large refuses what begins with it
 refused :
-    (T : Type 0) (e : ObligError) (o : Origin) (wide : Bool) (old new : List Sequent) (ds : List Draft) → (IsTrue wide → first_wide ds ≡ Some o)
+    (T : Type 0) (e : ObligError) (o : Origin) (wide : Bool) (old new : List Sequent) (ds : List Draft) →
+    (IsTrue wide → first_wide ds ≡ Some o)
     → TellsClause {T = T} (Err e) o wide → Adds (Err e) old new ds
 refused T (Wide x) o wide old new ds f h = f h.1 ∙ ap Some (sym h.0)
 refused T Memory o wide old new ds f h = tt

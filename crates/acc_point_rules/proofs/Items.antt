@@ -39,7 +39,8 @@ number_all make n = let e : n ≡ n - 0 = omega arith in ap (λ k. each_number 0
 -- what is added point by point along the list of points is what is made of each
 pub points_added :
     (r : Result (Unit {0}) ObligError) (old new : List Sequent) (d : Design) (make : ℕ → TxType → ℕ → Point → List Draft)
-    (ps : List PointPlace) → map rest ps ≡ rests_of d → Adds r old new (joined (at_rest make) (map rest ps)) → Adds r old new (each_point d make)
+    (ps : List PointPlace) → map rest ps ≡ rests_of d → Adds r old new (joined (at_rest make) (map rest ps)) →
+    Adds r old new (each_point d make)
 points_added r old new d make ps e a = subst (Adds r old new) (ap (joined (at_rest make)) e ∙ each_point_is d make) a
 
 pub both_points_added :

@@ -13,7 +13,8 @@ use Rattle.acc_base.specs.declared.designs.Design.{Design}
 use Rattle.acc_base.specs.declared.sequents.Sequent.{Sequent}
 use Rattle.acc_oblig.specs.Settings.{Setting, step_vars}
 use Rattle.acc_oblig.specs.Drafts.{Draft, Place, each_from, each, of_some, setting_of}
-use Rattle.acc_oblig.specs.Ranges.{ReadNumber, reads_setting, setting_numbers, read_range_in, action_range_in, numbers_of, path_range_at, range_at}
+use Rattle.acc_oblig.specs.Ranges.{ReadNumber, reads_setting, setting_numbers, read_range_in, action_range_in, numbers_of, path_range_at}
+use Rattle.acc_oblig.specs.Ranges.{range_at}
 use Rattle.acc_obligations.specs.declared.errors.ObligError.{ObligError}
 use Rattle.acc_obligations.specs.Causes.{Adds}
 use Rattle.acc_point_rules.specs.PathRanges.{path_range, undo_ranges}
@@ -45,7 +46,8 @@ module _ (d : Design) (k : ℕ) (at : At) (x : TxType) (p : Point) where
       let none : (j : ℕ) (path : Path) → path_range_at d k first at x p j path ≡ [] = λ j path.
       let w : Place = record { at = at; side = Undo; path = j } in
       let t : Setting = setting_of d x p p.undo j path in
-      ap (λ (b : Bool). if b then [] else of_some (action_range_in k w t (step_vars t)) (slice_get (numbers_of t.actions t.actions) (k - first))) within in
+      ap (λ (b : Bool). if b then [] else of_some (action_range_in k w t (step_vars t))
+      (slice_get (numbers_of t.actions t.actions) (k - first))) within in
       ap (λ (o : Option ReadNumber). of_some make o ++ each (path_range_at d k first at x p) p.undo.paths) e
       ∙ (ap (λ (z : List Draft). make m ++ z) (each_none (path_range_at d k first at x p) none 0 p.undo.paths) ∙ append-nil (make m))
 
@@ -64,9 +66,11 @@ module _ (d : Design) (k : ℕ) (at : At) (x : TxType) (p : Point) where
       let same : (j : ℕ) (path : Path) → path_range_at d k first at x p j path ≡ other j path = λ j path.
       let w : Place = record { at = at; side = Undo; path = j } in
       let t : Setting = setting_of d x p p.undo j path in
-      ap (λ (b : Bool). if b then [] else of_some (action_range_in k w t (step_vars t)) (slice_get (numbers_of t.actions t.actions) (k - first))) past
+      ap (λ (b : Bool). if b then [] else of_some (action_range_in k w t (step_vars t))
+      (slice_get (numbers_of t.actions t.actions) (k - first))) past
       ∙ ap (λ n. of_some (action_range_in k w t (step_vars t)) (slice_get (numbers_of t.actions t.actions) n)) rest in
-      ap (λ (o : Option ReadNumber). of_some make o ++ each (path_range_at d k first at x p) p.undo.paths) (slice_get_past numbers k (omega arith))
+      ap (λ (o : Option ReadNumber). of_some make o ++ each (path_range_at d k first at x p) p.undo.paths)
+      (slice_get_past numbers k (omega arith))
       ∙ each_same (path_range_at d k first at x p) other same 0 p.undo.paths
 
   module _ (r : Result (Unit {0}) ObligError) (old new : List Sequent) (t : Setting) (e : t ≡ reads_setting d x p) where
@@ -78,7 +82,8 @@ module _ (d : Design) (k : ℕ) (at : At) (x : TxType) (p : Point) where
         subst (Adds r old new) (sym (for_reads m g)) (subst (λ (z : Setting). Adds r old new (read_range_in k at z (step_vars z) m)) e a)
 
     pub paths_behind_added :
-        (left : ℕ) → k ≡ length (setting_numbers t (step_vars t)) + left → Adds r old new (undo_ranges d k left (record { at = at; x = x; p = p }))
+        (left : ℕ) → k ≡ length (setting_numbers t (step_vars t)) + left →
+        Adds r old new (undo_ranges d k left (record { at = at; x = x; p = p }))
         → Adds r old new (range_at d k at.ty x at.point p)
     paths_behind_added left f a =
         let g = subst (λ (z : Setting). k ≡ length (setting_numbers z (step_vars z)) + left) e f in

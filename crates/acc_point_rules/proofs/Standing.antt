@@ -1,5 +1,6 @@
 -- What stands at a place among numbers that follow each other.
-use Rattle.std.proofs.Common.{◌≡◌, ℕ, zero, suc, ◌+◌, ◌<◌, List, [], ◌∷◌, ◌++◌, map, length, drop, get_or, refl, ap, sym, ◌∙◌, arith, length-append}
+use Rattle.std.proofs.Common.{◌≡◌, ℕ, zero, suc, ◌+◌, ◌<◌, List, [], ◌∷◌, ◌++◌, map, length, drop, get_or, refl, ap, sym, ◌∙◌, arith}
+use Rattle.std.proofs.Common.{length-append}
 use Rattle.std.specs.Prelude.{slice_get, slice_set, option_map, Some, None}
 use Rattle.std.proofs.lemmas.List.{length-map, append-nil}
 use Rattle.std.proofs.lemmas.Option.{slice_get_read, slice_get_past, slice_get-map}
@@ -42,7 +43,8 @@ module _ {T U : Type 0} (see : T → U) (ns ms : List U) (place : ℕ) where
 
 pub reads_next :
     (me vars : ℕ) (now : List ℕ) (x i : ℕ) (rs : List Read) (r : Read) → i < length rs → r ≡ get_or rs i r
-    → one_read_numbers (with_self now me (vars + 1)) x i r ++ read_numbers me vars (slice_set now (assigned r) x) (x + 1) (i + 1) (drop (i + 1) rs)
+    → one_read_numbers (with_self now me (vars + 1)) x i r ++ read_numbers me vars (slice_set now (assigned r) x) (x + 1) (i + 1)
+    (drop (i + 1) rs)
     ≡ read_numbers me vars now x i (drop i rs)
 reads_next me vars now x i rs r l e =
     let more : suc i ≡ i + 1 = omega arith in
@@ -85,7 +87,8 @@ parts_of_action all (Del t k) = append-nil (map in_range k)
 parts_of_action all (Set t k c v) = refl
 parts_of_action all (Add t k c v) = refl
 
-pub value_of_list : (vs : List Lin) (place : ℕ) (l : Lin) → place < length vs → l ≡ get_or vs place l → slice_get (map in_range vs) place ≡ Some (in_range l)
+pub value_of_list : (vs : List Lin) (place : ℕ) (l : Lin) → place < length vs → l ≡ get_or vs place l →
+    slice_get (map in_range vs) place ≡ Some (in_range l)
 value_of_list vs place l h e =
     slice_get-map in_range vs place ∙ ap (option_map in_range) (slice_get_read vs (length vs) place l refl h e)
 

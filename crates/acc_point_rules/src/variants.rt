@@ -1,5 +1,6 @@
 //! The obligations that the variant lies from 0 to 65,536, and that an undo path to a point makes it fall.
-ghost use Rattle.std.specs.Prelude.{◌≡◌, ◌+◌, ◌<◌, ◌^◌, [], ◌∷◌, map, All, IfOk, slice_get, option_copied, MatchOption, ⊤, pos, negsuc, ◌+ℤ◌, ◌*ℤ◌};
+ghost use Rattle.std.specs.Prelude.{◌≡◌, ◌+◌, ◌<◌, ◌^◌, [], ◌∷◌, map, All, IfOk, slice_get, option_copied, MatchOption, ⊤, pos, negsuc};
+ghost use Rattle.std.specs.Prelude.{◌+ℤ◌, ◌*ℤ◌};
 ghost use Rattle.acc_base.specs.Sums.{form_sum, is_sum_wide, TellsWide};
 ghost use Rattle.acc_form.specs.WellFormed.{IsWellFormed};
 ghost use Rattle.acc_oblig.specs.Naming.{named_lin};

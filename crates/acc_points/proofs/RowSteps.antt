@@ -28,7 +28,8 @@ module _ {X : Type 0} where
   behind_push xs ys (Ok x) r h = behind_one xs ys x r (ok_same _ _ h)
   behind_push xs ys (Err e) r h = absurd (cc)
 
-  pub stopped_push : (e : Stop) (xs : List X) (o : Computation X) (r : Computation (List X)) → StoppedBy e (behind xs (chain o (λ x. Ok (x ∷ []))))
+  pub stopped_push : (e : Stop) (xs : List X) (o : Computation X) (r : Computation (List X)) →
+      StoppedBy e (behind xs (chain o (λ x. Ok (x ∷ []))))
       → StoppedBy e (behind xs (chain o (λ x. chain r (λ rest. Ok (x ∷ rest)))))
   stopped_push (Refuted y) xs (Ok x) r h = absurd (cc)
   stopped_push Wide xs (Ok x) r h = absurd (cc)

@@ -272,7 +272,8 @@ not_ended (Err Many) r h e = h
 not_ended (Err Memory) r h e = h
 not_ended (Err (Refuted q)) r h e = h
 
-before_it : {A B : Type 0} (o : Computation A) (next : A → Computation B) (r : Row) → ((x : A) → Some (next x)) → chain o next ≡ Err (Refuted r)
+before_it : {A B : Type 0} (o : Computation A) (next : A → Computation B) (r : Row) → ((x : A) → Some (next x)) →
+    chain o next ≡ Err (Refuted r)
     → o ≡ Err (Refuted r)
 before_it (Ok x) next r h e = absurd (not_ended (next x) r (h x) e)
 before_it (Err d) next r h e = let same : d ≡ Refuted r = cc in ap Err same

@@ -82,7 +82,8 @@ module _ (db : List Row) (env : List ℤ) where
     pub is_shown : (r : Rel) (ms left : List Mults) → shown known r ms ≡ Gives left → rel_true db env r ≡ true
     is_shown r ms left h = shown_by r.equal r.form ms left h
 
-    pub are_shown : (fs : List Fact) (ms left : List Mults) → all_shown known fs ms ≡ Gives left → all_true db env (map (λ f. f.rel) fs) ≡ true
+    pub are_shown : (fs : List Fact) (ms left : List Mults) → all_shown known fs ms ≡ Gives left →
+        all_true db env (map (λ f. f.rel) fs) ≡ true
     are_shown [] ms left h = refl
     are_shown (f ∷ fs) ms left h =
         let parts = goes_on (all_shown known fs) (fact_shown known f ms) left h in

@@ -28,12 +28,14 @@ pub ends_each : {X : Type 0} (marks : X → List Mark) (xs : List X) → AllIn (
 ends_each marks [] h = tt
 ends_each marks (x ∷ xs) h = ends_behind (marks x) (flat_map marks xs) h.0 (ends_each marks xs h.1)
 
-ends_from : {X : Type 0} (i : ℕ) (l : Limit) (most : ℕ) (marks : X → List Mark) (xs : List X) → i + length xs ≤ most → AllIn (λ x. AreEnds (marks x)) xs → AreEnds (counted_from i l most marks xs)
+ends_from : {X : Type 0} (i : ℕ) (l : Limit) (most : ℕ) (marks : X → List Mark) (xs : List X) → i + length xs ≤ most →
+    AllIn (λ x. AreEnds (marks x)) xs → AreEnds (counted_from i l most marks xs)
 ends_from i l most marks [] few h = tt
 ends_from i l most marks (x ∷ xs) few h =
     ends_behind (past l (i == most)) _ (not_past l (i == most) (not_at i most (omega arith)))
     (ends_behind (marks x) _ h.0 (ends_from (i + 1) l most marks xs (omega arith) h.1))
 
 -- a list that is short enough, each of whose items passes no limit
-pub ends_counted : {X : Type 0} (l : Limit) (most : ℕ) (marks : X → List Mark) (xs : List X) → length xs ≤ most → AllIn (λ x. AreEnds (marks x)) xs → AreEnds (counted_from 0 l most marks xs)
+pub ends_counted : {X : Type 0} (l : Limit) (most : ℕ) (marks : X → List Mark) (xs : List X) → length xs ≤ most →
+    AllIn (λ x. AreEnds (marks x)) xs → AreEnds (counted_from 0 l most marks xs)
 ends_counted l most marks xs few h = ends_from 0 l most marks xs (omega arith) h

@@ -36,7 +36,8 @@ false_each faults [] h = tt
 false_each faults (x ∷ xs) h = false_both (faults x) (flat_map faults xs) h.0 (false_each faults xs h.1)
 
 -- items, by their trees
-pub false_mapped : {X Y : Type 0} (P : X → Type 0) (fault : Y → Bool) (tree : X → Y) → ((x : X) → P x → fault (tree x) ≡ false) → (xs : List X) → AllIn P xs → AreFalse (map fault (map tree xs))
+pub false_mapped : {X Y : Type 0} (P : X → Type 0) (fault : Y → Bool) (tree : X → Y) → ((x : X) → P x → fault (tree x) ≡ false) →
+    (xs : List X) → AllIn P xs → AreFalse (map fault (map tree xs))
 false_mapped P fault tree each [] h = tt
 false_mapped P fault tree each (x ∷ xs) h = (each x h.0, false_mapped P fault tree each xs h.1)
 

@@ -41,7 +41,8 @@ not_less n most h = grind (arith, nat_tests)
 
 pub table_ends : (t : Table) → IsTableSaid t → AreEnds (table_marks (table_tree t))
 table_ends t h =
-    ends_behind _ _ (not_past limit.KeyWidth (nat_lt t.width 1 || nat_lt 6 t.width) (neither (nat_lt t.width 1) (nat_lt 6 t.width) (not_less 1 t.width h.some_width) (not_less t.width 6 h.width)))
+    ends_behind _ _ (not_past limit.KeyWidth (nat_lt t.width 1 || nat_lt 6 t.width)
+    (neither (nat_lt t.width 1) (nat_lt 6 t.width) (not_less 1 t.width h.some_width) (not_less t.width 6 h.width)))
     (ends_behind _ _ (not_above limit.Columns 12 (length t.cols) h.few_columns)
     (ends_behind (name_marks t.name) _ (name_ends t.name h.name)
     (ends_behind (number_marks t.width) _ (not_above limit.NumberSize (2 ^ 45) t.width (omega (arith, h.width)))
@@ -57,13 +58,16 @@ at_ends d at h =
 
 pair_ends : (held step : List (List ℕ)) (p : ℕ × ℕ) → IsPairSaid held step p → AreEnds (pair_marks (pair_tree held step p))
 pair_ends held step p h =
-    ends_behind (variable_marks (variable_tree held p.0)) (variable_marks (variable_tree step p.1)) (variable_ends (name_at held p.0) (inl h.0)) (variable_ends (name_at step p.1) (inl h.1))
+    ends_behind (variable_marks (variable_tree held p.0)) (variable_marks (variable_tree step p.1))
+    (variable_ends (name_at held p.0) (inl h.0)) (variable_ends (name_at step p.1) (inl h.1))
 
-pairs_end : (held step : List (List ℕ)) (ps : List (ℕ × ℕ)) → AllIn (IsPairSaid held step) ps → AreEnds (pairs_marks (pairs_tree held step ps))
+pairs_end : (held step : List (List ℕ)) (ps : List (ℕ × ℕ)) → AllIn (IsPairSaid held step) ps →
+    AreEnds (pairs_marks (pairs_tree held step ps))
 pairs_end held step [] h = tt
 pairs_end held step (p ∷ ps) h =
     ends_behind (pair_marks (pair_tree held step p)) _ (pair_ends held step p h.0)
-    (ends_each pair_marks (map (pair_tree held step) ps) (all_mapped (IsPairSaid held step) (λ (t : PairTree). AreEnds (pair_marks t)) (pair_tree held step) (pair_ends held step) ps h.1))
+    (ends_each pair_marks (map (pair_tree held step) ps)
+    (all_mapped (IsPairSaid held step) (λ (t : PairTree). AreEnds (pair_marks t)) (pair_tree held step) (pair_ends held step) ps h.1))
 
 pub entry_ends : (d : Design) (e : Entry) → IsEntrySaid d e → AreEnds (entry_marks (entry_tree d e))
 entry_ends d e h =
@@ -88,12 +92,14 @@ design_ends d h =
     (ends_counted limit.Tables 64 table_marks (map table_tree d.tables) (few_others table_tree 64 d.tables h.few_tables)
     (all_mapped IsTableSaid (λ (t : TableTree). AreEnds (table_marks t)) table_tree table_ends d.tables h.tables))
     (ends_behind (counted limit.AlwaysClauses 128 clause_statement_marks clauses) _
-    (ends_counted limit.AlwaysClauses 128 clause_statement_marks clauses (few_others (clause_tree (outside d.tables)) 128 d.always h.few_always) (clauses_end (outside d.tables) d.always h.always))
+    (ends_counted limit.AlwaysClauses 128 clause_statement_marks clauses
+    (few_others (clause_tree (outside d.tables)) 128 d.always h.few_always) (clauses_end (outside d.tables) d.always h.always))
     (ends_behind (counted limit.Types 64 type_marks (map (type_tree d.tables) d.types)) _
     (ends_counted limit.Types 64 type_marks (map (type_tree d.tables) d.types) (few_others (type_tree d.tables) 64 d.types h.few_types)
     (all_mapped (IsTypeSaid d.tables) (λ (t : TypeTree). AreEnds (type_marks t)) (type_tree d.tables) (type_ends d.tables) d.types h.types))
     (ends_behind (counted limit.EntriesAndHints 1024 entry_marks (map (entry_tree d) d.entries)) _
-    (ends_counted limit.EntriesAndHints 1024 entry_marks (map (entry_tree d) d.entries) (few_others (entry_tree d) 1024 d.entries h.few_entries)
+    (ends_counted limit.EntriesAndHints 1024 entry_marks (map (entry_tree d) d.entries)
+    (few_others (entry_tree d) 1024 d.entries h.few_entries)
     (all_mapped (IsEntrySaid d) (λ (t : EntryTree). AreEnds (entry_marks t)) (entry_tree d) (entry_ends d) d.entries h.entries))
     (ends_counted limit.EntriesAndHints 1024 hint_marks (map (hint_tree d) d.hints) (few_others (hint_tree d) 1024 d.hints h.few_hints)
     (all_mapped (IsHintSaid d) (λ (t : HintTree). AreEnds (hint_marks t)) (hint_tree d) (hint_ends d) d.hints h.hints)))))

@@ -1,5 +1,6 @@
 -- Printed types pass no limit.
-use Rattle.std.proofs.Common.{◌≡◌, ℕ, ◌+◌, ◌≤◌, Bool, true, false, List, [], ◌∷◌, ◌++◌, length, length-append, Some, None, ap, arith, take, drop}
+use Rattle.std.proofs.Common.{◌≡◌, ℕ, ◌+◌, ◌≤◌, Bool, true, false, List, [], ◌∷◌, ◌++◌, length, length-append, Some, None, ap, arith, take}
+use Rattle.std.proofs.Common.{drop}
 use Rattle.std.specs.Prelude.{map, if◌then◌else◌}
 use Rattle.std.specs.List.{flat_map}
 use Rattle.std.proofs.lemmas.List.{take-append-drop}
@@ -13,7 +14,8 @@ use Rattle.acc_syntax.specs.declared.trees.PointTree.{PointTree}
 use Rattle.acc_limits.specs.declared.limits.Limit.TheVariants as limit
 use Rattle.acc_limits.specs.Marks.{ending, counted}
 use Rattle.acc_limits.specs.Words.{name_marks, small_number_marks, sum_marks}
-use Rattle.acc_limits.specs.Statements.{clause_statement_marks, returns_marks, locals_marks, variant_marks, step_marks, point_marks, head_marks, type_marks}
+use Rattle.acc_limits.specs.Statements.{clause_statement_marks, returns_marks, locals_marks, variant_marks, step_marks, point_marks}
+use Rattle.acc_limits.specs.Statements.{head_marks, type_marks}
 use Rattle.acc_print.specs.Names.{Scope, name_at, within}
 use Rattle.acc_print.specs.Types.{is_zero}
 use Rattle.acc_readback.specs.Trees.{lin_tree, names_tree, clause_tree}
@@ -42,10 +44,13 @@ point_ends s points p h =
     (ends_behind ending _ one_end
     (ends_behind (variant_marks (variant_tree s.names p.variant)) _ (variant_ends s.names p.variant h.variant)
     (ends_behind (counted limit.Clauses 64 clause_statement_marks (map (clause_tree s) p.clauses)) _
-    (ends_counted limit.Clauses 64 clause_statement_marks (map (clause_tree s) p.clauses) (few_others (clause_tree s) 64 p.clauses h.few_clauses) (clauses_end s p.clauses h.clauses))
-    (ends_behind (step_marks (step_tree s points p.next)) (step_marks (step_tree s points p.undo)) (step_ends s points p.next h.next) (step_ends s points p.undo h.undo)))))
+    (ends_counted limit.Clauses 64 clause_statement_marks (map (clause_tree s) p.clauses)
+    (few_others (clause_tree s) 64 p.clauses h.few_clauses) (clauses_end s p.clauses h.clauses))
+    (ends_behind (step_marks (step_tree s points p.next)) (step_marks (step_tree s points p.undo)) (step_ends s points p.next h.next)
+    (step_ends s points p.undo h.undo)))))
 
-points_end : (s : Scope) (points ps : List Point) → length ps ≤ 32 → ArePointsSaid s points ps → AreEnds (point_marks (first_point s points ps) ++ counted limit.Points 31 point_marks (map (point_tree s points) (drop 1 ps)))
+points_end : (s : Scope) (points ps : List Point) → length ps ≤ 32 → ArePointsSaid s points ps →
+    AreEnds (point_marks (first_point s points ps) ++ counted limit.Points 31 point_marks (map (point_tree s points) (drop 1 ps)))
 points_end s points [] few h = absurd h
 points_end s points (p ∷ ps) few h =
     ends_behind (point_marks (point_tree s points p)) _ (point_ends s points p h.0)
@@ -61,7 +66,8 @@ returns_end (x ∷ xs) h = ends_behind (name_marks x ++ flat_map name_marks xs) 
 locals_end : (n : ℕ) (xs : List (List ℕ)) → n + length xs ≤ 48 → AllIn IsName xs → AreEnds (locals_marks n (names_tree xs))
 locals_end n [] few h = tt
 locals_end n (x ∷ xs) few h =
-    ends_behind _ _ (not_above limit.Locals 47 (n + length xs) (omega arith)) (ends_behind (name_marks x ++ flat_map name_marks xs) ending (names_end (x ∷ xs) h) one_end)
+    ends_behind _ _ (not_above limit.Locals 47 (n + length xs) (omega arith))
+    (ends_behind (name_marks x ++ flat_map name_marks xs) ending (names_end (x ∷ xs) h) one_end)
 
 -- the parameters and what is behind them are as many as the locals
 parted : (n : ℕ) (xs : List (List ℕ)) → length (take n xs) + length (drop n xs) ≡ length xs
@@ -83,10 +89,14 @@ type_ends tables t h =
     let s = within tables t in
     let later = drop t.params t.locals in
     ends_behind (head_marks (type_tree tables t)) _ (head_ends tables t h)
-    (ends_behind (returns_marks (names_tree (map (name_at t.locals) t.returns))) _ (returns_end (map (name_at t.locals) t.returns) h.returns)
-    (ends_behind (locals_marks (length (take t.params t.locals)) (names_tree later)) _ (locals_end (length (take t.params t.locals)) later (omega (arith, parted t.params t.locals, h.few_locals)) h.locals)
+    (ends_behind (returns_marks (names_tree (map (name_at t.locals) t.returns))) _
+    (returns_end (map (name_at t.locals) t.returns) h.returns)
+    (ends_behind (locals_marks (length (take t.params t.locals)) (names_tree later)) _
+    (locals_end (length (take t.params t.locals)) later (omega (arith, parted t.params t.locals, h.few_locals)) h.locals)
     (ends_behind (counted limit.Clauses 64 clause_statement_marks (map (clause_tree s) t.posts)) _
-    (ends_counted limit.Clauses 64 clause_statement_marks (map (clause_tree s) t.posts) (few_others (clause_tree s) 64 t.posts h.few_posts) (clauses_end s t.posts h.posts))
+    (ends_counted limit.Clauses 64 clause_statement_marks (map (clause_tree s) t.posts) (few_others (clause_tree s) 64 t.posts h.few_posts)
+    (clauses_end s t.posts h.posts))
     (ends_behind (counted limit.Clauses 64 clause_statement_marks (map (clause_tree s) t.repairs)) _
-    (ends_counted limit.Clauses 64 clause_statement_marks (map (clause_tree s) t.repairs) (few_others (clause_tree s) 64 t.repairs h.few_repairs) (clauses_end s t.repairs h.repairs))
+    (ends_counted limit.Clauses 64 clause_statement_marks (map (clause_tree s) t.repairs)
+    (few_others (clause_tree s) 64 t.repairs h.few_repairs) (clauses_end s t.repairs h.repairs))
     (points_end s t.points t.points h.few_points h.points)))))

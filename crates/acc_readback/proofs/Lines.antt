@@ -7,7 +7,8 @@ use Rattle.acc_grammar.specs.Readers.{AllIn, joined}
 use Rattle.acc_base.specs.Lines.{line}
 use Rattle.acc_lex.specs.declared.words.Word.{Word}
 use Rattle.acc_lex.specs.declared.words.Sign.TheVariants as sign
-use Rattle.acc_lex.specs.Spellings.{Line, Statement, Statements, statement_bytes, line_bytes, next_line, lines_bytes, IsStatement, IsLine, AreLines}
+use Rattle.acc_lex.specs.Spellings.{Line, Statement, Statements, statement_bytes, line_bytes, next_line, lines_bytes, IsStatement, IsLine}
+use Rattle.acc_lex.specs.Spellings.{AreLines}
 use Rattle.acc_lex.specs.LineWords.{item_word, ended, statement_words, line_words, lines_words}
 use Rattle.acc_lex.specs.Texts.{IsLexed}
 use Rattle.acc_syntax.specs.Spelling.{just}
@@ -49,8 +50,10 @@ more_lines text text' ws ws' a b = record {
   statements = a.statements ++ b.statements;
   fit = all_both IsStatement a.statements b.statements a.fit b.fit;
   some = all_both HasWords a.statements b.statements a.some b.some;
-  spelled = ap (λ (bs : List ℕ). bs ++ text') a.spelled ∙ ap (λ (bs : List ℕ). joined ended_bytes a.statements ++ bs) b.spelled ∙ sym (joined_both ended_bytes a.statements b.statements);
-  mean = ap (λ (vs : List Word). vs ++ ws') a.mean ∙ ap (λ (vs : List Word). joined statement_words a.statements ++ vs) b.mean ∙ sym (joined_both statement_words a.statements b.statements);
+  spelled = ap (λ (bs : List ℕ). bs ++ text') a.spelled ∙ ap (λ (bs : List ℕ). joined ended_bytes a.statements ++ bs) b.spelled ∙ sym
+      (joined_both ended_bytes a.statements b.statements);
+  mean = ap (λ (vs : List Word). vs ++ ws') a.mean ∙ ap (λ (vs : List Word). joined statement_words a.statements ++ vs) b.mean ∙ sym
+      (joined_both statement_words a.statements b.statements);
 }
 
 -- ---- one line
@@ -60,7 +63,8 @@ ended_is [] h = absurd cc
 ended_is (w ∷ ws) h = refl
 
 whole : (text : List ℕ) (ws : List Word) → Part text ws → Rest text ws
-whole text ws p = subst (λ (bs : List ℕ). Rest bs ws) (append-nil text) (subst (λ (vs : List Word). Rest (text ++ []) vs) (append-nil ws) (p [] [] refl nothing))
+whole text ws p = subst (λ (bs : List ℕ). Rest bs ws) (append-nil text)
+    (subst (λ (vs : List Word). Rest (text ++ []) vs) (append-nil ws) (p [] [] refl nothing))
 
 by_rest : (text : List ℕ) (ws : List Word) → is_said ws ≡ true → Rest text ws → Lines (line text) (ws ++ just sign.End)
 by_rest text ws some r = record {
@@ -72,14 +76,18 @@ by_rest text ws some r = record {
 }
 
 -- the words of a part, and the end of its statement
-pub one_line : (text : List ℕ) (ws words : List Word) → Part text ws → is_said ws ≡ true → ws ++ just sign.End ≡ words → Lines (line text) words
+pub one_line : (text : List ℕ) (ws words : List Word) → Part text ws → is_said ws ≡ true → ws ++ just sign.End ≡ words →
+    Lines (line text) words
 one_line text ws words p some e = subst (λ (vs : List Word). Lines (line text) vs) e (by_rest text ws some (whole text ws p))
 
 -- ---- lines for each item
 
-pub lines_mapped : {X Y : Type 0} (P : X → Type 0) (text : X → List ℕ) (spell : Y → List Word) (tree : X → Y) (each : (x : X) → P x → Lines (text x) (spell (tree x))) (xs : List X) → AllIn P xs → Lines (flat_map text xs) (joined spell (map tree xs))
+pub lines_mapped : {X Y : Type 0} (P : X → Type 0) (text : X → List ℕ) (spell : Y → List Word) (tree : X → Y) (each : (x : X) → P x →
+    Lines (text x) (spell (tree x))) (xs : List X) → AllIn P xs → Lines (flat_map text xs) (joined spell (map tree xs))
 lines_mapped P text spell tree each [] h = no_lines
-lines_mapped P text spell tree each (x ∷ xs) h = more_lines (text x) (flat_map text xs) (spell (tree x)) (joined spell (map tree xs)) (each x h.0) (lines_mapped P text spell tree each xs h.1)
+lines_mapped P text spell tree each (x ∷ xs) h =
+    more_lines (text x) (flat_map text xs) (spell (tree x)) (joined spell (map tree xs)) (each x h.0)
+    (lines_mapped P text spell tree each xs h.1)
 
 -- ---- whole texts
 
@@ -111,7 +119,8 @@ alone s = append-nil (statement_bytes s)
 behind_bytes : (ss : List Statement) → 10 ∷ joined ended_bytes ss ≡ joined next_line (lines_behind ss)
 behind_bytes [] = refl
 behind_bytes (s ∷ ss) =
-    ap (λ (bs : List ℕ). 10 ∷ bs) (append_assoc (statement_bytes s) (10 ∷ []) (joined ended_bytes ss) ∙ ap (λ (bs : List ℕ). statement_bytes s ++ bs) (behind_bytes ss)
+    ap (λ (bs : List ℕ). 10 ∷ bs) (append_assoc (statement_bytes s) (10 ∷ []) (joined ended_bytes ss) ∙ ap
+    (λ (bs : List ℕ). statement_bytes s ++ bs) (behind_bytes ss)
     ∙ ap (λ (bs : List ℕ). bs ++ joined next_line (lines_behind ss)) (sym (alone s)))
 
 all_bytes : (ss : List Statement) → joined ended_bytes ss ≡ lines_bytes (all_lines ss)
@@ -122,11 +131,13 @@ all_bytes (s ∷ ss) =
 
 behind_words : (ss : List Statement) → joined statement_words ss ≡ joined line_words (lines_behind ss)
 behind_words [] = refl
-behind_words (s ∷ ss) = ap (λ (ws : List Word). statement_words s ++ ws) (behind_words ss) ∙ ap (λ (ws : List Word). ws ++ joined line_words (lines_behind ss)) (sym (append-nil (statement_words s)))
+behind_words (s ∷ ss) = ap (λ (ws : List Word). statement_words s ++ ws) (behind_words ss) ∙ ap
+    (λ (ws : List Word). ws ++ joined line_words (lines_behind ss)) (sym (append-nil (statement_words s)))
 
 all_words : (ss : List Statement) → joined statement_words ss ≡ lines_words (all_lines ss)
 all_words [] = refl
-all_words (s ∷ ss) = ap (λ (ws : List Word). statement_words s ++ ws) (behind_words ss) ∙ ap (λ (ws : List Word). ws ++ joined line_words (lines_behind ss)) (sym (append-nil (statement_words s)))
+all_words (s ∷ ss) = ap (λ (ws : List Word). statement_words s ++ ws) (behind_words ss) ∙ ap
+    (λ (ws : List Word). ws ++ joined line_words (lines_behind ss)) (sym (append-nil (statement_words s)))
 
 -- lines are a text
 pub lexed : (text : List ℕ) (words : List Word) → Lines text words → IsLexed text words

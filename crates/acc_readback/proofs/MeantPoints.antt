@@ -46,13 +46,18 @@ module _ (s : Scope) (m : Surroundings) (f : Suits s m) (none : m.variables.own 
 
   point_ends : (points : List Point) (p : Point) → IsPointSaid s points p → AreEnds (point_sizes m (point_tree s points p))
   point_ends points p h =
-      ends_behind ending _ one_end (ends_behind (variant_sizes m.variables (variant_tree s.names p.variant)) _ (variant_ends p.variant h.variant)
-      (ends_behind (flat_map (clause_statement_sizes m) (map (clause_tree s) p.clauses)) _ (ends_mapped (IsClauseSaid s) (clause_statement_sizes m) (clause_tree s) p.clauses (clause_ends s m f none) h.clauses)
-      (ends_behind (step_sizes m (step_tree s points p.next)) _ (step_ends s m f points p.next h.next) (step_ends s m f points p.undo h.undo))))
+      ends_behind ending _ one_end (ends_behind (variant_sizes m.variables (variant_tree s.names p.variant)) _
+      (variant_ends p.variant h.variant)
+      (ends_behind (flat_map (clause_statement_sizes m) (map (clause_tree s) p.clauses)) _
+      (ends_mapped (IsClauseSaid s) (clause_statement_sizes m) (clause_tree s) p.clauses (clause_ends s m f none) h.clauses)
+      (ends_behind (step_sizes m (step_tree s points p.next)) _ (step_ends s m f points p.next h.next)
+      (step_ends s m f points p.undo h.undo))))
 
-  pub points_end : (points ps : List Point) → ArePointsSaid s points ps → AreEnds (flat_map (point_sizes m) (first_point s points ps ∷ map (point_tree s points) (drop 1 ps)))
+  pub points_end : (points ps : List Point) → ArePointsSaid s points ps →
+      AreEnds (flat_map (point_sizes m) (first_point s points ps ∷ map (point_tree s points) (drop 1 ps)))
   points_end points [] h = absurd h
-  points_end points (p ∷ ps) h = ends_behind (point_sizes m (point_tree s points p)) _ (point_ends points p h.0) (ends_mapped (IsPointSaid s points) (point_sizes m) (point_tree s points) ps (point_ends points) h.1)
+  points_end points (p ∷ ps) h = ends_behind (point_sizes m (point_tree s points p)) _ (point_ends points p h.0)
+      (ends_mapped (IsPointSaid s points) (point_sizes m) (point_tree s points) ps (point_ends points) h.1)
 
   module _ (points : List Point) (names : List (List ℕ)) (g : ArePoints points names) where
     point_back : (p : Point) → IsPointSaid s points p → point_of m names (point_tree s points p) ≡ p
@@ -64,10 +69,14 @@ module _ (s : Scope) (m : Surroundings) (f : Suits s m) (none : m.variables.own 
       variant = variant_back p.variant h.variant i;
     }
 
-    pub points_back : (ps : List Point) → ArePointsSaid s points ps → map (point_of m names) (first_point s points ps ∷ map (point_tree s points) (drop 1 ps)) ≡ ps
+    pub points_back : (ps : List Point) → ArePointsSaid s points ps →
+        map (point_of m names) (first_point s points ps ∷ map (point_tree s points) (drop 1 ps)) ≡ ps
     points_back [] h = absurd h
-    points_back (p ∷ ps) h = λ i. point_back p h.0 i ∷ all_back (IsPointSaid s points) (point_of m names) (point_tree s points) ps point_back h.1 i
+    points_back (p ∷ ps) h = λ i. point_back p h.0 i ∷ all_back (IsPointSaid s points) (point_of m names) (point_tree s points) ps
+        point_back h.1 i
 
-pub points_named : (s : Scope) (points ps : List Point) → ArePointsSaid s points ps → map (λ p. p.name) (first_point s points ps ∷ map (point_tree s points) (drop 1 ps)) ≡ map name_of_point ps
+pub points_named : (s : Scope) (points ps : List Point) → ArePointsSaid s points ps →
+    map (λ p. p.name) (first_point s points ps ∷ map (point_tree s points) (drop 1 ps)) ≡ map name_of_point ps
 points_named s points [] h = absurd h
-points_named s points (p ∷ ps) h = ap (λ (xs : List (List ℕ)). p.name ∷ xs) (trees_named name_of_point (point_tree s points) (λ q. q.name) (λ q. refl) ps)
+points_named s points (p ∷ ps) h = ap (λ (xs : List (List ℕ)). p.name ∷ xs)
+    (trees_named name_of_point (point_tree s points) (λ q. q.name) (λ q. refl) ps)

@@ -44,7 +44,8 @@ module _ (s : Scope) (m : Surroundings) (f : Suits s m) where
   pub table_back : (table : ℕ) (key : List Lin) → IsRowSaid s table key → table_in m (place_tree s table key) ≡ table
   table_back table key h =
       let there = table_there (slice_get s.tables table) h.table in
-      ap (λ (o : Option Table). number_of (table_name o) (table_names m.tables)) there.1 ∙ number_item name_of_table s.tables (table_names m.tables) table there.0 names_back f.new (omega (arith, f.few)) there.1
+      ap (λ (o : Option Table). number_of (table_name o) (table_names m.tables)) there.1 ∙ number_item name_of_table s.tables
+      (table_names m.tables) table there.0 names_back f.new (omega (arith, f.few)) there.1
 
   key_of : (key : List Lin) → IsKeySaid s.names key → key_in m (place_tree s 0 key) ≡ key
   key_of [] h = absurd h
@@ -61,16 +62,23 @@ module _ (s : Scope) (m : Surroundings) (f : Suits s m) where
   row_ends table key h = key_ends key h.key
 
   -- the columns of the table that has the name
-  columns_there : (table column : ℕ) (t : Table) → slice_get s.tables table ≡ Some t → IsName (name_at t.cols column) → (o : Option TableTree) → o ≡ Some (table_tree t)
+  columns_there : (table column : ℕ) (t : Table) → slice_get s.tables table ≡ Some t → IsName (name_at t.cols column) →
+      (o : Option TableTree) → o ≡ Some (table_tree t)
       → number_of (name_at t.cols column) (unwrap_or (option_map (λ (u : TableTree). u.columns) o) []) ≡ column
   columns_there table column t e h o is =
       let said = looked_up IsTableSaid s.tables table t f.said e in
-      ap (λ (u : Option TableTree). number_of (name_at t.cols column) (unwrap_or (option_map (λ (u : TableTree). u.columns) u) [])) is ∙ number_new t.cols column said.new_columns (omega (arith, said.few_columns)) h
+      ap (λ (u : Option TableTree). number_of (name_at t.cols column) (unwrap_or (option_map (λ (u : TableTree). u.columns) u) [])) is ∙
+      number_new t.cols column said.new_columns (omega (arith, said.few_columns)) h
 
-  pub column_back : (table : ℕ) (key : List Lin) (column : ℕ) → IsCellSaid s table key column → column_in m (cell_tree s table key column) ≡ column
+  pub column_back : (table : ℕ) (key : List Lin) (column : ℕ) → IsCellSaid s table key column →
+      column_in m (cell_tree s table key column) ≡ column
   column_back table key column h =
       let there = table_there (slice_get s.tables table) h.row.table in
       let t = there.0 in
-      let found = ap (find (λ (u : TableTree). bytes_eq t.name u.name)) f.tables ∙ found_item name_of_table table_tree (λ u. u.name) (λ u. refl) s.tables table t f.new there.1 in
-      ap (λ (o : Option Table). number_of (column_name o column) (unwrap_or (option_map (λ (u : TableTree). u.columns) (find (λ (u : TableTree). bytes_eq (table_name o) u.name) m.tables)) [])) there.1
-      ∙ columns_there table column t there.1 (subst (λ (o : Option Table). IsName (column_name o column)) there.1 h.column) (find (λ (u : TableTree). bytes_eq t.name u.name) m.tables) found
+      let found = ap (find (λ (u : TableTree). bytes_eq t.name u.name)) f.tables ∙ found_item name_of_table table_tree (λ u. u.name)
+      (λ u. refl) s.tables table t f.new there.1 in
+      ap (λ (o : Option Table). number_of (column_name o column)
+      (unwrap_or (option_map (λ (u : TableTree). u.columns) (find (λ (u : TableTree). bytes_eq (table_name o) u.name) m.tables)) []))
+      there.1
+      ∙ columns_there table column t there.1 (subst (λ (o : Option Table). IsName (column_name o column)) there.1 h.column)
+      (find (λ (u : TableTree). bytes_eq t.name u.name) m.tables) found

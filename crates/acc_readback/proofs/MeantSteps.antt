@@ -21,7 +21,8 @@ use Rattle.acc_limits.specs.Marks.{ending}
 use Rattle.acc_print.specs.Sums.{is_negative}
 use Rattle.acc_print.specs.Names.{Scope, name_at}
 use Rattle.acc_readback.specs.Trees.{variable_tree, guard_tree}
-use Rattle.acc_readback.specs.TypeTrees.{read_statement_tree, action_statement_tree, target_statement_tree, path_tree, first_path, step_tree}
+use Rattle.acc_readback.specs.TypeTrees.{read_statement_tree, action_statement_tree, target_statement_tree, path_tree, first_path}
+use Rattle.acc_readback.specs.TypeTrees.{step_tree}
 use Rattle.acc_readback.specs.Printable.{IsName, IsVariable, AreNew}
 use Rattle.acc_readback.specs.PrintableTypes.{IsReadSaid, IsActionSaid, IsTargetSaid, IsPathSaid, ArePathsSaid, IsStepSaid}
 use Rattle.acc_readback.proofs.NamePlaces.{fitted_small}
@@ -43,11 +44,13 @@ pub record ArePoints (points : List Point) (names : List (List ℕ)) : Type 0 wh
   pub few : length points ≤ 32
 
 -- the number of a point that has a name
-pub point_back : (points : List Point) (names : List (List ℕ)) → ArePoints points names → (n : ℕ) (o : Option Point) → slice_get points n ≡ o → IsName (point_name o) → number_of (point_name o) names ≡ n
+pub point_back : (points : List Point) (names : List (List ℕ)) → ArePoints points names → (n : ℕ) (o : Option Point) →
+    slice_get points n ≡ o → IsName (point_name o) → number_of (point_name o) names ≡ n
 point_back points names f n None e h = absurd h.0
 point_back points names f n (Some p) e h = number_item (λ (q : Point). q.name) points names n p f.are f.new (omega (arith, f.few)) e
 
-target_back : (points : List Point) (names : List (List ℕ)) → ArePoints points names → (t : Target) → IsTargetSaid points t → target_of names (target_statement_tree points t) ≡ t
+target_back : (points : List Point) (names : List (List ℕ)) → ArePoints points names → (t : Target) → IsTargetSaid points t →
+    target_of names (target_statement_tree points t) ≡ t
 target_back points names f (target.Point n) h = ap target.Point (point_back points names f n (slice_get points n) refl h)
 target_back points names f target.Commit h = refl
 target_back points names f target.Undone h = refl
@@ -59,12 +62,17 @@ module _ (s : Scope) (m : Surroundings) (f : Suits s m) where
 
   read_back : (r : Read) → IsReadSaid s r → read_of m (read_statement_tree s r) ≡ r
   read_back (read.Let x v) h = λ i. read.Let (variable x h.0 i) (lin_back s.names m.variables f.variables v h.1 i)
-  read_back (read.Col x table key column) h = λ i. read.Col (variable x h.0 i) (table_back s m f table key h.1.row i) (key_back s m f table key h.1.row i) (column_back s m f table key column h.1 i)
+  read_back (read.Col x table key column) h = λ i. read.Col (variable x h.0 i) (table_back s m f table key h.1.row i)
+      (key_back s m f table key h.1.row i) (column_back s m f table key column h.1 i)
   read_back (read.Has x table key) h = λ i. read.Has (variable x h.0 i) (table_back s m f table key h.1 i) (key_back s m f table key h.1 i)
-  read_back (read.Count x table key) h = λ i. read.Count (variable x h.0 i) (table_back s m f table key h.1 i) (key_back s m f table key h.1 i)
-  read_back (read.Sum x table key column) h = λ i. read.Sum (variable x h.0 i) (table_back s m f table key h.1.row i) (key_back s m f table key h.1.row i) (column_back s m f table key column h.1 i)
-  read_back (read.Least x table key) h = λ i. read.Least (variable x h.0 i) (table_back s m f table key h.1 i) (key_back s m f table key h.1 i)
-  read_back (read.Greatest x table key) h = λ i. read.Greatest (variable x h.0 i) (table_back s m f table key h.1 i) (key_back s m f table key h.1 i)
+  read_back (read.Count x table key) h = λ i. read.Count (variable x h.0 i) (table_back s m f table key h.1 i)
+      (key_back s m f table key h.1 i)
+  read_back (read.Sum x table key column) h = λ i. read.Sum (variable x h.0 i) (table_back s m f table key h.1.row i)
+      (key_back s m f table key h.1.row i) (column_back s m f table key column h.1 i)
+  read_back (read.Least x table key) h = λ i. read.Least (variable x h.0 i) (table_back s m f table key h.1 i)
+      (key_back s m f table key h.1 i)
+  read_back (read.Greatest x table key) h = λ i. read.Greatest (variable x h.0 i) (table_back s m f table key h.1 i)
+      (key_back s m f table key h.1 i)
   read_back (read.Take x) h = λ i. read.Take (variable x h i)
   read_back (read.Mul x a b) h = λ i. read.Mul (variable x h.0 i) (variable a h.1 i) (variable b h.2 i)
   read_back (read.Div x a n) h = λ i. read.Div (variable x h.0 i) (variable a h.1 i) (divisor_back n h.2 h.3 i)
@@ -84,31 +92,44 @@ module _ (s : Scope) (m : Surroundings) (f : Suits s m) where
   -- ---- actions
 
   action_back : (a : Action) → IsActionSaid s a → action_of m (action_statement_tree s a) ≡ a
-  action_back (action.Put table key values) h = λ i. action.Put (table_back s m f table key h.0 i) (key_back s m f table key h.0 i) (values_back s.names m.variables f.variables values h.1 i)
+  action_back (action.Put table key values) h = λ i. action.Put (table_back s m f table key h.0 i) (key_back s m f table key h.0 i)
+      (values_back s.names m.variables f.variables values h.1 i)
   action_back (action.Del table key) h = λ i. action.Del (table_back s m f table key h i) (key_back s m f table key h i)
-  action_back (action.Set table key column v) h = λ i. action.Set (table_back s m f table key h.0.row i) (key_back s m f table key h.0.row i) (column_back s m f table key column h.0 i) (lin_back s.names m.variables f.variables v h.1 i)
-  action_back (action.Add table key column v) h = λ i. action.Add (table_back s m f table key h.0.row i) (key_back s m f table key h.0.row i) (column_back s m f table key column h.0 i) (lin_back s.names m.variables f.variables v h.1 i)
+  action_back (action.Set table key column v) h =
+      λ i. action.Set (table_back s m f table key h.0.row i) (key_back s m f table key h.0.row i) (column_back s m f table key column h.0 i)
+      (lin_back s.names m.variables f.variables v h.1 i)
+  action_back (action.Add table key column v) h =
+      λ i. action.Add (table_back s m f table key h.0.row i) (key_back s m f table key h.0.row i) (column_back s m f table key column h.0 i)
+      (lin_back s.names m.variables f.variables v h.1 i)
 
   action_ends : (a : Action) → IsActionSaid s a → AreEnds (action_sizes m (action_statement_tree s a))
-  action_ends (action.Put table key values) h = ended _ (ends_behind _ _ (row_ends s m f table key h.0) (values_end s.names m.variables f.variables values h.1))
+  action_ends (action.Put table key values) h = ended _
+      (ends_behind _ _ (row_ends s m f table key h.0) (values_end s.names m.variables f.variables values h.1))
   action_ends (action.Del table key) h = ended _ (row_ends s m f table key h)
-  action_ends (action.Set table key column v) h = ended _ (ends_behind _ _ (row_ends s m f table key h.0.row) (lin_ends s.names m.variables f.variables v h.1))
-  action_ends (action.Add table key column v) h = ended _ (ends_behind _ _ (row_ends s m f table key h.0.row) (lin_ends s.names m.variables f.variables v h.1))
+  action_ends (action.Set table key column v) h =
+      ended _ (ends_behind _ _ (row_ends s m f table key h.0.row) (lin_ends s.names m.variables f.variables v h.1))
+  action_ends (action.Add table key column v) h =
+      ended _ (ends_behind _ _ (row_ends s m f table key h.0.row) (lin_ends s.names m.variables f.variables v h.1))
 
   -- ---- paths and steps
 
   path_ends : (points : List Point) (p : Path) → IsPathSaid s points p → AreEnds (path_sizes m (path_tree s points p))
   path_ends points p h =
       ends_behind (guard_sizes m.variables (guard_tree s.names p.guard)) _ (guard_ends s.names m.variables f.variables p.guard h.guard)
-      (ends_behind ending _ one_end (ended _ (ends_mapped (IsActionSaid s) (action_sizes m) (action_statement_tree s) p.actions action_ends h.actions)))
+      (ends_behind ending _ one_end (ended _ (ends_mapped (IsActionSaid s) (action_sizes m) (action_statement_tree s) p.actions action_ends
+      h.actions)))
 
-  paths_end : (points : List Point) (ps : List Path) → ArePathsSaid s points ps → AreEnds (flat_map (path_sizes m) (first_path s points ps ∷ map (path_tree s points) (drop 1 ps)))
+  paths_end : (points : List Point) (ps : List Path) → ArePathsSaid s points ps →
+      AreEnds (flat_map (path_sizes m) (first_path s points ps ∷ map (path_tree s points) (drop 1 ps)))
   paths_end points [] h = absurd h
-  paths_end points (p ∷ ps) h = ends_behind (path_sizes m (path_tree s points p)) _ (path_ends points p h.0) (ends_mapped (IsPathSaid s points) (path_sizes m) (path_tree s points) ps (path_ends points) h.1)
+  paths_end points (p ∷ ps) h = ends_behind (path_sizes m (path_tree s points p)) _ (path_ends points p h.0)
+      (ends_mapped (IsPathSaid s points) (path_sizes m) (path_tree s points) ps (path_ends points) h.1)
 
   pub step_ends : (points : List Point) (st : Step) → IsStepSaid s points st → AreEnds (step_sizes m (step_tree s points st))
   step_ends points st h =
-      ends_behind ending _ one_end (ends_behind (flat_map (read_sizes m) (map (read_statement_tree s) st.reads)) _ (ends_mapped (IsReadSaid s) (read_sizes m) (read_statement_tree s) st.reads read_ends h.reads) (paths_end points st.paths h.paths))
+      ends_behind ending _ one_end (ends_behind (flat_map (read_sizes m) (map (read_statement_tree s) st.reads)) _
+      (ends_mapped (IsReadSaid s) (read_sizes m) (read_statement_tree s) st.reads read_ends h.reads)
+      (paths_end points st.paths h.paths))
 
   module _ (points : List Point) (names : List (List ℕ)) (g : ArePoints points names) where
     path_back : (p : Path) → IsPathSaid s points p → path_of m names (path_tree s points p) ≡ p
@@ -118,9 +139,15 @@ module _ (s : Scope) (m : Surroundings) (f : Suits s m) where
       target = target_back points names g p.target h.target i;
     }
 
-    paths_back : (ps : List Path) → ArePathsSaid s points ps → map (path_of m names) (first_path s points ps ∷ map (path_tree s points) (drop 1 ps)) ≡ ps
+    paths_back : (ps : List Path) → ArePathsSaid s points ps →
+        map (path_of m names) (first_path s points ps ∷ map (path_tree s points) (drop 1 ps)) ≡ ps
     paths_back [] h = absurd h
-    paths_back (p ∷ ps) h = λ i. path_back p h.0 i ∷ all_back (IsPathSaid s points) (path_of m names) (path_tree s points) ps path_back h.1 i
+    paths_back (p ∷ ps) h = λ i. path_back p h.0 i ∷ all_back (IsPathSaid s points) (path_of m names) (path_tree s points) ps path_back h.1
+        i
 
     pub step_back : (st : Step) → IsStepSaid s points st → step_of m names (step_tree s points st) ≡ st
-    step_back st h = λ i. record { reads = all_back (IsReadSaid s) (read_of m) (read_statement_tree s) st.reads read_back h.reads i; paths = paths_back st.paths h.paths i }
+    step_back st h = λ i. record {
+      reads = all_back (IsReadSaid s) (read_of m) (read_statement_tree s) st.reads read_back h.reads i;
+      paths =
+          paths_back st.paths h.paths i;
+    }

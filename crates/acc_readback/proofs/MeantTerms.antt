@@ -1,5 +1,6 @@
 -- Terms that are collected already, written one after the other with the constant behind them, collect to themselves.
-use Rattle.std.proofs.Common.{◌≡◌, Bool, true, false, List, [], ◌∷◌, ◌++◌, map, Some, None, refl, ap, ◌∙◌, arith, zero, suc, ℤ, pos, negsuc, ◌+ℤ◌, append-nil}
+use Rattle.std.proofs.Common.{◌≡◌, Bool, true, false, List, [], ◌∷◌, ◌++◌, map, Some, None, refl, ap, ◌∙◌, arith, zero, suc, ℤ, pos, negsuc}
+use Rattle.std.proofs.Common.{◌+ℤ◌, append-nil}
 use Rattle.std.specs.Prelude.{filter}
 use Rattle.std.specs.List.{filter_map}
 use Rattle.std.proofs.lemmas.Int.{ints}
@@ -46,7 +47,8 @@ none_behind K (negsuc n) = refl
 unknowns_written : {K : Type 0} (ts : List (K × ℤ)) (n : ℤ) → filter_map with_unknown (written ts n) ≡ ts
 unknowns_written [] n = refl
 unknowns_written {K} (t ∷ ts) n =
-    ap (λ us. t ∷ us) (filter_map-append with_unknown (map known ts) (behind n) ∙ ((λ i. known_alone ts i ++ none_behind K n i) ∙ append-nil ts))
+    ap (λ us. t ∷ us) (filter_map-append with_unknown (map known ts) (behind n) ∙
+    ((λ i. known_alone ts i ++ none_behind K n i) ∙ append-nil ts))
 
 -- ---- the constant
 
@@ -74,18 +76,27 @@ constant_written {K} (t ∷ ts) n =
 abbrev pub terms_and : {K : Type 0} → List (K × ℤ) → ℤ → Terms K
 terms_and ts n = record { terms = ts; constant = n }
 
-pub written_back : {K : Type 0} (E : K → K → Bool) (ts : List (K × ℤ)) (n : ℤ) → AreCollected E ts → collected_by E (written ts n) ≡ terms_and ts n
-written_back E ts n h = λ i. record { terms = (ap (λ us. filter is_left (totals E us)) (unknowns_written ts n) ∙ h) i; constant = constant_written ts n i }
+pub written_back : {K : Type 0} (E : K → K → Bool) (ts : List (K × ℤ)) (n : ℤ) → AreCollected E ts →
+    collected_by E (written ts n) ≡ terms_and ts n
+written_back E ts n h = λ i. record {
+  terms = (ap (λ us. filter is_left (totals E us)) (unknowns_written ts n) ∙ h) i;
+  constant =
+      constant_written ts n i;
+}
 
 -- less 0 they are the same
-less_zero : {K : Type 0} (E : K → K → Bool) (ts : List (K × ℤ)) (n : ℤ) → AreCollected E ts → collected_by E (difference (written ts n) (alone 0 ∷ [])) ≡ terms_and ts n
+less_zero : {K : Type 0} (E : K → K → Bool) (ts : List (K × ℤ)) (n : ℤ) → AreCollected E ts →
+    collected_by E (difference (written ts n) (alone 0 ∷ [])) ≡ terms_and ts n
 less_zero E ts n h =
     let zero_part = map negated (alone 0 ∷ []) in
-    let unknowns = filter_map-append with_unknown (written ts n) zero_part ∙ (append-nil (filter_map with_unknown (written ts n)) ∙ unknowns_written ts n) in
-    let constant : constant_of (written ts n ++ zero_part) ≡ n = (let a = constants (written ts n) zero_part in let b = constant_written ts n in omega (arith, ints, a, b)) in
+    let unknowns = filter_map-append with_unknown (written ts n) zero_part ∙
+    (append-nil (filter_map with_unknown (written ts n)) ∙ unknowns_written ts n) in
+    let constant : constant_of (written ts n ++ zero_part) ≡ n =
+    (let a = constants (written ts n) zero_part in let b = constant_written ts n in omega (arith, ints, a, b)) in
     λ i. record { terms = (ap (λ us. filter is_left (totals E us)) unknowns ∙ h) i; constant = constant i }
 
-pub compared_back : {K : Type 0} (E : K → K → Bool) (equal : Bool) (ts : List (K × ℤ)) (n : ℤ) → AreCollected E ts → collected_by E (compared (relation_tree equal) (written ts n) (alone 0 ∷ [])) ≡ terms_and ts n
+pub compared_back : {K : Type 0} (E : K → K → Bool) (equal : Bool) (ts : List (K × ℤ)) (n : ℤ) → AreCollected E ts →
+    collected_by E (compared (relation_tree equal) (written ts n) (alone 0 ∷ [])) ≡ terms_and ts n
 compared_back E true ts n h = less_zero E ts n h
 compared_back E false ts n h = less_zero E ts n h
 

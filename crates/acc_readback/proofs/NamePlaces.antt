@@ -1,5 +1,6 @@
 -- Names of which none is defined twice stand at the places that they are looked up at.
-use Rattle.std.proofs.Common.{◌≡◌, ◌<◌, ◌≤◌, ◌^◌, ℕ, zero, suc, true, false, List, [], ◌∷◌, ◌++◌, length, Option, Some, None, refl, sym, ap, ◌∙◌, arith}
+use Rattle.std.proofs.Common.{◌≡◌, ◌<◌, ◌≤◌, ◌^◌, ℕ, zero, suc, true, false, List, [], ◌∷◌, ◌++◌, length, Option, Some, None, refl, sym, ap}
+use Rattle.std.proofs.Common.{◌∙◌, arith}
 use Rattle.std.specs.Prelude.{nat_lt, option_map, unwrap_or, is_some}
 use Rattle.std.specs.Str.{bytes_eq}
 use Rattle.std.proofs.lemmas.Bool.{or_parts}
@@ -20,21 +21,26 @@ there (x ∷ xs) zero h = omega arith
 there (x ∷ xs) (suc i) h = let e = there xs i h in omega arith
 
 -- behind earlier names: it is none of these
-pub new_apart : (earlier names : List (List ℕ)) (i : ℕ) → AreNew earlier names → i < length names → stands_in (name_at names i) earlier ≡ false
+pub new_apart : (earlier names : List (List ℕ)) (i : ℕ) → AreNew earlier names → i < length names →
+    stands_in (name_at names i) earlier ≡ false
 new_apart earlier [] i new lt = absurd (omega arith)
 new_apart earlier (x ∷ xs) zero new lt = (or_parts (stands_in x earlier) (defines_again (earlier ++ x ∷ []) xs) new).0
 new_apart earlier (x ∷ xs) (suc i) new lt =
-    let h = new_apart (earlier ++ x ∷ []) xs i (or_parts (stands_in x earlier) (defines_again (earlier ++ x ∷ []) xs) new).1 (omega arith) in
-    (or_parts (stands_in (name_at xs i) earlier) (stands_in (name_at xs i) (x ∷ [])) (sym (list_any-append (bytes_eq (name_at xs i)) earlier (x ∷ [])) ∙ h)).0
+    let h = new_apart (earlier ++ x ∷ []) xs i (or_parts (stands_in x earlier) (defines_again (earlier ++ x ∷ []) xs) new).1
+    (omega arith) in
+    (or_parts (stands_in (name_at xs i) earlier) (stands_in (name_at xs i) (x ∷ []))
+    (sym (list_any-append (bytes_eq (name_at xs i)) earlier (x ∷ [])) ∙ h)).0
 
 -- a new name stands at its own place
-pub place_new : (earlier names : List (List ℕ)) (i : ℕ) → AreNew earlier names → i < length names → place_of (name_at names i) names ≡ Some i
+pub place_new : (earlier names : List (List ℕ)) (i : ℕ) → AreNew earlier names → i < length names →
+    place_of (name_at names i) names ≡ Some i
 place_new earlier [] i new lt = absurd (omega arith)
 place_new earlier (x ∷ xs) zero new lt = rw ((bytes_eq-Decides x x).1 refl) refl
 place_new earlier (x ∷ xs) (suc i) new lt =
     let rest = (or_parts (stands_in x earlier) (defines_again (earlier ++ x ∷ []) xs) new).1 in
     let apart = new_apart (earlier ++ x ∷ []) xs i rest (omega arith) in
-    let last = (or_parts (stands_in (name_at xs i) earlier) (stands_in (name_at xs i) (x ∷ [])) (sym (list_any-append (bytes_eq (name_at xs i)) earlier (x ∷ [])) ∙ apart)).1 in
+    let last = (or_parts (stands_in (name_at xs i) earlier) (stands_in (name_at xs i) (x ∷ []))
+    (sym (list_any-append (bytes_eq (name_at xs i)) earlier (x ∷ [])) ∙ apart)).1 in
     rw (or_parts (bytes_eq (name_at xs i) x) false last).0 (ap (option_map suc) (place_new (earlier ++ x ∷ []) xs i rest (omega arith)))
 
 none_of : (o : Option ℕ) → is_some o ≡ false → o ≡ None
@@ -50,6 +56,7 @@ pub fitted_small : (n : ℕ) → n < 2 ^ 32 → fitted n ≡ n
 fitted_small n h = let e : nat_lt n (2 ^ 32) ≡ true = grind (arith, nat_tests) in rw e refl
 
 -- the number of a new name, where there are few
-pub number_new : (names : List (List ℕ)) (i : ℕ) → AreNew [] names → length names ≤ 2 ^ 32 → IsName (name_at names i) → number_of (name_at names i) names ≡ i
+pub number_new : (names : List (List ℕ)) (i : ℕ) → AreNew [] names → length names ≤ 2 ^ 32 → IsName (name_at names i) →
+    number_of (name_at names i) names ≡ i
 number_new names i new few h =
     let lt = there names i h in ap (λ (o : Option ℕ). fitted (unwrap_or o 0)) (place_new [] names i new lt) ∙ fitted_small i (omega arith)

@@ -30,6 +30,8 @@ pub ended : (a : List Mark) → AreEnds a → AreEnds (a ++ ending)
 ended a h = ends_behind a ending h one_end
 
 -- marks on the trees of items
-pub ends_mapped : {X Y : Type 0} (P : X → Type 0) (marks : Y → List Mark) (tree : X → Y) (xs : List X) → ((x : X) → P x → AreEnds (marks (tree x))) → AllIn P xs → AreEnds (flat_map marks (map tree xs))
+pub ends_mapped : {X Y : Type 0} (P : X → Type 0) (marks : Y → List Mark) (tree : X → Y) (xs : List X) →
+    ((x : X) → P x → AreEnds (marks (tree x))) → AllIn P xs → AreEnds (flat_map marks (map tree xs))
 ends_mapped P marks tree [] f h = tt
-ends_mapped P marks tree (x ∷ xs) f h = ends_behind (marks (tree x)) (flat_map marks (map tree xs)) (f x h.0) (ends_mapped P marks tree xs f h.1)
+ends_mapped P marks tree (x ∷ xs) f h = ends_behind (marks (tree x)) (flat_map marks (map tree xs)) (f x h.0)
+    (ends_mapped P marks tree xs f h.1)

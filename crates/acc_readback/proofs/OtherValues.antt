@@ -13,10 +13,12 @@ use Rattle.acc_syntax.specs.declared.trees.Term.TheVariants.{Plain, Product}
 use Rattle.acc_syntax.specs.declared.trees.SignedTerm.{SignedTerm}
 use Rattle.acc_syntax.specs.declared.trees.Relation.{Relation}
 use Rattle.acc_syntax.specs.declared.trees.Relation.TheVariants as relation
-use Rattle.acc_syntax.specs.Spelling.{just, name, number, further, variable, term as term_words, signed_term, sum, sums, place, cell, relation_sign, lin_rel, guard}
+use Rattle.acc_syntax.specs.Spelling.{just, name, number, further, variable, term as term_words, signed_term, sum, sums, place, cell}
+use Rattle.acc_syntax.specs.Spelling.{relation_sign, lin_rel, guard}
 use Rattle.acc_print.specs.Sums.{is_negative}
 use Rattle.acc_print.specs.Names.{Scope, name_at, column_name}
-use Rattle.acc_readback.specs.Trees.{variable_tree, term_tree, signed_tree, constant_trees, sum_tree, lin_tree, zero_tree, sums_tree, place_tree, cell_tree, relation_tree, lin_rel_tree, guard_tree}
+use Rattle.acc_readback.specs.Trees.{variable_tree, term_tree, signed_tree, constant_trees, sum_tree, lin_tree, zero_tree, sums_tree}
+use Rattle.acc_readback.specs.Trees.{place_tree, cell_tree, relation_tree, lin_rel_tree, guard_tree}
 use Rattle.acc_readback.specs.Printable.{IsVariable, IsTermSaid, IsLinSaid, IsKeySaid, IsRowSaid, IsCellSaid, IsLinRelSaid}
 use Rattle.acc_readback.proofs.Mapped.{all_mapped}
 use Rattle.acc_readback.proofs.OtherWords.{Without, without_both, without_either, without_each}
@@ -51,10 +53,12 @@ module _ (bad : Sign → Bool) (spares : Spares bad) where
   sign_other b = without_either bad b (just sign.Minus) (just sign.Plus) (other sign.Minus refl) (other sign.Plus refl)
 
   -- a first item, and further ones
-  pub further_other : {X Y : Type 0} (P : X → Type 0) (spell : Y → List Word) (tree : X → Y) → ((x : X) → P x → Without bad (spell (tree x))) → (xs : List X) → AllIn P xs → Without bad (joined (further spell) (map tree xs))
+  pub further_other : {X Y : Type 0} (P : X → Type 0) (spell : Y → List Word) (tree : X → Y) →
+      ((x : X) → P x → Without bad (spell (tree x))) → (xs : List X) → AllIn P xs → Without bad (joined (further spell) (map tree xs))
   further_other P spell tree each xs h =
       without_each bad (further spell) (map tree xs)
-      (all_mapped P (λ y. Without bad (further spell y)) tree (λ x g. without_both bad (just sign.Comma) (spell (tree x)) (other sign.Comma refl) (each x g)) xs h)
+      (all_mapped P (λ y. Without bad (further spell y)) tree
+      (λ x g. without_both bad (just sign.Comma) (spell (tree x)) (other sign.Comma refl) (each x g)) xs h)
 
   pub relation_other : (r : Relation) → Without bad (just (relation_sign r))
   relation_other relation.AtMost = other sign.AtMost refl
@@ -76,14 +80,16 @@ module _ (bad : Sign → Bool) (spares : Spares bad) (names : List (List ℕ)) w
   first_other t h = by_one (unsigned_abs t.1 == 1) (unsigned_abs t.1) (variable_tree names t.0) h
 
   term_other : (t : ℕ × ℤ) → IsTermOther t → Without bad (signed_term (signed_tree names t))
-  term_other t h = without_both bad _ (term_words (term_tree (unsigned_abs t.1) (variable_tree names t.0))) (sign_other bad spares (is_negative t.1)) (first_other t h)
+  term_other t h = without_both bad _ (term_words (term_tree (unsigned_abs t.1) (variable_tree names t.0)))
+      (sign_other bad spares (is_negative t.1)) (first_other t h)
 
   constant_other : (n : ℤ) → AllIn (λ (t : SignedTerm). Without bad (signed_term t)) (constant_trees n)
   constant_other (pos zero) = tt
   constant_other (pos (suc n)) = (without_both bad (just sign.Plus) (number (suc n)) (other bad spares sign.Plus refl) (tt, tt), tt)
   constant_other (negsuc n) = (without_both bad (just sign.Minus) (number (suc n)) (other bad spares sign.Minus refl) (tt, tt), tt)
 
-  pub sum_other : (ts : List (ℕ × ℤ)) (n : ℤ) → AllIn (λ (t : ℕ × ℤ). Without bad (variable (variable_tree names t.0))) ts → Without bad (sum (sum_tree names ts n))
+  pub sum_other : (ts : List (ℕ × ℤ)) (n : ℤ) → AllIn (λ (t : ℕ × ℤ). Without bad (variable (variable_tree names t.0))) ts →
+      Without bad (sum (sum_tree names ts n))
   sum_other [] n h = without_both bad _ (number (unsigned_abs n) ++ []) (minus_other bad spares (is_negative n)) (tt, tt)
   sum_other (t ∷ ts) n h =
       without_both bad _ _ (minus_other bad spares (is_negative t.1))
@@ -93,7 +99,8 @@ module _ (bad : Sign → Bool) (spares : Spares bad) (names : List (List ℕ)) w
       (all_mapped IsTermOther (λ (u : SignedTerm). Without bad (signed_term u)) (signed_tree names) term_other ts h.1) (constant_other n))))
 
 module _ (bad : Sign → Bool) (spares : Spares bad) (names : List (List ℕ)) (variables : AreOther bad names) where
-  terms_other : (ts : List (ℕ × ℤ)) → AllIn (IsTermSaid names) ts → AllIn (λ (t : ℕ × ℤ). Without bad (variable (variable_tree names t.0))) ts
+  terms_other : (ts : List (ℕ × ℤ)) → AllIn (IsTermSaid names) ts →
+      AllIn (λ (t : ℕ × ℤ). Without bad (variable (variable_tree names t.0))) ts
   terms_other [] h = tt
   terms_other (t ∷ ts) h = (variables t.0 h.0.0, terms_other ts h.1)
 
@@ -101,7 +108,8 @@ module _ (bad : Sign → Bool) (spares : Spares bad) (names : List (List ℕ)) (
   lin_other l h = sum_other bad spares names l.coeffs l.constant (terms_other l.coeffs h.terms)
 
   pub sums_other : (l : Lin) (ls : List Lin) → AllIn (IsLinSaid names) (l ∷ ls) → Without bad (sums (sums_tree names (l ∷ ls)))
-  sums_other l ls h = without_both bad (sum (lin_tree names l)) _ (lin_other l h.0) (further_other bad spares (IsLinSaid names) sum (lin_tree names) lin_other ls h.1)
+  sums_other l ls h = without_both bad (sum (lin_tree names l)) _ (lin_other l h.0)
+      (further_other bad spares (IsLinSaid names) sum (lin_tree names) lin_other ls h.1)
 
   key_other : (key : List Lin) → IsKeySaid names key → Without bad (sums (sums_tree names key))
   key_other [] h = absurd h
@@ -110,20 +118,28 @@ module _ (bad : Sign → Bool) (spares : Spares bad) (names : List (List ℕ)) (
   lin_rel_other : (r : LinRel) → IsLinRelSaid names r → Without bad (lin_rel (lin_rel_tree names r))
   lin_rel_other r h =
       without_both bad (sum (lin_tree names r.lin)) _ (lin_other r.lin h)
-      (without_both bad (just (relation_sign (relation_tree r.equal))) (sum zero_tree) (relation_other bad spares (relation_tree r.equal)) (tt, tt))
+      (without_both bad (just (relation_sign (relation_tree r.equal))) (sum zero_tree) (relation_other bad spares (relation_tree r.equal))
+      (tt, tt))
 
   pub guard_other : (rs : List LinRel) → AllIn (IsLinRelSaid names) rs → Without bad (guard (guard_tree names rs))
   guard_other [] h = tt
-  guard_other (r ∷ rs) h = without_both bad (lin_rel (lin_rel_tree names r)) _ (lin_rel_other r h.0) (further_other bad spares (IsLinRelSaid names) lin_rel (lin_rel_tree names) lin_rel_other rs h.1)
+  guard_other (r ∷ rs) h = without_both bad (lin_rel (lin_rel_tree names r)) _ (lin_rel_other r h.0)
+      (further_other bad spares (IsLinRelSaid names) lin_rel (lin_rel_tree names) lin_rel_other rs h.1)
 
 module _ (bad : Sign → Bool) (spares : Spares bad) (s : Scope) (variables : AreOther bad s.names) where
   pub row_other : (table : ℕ) (key : List Lin) → IsRowSaid s table key → Without bad (place (place_tree s table key))
   row_other table key h = (
     tt,
     without_both bad (just sign.Open) _ (other bad spares sign.Open refl)
-        (without_both bad (sums (sums_tree s.names key)) (just sign.Close) (key_other bad spares s.names variables key h.key) (other bad spares sign.Close refl)),
+        (without_both bad (sums (sums_tree s.names key)) (just sign.Close) (key_other bad spares s.names variables key h.key)
+        (other bad spares sign.Close refl)),
   )
 
-  pub cell_other : (table : ℕ) (key : List Lin) (column : ℕ) → IsCellSaid s table key column → Without bad (cell (cell_tree s table key column))
+  pub cell_other : (table : ℕ) (key : List Lin) (column : ℕ) → IsCellSaid s table key column →
+      Without bad (cell (cell_tree s table key column))
   cell_other table key column h =
-      without_both bad (place (place_tree s table key)) _ (row_other table key h.row) (without_both bad (just sign.Dot) (name (column_name (slice_get s.tables table) column)) (other bad spares sign.Dot refl) (tt, tt))
+      without_both bad (place (place_tree s table key)) _ (row_other table key h.row)
+      (without_both bad (just sign.Dot) (name (column_name (slice_get s.tables table) column)) (other bad spares sign.Dot refl) (
+        tt,
+        tt,
+      ))

@@ -1,4 +1,5 @@
--- Words other than some that the grammar fixes; and where `self` stands among words, where some parts have none and others neither `entry` nor `hint`.
+-- Words other than some that the grammar fixes; and where `self` stands among words, where some parts have none and others neither `entry`
+-- nor `hint`.
 use Rattle.std.proofs.Common.{◌≡◌, Bool, true, false, List, [], ◌∷◌, ◌++◌, if◌then◌else◌, refl, sym, subst, ◌∙◌, zero, suc, arith, inl, inr}
 use Rattle.std.specs.Prelude.{Contains}
 use Rattle.std.proofs.lemmas.List.Elements.{Contains-append_right, Contains-append_cases}
@@ -36,7 +37,8 @@ module _ (bad : Sign → Bool) where
   without_either true ws vs h g = h
   without_either false ws vs h g = g
 
-  pub without_each : {X : Type 0} (spell : X → List Word) (xs : List X) → AllIn (λ x. Without bad (spell x)) xs → Without bad (joined spell xs)
+  pub without_each : {X : Type 0} (spell : X → List Word) (xs : List X) → AllIn (λ x. Without bad (spell x)) xs →
+      Without bad (joined spell xs)
   without_each spell [] h = tt
   without_each spell (x ∷ xs) h = without_both (spell x) (joined spell xs) h.0 (without_each spell xs h.1)
 
@@ -47,10 +49,12 @@ not_own w h e = let wrong : true ≡ false = subst (IsOther is_own) e h in absur
 
 not_there : (bad : Sign → Bool) (s : Sign) (ws : List Word) → bad s ≡ true → Without bad ws → ¬ Contains ws (word.Sign s)
 not_there bad s [] is h c = absurd (omega (arith, c.1))
-not_there bad s (w ∷ ws) is h (zero, lt, e) = let other : bad s ≡ false = subst (IsOther bad) e h.0 in let wrong : true ≡ false = sym is ∙ other in absurd cc
+not_there bad s (w ∷ ws) is h (zero, lt, e) = let other : bad s ≡ false = subst (IsOther bad) e h.0 in let wrong : true ≡ false =
+    sym is ∙ other in absurd cc
 not_there bad s (w ∷ ws) is h (suc k, lt, e) = not_there bad s ws is h.1 (k, omega (arith, lt), e)
 
-none_led : (s : Sign) (w : Word) (ws : List Word) → is_behind s ≡ true → IsOther is_behind w → ¬ Contains ws (word.Sign s) → ¬ Contains (w ∷ ws) (word.Sign s)
+none_led : (s : Sign) (w : Word) (ws : List Word) → is_behind s ≡ true → IsOther is_behind w → ¬ Contains ws (word.Sign s) →
+    ¬ Contains (w ∷ ws) (word.Sign s)
 none_led s w ws is other lacks c = elim (Contains-append_cases (w ∷ []) ws (word.Sign s) c) [
   | inl k ↦ not_there is_behind s (w ∷ []) is (other, tt) k
   | inr k ↦ lacks k
@@ -79,19 +83,24 @@ no_split : (ws : List Word) → Without is_own ws → (before after : List Word)
 no_split [] own [] after e = absurd cc
 no_split [] own (b ∷ before) after e = absurd cc
 no_split (w ∷ ws) own [] after e = not_own w own.0 (let is : w ≡ word.Sign sign.Oneself = cc in is)
-no_split (w ∷ ws) own (b ∷ before) after e = no_split ws own.1 before after (let rest : ws ≡ before ++ (word.Sign sign.Oneself ∷ after) = cc in rest)
+no_split (w ∷ ws) own (b ∷ before) after e = no_split ws own.1 before after (let rest : ws ≡ before ++ (word.Sign sign.Oneself ∷ after) =
+    cc in rest)
 
 -- words without `self`
 pub none_own : (ws : List Word) → Without is_own ws → OwnInTypes ws
 none_own ws own before after e = absurd (no_split ws own before after e)
 
 -- what is before a `self` is before the words that have none
-early : (ws vs before after : List Word) → Without is_behind ws → Without is_own vs → ws ++ vs ≡ before ++ (word.Sign sign.Oneself ∷ after) → Without is_behind before
+early : (ws vs before after : List Word) → Without is_behind ws → Without is_own vs →
+    ws ++ vs ≡ before ++ (word.Sign sign.Oneself ∷ after) → Without is_behind before
 early [] vs before after behind own e = absurd (no_split vs own before after e)
 early (w ∷ ws) vs [] after behind own e = tt
 early (w ∷ ws) vs (b ∷ before) after behind own e =
-    let is : w ≡ b = cc in
-    (subst (IsOther is_behind) is behind.0, early ws vs before after behind.1 own (let rest : ws ++ vs ≡ before ++ (word.Sign sign.Oneself ∷ after) = cc in rest))
+    let is : w ≡ b = cc in (
+      subst (IsOther is_behind) is behind.0,
+      early ws vs before after behind.1 own
+          (let rest : ws ++ vs ≡ before ++ (word.Sign sign.Oneself ∷ after) = cc in rest),
+    )
 
 -- words of types, and words without `self` behind them
 pub own_within : (ws vs : List Word) → Without is_behind ws → Without is_own vs → OwnInTypes (word.Sign sign.Type ∷ (ws ++ vs))

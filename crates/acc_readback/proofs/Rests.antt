@@ -6,7 +6,8 @@ use Rattle.acc_grammar.specs.Runs.{next_is}
 use Rattle.acc_lex.specs.declared.words.Word.{Word}
 use Rattle.acc_lex.specs.declared.words.Sign.TheVariants as sign
 use Rattle.acc_lex.specs.ByteKinds.{is_inner, is_byte}
-use Rattle.acc_lex.specs.Spellings.{Token, Letters, Digits, Mark, Item, Statement, token_bytes, blanks, item_bytes, statement_bytes, IsToken, Parted, IsStatement}
+use Rattle.acc_lex.specs.Spellings.{Token, Letters, Digits, Mark, Item, Statement, token_bytes, blanks, item_bytes, statement_bytes}
+use Rattle.acc_lex.specs.Spellings.{IsToken, Parted, IsStatement}
 use Rattle.acc_lex.specs.LineWords.{token_word, item_word}
 
 -- a statement with these bytes and words
@@ -27,13 +28,15 @@ space bytes words r = record {
   mean = r.mean;
 }
 
-pub token : (k : Token) (bytes : List ℕ) (words : List Word) → IsToken k → Parted k bytes → Rest bytes words → Rest (token_bytes k ++ bytes) (token_word k ∷ words)
+pub token : (k : Token) (bytes : List ℕ) (words : List Word) → IsToken k → Parted k bytes → Rest bytes words →
+    Rest (token_bytes k ++ bytes) (token_word k ∷ words)
 token k bytes words is parted r =
     let item : Item = record { token = k; spaces = r.statement.spaces } in
     record {
       statement = record { spaces = 0; items = item ∷ r.statement.items };
       fit = (is, subst (Parted k) r.spelled parted, r.fit);
-      spelled = ap (λ (bs : List ℕ). token_bytes k ++ bs) r.spelled ∙ sym (append_assoc (token_bytes k) (blanks r.statement.spaces) (joined item_bytes r.statement.items));
+      spelled = ap (λ (bs : List ℕ). token_bytes k ++ bs) r.spelled ∙ sym
+          (append_assoc (token_bytes k) (blanks r.statement.spaces) (joined item_bytes r.statement.items));
       mean = ap (λ (ws : List Word). token_word k ∷ ws) r.mean;
     }
 
@@ -77,9 +80,11 @@ Front text ws = (bytes : List ℕ) (words : List Word) → Rest bytes words → 
 pub front_is_part : (text : List ℕ) (ws : List Word) → Front text ws → Part text ws
 front_is_part text ws f bytes words apart r = f bytes words r
 
-along : (text text' bytes : List ℕ) (ws ws' words : List Word) → Rest (text ++ (text' ++ bytes)) (ws ++ (ws' ++ words)) → Rest ((text ++ text') ++ bytes) ((ws ++ ws') ++ words)
+along : (text text' bytes : List ℕ) (ws ws' words : List Word) → Rest (text ++ (text' ++ bytes)) (ws ++ (ws' ++ words)) →
+    Rest ((text ++ text') ++ bytes) ((ws ++ ws') ++ words)
 along text text' bytes ws ws' words r =
-    subst (λ (bs : List ℕ). Rest bs ((ws ++ ws') ++ words)) (sym (append_assoc text text' bytes)) (subst (λ (vs : List Word). Rest (text ++ (text' ++ bytes)) vs) (sym (append_assoc ws ws' words)) r)
+    subst (λ (bs : List ℕ). Rest bs ((ws ++ ws') ++ words)) (sym (append_assoc text text' bytes))
+    (subst (λ (vs : List Word). Rest (text ++ (text' ++ bytes)) vs) (sym (append_assoc ws ws' words)) r)
 
 apart_along : (text bytes : List ℕ) → IsApart text → IsApart bytes → IsApart (text ++ bytes)
 apart_along [] bytes h g = g
@@ -99,8 +104,10 @@ pub front_front : (text text' : List ℕ) (ws ws' : List Word) → Front text ws
 front_front text text' ws ws' f g bytes words r = along text text' bytes ws ws' words (f (text' ++ bytes) (ws' ++ words) (g bytes words r))
 
 -- a part, and a front that stands apart from it
-pub part_front : (text text' : List ℕ) (ws ws' : List Word) → Part text ws → ((bytes : List ℕ) → IsApart (text' ++ bytes)) → Front text' ws' → Front (text ++ text') (ws ++ ws')
-part_front text text' ws ws' p apart f bytes words r = along text text' bytes ws ws' words (p (text' ++ bytes) (ws' ++ words) (apart bytes) (f bytes words r))
+pub part_front : (text text' : List ℕ) (ws ws' : List Word) → Part text ws → ((bytes : List ℕ) → IsApart (text' ++ bytes)) →
+    Front text' ws' → Front (text ++ text') (ws ++ ws')
+part_front text text' ws ws' p apart f bytes words r =
+    along text text' bytes ws ws' words (p (text' ++ bytes) (ws' ++ words) (apart bytes) (f bytes words r))
 
 -- no front
 pub no_front : Front [] []

@@ -1,5 +1,6 @@
 -- The clauses of a tree that is a design's can be spelled.
-use Rattle.std.proofs.Common.{◌≡◌, ℕ, ◌≤◌, Bool, true, false, List, [], ◌∷◌, ◌++◌, length, map, Option, Some, None, refl, ap, sym, ◌∙◌, arith}
+use Rattle.std.proofs.Common.{◌≡◌, ℕ, ◌≤◌, Bool, true, false, List, [], ◌∷◌, ◌++◌, length, map, Option, Some, None, refl, ap, sym, ◌∙◌}
+use Rattle.std.proofs.Common.{arith}
 use Rattle.std.specs.Prelude.{◌||◌, nat_lt, codes}
 use Rattle.std.specs.List.{flat_map, list_any}
 use Rattle.std.specs.Str.{bytes_eq}
@@ -37,8 +38,11 @@ use Rattle.acc_readback.proofs.SaidForms.{rel_said}
 pub names_said : (own : Bool) (ns : Names) → AreHeard own (names ns) → AreEnds (names_marks ns) → AllIn IsName (listed ns)
 names_said own ns heard marks =
     let words = all_parts (IsHeard own) (name ns.first) (joined name ns.others) heard in
-    let ends = all_parts IsEnd (name_marks ns.first) (flat_map name_marks ns.others) marks in
-    (is_name own ns.first words.0 ends.0, are_names own ns.others (all_joined (IsHeard own) name ns.others words.1) (all_flat IsEnd name_marks ns.others ends.1))
+    let ends = all_parts IsEnd (name_marks ns.first) (flat_map name_marks ns.others) marks in (
+      is_name own ns.first words.0 ends.0,
+      are_names own ns.others (all_joined (IsHeard own) name ns.others words.1)
+          (all_flat IsEnd name_marks ns.others ends.1),
+    )
 
 -- two lists have the same names but for `self`
 abbrev AreAlike : List (List ℕ) → List (List ℕ) → Type 0
@@ -47,8 +51,11 @@ AreAlike xs ys = (x : List ℕ) → IsName x → stands_in x xs ≡ stands_in x 
 defines_alike : (xs ys zs : List (List ℕ)) → AreAlike xs ys → AllIn IsName zs → defines_again xs zs ≡ defines_again ys zs
 defines_alike xs ys [] alike h = refl
 defines_alike xs ys (z ∷ zs) alike h =
-    let more : AreAlike (xs ++ z ∷ []) (ys ++ z ∷ []) = λ x p. list_any-append (bytes_eq x) xs (z ∷ []) ∙ (ap (λ (b : Bool). b || stands_in x (z ∷ [])) (alike x p) ∙ sym (list_any-append (bytes_eq x) ys (z ∷ []))) in
-    ap (λ (b : Bool). b || defines_again (xs ++ z ∷ []) zs) (alike z h.0) ∙ ap (λ (b : Bool). stands_in z ys || b) (defines_alike (xs ++ z ∷ []) (ys ++ z ∷ []) zs more h.1)
+    let more : AreAlike (xs ++ z ∷ []) (ys ++ z ∷ []) =
+    λ x p. list_any-append (bytes_eq x) xs (z ∷ []) ∙
+    (ap (λ (b : Bool). b || stands_in x (z ∷ [])) (alike x p) ∙ sym (list_any-append (bytes_eq x) ys (z ∷ []))) in
+    ap (λ (b : Bool). b || defines_again (xs ++ z ∷ []) zs) (alike z h.0) ∙ ap (λ (b : Bool). stands_in z ys || b)
+    (defines_alike (xs ++ z ∷ []) (ys ++ z ∷ []) zs more h.1)
 
 or_nothing : (a b : Bool) → b ≡ false → (a || (b || false)) ≡ a
 or_nothing true b h = refl
@@ -58,7 +65,8 @@ or_nothing false false h = refl
 alike_by : (b : Bool) (locals mine : List (List ℕ)) → (b ≡ false → locals ≡ []) → AreAlike (names_by b locals mine) (locals ++ mine)
 alike_by true locals mine h x p =
     list_any-append (bytes_eq x) (names_within locals) mine
-    ∙ (ap (λ (b : Bool). b || stands_in x mine) (list_any-append (bytes_eq x) locals (codes "self" ∷ []) ∙ or_nothing (stands_in x locals) (bytes_eq x (codes "self")) (not_self x p.1))
+    ∙ (ap (λ (b : Bool). b || stands_in x mine) (list_any-append (bytes_eq x) locals (codes "self" ∷ []) ∙ or_nothing (stands_in x locals)
+    (bytes_eq x (codes "self")) (not_self x p.1))
     ∙ sym (list_any-append (bytes_eq x) locals mine))
 alike_by false locals mine h x p = ap (λ (ys : List (List ℕ)). stands_in x (ys ++ mine)) (sym (h refl))
 
@@ -72,7 +80,8 @@ new_said a xs h new =
 -- ---- within a clause
 
 pub names_more : (b : Bool) (locals mine xs : List (List ℕ)) → mine ≡ [] → names_by b locals mine ++ xs ≡ names_by b locals xs
-names_more true locals mine xs e = ap (λ (ys : List (List ℕ)). (names_within locals ++ ys) ++ xs) e ∙ ap (λ (ys : List (List ℕ)). ys ++ xs) (append-nil (names_within locals))
+names_more true locals mine xs e = ap (λ (ys : List (List ℕ)). (names_within locals ++ ys) ++ xs) e ∙ ap (λ (ys : List (List ℕ)). ys ++ xs)
+    (append-nil (names_within locals))
 names_more false locals mine xs e = ap (λ (ys : List (List ℕ)). ys ++ xs) e
 
 -- with a clause's own variables
@@ -86,7 +95,8 @@ within_clause a xs none few = record {
   names = a.names ++ xs;
   known = a.known ++ xs;
   names_are = ap (λ (ys : List (List ℕ)). ys ++ xs) a.names_are ∙ names_more a.in_type a.locals a.mine xs none;
-  known_are = ap (λ (ys : List (List ℕ)). ys ++ xs) a.known_are ∙ (ap (λ (ys : List (List ℕ)). (a.locals ++ ys) ++ xs) none ∙ ap (λ (ys : List (List ℕ)). ys ++ xs) (append-nil a.locals));
+  known_are = ap (λ (ys : List (List ℕ)). ys ++ xs) a.known_are ∙
+      (ap (λ (ys : List (List ℕ)). (a.locals ++ ys) ++ xs) none ∙ ap (λ (ys : List (List ℕ)). ys ++ xs) (append-nil a.locals));
   no_self = a.no_self;
   no_locals = a.no_locals;
   few_tables = a.few_tables;
@@ -116,13 +126,15 @@ pub record ArePremisesSaid (a : Setting) (g : Option FormRels) : Type 0 where
   pub few : length (map (rel_of (meant a)) (all_form_rels g)) ≤ 16
   pub each : AllIn (IsRelSaid (shown a)) (map (rel_of (meant a)) (all_form_rels g))
 
-premises_said : (a : Setting) (g : Option FormRels) → AreHeard a.own (premises g) → premises_fault (known a) g ≡ false → AreEnds (premises_marks g) → AreEnds (flat_map (rel_sizes (meant a)) (all_form_rels g)) → ArePremisesSaid a g
+premises_said : (a : Setting) (g : Option FormRels) → AreHeard a.own (premises g) → premises_fault (known a) g ≡ false →
+    AreEnds (premises_marks g) → AreEnds (flat_map (rel_sizes (meant a)) (all_form_rels g)) → ArePremisesSaid a g
 premises_said a None heard faults marks sizes = record { few = omega arith; each = tt }
 premises_said a (Some rs) heard faults marks sizes =
     let all_words = all_parts (IsHeard a.own) (form_rels rs) (just sign.Implies) heard in
     let words = all_parts (IsHeard a.own) (form_rel rs.first) (joined (further form_rel) rs.others) all_words.0 in
     let none = or_parts (form_rel_fault (known a) rs.first) (list_any (form_rel_fault (known a)) rs.others) faults in
-    let ends = all_parts IsEnd (past limit.GuardRelations (nat_lt 15 (length rs.others))) (form_rel_marks rs.first ++ flat_map form_rel_marks rs.others) marks in
+    let ends = all_parts IsEnd (past limit.GuardRelations (nat_lt 15 (length rs.others)))
+    (form_rel_marks rs.first ++ flat_map form_rel_marks rs.others) marks in
     let each_end = all_parts IsEnd (form_rel_marks rs.first) (flat_map form_rel_marks rs.others) ends.1 in
     let small = all_flat IsEnd (rel_sizes (meant a)) (rs.first ∷ rs.others) sizes in
     let short : nat_lt 15 (length rs.others) ≡ false = not_past limit.GuardRelations (nat_lt 15 (length rs.others)) ends.0 in
@@ -133,13 +145,16 @@ premises_said a (Some rs) heard faults marks sizes =
       each = (
         rel_said a rs.first words.0 none.0 each_end.0 small.0,
         all_map (IsRelSaid (shown a)) (rel_of (meant a)) rs.others
-            (all_by_four (λ r. AreHeard a.own (form_rel r)) (λ r. form_rel_fault (known a) r ≡ false) (λ r. AreEnds (form_rel_marks r)) (λ r. AreEnds (rel_sizes (meant a) r)) (λ r. IsRelSaid (shown a) (rel_of (meant a) r)) rs.others (rel_said a)
-            (furthers a.own form_rel rs.others words.1) (none_false (form_rel_fault (known a)) rs.others none.1) (all_flat IsEnd form_rel_marks rs.others each_end.1) small.1),
+            (all_by_four (λ r. AreHeard a.own (form_rel r)) (λ r. form_rel_fault (known a) r ≡ false) (λ r. AreEnds (form_rel_marks r))
+            (λ r. AreEnds (rel_sizes (meant a) r)) (λ r. IsRelSaid (shown a) (rel_of (meant a) r)) rs.others (rel_said a)
+            (furthers a.own form_rel rs.others words.1) (none_false (form_rel_fault (known a)) rs.others none.1)
+            (all_flat IsEnd form_rel_marks rs.others each_end.1) small.1),
       );
     }
 
 -- no clause stands within a clause
-pub clause_said : (a : Setting) (c : ClauseTree) → a.mine ≡ [] → AreHeard a.own (clause c) → clause_fault (known a) c ≡ false → AreEnds (clause_marks c) → AreEnds (clause_sizes (meant a) c) → IsClauseSaid (shown a) (clause_of (meant a) c)
+pub clause_said : (a : Setting) (c : ClauseTree) → a.mine ≡ [] → AreHeard a.own (clause c) → clause_fault (known a) c ≡ false →
+    AreEnds (clause_marks c) → AreEnds (clause_sizes (meant a) c) → IsClauseSaid (shown a) (clause_of (meant a) c)
 clause_said a c none heard faults marks sizes =
     let xs = listed_or_none c.variables in
     let words = all_parts (IsHeard a.own) (binder c.variables) (premises c.guards ++ form_rel c.relation) heard in
@@ -161,14 +176,21 @@ clause_said a c none heard faults marks sizes =
       relation = rel_said b c.relation inner_words.1 used.1 inner_ends.1 small.1;
     }
 
-statement_said : (s : Sign) (a : Setting) (c : ClauseTree) → a.mine ≡ [] → AreHeard a.own (clause_statement s c) → clause_fault (known a) c ≡ false → AreEnds (clause_statement_marks c) → AreEnds (clause_statement_sizes (meant a) c) → IsClauseSaid (shown a) (clause_of (meant a) c)
+statement_said : (s : Sign) (a : Setting) (c : ClauseTree) → a.mine ≡ [] → AreHeard a.own (clause_statement s c) →
+    clause_fault (known a) c ≡ false → AreEnds (clause_statement_marks c) → AreEnds (clause_statement_sizes (meant a) c) →
+    IsClauseSaid (shown a) (clause_of (meant a) c)
 statement_said s a c none heard faults marks sizes =
-    clause_said a c none (all_parts (IsHeard a.own) (clause c) (just sign.End) heard.1).0 faults (all_parts IsEnd (clause_marks c) ending marks).0 (all_parts IsEnd (clause_sizes (meant a) c) ending sizes).0
+    clause_said a c none (all_parts (IsHeard a.own) (clause c) (just sign.End) heard.1).0 faults
+    (all_parts IsEnd (clause_marks c) ending marks).0 (all_parts IsEnd (clause_sizes (meant a) c) ending sizes).0
 
 -- statements of a word and a clause
-pub clauses_said : (s : Sign) (a : Setting) (cs : List ClauseTree) → a.mine ≡ [] → AreHeard a.own (joined (clause_statement s) cs) → AllIn IsFalse (map (clause_fault (known a)) cs) → AllIn (λ c. AreEnds (clause_statement_marks c)) cs
+pub clauses_said : (s : Sign) (a : Setting) (cs : List ClauseTree) → a.mine ≡ [] → AreHeard a.own (joined (clause_statement s) cs) →
+    AllIn IsFalse (map (clause_fault (known a)) cs) → AllIn (λ c. AreEnds (clause_statement_marks c)) cs
     → AreEnds (flat_map (clause_statement_sizes (meant a)) cs) → AllIn (IsClauseSaid (shown a)) (map (clause_of (meant a)) cs)
 clauses_said s a cs none heard faults marks sizes =
     all_map (IsClauseSaid (shown a)) (clause_of (meant a)) cs
-    (all_by_four (λ c. AreHeard a.own (clause_statement s c)) (λ c. clause_fault (known a) c ≡ false) (λ c. AreEnds (clause_statement_marks c)) (λ c. AreEnds (clause_statement_sizes (meant a) c)) (λ c. IsClauseSaid (shown a) (clause_of (meant a) c)) cs (λ c. statement_said s a c none)
-    (all_joined (IsHeard a.own) (clause_statement s) cs heard) (all_mapped IsFalse (clause_fault (known a)) cs faults) marks (all_flat IsEnd (clause_statement_sizes (meant a)) cs sizes))
+    (all_by_four (λ c. AreHeard a.own (clause_statement s c)) (λ c. clause_fault (known a) c ≡ false)
+    (λ c. AreEnds (clause_statement_marks c)) (λ c. AreEnds (clause_statement_sizes (meant a) c))
+    (λ c. IsClauseSaid (shown a) (clause_of (meant a) c)) cs (λ c. statement_said s a c none)
+    (all_joined (IsHeard a.own) (clause_statement s) cs heard) (all_mapped IsFalse (clause_fault (known a)) cs faults) marks
+    (all_flat IsEnd (clause_statement_sizes (meant a)) cs sizes))

@@ -15,7 +15,8 @@ use Rattle.acc_syntax.specs.declared.trees.DesignTree.{DesignTree}
 use Rattle.acc_syntax.specs.OwnWords.{OwnInTypes}
 use Rattle.acc_syntax.specs.Spelling.{type_words}
 use Rattle.acc_names.specs.Names.{stands_in, defines_again}
-use Rattle.acc_names.specs.Faults.{clause_fault, tables_faults, type_faults, types_faults, entry_fault, hint_fault, outside as known_outside, statement_faults}
+use Rattle.acc_names.specs.Faults.{clause_fault, tables_faults, type_faults, types_faults, entry_fault, hint_fault}
+use Rattle.acc_names.specs.Faults.{outside as known_outside, statement_faults}
 use Rattle.acc_limits.specs.declared.limits.Limit.TheVariants as limit
 use Rattle.acc_limits.specs.Marks.{counted}
 use Rattle.acc_limits.specs.Statements.{table_marks, clause_statement_marks, type_marks, entry_marks, hint_marks, design_marks}
@@ -28,7 +29,8 @@ use Rattle.acc_parse.specs.Texts.{IsDesignText}
 use Rattle.acc_readback.specs.PrintableTypes.{IsTypeSaid, IsSaid}
 use Rattle.acc_readback.proofs.OnlyEnds.{AreEnds, IsEnd}
 use Rattle.acc_readback.proofs.Faultless.{IsFalse, neither}
-use Rattle.acc_readback.proofs.SaidParts.{none_first, none_placed, all_parts, all_joined, all_flat, all_map, all_weaker, all_by_four, each_counted, at_most_counted}
+use Rattle.acc_readback.proofs.SaidParts.{none_first, none_placed, all_parts, all_joined, all_flat, all_map, all_weaker, all_by_four}
+use Rattle.acc_readback.proofs.SaidParts.{each_counted, at_most_counted}
 use Rattle.acc_readback.proofs.SaidNames.{AreHeard, IsHeard, Setting}
 use Rattle.acc_readback.proofs.SaidClauses.{clauses_said}
 use Rattle.acc_readback.proofs.SaidTypes.{type_said, type_ends, type_locals, type_points}
@@ -47,16 +49,22 @@ pub record AreTypesRight (trees : List TableTree) (earlier : List (List ℕ)) (t
   pub each : AllIn (IsTypeRight trees) ts
   pub new : defines_again earlier (map (λ (t : TypeTree). t.name) ts) ≡ false
 
-pub types_right : (trees : List TableTree) (earlier : List (List ℕ)) (ts : List TypeTree) → AllIn IsFalse (types_faults trees earlier ts) → AreTypesRight trees earlier ts
+pub types_right : (trees : List TableTree) (earlier : List (List ℕ)) (ts : List TypeTree) → AllIn IsFalse (types_faults trees earlier ts) →
+    AreTypesRight trees earlier ts
 types_right trees earlier [] h = record { each = tt; new = refl }
 types_right trees earlier (t ∷ ts) h =
     let again = stands_in t.name earlier in
     let parts = all_parts IsFalse (type_faults trees again t) (types_faults trees (earlier ++ t.name ∷ []) ts) h in
     let first = or_parts again (defines_again [] t.params) parts.0.0 in
     let rest = types_right trees (earlier ++ t.name ∷ []) ts parts.1 in
-    record { each = ((again, parts.0), rest.each); new = neither again (defines_again (earlier ++ t.name ∷ []) (map (λ (u : TypeTree). u.name) ts)) first.0 rest.new }
+    record {
+      each = ((again, parts.0), rest.each);
+      new =
+          neither again (defines_again (earlier ++ t.name ∷ []) (map (λ (u : TypeTree). u.name) ts)) first.0 rest.new;
+    }
 
-types_named : (trees : List TableTree) (ts : List TypeTree) → map (λ (t : TxType). t.name) (map (type_of trees) ts) ≡ map (λ (t : TypeTree). t.name) ts
+types_named : (trees : List TableTree) (ts : List TypeTree) →
+    map (λ (t : TxType). t.name) (map (type_of trees) ts) ≡ map (λ (t : TypeTree). t.name) ts
 types_named trees [] = refl
 types_named trees (t ∷ ts) = ap (λ (xs : List (List ℕ)). t.name ∷ xs) (types_named trees ts)
 
@@ -86,7 +94,8 @@ outside_types trees few columns = record {
 
 -- ---- the whole
 
-design_said : (d : DesignTree) → IsAllHeard d → AllIn IsFalse (statement_faults d) → AreEnds (design_marks d) → AreEnds (design_sizes d) → IsSaid (design_of d)
+design_said : (d : DesignTree) → IsAllHeard d → AllIn IsFalse (statement_faults d) → AreEnds (design_marks d) → AreEnds (design_sizes d) →
+    IsSaid (design_of d)
 design_said d heard faults marks sizes =
     let trees = d.tables in
     let f_always = map (clause_fault (known_outside trees)) d.always in
@@ -124,7 +133,13 @@ design_said d heard faults marks sizes =
     let entries_few = at_most_counted limit.EntriesAndHints 1024 entry_marks d.entries e_entries.0 in
     let hints_few = at_most_counted limit.EntriesAndHints 1024 hint_marks d.hints e_entries.1 in
     let columns = all_weaker (λ t. AreEnds (table_marks t)) (λ (t : TableTree). length t.columns ≤ 12) trees few_columns t_ends in
-    let bounded : IsBounded d = record { tables = tables_few; columns = columns; types = types_few; each = all_weaker (λ t. AreEnds (type_marks t)) IsFew d.types is_few y_ends } in
+    let bounded : IsBounded d = record {
+      tables = tables_few;
+      columns = columns;
+      types = types_few;
+      each =
+          all_weaker (λ t. AreEnds (type_marks t)) IsFew d.types is_few y_ends;
+    } in
     let a : Setting = outside_types trees tables_few columns in
     let tables_same = length-map trees table_of in
     let always_same = length-map d.always (clause_of (outside trees)) in
@@ -140,12 +155,18 @@ design_said d heard faults marks sizes =
       new_types = ap (λ (xs : List (List ℕ)). defines_again [] xs) (types_named trees d.types) ∙ y_right.new;
       few_entries = omega (arith, entries_few, entries_same);
       few_hints = omega (arith, hints_few, hints_same);
-      always = clauses_said sign.Always a d.always refl heard.always n_always.0 (each_counted limit.AlwaysClauses 128 clause_statement_marks d.always e_always.0) s_always.0;
+      always = clauses_said sign.Always a d.always refl heard.always n_always.0
+          (each_counted limit.AlwaysClauses 128 clause_statement_marks d.always e_always.0) s_always.0;
       types = all_map (IsTypeSaid (map table_of trees)) (type_of trees) d.types
-          (all_by_four (λ t. AreHeard true (type_words t)) (IsTypeRight trees) (λ t. AreEnds (type_marks t)) (λ t. AreEnds (type_sizes trees t)) (λ t. IsTypeSaid (map table_of trees) (type_of trees t)) d.types (λ t h f m z. type_said trees tables_few columns f.0 t h f.1 m z)
-          (all_joined (IsHeard true) type_words d.types heard.types) y_right.each y_ends (all_flat IsEnd (type_sizes trees) d.types s_types.0));
-      entries = entries_said d bounded heard.entries n_entries.0 (each_counted limit.EntriesAndHints 1024 entry_marks d.entries e_entries.0);
-      hints = hints_said d bounded heard.hints n_entries.1 (each_counted limit.EntriesAndHints 1024 hint_marks d.hints e_entries.1) s_entries.1;
+          (all_by_four (λ t. AreHeard true (type_words t)) (IsTypeRight trees) (λ t. AreEnds (type_marks t))
+          (λ t. AreEnds (type_sizes trees t)) (λ t. IsTypeSaid (map table_of trees) (type_of trees t)) d.types
+          (λ t h f m z. type_said trees tables_few columns f.0 t h f.1 m z)
+          (all_joined (IsHeard true) type_words d.types heard.types) y_right.each y_ends
+          (all_flat IsEnd (type_sizes trees) d.types s_types.0));
+      entries = entries_said d bounded heard.entries n_entries.0
+          (each_counted limit.EntriesAndHints 1024 entry_marks d.entries e_entries.0);
+      hints = hints_said d bounded heard.hints n_entries.1 (each_counted limit.EntriesAndHints 1024 hint_marks d.hints e_entries.1)
+          s_entries.1;
     }
 
 -- ---- texts
@@ -170,4 +191,5 @@ parsed_is_said text d p =
     let can = subst (AllIn CanSpell) spelled (can_spell text p.of.words p.of.lexed) in
     let own = subst OwnInTypes spelled p.of.spelled.own in
     let limits = no_parts (limit_faults t) (size_faults t) p.allowed.limits in
-    subst IsSaid (sym p.means) (design_said t (all_heard t can own) (none_first (statement_faults t) p.allowed.names) (no_limits t limits.0) (no_sizes t limits.1))
+    subst IsSaid (sym p.means) (design_said t (all_heard t can own) (none_first (statement_faults t) p.allowed.names) (no_limits t limits.0)
+    (no_sizes t limits.1))

@@ -27,12 +27,18 @@ oneself_is (word.Sign sign.Oneself) h = refl
 oneself_is _ h = absurd cc
 
 -- where no front of some words ends in types, none of these is `self`
-none_own : (front ws rest : List Word) → OwnInTypes (front ++ (ws ++ rest)) → ((part more : List Word) → ws ≡ part ++ more → ¬ EndsInTypes (front ++ part)) → AllIn IsOther ws
+none_own : (front ws rest : List Word) → OwnInTypes (front ++ (ws ++ rest)) →
+    ((part more : List Word) → ws ≡ part ++ more → ¬ EndsInTypes (front ++ part)) → AllIn IsOther ws
 none_own front [] rest own not = tt
-none_own front (w ∷ ws) rest own not = (first (is_oneself w) refl, none_own (front ++ (w ∷ [])) ws rest (subst OwnInTypes (sym (append_assoc front (w ∷ []) (ws ++ rest))) own) later)
+none_own front (w ∷ ws) rest own not = (
+  first (is_oneself w) refl,
+  none_own (front ++ (w ∷ [])) ws rest (subst OwnInTypes (sym (append_assoc front (w ∷ []) (ws ++ rest))) own) later,
+)
   where
     first : (b : Bool) → is_oneself w ≡ b → b ≡ false
-    first true e = absurd (not [] (w ∷ ws) refl (subst EndsInTypes (sym (append-nil front)) (own front (ws ++ rest) (ap (λ (v : Word). front ++ (v ∷ (ws ++ rest))) (oneself_is w e)))))
+    first true e =
+        absurd (not [] (w ∷ ws) refl (subst EndsInTypes (sym (append-nil front))
+        (own front (ws ++ rest) (ap (λ (v : Word). front ++ (v ∷ (ws ++ rest))) (oneself_is w e)))))
     first false e = refl
 
     later : (part more : List Word) → ws ≡ part ++ more → ¬ EndsInTypes ((front ++ (w ∷ [])) ++ part)
@@ -50,7 +56,8 @@ not_begun ws h e = let wrong : true ≡ false = sym (contains_has sign.Type ws e
 -- no word before the first type is `self`
 none_before : (front ws rest : List Word) → OwnInTypes (front ++ (ws ++ rest)) → AreInner front → AreInner ws → AllIn IsOther ws
 none_before front ws rest own h g =
-    none_own front ws rest own (λ part more e. not_begun (front ++ part) (AllIn-append IsInner front part h (all_parts IsInner part more (subst AreInner e g)).0))
+    none_own front ws rest own (λ part more e. not_begun (front ++ part)
+    (AllIn-append IsInner front part h (all_parts IsInner part more (subst AreInner e g)).0))
 
 -- ---- behind types
 
@@ -58,17 +65,22 @@ none_before front ws rest own h g =
 behind_entry : (front ws : List Word) → OwnInTypes (front ++ (word.Sign sign.Entry ∷ ws)) → AllIn IsOther ws
 behind_entry front ws own =
     none_own (front ++ (word.Sign sign.Entry ∷ [])) ws []
-    (subst OwnInTypes (ap (λ (vs : List Word). front ++ (word.Sign sign.Entry ∷ vs)) (sym (append-nil ws)) ∙ sym (append_assoc front (word.Sign sign.Entry ∷ []) (ws ++ []))) own)
-    (λ part more e h. h.no_entry (Contains-append_left (front ++ (word.Sign sign.Entry ∷ [])) part (word.Sign sign.Entry) (Contains-append_right front (word.Sign sign.Entry ∷ []) (word.Sign sign.Entry) (0, omega arith, refl))))
+    (subst OwnInTypes (ap (λ (vs : List Word). front ++ (word.Sign sign.Entry ∷ vs)) (sym (append-nil ws)) ∙ sym
+    (append_assoc front (word.Sign sign.Entry ∷ []) (ws ++ []))) own)
+    (λ part more e h. h.no_entry (Contains-append_left (front ++ (word.Sign sign.Entry ∷ [])) part (word.Sign sign.Entry)
+    (Contains-append_right front (word.Sign sign.Entry ∷ []) (word.Sign sign.Entry) (0, omega arith, refl))))
 
 behind_hint : (front ws : List Word) → OwnInTypes (front ++ (word.Sign sign.Hint ∷ ws)) → AllIn IsOther ws
 behind_hint front ws own =
     none_own (front ++ (word.Sign sign.Hint ∷ [])) ws []
-    (subst OwnInTypes (ap (λ (vs : List Word). front ++ (word.Sign sign.Hint ∷ vs)) (sym (append-nil ws)) ∙ sym (append_assoc front (word.Sign sign.Hint ∷ []) (ws ++ []))) own)
-    (λ part more e h. h.no_hint (Contains-append_left (front ++ (word.Sign sign.Hint ∷ [])) part (word.Sign sign.Hint) (Contains-append_right front (word.Sign sign.Hint ∷ []) (word.Sign sign.Hint) (0, omega arith, refl))))
+    (subst OwnInTypes (ap (λ (vs : List Word). front ++ (word.Sign sign.Hint ∷ vs)) (sym (append-nil ws)) ∙ sym
+    (append_assoc front (word.Sign sign.Hint ∷ []) (ws ++ []))) own)
+    (λ part more e h. h.no_hint (Contains-append_left (front ++ (word.Sign sign.Hint ∷ [])) part (word.Sign sign.Hint)
+    (Contains-append_right front (word.Sign sign.Hint ∷ []) (word.Sign sign.Hint) (0, omega arith, refl))))
 
 -- no word of entries and hints is `self`
-none_behind : (front : List Word) (es : List EntryTree) (hs : List HintTree) → OwnInTypes (front ++ (joined entry es ++ joined hint hs)) → AllIn IsOther (joined entry es ++ joined hint hs)
+none_behind : (front : List Word) (es : List EntryTree) (hs : List HintTree) → OwnInTypes (front ++ (joined entry es ++ joined hint hs)) →
+    AllIn IsOther (joined entry es ++ joined hint hs)
 none_behind front [] [] own = tt
 none_behind front [] (h ∷ hs) own = (refl, behind_hint front _ own)
 none_behind front (e ∷ es) hs own = (refl, behind_entry front _ own)
@@ -104,7 +116,8 @@ all_heard d can own =
     let c_entries = all_parts CanSpell entries hints c_types.1 in
     let o_tables = none_before [] tables (always ++ (types ++ (entries ++ hints))) own tt (tables_inner d.tables) in
     let o_always = none_before tables always (types ++ (entries ++ hints)) own (tables_inner d.tables) (clauses_inner d.always) in
-    let regrouped = sym (append_assoc tables always (types ++ (entries ++ hints))) ∙ sym (append_assoc (tables ++ always) types (entries ++ hints)) in
+    let regrouped = sym (append_assoc tables always (types ++ (entries ++ hints))) ∙ sym
+    (append_assoc (tables ++ always) types (entries ++ hints)) in
     let behind = none_behind ((tables ++ always) ++ types) d.entries d.hints (subst OwnInTypes regrouped own) in
     let o_entries = all_parts IsOther entries hints behind in
     record {

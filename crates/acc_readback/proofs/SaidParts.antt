@@ -19,7 +19,8 @@ pub all_parts : {T : Type 0} (P : T → Type 0) (xs ys : List T) → AllIn P (xs
 all_parts P [] ys h = (tt, h)
 all_parts P (x ∷ xs) ys h = let parts = all_parts P xs ys h.1 in ((h.0, parts.0), parts.1)
 
-pub all_joined : {S T : Type 0} (P : S → Type 0) (spell : T → List S) (ts : List T) → AllIn P (joined spell ts) → AllIn (λ t. AllIn P (spell t)) ts
+pub all_joined : {S T : Type 0} (P : S → Type 0) (spell : T → List S) (ts : List T) → AllIn P (joined spell ts) →
+    AllIn (λ t. AllIn P (spell t)) ts
 all_joined P spell [] h = tt
 all_joined P spell (t ∷ ts) h = let parts = all_parts P (spell t) (joined spell ts) h in (parts.0, all_joined P spell ts parts.1)
 
@@ -44,11 +45,13 @@ pub all_by_two : {T : Type 0} (P Q R : T → Type 0) (ts : List T) → ((t : T) 
 all_by_two P Q R [] f p q = tt
 all_by_two P Q R (t ∷ ts) f p q = (f t p.0 q.0, all_by_two P Q R ts f p.1 q.1)
 
-pub all_by_three : {T : Type 0} (P Q R S : T → Type 0) (ts : List T) → ((t : T) → P t → Q t → R t → S t) → AllIn P ts → AllIn Q ts → AllIn R ts → AllIn S ts
+pub all_by_three : {T : Type 0} (P Q R S : T → Type 0) (ts : List T) → ((t : T) → P t → Q t → R t → S t) → AllIn P ts → AllIn Q ts →
+    AllIn R ts → AllIn S ts
 all_by_three P Q R S [] f p q r = tt
 all_by_three P Q R S (t ∷ ts) f p q r = (f t p.0 q.0 r.0, all_by_three P Q R S ts f p.1 q.1 r.1)
 
-pub all_by_four : {T : Type 0} (P Q R S U : T → Type 0) (ts : List T) → ((t : T) → P t → Q t → R t → S t → U t) → AllIn P ts → AllIn Q ts → AllIn R ts → AllIn S ts → AllIn U ts
+pub all_by_four : {T : Type 0} (P Q R S U : T → Type 0) (ts : List T) → ((t : T) → P t → Q t → R t → S t → U t) → AllIn P ts → AllIn Q ts →
+    AllIn R ts → AllIn S ts → AllIn U ts
 all_by_four P Q R S U [] f p q r s = tt
 all_by_four P Q R S U (t ∷ ts) f p q r s = (f t p.0 q.0 r.0 s.0, all_by_four P Q R S U ts f p.1 q.1 r.1 s.1)
 

@@ -1,5 +1,6 @@
 -- What stands at the number of a name is what has the name.
-use Rattle.std.proofs.Common.{◌≡◌, ℕ, zero, suc, ◌^◌, ◌<◌, ◌≤◌, Bool, true, false, cond, List, [], ◌∷◌, length, map, Option, Some, None, refl, ap, sym, ◌∙◌, subst, inl, inr, arith, if◌then◌else◌}
+use Rattle.std.proofs.Common.{◌≡◌, ℕ, zero, suc, ◌^◌, ◌<◌, ◌≤◌, Bool, true, false, cond, List, [], ◌∷◌, length, map, Option, Some, None}
+use Rattle.std.proofs.Common.{refl, ap, sym, ◌∙◌, subst, inl, inr, arith, if◌then◌else◌}
 use Rattle.std.specs.Prelude.{option_map, slice_get, nat_lt, is_some, is_none, unwrap_or}
 use Rattle.std.specs.List.{find}
 use Rattle.std.specs.Str.{bytes_eq}
@@ -54,7 +55,8 @@ pub number_at : (x : List ℕ) (names : List (List ℕ)) (i : ℕ) → place_of 
 number_at x names i e h = ap (λ o. fitted (unwrap_or o 0)) e ∙ fitted_same i h
 
 -- at the number of a name that stands among some stands the name
-pub named_there : (x : List ℕ) (names : List (List ℕ)) → stands_in x names ≡ true → length names ≤ 2 ^ 32 → slice_get names (number_of x names) ≡ Some x
+pub named_there : (x : List ℕ) (names : List (List ℕ)) → stands_in x names ≡ true → length names ≤ 2 ^ 32 →
+    slice_get names (number_of x names) ≡ Some x
 named_there x names h few =
     let p = stands_there x names h in
     let small : p.number < 2 ^ 32 = let within = p.within in omega (arith, within, few) in
@@ -69,18 +71,29 @@ pub record IsFoundAt {T : Type 0} (name : T → List ℕ) (x : List ℕ) (ts : L
   pub is : place_of x (map name ts) ≡ Some number
   pub there : slice_get ts number ≡ Some t
 
-pub found_there : {T : Type 0} (name : T → List ℕ) (x : List ℕ) (ts : List T) (t : T) → find (λ u. bytes_eq x (name u)) ts ≡ Some t → IsFoundAt name x ts t
+pub found_there : {T : Type 0} (name : T → List ℕ) (x : List ℕ) (ts : List T) (t : T) → find (λ u. bytes_eq x (name u)) ts ≡ Some t →
+    IsFoundAt name x ts t
 found_there name x [] t e = absurd cc
 found_there {T} name x (u ∷ us) t e =
     elim (cases_Bool (bytes_eq x (name u))) [
-      | inl h ↦ record { number = 0; is = ap (λ (b : Bool). cond b (Some 0) (option_map suc (place_of x (map name us)))) h; there = sym (ap (λ (b : Bool). cond b (Some u) (find (λ v. bytes_eq x (name v)) us)) h) ∙ e }
+      | inl h ↦ record {
+        number = 0;
+        is = ap (λ (b : Bool). cond b (Some 0) (option_map suc (place_of x (map name us)))) h;
+        there =
+            sym (ap (λ (b : Bool). cond b (Some u) (find (λ v. bytes_eq x (name v)) us)) h) ∙ e;
+      }
       | inr h ↦
           let later = found_there name x us t (sym (ap (λ (b : Bool). cond b (Some u) (find (λ v. bytes_eq x (name v)) us)) h) ∙ e) in
-          record { number = suc later.number; is = some_place (bytes_eq x (name u)) (place_of x (map name us)) later.number h later.is; there = later.there }
+          record {
+            number = suc later.number;
+            is = some_place (bytes_eq x (name u)) (place_of x (map name us)) later.number h later.is;
+            there = later.there;
+          }
     ]
 
 -- at the number of the name stands what is found by the name
-pub found_numbered : {T : Type 0} (name : T → List ℕ) (x : List ℕ) (ts : List T) (t : T) → find (λ u. bytes_eq x (name u)) ts ≡ Some t → length ts ≤ 2 ^ 32 → slice_get ts (number_of x (map name ts)) ≡ Some t
+pub found_numbered : {T : Type 0} (name : T → List ℕ) (x : List ℕ) (ts : List T) (t : T) → find (λ u. bytes_eq x (name u)) ts ≡ Some t →
+    length ts ≤ 2 ^ 32 → slice_get ts (number_of x (map name ts)) ≡ Some t
 found_numbered name x ts t e few =
     let p = found_there name x ts t e in
     let within = slice_get_within ts p.number t p.there in
@@ -88,11 +101,13 @@ found_numbered name x ts t e few =
     ap (slice_get ts) (number_at x (map name ts) p.number p.is small) ∙ p.there
 
 -- what is found by a name has it
-pub found_has : {T : Type 0} (name : T → List ℕ) (x : List ℕ) (ts : List T) (t : T) → find (λ u. bytes_eq x (name u)) ts ≡ Some t → name t ≡ x
+pub found_has : {T : Type 0} (name : T → List ℕ) (x : List ℕ) (ts : List T) (t : T) → find (λ u. bytes_eq x (name u)) ts ≡ Some t →
+    name t ≡ x
 found_has name x [] t e = absurd cc
 found_has name x (u ∷ us) t e =
     elim (cases_Bool (bytes_eq x (name u))) [
-      | inl h ↦ let same : u ≡ t = let one = sym (ap (λ (b : Bool). cond b (Some u) (find (λ v. bytes_eq x (name v)) us)) h) ∙ e in cc in ap name (sym same) ∙ sym ((bytes_eq-Decides x (name u)).0 h)
+      | inl h ↦ let same : u ≡ t = let one = sym (ap (λ (b : Bool). cond b (Some u) (find (λ v. bytes_eq x (name v)) us)) h) ∙ e in cc in
+          ap name (sym same) ∙ sym ((bytes_eq-Decides x (name u)).0 h)
       | inr h ↦ found_has name x us t (sym (ap (λ (b : Bool). cond b (Some u) (find (λ v. bytes_eq x (name v)) us)) h) ∙ e)
     ]
 

@@ -56,7 +56,8 @@ pub record IsTypeFound (d : DesignTree) (p : PointName) : Type 0 where
   pub there : slice_get (design_of d).types (number_of p.type_name (type_names d.types)) ≡ Some (type_of d.tables found)
   pub named : found.name ≡ p.type_name
 
-some_type : (o : Option TypeTree) (x : List ℕ) → point_of_type_fault o x ≡ false → (t : TypeTree) × (o ≡ Some t) × (not (stands_in x (point_names t)) ≡ false)
+some_type : (o : Option TypeTree) (x : List ℕ) → point_of_type_fault o x ≡ false → (t : TypeTree) × (o ≡ Some t) ×
+    (not (stands_in x (point_names t)) ≡ false)
 some_type None x h = absurd cc
 some_type (Some t) x h = (t, refl, h)
 
@@ -69,22 +70,29 @@ type_found d p b h =
       is = some.1;
       stands = stands_true p.point (point_names some.0) some.2;
       few = found_all IsFew (λ (t : TypeTree). bytes_eq p.type_name t.name) d.types some.0 some.1 b.each;
-      there = slice_get-map (type_of d.tables) d.types (number_of p.type_name (type_names d.types)) ∙ ap (option_map (type_of d.tables)) (found_numbered (λ (t : TypeTree). t.name) p.type_name d.types some.0 some.1 few);
+      there = slice_get-map (type_of d.tables) d.types (number_of p.type_name (type_names d.types)) ∙ ap (option_map (type_of d.tables))
+          (found_numbered (λ (t : TypeTree). t.name) p.type_name d.types some.0 some.1 few);
       named = found_has (λ (t : TypeTree). t.name) p.type_name d.types some.0 some.1;
     }
 
-pub point_there : (d : DesignTree) (p : PointName) (f : IsTypeFound d p) → point_name (point_in (design_of d) (at_of d.types p).ty (at_of d.types p).point) ≡ p.point
+pub point_there : (d : DesignTree) (p : PointName) (f : IsTypeFound d p) →
+    point_name (point_in (design_of d) (at_of d.types p).ty (at_of d.types p).point) ≡ p.point
 point_there d p f =
     let points = (type_of d.tables f.found).points in
     let names = point_names f.found in
     let sized = length-map (points_in f.found) (λ (q : PointTree). q.name) in
     let fewer = f.few.points in
-    let n : AreNamed names points = record { are = points_named (type_scope d.tables f.found) names (points_in f.found); few = omega (arith, sized, fewer) } in
+    let n : AreNamed names points = record {
+      are = points_named (type_scope d.tables f.found) names (points_in f.found);
+      few =
+          omega (arith, sized, fewer);
+    } in
     ap (λ (o : Option TxType). point_name (option_and_then (λ x. slice_get x.points (at_of d.types p).point) o)) f.there
     ∙ (ap (λ (o : Option TypeTree). point_name (slice_get points (number_of p.point (points_or_none o)))) f.is
     ∙ point_again names points p.point n f.stands)
 
-pub at_said : (d : DesignTree) (p : PointName) → IsTypeFound d p → AreHeard false (point_words p) → AreEnds (point_name_marks p) → IsAtSaid (design_of d) (at_of d.types p)
+pub at_said : (d : DesignTree) (p : PointName) → IsTypeFound d p → AreHeard false (point_words p) → AreEnds (point_name_marks p) →
+    IsAtSaid (design_of d) (at_of d.types p)
 at_said d p f heard marks =
     let ends = all_parts IsEnd (name_marks p.type_name) (name_marks p.point) marks in
     record {
@@ -104,8 +112,11 @@ at_point d p b f = record {
   mine = (variables_at d.types p).own;
   names = (scope_at (design_of d) (at_of d.types p)).names;
   known = locals_at d.types p;
-  names_are = ap (λ (o : Option TxType). (inside (design_of d).tables o).names) f.there ∙ (sym (append-nil (names_within (locals_of f.found))) ∙ ap (λ (o : Option TypeTree). names_by (variables_or_none o).in_type (variables_or_none o).locals (variables_or_none o).own) (sym f.is));
-  known_are = ap locals_or_none f.is ∙ (sym (append-nil (locals_of f.found)) ∙ ap (λ (o : Option TypeTree). (variables_or_none o).locals ++ (variables_or_none o).own) (sym f.is));
+  names_are = ap (λ (o : Option TxType). (inside (design_of d).tables o).names) f.there ∙
+      (sym (append-nil (names_within (locals_of f.found))) ∙ ap
+      (λ (o : Option TypeTree). names_by (variables_or_none o).in_type (variables_or_none o).locals (variables_or_none o).own) (sym f.is));
+  known_are = ap locals_or_none f.is ∙ (sym (append-nil (locals_of f.found)) ∙ ap
+      (λ (o : Option TypeTree). (variables_or_none o).locals ++ (variables_or_none o).own) (sym f.is));
   no_self = λ e. refl;
   no_locals = λ e. not_outside (ap (λ (o : Option TypeTree). (variables_or_none o).in_type) (sym f.is) ∙ e);
   few_tables = b.tables;

@@ -34,7 +34,8 @@ local_in tables (Some t) n h = lt-ltb n (length t.locals) (local_there t.locals 
 
 -- ---- entries and hints
 
-point_there : (o : Option TxType) (p : ℕ) → IsName (point_name (option_and_then (λ (t : TxType). slice_get t.points p) o)) → has_point o p ≡ true
+point_there : (o : Option TxType) (p : ℕ) → IsName (point_name (option_and_then (λ (t : TxType). slice_get t.points p) o)) →
+    has_point o p ≡ true
 point_there None p h = absurd h.0
 point_there (Some t) p h = item_there (λ (o : Option Point). IsName (point_name o)) (λ g. absurd g.0) t.points p h
 
@@ -53,13 +54,17 @@ hint_range : (d : Design) (h : Hint) → IsHintSaid d h → hint_in d.types h �
 hint_range d h s =
     let of = slice_get d.types h.at.ty in
     both_true (at_range d h.at s.at)
-    (all_pass (λ (t : ℕ × ℤ). IsName (name_at (inside d.tables of).names t.0)) (term_in (locals_of of)) (λ t g. local_in d.tables of t.0 g) h.lin.coeffs s.named)
+    (all_pass (λ (t : ℕ × ℤ). IsName (name_at (inside d.tables of).names t.0)) (term_in (locals_of of)) (λ t g. local_in d.tables of t.0 g)
+    h.lin.coeffs s.named)
 
 -- ---- the whole
 
 -- every number that names something is in range
 pub said_in_range : (d : Design) → IsSaid d → design_in d ≡ true
 said_in_range d h =
-    both_true (both_true (both_true (all_pass (IsClauseSaid (outside d.tables)) (clause_in d.tables 0) (clause_range (outside d.tables)) d.always h.always)
+    both_true
+    (both_true (both_true (all_pass (IsClauseSaid (outside d.tables)) (clause_in d.tables 0) (clause_range (outside d.tables)) d.always
+    h.always)
     (all_pass (IsTypeSaid d.tables) (type_in d.tables) (type_range d.tables) d.types h.types))
-    (all_pass (IsEntrySaid d) (entry_in d.types) (entry_range d) d.entries h.entries)) (all_pass (IsHintSaid d) (hint_in d.types) (hint_range d) d.hints h.hints)
+    (all_pass (IsEntrySaid d) (entry_in d.types) (entry_range d) d.entries h.entries))
+    (all_pass (IsHintSaid d) (hint_in d.types) (hint_range d) d.hints h.hints)

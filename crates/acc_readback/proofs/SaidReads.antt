@@ -33,7 +33,8 @@ use Rattle.acc_readback.proofs.SaidRows.{meant, known, shown, place_said, cell_s
 -- ---- reads
 
 -- the variable that is assigned, and what it is assigned
-pub assigned : (own : Bool) (x : Variable) (ws : List Word) → AreHeard own (variable x ++ (just sign.Equal ++ (ws ++ just sign.End))) → AreHeard own (variable x) × AreHeard own ws
+pub assigned : (own : Bool) (x : Variable) (ws : List Word) → AreHeard own (variable x ++ (just sign.Equal ++ (ws ++ just sign.End))) →
+    AreHeard own (variable x) × AreHeard own ws
 assigned own x ws h =
     let parts = all_parts (IsHeard own) (variable x) (just sign.Equal ++ (ws ++ just sign.End)) h in
     (parts.0, (all_parts (IsHeard own) ws (just sign.End) parts.1.1).0)
@@ -46,7 +47,8 @@ divisor_said n marks =
     let same = sym (kept_same (pos n) small) in
     (subst (λ (m : ℤ). is_negative m ≡ false) same refl, subst IsSmall same small)
 
-pub read_said : (a : Setting) (r : ReadTree) → AreHeard a.own (read_statement r) → read_fault (known a) r ≡ false → AreEnds (read_words_marks r) → AreEnds (read_words_sizes (meant a) r) → IsReadSaid (shown a) (read_of (meant a) r)
+pub read_said : (a : Setting) (r : ReadTree) → AreHeard a.own (read_statement r) → read_fault (known a) r ≡ false →
+    AreEnds (read_words_marks r) → AreEnds (read_words_sizes (meant a) r) → IsReadSaid (shown a) (read_of (meant a) r)
 read_said a (read.Let x v) heard faults marks sizes =
     let words = assigned a.own x (sum v) heard.1 in
     let none = or_parts (variable_fault a.known x) (sum_fault a.known v) faults in
@@ -82,7 +84,8 @@ read_said a (read.Greatest x p) heard faults marks sizes =
     let none = or_parts (variable_fault a.known x) (place_fault (known a) p) faults in
     let ends = all_parts IsEnd (variable_marks x) (place_marks p) marks in
     (variable_said a x words.0 none.0 ends.0, place_said a p words.1 none.1 ends.1 sizes)
-read_said a (read.Take x) heard faults marks sizes = variable_said a x (all_parts (IsHeard a.own) (variable x) (just sign.End) heard.1).0 faults marks
+read_said a (read.Take x) heard faults marks sizes =
+    variable_said a x (all_parts (IsHeard a.own) (variable x) (just sign.End) heard.1).0 faults marks
 read_said a (read.Mul x y z) heard faults marks sizes =
     let words = all_parts (IsHeard a.own) (variable x) (just sign.Equal ++ (variable y ++ (variable z ++ just sign.End))) heard.1 in
     let behind = all_parts (IsHeard a.own) (variable y) (variable z ++ just sign.End) words.1.1 in
@@ -103,11 +106,13 @@ read_said a (read.Div x y n) heard faults marks sizes =
 
 -- ---- actions
 
-values_said : (a : Setting) (vs : Option Sums) → AreHeard a.own (values vs) → values_fault a.known vs ≡ false → AreEnds (values_marks vs) → AreEnds (values_sizes (variables_of a) vs) → AllIn (IsLinSaid a.names) (values_of (variables_of a) vs)
+values_said : (a : Setting) (vs : Option Sums) → AreHeard a.own (values vs) → values_fault a.known vs ≡ false → AreEnds (values_marks vs) →
+    AreEnds (values_sizes (variables_of a) vs) → AllIn (IsLinSaid a.names) (values_of (variables_of a) vs)
 values_said a None heard faults marks sizes = tt
 values_said a (Some ss) heard faults marks sizes = sums_said a ss heard faults marks sizes
 
-pub action_said : (a : Setting) (t : ActionTree) → AreHeard a.own (action_statement t) → action_fault (known a) t ≡ false → AreEnds (action_words_marks t) → AreEnds (action_words_sizes (meant a) t) → IsActionSaid (shown a) (action_of (meant a) t)
+pub action_said : (a : Setting) (t : ActionTree) → AreHeard a.own (action_statement t) → action_fault (known a) t ≡ false →
+    AreEnds (action_words_marks t) → AreEnds (action_words_sizes (meant a) t) → IsActionSaid (shown a) (action_of (meant a) t)
 action_said a (action.Put p vs) heard faults marks sizes =
     let words = all_parts (IsHeard a.own) (place p) (values vs ++ just sign.End) heard.1 in
     let behind = all_parts (IsHeard a.own) (values vs) (just sign.End) words.1 in
@@ -115,7 +120,8 @@ action_said a (action.Put p vs) heard faults marks sizes =
     let ends = all_parts IsEnd (place_marks p) (values_marks vs) marks in
     let small = all_parts IsEnd (place_sizes (meant a) p) (values_sizes (variables_of a) vs) sizes in
     (place_said a p words.0 none.0 ends.0 small.0, values_said a vs behind.0 none.1 ends.1 small.1)
-action_said a (action.Del p) heard faults marks sizes = place_said a p (all_parts (IsHeard a.own) (place p) (just sign.End) heard.1).0 faults marks sizes
+action_said a (action.Del p) heard faults marks sizes =
+    place_said a p (all_parts (IsHeard a.own) (place p) (just sign.End) heard.1).0 faults marks sizes
 action_said a (action.Set c v) heard faults marks sizes =
     let words = all_parts (IsHeard a.own) (cell c) (sum v ++ just sign.End) heard.1 in
     let behind = all_parts (IsHeard a.own) (sum v) (just sign.End) words.1 in

@@ -1,4 +1,5 @@
--- Terms that were collected are collected: each unknown stands once, and none has the number zero. What holds of each unknown that is written holds of each that is left.
+-- Terms that were collected are collected: each unknown stands once, and none has the number zero. What holds of each unknown that is
+-- written holds of each that is left.
 use Rattle.std.proofs.Common.{◌≡◌, Bool, true, false, List, [], ◌∷◌, map, Option, Some, None, refl, sym, ap, ◌∙◌, arith, not, cond, ℤ, ◌+ℤ◌}
 use Rattle.std.specs.Prelude.{filter, Decides, IfSome}
 use Rattle.std.specs.List.{filter_map}
@@ -19,7 +20,8 @@ pub all_filtered : {T : Type 0} (P : T → Type 0) (test : T → Bool) (ts : Lis
 all_filtered P test [] h = tt
 all_filtered P test (t ∷ ts) h = kept_step P (test t) t (filter test ts) h.0 (all_filtered P test ts h.1)
 
-passes_step : {T : Type 0} (test : T → Bool) (b : Bool) (t : T) (ts : List T) → test t ≡ b → AllIn (λ u. test u ≡ true) ts → AllIn (λ u. test u ≡ true) (cond b (t ∷ ts) ts)
+passes_step : {T : Type 0} (test : T → Bool) (b : Bool) (t : T) (ts : List T) → test t ≡ b → AllIn (λ u. test u ≡ true) ts →
+    AllIn (λ u. test u ≡ true) (cond b (t ∷ ts) ts)
 passes_step test true t ts e h = (e, h)
 passes_step test false t ts e h = h
 
@@ -29,7 +31,8 @@ filtered_pass test (t ∷ ts) = passes_step test (test t) t (filter test ts) ref
 
 pub all_kept : {T : Type 0} (test : T → Bool) (ts : List T) → AllIn (λ t. test t ≡ true) ts → filter test ts ≡ ts
 all_kept test [] h = refl
-all_kept {T} test (t ∷ ts) h = ap (λ b. cond b (t ∷ filter test ts) (filter test ts)) h.0 ∙ ap (λ (us : List T). t ∷ us) (all_kept test ts h.1)
+all_kept {T} test (t ∷ ts) h = ap (λ b. cond b (t ∷ filter test ts) (filter test ts)) h.0 ∙ ap (λ (us : List T). t ∷ us)
+    (all_kept test ts h.1)
 
 pub none_kept : {T : Type 0} (test : T → Bool) (ts : List T) → AllIn (λ t. test t ≡ false) ts → filter test ts ≡ []
 none_kept test [] h = refl
@@ -60,7 +63,8 @@ module _ {K : Type 0} (E : K → K → Bool) where
 
   apart_filtered : (test : K → Bool) (ks : List K) → Apart ks → Apart (filter test ks)
   apart_filtered test [] h = tt
-  apart_filtered test (k ∷ ks) h = apart_step (test k) k (filter test ks) (all_filtered (λ y. E y k ≡ false) test ks h.0) (apart_filtered test ks h.1)
+  apart_filtered test (k ∷ ks) h = apart_step (test k) k (filter test ks) (all_filtered (λ y. E y k ≡ false) test ks h.0)
+      (apart_filtered test ks h.1)
 
   none_step : (k y : K) (b : Bool) (ys : List K) → E y k ≡ b → IsNone k ys → IsNone k (cond (not b) (y ∷ ys) ys)
   none_step k y true ys e h = h
@@ -89,24 +93,28 @@ module _ {K : Type 0} (E : K → K → Bool) where
   abbrev pub ApartTerms : List (K × ℤ) → Type 0
   ApartTerms ts = Apart (map (λ t. t.0) ts)
 
-  none_left_step : (k y : K) (n : ℤ) (b : Bool) (ts : List (K × ℤ)) → E y k ≡ false → IsNone k (map (λ t. t.0) ts) → IsNone k (map (λ (t : K × ℤ). t.0) (cond b ((y, n) ∷ ts) ts))
+  none_left_step : (k y : K) (n : ℤ) (b : Bool) (ts : List (K × ℤ)) → E y k ≡ false → IsNone k (map (λ t. t.0) ts) →
+      IsNone k (map (λ (t : K × ℤ). t.0) (cond b ((y, n) ∷ ts) ts))
   none_left_step k y n true ts e h = (e, h)
   none_left_step k y n false ts e h = h
 
   abbrev numbered : (K → ℤ) → List K → List (K × ℤ)
   numbered c ks = map (λ x. (x, c x)) ks
 
-  none_left : (k : K) (c : K → ℤ) (test : K × ℤ → Bool) (ks : List K) → IsNone k ks → IsNone k (map (λ t. t.0) (filter test (numbered c ks)))
+  none_left : (k : K) (c : K → ℤ) (test : K × ℤ → Bool) (ks : List K) → IsNone k ks →
+      IsNone k (map (λ t. t.0) (filter test (numbered c ks)))
   none_left k c test [] h = tt
   none_left k c test (y ∷ ys) h = none_left_step k y (c y) (test (y, c y)) (filter test (numbered c ys)) h.0 (none_left k c test ys h.1)
 
-  apart_left_step : (y : K) (n : ℤ) (b : Bool) (ts : List (K × ℤ)) → IsNone y (map (λ t. t.0) ts) → ApartTerms ts → ApartTerms (cond b ((y, n) ∷ ts) ts)
+  apart_left_step : (y : K) (n : ℤ) (b : Bool) (ts : List (K × ℤ)) → IsNone y (map (λ t. t.0) ts) → ApartTerms ts →
+      ApartTerms (cond b ((y, n) ∷ ts) ts)
   apart_left_step y n true ts e h = (e, h)
   apart_left_step y n false ts e h = h
 
   apart_left : (c : K → ℤ) (test : K × ℤ → Bool) (ks : List K) → Apart ks → ApartTerms (filter test (numbered c ks))
   apart_left c test [] h = tt
-  apart_left c test (y ∷ ys) h = apart_left_step y (c y) (test (y, c y)) (filter test (numbered c ys)) (none_left y c test ys h.0) (apart_left c test ys h.1)
+  apart_left c test (y ∷ ys) h = apart_left_step y (c y) (test (y, c y)) (filter test (numbered c ys)) (none_left y c test ys h.0)
+      (apart_left c test ys h.1)
 
   module _ (decides : (x y : K) → Decides (E x y) (x ≡ y)) where
     exchanged : (x y : K) (b : Bool) → E y x ≡ b → E x y ≡ false → b ≡ false
@@ -127,7 +135,8 @@ module _ {K : Type 0} (E : K → K → Bool) where
         each [] n = tt
         each (u ∷ us) n = (n.0, each us n.1)
 
-    same_for_others : (t : K × ℤ) (ts : List (K × ℤ)) (ks : List K) → IsNone t.0 ks → numbered (coefficient E (t ∷ ts)) ks ≡ numbered (coefficient E ts) ks
+    same_for_others : (t : K × ℤ) (ts : List (K × ℤ)) (ks : List K) → IsNone t.0 ks →
+        numbered (coefficient E (t ∷ ts)) ks ≡ numbered (coefficient E ts) ks
     same_for_others t ts [] h = refl
     same_for_others t ts (k ∷ ks) h =
         ap (λ z. (k, z) ∷ numbered (coefficient E (t ∷ ts)) ks) (passed_over k t ts (exchanged k t.0 (E t.0 k) refl h.0))
@@ -146,7 +155,8 @@ module _ {K : Type 0} (E : K → K → Bool) where
     pub collected_again : (parts : List (Part K)) → AreCollected E (collected E parts)
     collected_again parts =
         let terms = filter_map with_unknown parts in
-        ap (filter is_left) (totals_same (collected E parts) (apart_left (coefficient E terms) is_left (firsts E (map (λ t. t.0) terms)) (firsts_apart (map (λ t. t.0) terms))))
+        ap (filter is_left) (totals_same (collected E parts)
+        (apart_left (coefficient E terms) is_left (firsts E (map (λ t. t.0) terms)) (firsts_apart (map (λ t. t.0) terms))))
         ∙ all_kept is_left (collected E parts) (filtered_pass is_left (totals E terms))
 
   -- ---- what holds of each unknown
@@ -155,7 +165,8 @@ module _ {K : Type 0} (E : K → K → Bool) where
     abbrev pub IsOf : Part K → Type 0
     IsOf p = IfSome p.of P
 
-    with_step : (o : Option K) (n : ℤ) (parts : List (Part K)) → IfSome o P → AllIn P (map (λ t. t.0) (filter_map with_unknown parts)) → AllIn P (map (λ t. t.0) (filter_map with_unknown (record { of = o; number = n } ∷ parts)))
+    with_step : (o : Option K) (n : ℤ) (parts : List (Part K)) → IfSome o P → AllIn P (map (λ t. t.0) (filter_map with_unknown parts)) →
+        AllIn P (map (λ t. t.0) (filter_map with_unknown (record { of = o; number = n } ∷ parts)))
     with_step None n parts q h = h
     with_step (Some x) n parts q h = (q, h)
 
@@ -174,4 +185,5 @@ module _ {K : Type 0} (E : K → K → Bool) where
     pub collected_each : (parts : List (Part K)) → AllIn IsOf parts → AllIn (λ t. P t.0) (collected E parts)
     collected_each parts h =
         let terms = filter_map with_unknown parts in
-        all_filtered (λ t. P t.0) is_left (totals E terms) (paired (coefficient E terms) (firsts E (map (λ t. t.0) terms)) (firsts_each (map (λ t. t.0) terms) (with_each parts h)))
+        all_filtered (λ t. P t.0) is_left (totals E terms)
+        (paired (coefficient E terms) (firsts E (map (λ t. t.0) terms)) (firsts_each (map (λ t. t.0) terms) (with_each parts h)))

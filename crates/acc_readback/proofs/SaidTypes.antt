@@ -1,5 +1,6 @@
 -- The types of a tree that is a design's can be spelled.
-use Rattle.std.proofs.Common.{◌≡◌, ℕ, ◌+◌, ◌≤◌, ◌<◌, ◌^◌, Bool, true, false, List, [], ◌++◌, length, map, take, drop, refl, ap, sym, ◌∙◌, subst, arith, length-append}
+use Rattle.std.proofs.Common.{◌≡◌, ℕ, ◌+◌, ◌≤◌, ◌<◌, ◌^◌, Bool, true, false, List, [], ◌++◌, length, map, take, drop, refl, ap, sym, ◌∙◌}
+use Rattle.std.proofs.Common.{subst, arith, length-append}
 use Rattle.std.specs.Prelude.{nat_lt, nat_le}
 use Rattle.std.specs.List.{flat_map}
 use Rattle.std.proofs.Math.Seq.{take-append_seam, drop-append_seam}
@@ -73,7 +74,8 @@ names_sized t = length-map (points_in t) (λ (p : PointTree). p.name)
 -- ---- a type
 
 module _ (trees : List TableTree) (few : length trees ≤ 64) (columns : AllIn (λ (t : TableTree). length t.columns ≤ 12) trees) where
-  pub type_said : (again : Bool) (t : TypeTree) → AreHeard true (type_words t) → AllIn IsFalse (type_faults trees again t) → AreEnds (type_marks t) → AreEnds (type_sizes trees t) → IsTypeSaid (map table_of trees) (type_of trees t)
+  pub type_said : (again : Bool) (t : TypeTree) → AreHeard true (type_words t) → AllIn IsFalse (type_faults trees again t) →
+      AreEnds (type_marks t) → AreEnds (type_sizes trees t) → IsTypeSaid (map table_of trees) (type_of trees t)
   type_said again t heard faults marks sizes =
       let H = IsHeard true in
       let ends = type_ends t marks in
@@ -83,15 +85,24 @@ module _ (trees : List TableTree) (few : length trees ≤ 64) (columns : AllIn (
       let points = map (point_of (meant a) names) (points_in t) in
       let points_few = type_points t ends in
       let names_few = names_sized t in
-      let n : AreNamed names points = record { are = points_named (meant a) names (points_in t); few = omega (arith, points_few, names_few) } in
+      let n : AreNamed names points = record {
+        are = points_named (meant a) names (points_in t);
+        few =
+            omega (arith, points_few, names_few);
+      } in
       let point_words = point t.first ++ joined point t.others in
       let repaired_words = joined (clause_statement sign.Repairs) t.repaired in
       let ensured_words = joined (clause_statement sign.Ensures) t.ensured in
       let local_words = names_statement sign.Local t.locals in
       let return_words = names_statement sign.Returns t.returns in
-      let w_name = all_parts H (name t.name) (joined name t.params ++ (just sign.End ++ (limit_words t.limit ++ (return_words ++ (local_words ++ (ensured_words ++ (repaired_words ++ point_words))))))) heard.1 in
-      let w_params = all_parts H (joined name t.params) (just sign.End ++ (limit_words t.limit ++ (return_words ++ (local_words ++ (ensured_words ++ (repaired_words ++ point_words)))))) w_name.1 in
-      let w_limit = all_parts H (limit_words t.limit) (return_words ++ (local_words ++ (ensured_words ++ (repaired_words ++ point_words)))) w_params.1.1 in
+      let w_name = all_parts H (name t.name) (joined name t.params ++
+      (just sign.End ++ (limit_words t.limit ++ (return_words ++ (local_words ++ (ensured_words ++ (repaired_words ++ point_words)))))))
+      heard.1 in
+      let w_params = all_parts H (joined name t.params)
+      (just sign.End ++ (limit_words t.limit ++ (return_words ++ (local_words ++ (ensured_words ++ (repaired_words ++ point_words))))))
+      w_name.1 in
+      let w_limit = all_parts H (limit_words t.limit) (return_words ++ (local_words ++ (ensured_words ++ (repaired_words ++ point_words))))
+      w_params.1.1 in
       let w_returns = all_parts H return_words (local_words ++ (ensured_words ++ (repaired_words ++ point_words))) w_limit.1 in
       let w_locals = all_parts H local_words (ensured_words ++ (repaired_words ++ point_words)) w_returns.1 in
       let w_ensured = all_parts H ensured_words (repaired_words ++ point_words) w_locals.1 in
@@ -106,8 +117,10 @@ module _ (trees : List TableTree) (few : length trees ≤ 64) (columns : AllIn (
       let right = points_right (known a) names [] (points_in t) n_repaired.1 in
       let n_first = or_parts again (defines_again [] t.params) n_head.0.0 in
       let n_names = all_parts IsFalse (returns_faults (locals_of t) t.returns) (locals_faults t.params t.locals) n_head.0.1.1 in
-      let e_long = all_parts IsEnd (past limit.Locals (nat_lt 48 (length t.params))) (name_marks t.name ++ (flat_map name_marks t.params ++ (ending ++ (small_number_marks t.limit ++ ending)))) ends.head in
-      let e_name = all_parts IsEnd (name_marks t.name) (flat_map name_marks t.params ++ (ending ++ (small_number_marks t.limit ++ ending))) e_long.1 in
+      let e_long = all_parts IsEnd (past limit.Locals (nat_lt 48 (length t.params)))
+      (name_marks t.name ++ (flat_map name_marks t.params ++ (ending ++ (small_number_marks t.limit ++ ending)))) ends.head in
+      let e_name = all_parts IsEnd (name_marks t.name) (flat_map name_marks t.params ++ (ending ++ (small_number_marks t.limit ++ ending)))
+      e_long.1 in
       let e_params = all_parts IsEnd (flat_map name_marks t.params) (ending ++ (small_number_marks t.limit ++ ending)) e_name.1 in
       let e_limit = all_parts IsEnd (small_number_marks t.limit) ending e_params.1.1 in
       let z_points = flat_map (point_sizes (meant a)) (points_in t) in
@@ -118,7 +131,8 @@ module _ (trees : List TableTree) (few : length trees ≤ 64) (columns : AllIn (
       let s_ensured = all_parts IsEnd z_ensured (z_repaired ++ z_points) s_locals.1 in
       let s_repaired = all_parts IsEnd z_repaired z_points s_ensured.1 in
       let s_points = all_flat IsEnd (point_sizes (meant a)) (points_in t) s_repaired.1 in
-      let both : length (locals_of t) ≡ length t.params + length (listed_or_none t.locals) = length-append t.params (listed_or_none t.locals) in
+      let both : length (locals_of t) ≡ length t.params + length (listed_or_none t.locals) =
+      length-append t.params (listed_or_none t.locals) in
       let small : length t.params < 2 ^ 32 = omega (arith, few_here, both) in
       let count = fitted_same (length t.params) small in
       let count_limit = count_said t.limit (nat_le (2 ^ 32) t.limit) refl (not_past limit.NumberSize (nat_le (2 ^ 32) t.limit) e_limit.0) in
@@ -132,20 +146,29 @@ module _ (trees : List TableTree) (few : length trees ≤ 64) (columns : AllIn (
         params = omega (arith, count, both);
         few_locals = few_here;
         new_locals = new_locals t n_first.1 n_names.1;
-        parameters = subst (AllIn IsName) (sym (ap (λ (k : ℕ). take k (locals_of t)) count ∙ take-append_seam t.params (listed_or_none t.locals))) (are_names true t.params (all_joined H name t.params w_params.0) (all_flat IsEnd name_marks t.params e_params.0));
-        locals = subst (AllIn IsName) (sym (ap (λ (k : ℕ). drop k (locals_of t)) count ∙ drop-append_seam t.params (listed_or_none t.locals))) (locals_said true (length t.params) t.locals w_locals.0 ends.locals);
+        parameters =
+            subst (AllIn IsName) (sym (ap (λ (k : ℕ). take k (locals_of t)) count ∙ take-append_seam t.params (listed_or_none t.locals)))
+            (are_names true t.params (all_joined H name t.params w_params.0) (all_flat IsEnd name_marks t.params e_params.0));
+        locals =
+            subst (AllIn IsName) (sym (ap (λ (k : ℕ). drop k (locals_of t)) count ∙ drop-append_seam t.params (listed_or_none t.locals)))
+            (locals_said true (length t.params) t.locals w_locals.0 ends.locals);
         returns = returned_said true (locals_of t) t.returns few_here w_returns.0 ends.returns n_names.0;
         limit = subst IsCount (sym (fitted_same t.limit count_limit)) count_limit;
         few_posts = omega (arith, posts_few, posts_same);
         few_repairs = omega (arith, repairs_few, repairs_same);
         few_points = omega (arith, points_few, points_same);
         new_points = ap (λ (xs : List (List ℕ)). defines_again [] xs) (points_named (meant a) names (points_in t)) ∙ right.new;
-        posts = clauses_said sign.Ensures a t.ensured refl w_ensured.0 n_ensured.0 (each_counted limit.Clauses 64 clause_statement_marks t.ensured ends.ensured) s_ensured.0;
-        repairs = clauses_said sign.Repairs a t.repaired refl w_repaired.0 n_repaired.0 (each_counted limit.Clauses 64 clause_statement_marks t.repaired ends.repaired) s_repaired.0;
+        posts = clauses_said sign.Ensures a t.ensured refl w_ensured.0 n_ensured.0
+            (each_counted limit.Clauses 64 clause_statement_marks t.ensured ends.ensured) s_ensured.0;
+        repairs = clauses_said sign.Repairs a t.repaired refl w_repaired.0 n_repaired.0
+            (each_counted limit.Clauses 64 clause_statement_marks t.repaired ends.repaired) s_repaired.0;
         points = (
           point_said a names points n refl t.first w_points.0 right.each.0 ends.first s_points.0,
           all_map (IsPointSaid (shown a) points) (point_of (meant a) names) t.others
-              (all_by_four (λ p. AreHeard true (point p)) (λ p. AllIn IsFalse (point_faults (known a) names false p)) (λ p. AreEnds (point_marks p)) (λ p. AreEnds (point_sizes (meant a) p)) (λ p. IsPointSaid (shown a) points (point_of (meant a) names p)) t.others (point_said a names points n refl)
-              (all_joined H point t.others w_points.1) right.each.1 (each_counted limit.Points 31 point_marks t.others ends.others) s_points.1),
+              (all_by_four (λ p. AreHeard true (point p)) (λ p. AllIn IsFalse (point_faults (known a) names false p))
+              (λ p. AreEnds (point_marks p)) (λ p. AreEnds (point_sizes (meant a) p))
+              (λ p. IsPointSaid (shown a) points (point_of (meant a) names p)) t.others (point_said a names points n refl)
+              (all_joined H point t.others w_points.1) right.each.1 (each_counted limit.Points 31 point_marks t.others ends.others)
+              s_points.1),
         );
       }

@@ -23,7 +23,8 @@ use Rattle.acc_terms.specs.declared.parts.Part.{Part}
 use Rattle.acc_terms.specs.declared.collecting.Terms.{Terms}
 use Rattle.acc_terms.specs.Parts.{negated}
 use Rattle.acc_meaning.specs.Scopes.{variable_of}
-use Rattle.acc_meaning.specs.Values.{part_of, signed, signed_part, parts_of, collected_by, kept, kept_term, lin_by, terms_of, lin_of, compared}
+use Rattle.acc_meaning.specs.Values.{part_of, signed, signed_part, parts_of, collected_by, kept, kept_term, lin_by, terms_of, lin_of}
+use Rattle.acc_meaning.specs.Values.{compared}
 use Rattle.acc_meaning.specs.Sizes.{size_mark, term_sizes, terms_sizes, sum_sizes}
 use Rattle.acc_print.specs.Names.{name_at}
 use Rattle.acc_readback.specs.Printable.{IsName, IsVariable, AreCollected, IsTermSaid, IsLinSaid}
@@ -72,62 +73,81 @@ pub signed_has : {K : Type 0} (P : K → Type 0) (minus : Bool) (p : Part K) →
 signed_has P true p h = h
 signed_has P false p h = h
 
-negated_have : {K : Type 0} (P : K → Type 0) (ps : List (Part K)) → AllIn (λ p. IfSome p.of P) ps → AllIn (λ p. IfSome p.of P) (map negated ps)
+negated_have : {K : Type 0} (P : K → Type 0) (ps : List (Part K)) → AllIn (λ p. IfSome p.of P) ps →
+    AllIn (λ p. IfSome p.of P) (map negated ps)
 negated_have P [] h = tt
 negated_have P (p ∷ ps) h = (h.0, negated_have P ps h.1)
 
-pub compared_have : {K : Type 0} (P : K → Type 0) (r : Relation) (a b : List (Part K)) → AllIn (λ p. IfSome p.of P) a → AllIn (λ p. IfSome p.of P) b → AllIn (λ p. IfSome p.of P) (compared r a b)
+pub compared_have : {K : Type 0} (P : K → Type 0) (r : Relation) (a b : List (Part K)) → AllIn (λ p. IfSome p.of P) a →
+    AllIn (λ p. IfSome p.of P) b → AllIn (λ p. IfSome p.of P) (compared r a b)
 compared_have P AtMost a b h g = AllIn-append (λ p. IfSome p.of P) a (map negated b) h (negated_have P b g)
 compared_have P AtLeast a b h g = AllIn-append (λ p. IfSome p.of P) b (map negated a) g (negated_have P a h)
 compared_have P Equal a b h g = AllIn-append (λ p. IfSome p.of P) a (map negated b) h (negated_have P b g)
 
 -- what holds of the name of each variable there holds of the name of each unknown
-module _ (a : Setting) (Q : List ℕ → Type 0) (each : (x : Variable) → AreHeard a.own (variable x) → variable_fault a.known x ≡ false → AreEnds (variable_marks x) → Q (name_at a.names (variable_of (variables_of a) x))) where
+module _ (a : Setting) (Q : List ℕ → Type 0) (each : (x : Variable) → AreHeard a.own (variable x) → variable_fault a.known x ≡ false →
+    AreEnds (variable_marks x) → Q (name_at a.names (variable_of (variables_of a) x))) where
   abbrev Has : ℕ → Type 0
   Has k = Q (name_at a.names k)
 
-  term_has : (t : Term) → AreHeard a.own (term t) → term_fault a.known t ≡ false → AreEnds (term_marks t) → IfSome (part_of (variables_of a) t).of Has
+  term_has : (t : Term) → AreHeard a.own (term t) → term_fault a.known t ≡ false → AreEnds (term_marks t) →
+      IfSome (part_of (variables_of a) t).of Has
   term_has (Constant n) heard known marks = tt
   term_has (Plain x) heard known marks = each x heard known marks
   term_has (Product n x) heard known marks = each x heard.1.1 known (all_parts IsEnd (number_marks n) (variable_marks x) marks).1
 
-  further_has : (t : SignedTerm) → AreHeard a.own (signed_term t) → term_fault a.known t.term ≡ false → AreEnds (signed_term_marks t) → IfSome (signed_part (variables_of a) t).of Has
+  further_has : (t : SignedTerm) → AreHeard a.own (signed_term t) → term_fault a.known t.term ≡ false → AreEnds (signed_term_marks t) →
+      IfSome (signed_part (variables_of a) t).of Has
   further_has t heard known marks =
-      signed_has Has t.minus (part_of (variables_of a) t.term) (term_has t.term (all_parts (IsHeard a.own) (if t.minus then just sign.Minus else just sign.Plus) (term t.term) heard).1 known marks)
+      signed_has Has t.minus (part_of (variables_of a) t.term)
+      (term_has t.term (all_parts (IsHeard a.own) (if t.minus then just sign.Minus else just sign.Plus) (term t.term) heard).1 known
+      marks)
 
-  pub parts_have : (s : Sum) → AreHeard a.own (sum s) → sum_fault a.known s ≡ false → AreEnds (sum_marks s) → AllIn (λ p. IfSome p.of Has) (parts_of (variables_of a) s)
+  pub parts_have : (s : Sum) → AreHeard a.own (sum s) → sum_fault a.known s ≡ false → AreEnds (sum_marks s) →
+      AllIn (λ p. IfSome p.of Has) (parts_of (variables_of a) s)
   parts_have s heard known marks =
-      let words = (all_parts (IsHeard a.own) (if s.minus then just sign.Minus else []) (term s.first ++ joined signed_term s.others) heard).1 in
+      let words = (all_parts (IsHeard a.own) (if s.minus then just sign.Minus else []) (term s.first ++ joined signed_term s.others)
+      heard).1 in
       let both = all_parts (IsHeard a.own) (term s.first) (joined signed_term s.others) words in
       let faults = or_parts (term_fault a.known s.first) (list_any (λ (t : SignedTerm). term_fault a.known t.term) s.others) known in
       let ends = all_parts IsEnd (term_marks s.first) (flat_map signed_term_marks s.others) marks in (
         signed_has Has s.minus (part_of (variables_of a) s.first) (term_has s.first both.0 faults.0 ends.0),
         all_map (λ (p : Part ℕ). IfSome p.of Has) (signed_part (variables_of a)) s.others
-            (all_by_three (λ t. AreHeard a.own (signed_term t)) (λ (t : SignedTerm). term_fault a.known t.term ≡ false) (λ t. AreEnds (signed_term_marks t)) (λ t. IfSome (signed_part (variables_of a) t).of Has) s.others further_has
-            (all_joined (IsHeard a.own) signed_term s.others both.1) (none_false (λ (t : SignedTerm). term_fault a.known t.term) s.others faults.1) (all_flat IsEnd signed_term_marks s.others ends.1)),
+            (all_by_three (λ t. AreHeard a.own (signed_term t)) (λ (t : SignedTerm). term_fault a.known t.term ≡ false)
+            (λ t. AreEnds (signed_term_marks t)) (λ t. IfSome (signed_part (variables_of a) t).of Has) s.others further_has
+            (all_joined (IsHeard a.own) signed_term s.others both.1)
+            (none_false (λ (t : SignedTerm). term_fault a.known t.term) s.others faults.1)
+            (all_flat IsEnd signed_term_marks s.others ends.1)),
       )
 
 -- ---- values
 
 -- collected terms with small numbers, of variables that can be spelled
-pub lin_by_said : (names : List (List ℕ)) (parts : List (Part ℕ)) → AllIn (λ p. IfSome p.of (λ k. IsVariable (name_at names k))) parts → AreEnds (terms_sizes (collected_by ◌==◌ parts)) → IsLinSaid names (lin_by (collected_by ◌==◌ parts))
+pub lin_by_said : (names : List (List ℕ)) (parts : List (Part ℕ)) → AllIn (λ p. IfSome p.of (λ k. IsVariable (name_at names k))) parts →
+    AreEnds (terms_sizes (collected_by ◌==◌ parts)) → IsLinSaid names (lin_by (collected_by ◌==◌ parts))
 lin_by_said names parts h sizes =
     let t : Terms ℕ = collected_by ◌==◌ parts in
     let small = sizes_small t sizes in
     let same = sym (kept_terms t.terms small.0) in
     record {
-      terms = subst (AllIn (IsTermSaid names)) same (all_by_two (λ (u : ℕ × ℤ). IsVariable (name_at names u.0)) (λ (u : ℕ × ℤ). IsSmall u.1) (IsTermSaid names) t.terms (λ u p q. (p, q)) (collected_each ◌==◌ (λ k. IsVariable (name_at names k)) parts h) small.0);
+      terms = subst (AllIn (IsTermSaid names)) same
+          (all_by_two (λ (u : ℕ × ℤ). IsVariable (name_at names u.0)) (λ (u : ℕ × ℤ). IsSmall u.1) (IsTermSaid names) t.terms
+          (λ u p q. (p, q)) (collected_each ◌==◌ (λ k. IsVariable (name_at names k)) parts h) small.0);
       collected = subst (AreCollected ◌==◌) same (collected_again ◌==◌ Decides-eqb parts);
       constant = subst IsSmall (sym (kept_same t.constant small.1)) small.1;
     }
 
-pub lin_said : (a : Setting) (s : Sum) → AreHeard a.own (sum s) → sum_fault a.known s ≡ false → AreEnds (sum_marks s) → AreEnds (sum_sizes (variables_of a) s) → IsLinSaid a.names (lin_of (variables_of a) s)
-lin_said a s heard known marks sizes = lin_by_said a.names (parts_of (variables_of a) s) (parts_have a IsVariable (variable_said a) s heard known marks) sizes
+pub lin_said : (a : Setting) (s : Sum) → AreHeard a.own (sum s) → sum_fault a.known s ≡ false → AreEnds (sum_marks s) →
+    AreEnds (sum_sizes (variables_of a) s) → IsLinSaid a.names (lin_of (variables_of a) s)
+lin_said a s heard known marks sizes = lin_by_said a.names (parts_of (variables_of a) s)
+    (parts_have a IsVariable (variable_said a) s heard known marks) sizes
 
 -- where `self` may not stand, each variable of a value has a name
-pub lin_named : (a : Setting) (s : Sum) → a.own ≡ false → AreHeard a.own (sum s) → sum_fault a.known s ≡ false → AreEnds (sum_marks s) → AreEnds (sum_sizes (variables_of a) s) → AllIn (λ (t : ℕ × ℤ). IsName (name_at a.names t.0)) (lin_of (variables_of a) s).coeffs
+pub lin_named : (a : Setting) (s : Sum) → a.own ≡ false → AreHeard a.own (sum s) → sum_fault a.known s ≡ false → AreEnds (sum_marks s) →
+    AreEnds (sum_sizes (variables_of a) s) → AllIn (λ (t : ℕ × ℤ). IsName (name_at a.names t.0)) (lin_of (variables_of a) s).coeffs
 lin_named a s e heard known marks sizes =
     let t : Terms ℕ = terms_of (variables_of a) s in
     let same = sym (kept_terms t.terms (sizes_small t sizes).0) in
     subst (AllIn (λ (u : ℕ × ℤ). IsName (name_at a.names u.0))) same
-    (collected_each ◌==◌ (λ k. IsName (name_at a.names k)) (parts_of (variables_of a) s) (parts_have a IsName (λ x. name_said a x e) s heard known marks))
+    (collected_each ◌==◌ (λ k. IsName (name_at a.names k)) (parts_of (variables_of a) s)
+    (parts_have a IsName (λ x. name_said a x e) s heard known marks))

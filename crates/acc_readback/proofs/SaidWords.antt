@@ -28,7 +28,9 @@ use Rattle.acc_syntax.specs.declared.trees.FormRelTree.{FormRelTree}
 use Rattle.acc_syntax.specs.declared.trees.FormRels.{FormRels}
 use Rattle.acc_syntax.specs.declared.trees.ClauseTree.{ClauseTree}
 use Rattle.acc_syntax.specs.declared.trees.TableTree.{TableTree}
-use Rattle.acc_syntax.specs.Spelling.{just, name, number, names, further, variable, term, signed_term, sum, sums, place, cell, relation_sign, operand, form_term, signed_form_term, form, form_rel, form_rels, binder, premises, clause, clause_statement, table}
+use Rattle.acc_syntax.specs.Spelling.{just, name, number, names, further, variable, term, signed_term, sum, sums, place, cell}
+use Rattle.acc_syntax.specs.Spelling.{relation_sign, operand, form_term, signed_form_term, form, form_rel, form_rels, binder, premises}
+use Rattle.acc_syntax.specs.Spelling.{clause, clause_statement, table}
 
 -- a word that begins no type
 abbrev pub IsInner : Word → Type 0
@@ -77,7 +79,8 @@ sum_inner s =
     (both (term s.first) (joined signed_term s.others) (term_inner s.first) (all_inner signed_term signed_inner s.others))
 
 sums_inner : (ss : Sums) → AreInner (sums ss)
-sums_inner ss = both (sum ss.first) (joined (further sum) ss.others) (sum_inner ss.first) (all_inner (further sum) (further_inner sum sum_inner) ss.others)
+sums_inner ss = both (sum ss.first) (joined (further sum) ss.others) (sum_inner ss.first)
+    (all_inner (further sum) (further_inner sum sum_inner) ss.others)
 
 place_inner : (p : Place) → AreInner (place p)
 place_inner p = (refl, (refl, both (sums p.key) (just sign.Close) (sums_inner p.key) (refl, tt)))
@@ -100,12 +103,14 @@ form_term_inner (form_terms.Plain o) = operand_inner o
 form_term_inner (form_terms.Product n o) = (refl, (refl, operand_inner o))
 
 signed_form_inner : (s : SignedFormTerm) → AreInner (signed_form_term s)
-signed_form_inner s = both (if s.minus then just sign.Minus else just sign.Plus) (form_term s.term) (direction_inner s.minus) (form_term_inner s.term)
+signed_form_inner s = both (if s.minus then just sign.Minus else just sign.Plus) (form_term s.term) (direction_inner s.minus)
+    (form_term_inner s.term)
 
 form_inner : (f : FormTree) → AreInner (form f)
 form_inner f =
     both (if f.minus then just sign.Minus else []) (form_term f.first ++ joined signed_form_term f.others) (minus_inner f.minus)
-    (both (form_term f.first) (joined signed_form_term f.others) (form_term_inner f.first) (all_inner signed_form_term signed_form_inner f.others))
+    (both (form_term f.first) (joined signed_form_term f.others) (form_term_inner f.first)
+    (all_inner signed_form_term signed_form_inner f.others))
 
 relation_inner : (r : Relation) → AreInner (just (relation_sign r))
 relation_inner relation.AtMost = (refl, tt)
@@ -128,7 +133,8 @@ premises_inner : (g : Option FormRels) → AreInner (premises g)
 premises_inner None = tt
 premises_inner (Some rs) =
     both (form_rels rs) (just sign.Implies)
-    (both (form_rel rs.first) (joined (further form_rel) rs.others) (form_rel_inner rs.first) (all_inner (further form_rel) (further_inner form_rel form_rel_inner) rs.others)) (refl, tt)
+    (both (form_rel rs.first) (joined (further form_rel) rs.others) (form_rel_inner rs.first)
+    (all_inner (further form_rel) (further_inner form_rel form_rel_inner) rs.others)) (refl, tt)
 
 clause_inner : (c : ClauseTree) → AreInner (clause c)
 clause_inner c =
@@ -146,7 +152,8 @@ table_word false = (refl, tt)
 
 table_inner : (t : TableTree) → AreInner (table t)
 table_inner t =
-    both (if t.private then just sign.Private else just sign.Table) (name t.name ++ (number t.width ++ (joined name t.columns ++ just sign.End))) (table_word t.private)
+    both (if t.private then just sign.Private else just sign.Table)
+    (name t.name ++ (number t.width ++ (joined name t.columns ++ just sign.End))) (table_word t.private)
     (refl, (refl, both (joined name t.columns) (just sign.End) (all_inner name name_inner t.columns) (refl, tt)))
 
 -- ---- what stands before types

@@ -1,5 +1,6 @@
 -- A printed text is at most sixteen times as long as the text that was read.
-use Rattle.std.proofs.Common.{◌≡◌, ℕ, ◌+◌, ◌*◌, ◌≤◌, Bool, true, false, List, [], ◌∷◌, ◌++◌, length, map, refl, ap, subst, arith, length-append}
+use Rattle.std.proofs.Common.{◌≡◌, ℕ, ◌+◌, ◌*◌, ◌≤◌, Bool, true, false, List, [], ◌∷◌, ◌++◌, length, map, refl, ap, subst, arith}
+use Rattle.std.proofs.Common.{length-append}
 use Rattle.std.specs.Prelude.{if◌then◌else◌, codes}
 use Rattle.std.specs.Fmt.{decimal}
 use Rattle.std.specs.List.{flat_map}
@@ -16,7 +17,8 @@ use Rattle.acc_syntax.specs.declared.trees.DesignTree.{DesignTree}
 use Rattle.acc_syntax.specs.OwnWords.{OwnInTypes}
 use Rattle.acc_syntax.specs.Spelling.{just, name, number, clause_statement, table, type_words, entry, hint, spelled_design}
 use Rattle.acc_names.specs.Scopes.{points_in}
-use Rattle.acc_names.specs.Faults.{clause_fault, tables_faults, types_faults, entry_fault, hint_fault, outside as known_outside, statement_faults}
+use Rattle.acc_names.specs.Faults.{clause_fault, tables_faults, types_faults, entry_fault, hint_fault, outside as known_outside}
+use Rattle.acc_names.specs.Faults.{statement_faults}
 use Rattle.acc_meaning.specs.Scopes.{fitted}
 use Rattle.acc_meaning.specs.Forms.{clause_of}
 use Rattle.acc_meaning.specs.Types.{type_scope, point_of, type_of}
@@ -46,7 +48,8 @@ use Rattle.acc_readback.proofs.ShortEntries.{entries_short, hints_short}
 
 -- ---- tables
 
-word_short : (private : Bool) → length (if private then codes "private " else codes "table ") ≤ 1 + weight (if private then just sign.Private else just sign.Table)
+word_short : (private : Bool) → length (if private then codes "private " else codes "table ") ≤ 1 + weight
+    (if private then just sign.Private else just sign.Table)
 word_short true = omega arith
 word_short false = omega arith
 
@@ -72,7 +75,13 @@ table_short t =
 
 tables_short : (ts : List TableTree) → length (flat_map table_line (map table_of ts)) ≤ 8 * weight (joined table ts)
 tables_short [] = omega arith
-tables_short (t ∷ ts) = omega (arith, table_short t, tables_short ts, length-append (table_line (table_of t)) (flat_map table_line (map table_of ts)), weight-append (table t) (joined table ts))
+tables_short (t ∷ ts) = omega (
+  arith,
+  table_short t,
+  tables_short ts,
+  length-append (table_line (table_of t)) (flat_map table_line (map table_of ts)),
+  weight-append (table t) (joined table ts),
+)
 
 -- ---- what a design that can be said is bounded by
 
@@ -88,14 +97,17 @@ is_bounded d said =
     let types = said.few_types in
     record {
       tables = omega (arith, tables, length-map d.tables table_of);
-      columns = all_weaker (λ t. IsTableSaid (table_of t)) (λ (t : TableTree). length t.columns ≤ 12) d.tables (λ t s. s.few_columns) (all_mapped IsTableSaid table_of d.tables said.tables);
+      columns = all_weaker (λ t. IsTableSaid (table_of t)) (λ (t : TableTree). length t.columns ≤ 12) d.tables (λ t s. s.few_columns)
+          (all_mapped IsTableSaid table_of d.tables said.tables);
       types = omega (arith, types, length-map d.types (type_of d.tables));
-      each = all_weaker (λ t. IsTypeSaid (map table_of d.tables) (type_of d.tables t)) IsFew d.types (is_few d.tables) (all_mapped (IsTypeSaid (map table_of d.tables)) (type_of d.tables) d.types said.types);
+      each = all_weaker (λ t. IsTypeSaid (map table_of d.tables) (type_of d.tables t)) IsFew d.types (is_few d.tables)
+          (all_mapped (IsTypeSaid (map table_of d.tables)) (type_of d.tables) d.types said.types);
     }
 
 -- ---- the whole
 
-design_short : (d : DesignTree) → IsAllHeard d → AllIn IsFalse (statement_faults d) → IsSaid (design_of d) → length (printed (design_of d)) ≤ 8 * weight (spelled_design d)
+design_short : (d : DesignTree) → IsAllHeard d → AllIn IsFalse (statement_faults d) → IsSaid (design_of d) →
+    length (printed (design_of d)) ≤ 8 * weight (spelled_design d)
 design_short d heard faults said =
     let trees = d.tables in
     let bounded = is_bounded d said in
@@ -117,10 +129,15 @@ design_short d heard faults said =
     let w_types = joined type_words d.types in
     let w_entries = joined entry d.entries in
     let w_hints = joined hint d.hints in
-    let each_type = joined_short true (type_lines (map table_of trees)) (type_of trees) type_words (λ t. IsTypeRight trees t × IsTypeSaid (map table_of trees) (type_of trees t)) (λ t h q. type_short trees bounded.tables bounded.columns q.0.0 t h q.0.1 q.1) d.types heard.types
-    (all_by_two (IsTypeRight trees) (λ t. IsTypeSaid (map table_of trees) (type_of trees t)) _ d.types (λ t p q. (p, q)) (types_right trees [] d.types n_types.0).each (all_mapped (IsTypeSaid (map table_of trees)) (type_of trees) d.types said.types)) in
-    let each_clause : length always ≤ 8 * weight w_always = clauses_short a refl sign.Always (codes "always ") (omega arith) d.always heard.always n_always.0 said.always in
-    let whole : length (printed (design_of d)) ≡ length tables + length (always ++ (types ++ (entries ++ hints))) = length-append tables (always ++ (types ++ (entries ++ hints))) in
+    let each_type = joined_short true (type_lines (map table_of trees)) (type_of trees) type_words (λ t. IsTypeRight trees t ×
+    IsTypeSaid (map table_of trees) (type_of trees t)) (λ t h q. type_short trees bounded.tables bounded.columns q.0.0 t h q.0.1 q.1)
+    d.types heard.types
+    (all_by_two (IsTypeRight trees) (λ t. IsTypeSaid (map table_of trees) (type_of trees t)) _ d.types (λ t p q. (p, q))
+    (types_right trees [] d.types n_types.0).each (all_mapped (IsTypeSaid (map table_of trees)) (type_of trees) d.types said.types)) in
+    let each_clause : length always ≤ 8 * weight w_always =
+    clauses_short a refl sign.Always (codes "always ") (omega arith) d.always heard.always n_always.0 said.always in
+    let whole : length (printed (design_of d)) ≡ length tables + length (always ++ (types ++ (entries ++ hints))) =
+    length-append tables (always ++ (types ++ (entries ++ hints))) in
     omega (
       arith,
       whole,
@@ -146,4 +163,10 @@ printed_is_short text d p =
     let can = subst (AllIn CanSpell) spelled (can_spell text p.of.words p.of.lexed) in
     let own = subst OwnInTypes spelled p.of.spelled.own in
     let said = subst IsSaid p.means (parsed_is_said text d p) in
-    omega (arith, ap (λ (e : Design). length (printed e)) p.means, design_short t (all_heard t can own) (none_first (statement_faults t) p.allowed.names) said, ap weight spelled, text_long text p.of.words p.of.lexed)
+    omega (
+      arith,
+      ap (λ (e : Design). length (printed e)) p.means,
+      design_short t (all_heard t can own) (none_first (statement_faults t) p.allowed.names) said,
+      ap weight spelled,
+      text_long text p.of.words p.of.lexed,
+    )

@@ -1,5 +1,6 @@
 -- How many digits numbers have: a sum has no more than its summands have together.
-use Rattle.std.proofs.Common.{◌≡◌, ℕ, zero, suc, ◌+◌, ◌*◌, ◌^◌, ◌/◌, ◌%◌, ◌<◌, ◌≤◌, Bool, true, false, cond, List, [], ◌∷◌, length, refl, arith, ℤ, pos, negsuc, ◌+ℤ◌}
+use Rattle.std.proofs.Common.{◌≡◌, ℕ, zero, suc, ◌+◌, ◌*◌, ◌^◌, ◌/◌, ◌%◌, ◌<◌, ◌≤◌, Bool, true, false, cond, List, [], ◌∷◌, length, refl}
+use Rattle.std.proofs.Common.{arith, ℤ, pos, negsuc, ◌+ℤ◌}
 use Rattle.std.specs.Prelude.{◌==◌, unsigned_abs, max}
 use Rattle.std.specs.Fmt.{decimal, signed_decimal, digits, digits_onto, digit_glyph}
 use Rattle.std.specs.Int.Digits.{digits_of}
@@ -40,7 +41,11 @@ below_product a b (suc x) zero h g = absurd (omega arith)
 pub digit_count_sum : (a b : ℕ) → digit_count (a + b) ≤ digit_count a + digit_count b
 digit_count_sum a b =
     digit_count_le (a + b) (digit_count a + digit_count b)
-    (omega (arith, pow-add 10 (digit_count a) (digit_count b), below_product a b (10 ^ digit_count a) (10 ^ digit_count b) (below a) (below b)))
+    (omega (
+      arith,
+      pow-add 10 (digit_count a) (digit_count b),
+      below_product a b (10 ^ digit_count a) (10 ^ digit_count b) (below a) (below b),
+    ))
 
 pub digit_count_mono : (a b : ℕ) → a ≤ b → digit_count a ≤ digit_count b
 digit_count_mono a b h = digit_count_le a (digit_count b) (omega (arith, below b))
@@ -57,14 +62,21 @@ digit_count_some n = omega (arith, one_more (suc n) (omega arith))
 pub digit_count_total : (a b : ℤ) → digit_count (unsigned_abs (a +ℤ b)) ≤ digit_count (unsigned_abs a) + digit_count (unsigned_abs b)
 digit_count_total a b =
     let le : unsigned_abs (a +ℤ b) ≤ unsigned_abs a + unsigned_abs b = omega (arith, ints) in
-    omega (arith, digit_count_mono (unsigned_abs (a +ℤ b)) (unsigned_abs a + unsigned_abs b) le, digit_count_sum (unsigned_abs a) (unsigned_abs b))
+    omega (
+      arith,
+      digit_count_mono (unsigned_abs (a +ℤ b)) (unsigned_abs a + unsigned_abs b) le,
+      digit_count_sum (unsigned_abs a) (unsigned_abs b),
+    )
 
 -- ---- what is written
 
 abbrev spelled_onto : ℕ → ℕ → List ℕ → List ℕ
 spelled_onto k n acc = digits_onto k 10 false n acc
 
-onto_step : (k n : ℕ) (acc : List ℕ) (b : Bool) → (n / 10 == 0) ≡ b → length (spelled_onto k (n / 10) (digit_glyph false (n % 10) ∷ acc)) ≤ number_size (n / 10) + length (digit_glyph false (n % 10) ∷ acc) → length (cond b (digit_glyph false (n % 10) ∷ acc) (spelled_onto k (n / 10) (digit_glyph false (n % 10) ∷ acc))) ≤ number_size n + length acc
+onto_step : (k n : ℕ) (acc : List ℕ) (b : Bool) → (n / 10 == 0) ≡ b →
+    length (spelled_onto k (n / 10) (digit_glyph false (n % 10) ∷ acc)) ≤ number_size (n / 10) + length (digit_glyph false (n % 10) ∷ acc) →
+    length (cond b (digit_glyph false (n % 10) ∷ acc) (spelled_onto k (n / 10) (digit_glyph false (n % 10) ∷ acc))) ≤ number_size n + length
+    acc
 onto_step k n acc true e h = omega arith
 onto_step k n acc false e h =
     let some : 0 < n / 10 = grind (arith, nat_tests) in

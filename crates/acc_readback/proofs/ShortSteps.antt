@@ -37,32 +37,58 @@ fitted_size n = by (nat_lt n (2 ^ 32))
     by true = omega arith
     by false = omega (arith, digit_count_none)
 
-target_short : (names : List (List ℕ)) (points : List Point) (t : TargetTree) → AreNamed names points → target_fault names t ≡ false → length (line (target_text points (target_of names t))) ≤ 8 * weight (target_statement t)
+target_short : (names : List (List ℕ)) (points : List Point) (t : TargetTree) → AreNamed names points → target_fault names t ≡ false →
+    length (line (target_text points (target_of names t))) ≤ 8 * weight (target_statement t)
 target_short names points (target.Goto x) n none =
     let name = point_name (slice_get points (number_of x names)) in
     omega (arith, ap length (point_again names points x n (stands_true x names none)), line_long (codes "goto " ++ name))
 target_short names points target.Commit n none = omega arith
 target_short names points target.Undone n none = omega arith
-target_short names points (target.Refuse k) n none = omega (arith, decimal_short (fitted k), fitted_size k, line_long (codes "refuse " ++ decimal (fitted k)))
+target_short names points (target.Refuse k) n none =
+    omega (arith, decimal_short (fitted k), fitted_size k, line_long (codes "refuse " ++ decimal (fitted k)))
 
 module _ (a : Setting) (names : List (List ℕ)) (points : List Point) (n : AreNamed names points) where
-  path_short : (p : PathTree) → AreHeard a.own (path p) → AllIn IsFalse (path_faults (known a) names p) → length (path_lines (shown a) points (path_of (meant a) names p)) ≤ 8 * weight (path p)
+  path_short : (p : PathTree) → AreHeard a.own (path p) → AllIn IsFalse (path_faults (known a) names p) →
+      length (path_lines (shown a) points (path_of (meant a) names p)) ≤ 8 * weight (path p)
   path_short p heard faults =
-      let words = all_parts (IsHeard a.own) (guard p.guard) (just sign.End ++ (joined action_statement p.actions ++ target_statement p.target)) heard.1 in
+      let words = all_parts (IsHeard a.own) (guard p.guard)
+      (just sign.End ++ (joined action_statement p.actions ++ target_statement p.target)) heard.1 in
       let behind = all_parts (IsHeard a.own) (joined action_statement p.actions) (target_statement p.target) words.1.1 in
       let none = all_parts IsFalse (map (action_fault (known a)) p.actions) (target_fault names p.target ∷ []) faults.1 in
       let guarded = codes "path" ++ listed (lin_rel_text a.names) (codes " ") (guard_of (variables_of a) p.guard) in
       let actions = flat_map (action_line (shown a)) (map (action_of (meant a)) p.actions) in
       let end = line (target_text points (target_of names p.target)) in
-      let each = joined_short a.own (action_line (shown a)) (action_of (meant a)) action_statement (λ t. action_fault (known a) t ≡ false) (action_short a) p.actions behind.0 (all_mapped IsFalse (action_fault (known a)) p.actions none.0) in
-      omega (arith, guard_short a (codes " ") p.guard words.0 faults.0, line_long guarded, each, target_short names points p.target n none.1.0, length-append (line guarded) (actions ++ end), length-append actions end, weight-append (guard p.guard) (just sign.End ++ (joined action_statement p.actions ++ target_statement p.target)), weight-append (joined action_statement p.actions) (target_statement p.target))
+      let each = joined_short a.own (action_line (shown a)) (action_of (meant a)) action_statement (λ t. action_fault (known a) t ≡ false)
+      (action_short a) p.actions behind.0 (all_mapped IsFalse (action_fault (known a)) p.actions none.0) in
+      omega (
+        arith,
+        guard_short a (codes " ") p.guard words.0 faults.0,
+        line_long guarded,
+        each,
+        target_short names points p.target n none.1.0,
+        length-append (line guarded) (actions ++ end),
+        length-append actions end,
+        weight-append (guard p.guard) (just sign.End ++ (joined action_statement p.actions ++ target_statement p.target)),
+        weight-append (joined action_statement p.actions) (target_statement p.target),
+      )
 
-  pub step_short : (st : StepTree) → AreHeard a.own (step st) → AllIn IsFalse (step_faults (known a) names st) → length (step_lines (shown a) points (step_of (meant a) names st)) ≤ 8 * weight (step st)
+  pub step_short : (st : StepTree) → AreHeard a.own (step st) → AllIn IsFalse (step_faults (known a) names st) →
+      length (step_lines (shown a) points (step_of (meant a) names st)) ≤ 8 * weight (step st)
   step_short st heard faults =
       let words = all_parts (IsHeard a.own) (joined read_statement st.reads) (path st.first ++ joined path st.others) heard in
-      let none = all_parts IsFalse (map (read_fault (known a)) st.reads) (path_faults (known a) names st.first ++ flat_map (path_faults (known a) names) st.others) faults.1 in
+      let none = all_parts IsFalse (map (read_fault (known a)) st.reads)
+      (path_faults (known a) names st.first ++ flat_map (path_faults (known a) names) st.others) faults.1 in
       let reads = flat_map (read_line (shown a)) (map (read_of (meant a)) st.reads) in
       let paths = flat_map (path_lines (shown a) points) (map (path_of (meant a) names) (all_paths st)) in
-      let each_read = joined_short a.own (read_line (shown a)) (read_of (meant a)) read_statement (λ r. read_fault (known a) r ≡ false) (read_short a) st.reads words.0 (all_mapped IsFalse (read_fault (known a)) st.reads none.0) in
-      let each_path = joined_short a.own (path_lines (shown a) points) (path_of (meant a) names) path (λ p. AllIn IsFalse (path_faults (known a) names p)) path_short (all_paths st) words.1 (all_flat IsFalse (path_faults (known a) names) (all_paths st) none.1) in
-      omega (arith, each_read, each_path, length-append reads paths, weight-append (joined read_statement st.reads) (path st.first ++ joined path st.others))
+      let each_read = joined_short a.own (read_line (shown a)) (read_of (meant a)) read_statement (λ r. read_fault (known a) r ≡ false)
+      (read_short a) st.reads words.0 (all_mapped IsFalse (read_fault (known a)) st.reads none.0) in
+      let each_path = joined_short a.own (path_lines (shown a) points) (path_of (meant a) names) path
+      (λ p. AllIn IsFalse (path_faults (known a) names p)) path_short (all_paths st) words.1
+      (all_flat IsFalse (path_faults (known a) names) (all_paths st) none.1) in
+      omega (
+        arith,
+        each_read,
+        each_path,
+        length-append reads paths,
+        weight-append (joined read_statement st.reads) (path st.first ++ joined path st.others),
+      )

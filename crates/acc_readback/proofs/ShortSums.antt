@@ -1,5 +1,6 @@
 -- Collected terms are printed at most as long as the terms that they were collected from, with a sign and a factor each.
-use Rattle.std.proofs.Common.{◌≡◌, ℕ, zero, suc, ◌+◌, ◌≤◌, Bool, true, false, List, [], ◌∷◌, ◌++◌, length, map, Option, Some, None, refl, ap, sym, subst, arith, append_assoc, length-append, ℤ, pos, negsuc, ◌+ℤ◌, if◌then◌else◌, not, cond}
+use Rattle.std.proofs.Common.{◌≡◌, ℕ, zero, suc, ◌+◌, ◌≤◌, Bool, true, false, List, [], ◌∷◌, ◌++◌, length, map, Option, Some, None, refl}
+use Rattle.std.proofs.Common.{ap, sym, subst, arith, append_assoc, length-append, ℤ, pos, negsuc, ◌+ℤ◌, if◌then◌else◌, not, cond}
 use Rattle.std.specs.Prelude.{◌==◌, ◌-ℤ◌, Decides, filter, unsigned_abs, max}
 use Rattle.std.specs.List.{filter_map}
 use Rattle.std.specs.Fmt.{decimal}
@@ -97,7 +98,9 @@ module _ {K : Type 0} (size : K → ℕ) where
   compared_cost Equal ps qs = difference_cost ps qs
 
   module _ (E : K → K → Bool) (decides : (x y : K) → Decides (E x y) (x ≡ y)) where
-    term_step : (x : K) (n : ℤ) (t : K × ℤ) (ts : List (K × ℤ)) (b : Bool) → terms_cost (with_term E x n ts) ≤ terms_cost ts + term_cost (x, n) → terms_cost (if b then ((t.0, t.1 +ℤ n) ∷ ts) else (t ∷ with_term E x n ts)) ≤ terms_cost (t ∷ ts) + term_cost (x, n)
+    term_step : (x : K) (n : ℤ) (t : K × ℤ) (ts : List (K × ℤ)) (b : Bool) →
+        terms_cost (with_term E x n ts) ≤ terms_cost ts + term_cost (x, n) →
+        terms_cost (if b then ((t.0, t.1 +ℤ n) ∷ ts) else (t ∷ with_term E x n ts)) ≤ terms_cost (t ∷ ts) + term_cost (x, n)
     term_step x n t ts true h = omega (arith, digit_count_total t.1 n)
     term_step x n t ts false h = omega (arith, h)
 
@@ -105,7 +108,9 @@ module _ {K : Type 0} (size : K → ℕ) where
     cost-with_term x n [] = omega arith
     cost-with_term x n (t ∷ ts) = term_step x n t ts (E t.0 x) (cost-with_term x n ts)
 
-    cost-with_part : (o : Option K) (n : ℤ) (ts : List (K × ℤ)) (c : ℤ) → terms_cost (with_part E (record { of = o; number = n }) ts) + constant_cost (c +ℤ constant_in (record { of = o; number = n })) ≤ terms_cost ts + constant_cost c + of_cost o n
+    cost-with_part : (o : Option K) (n : ℤ) (ts : List (K × ℤ)) (c : ℤ) →
+        terms_cost (with_part E (record { of = o; number = n }) ts) + constant_cost (c +ℤ constant_in (record { of = o; number = n })) ≤
+        terms_cost ts + constant_cost c + of_cost o n
     cost-with_part None n ts c = omega (arith, constant_sum c n)
     cost-with_part (Some x) n ts c = omega (arith, cost-with_term x n ts, constant_sum c (pos 0))
 
@@ -125,7 +130,8 @@ module _ {K : Type 0} (size : K → ℕ) where
     grown parts [] h = subst AreShort (sym (append-nil parts)) h
     grown parts (p ∷ more) h = subst AreShort (append_assoc parts (p ∷ []) more) (grown (parts ++ p ∷ []) more (pushed parts p h))
 
-    left_step : (t : K × ℤ) (ts : List (K × ℤ)) (b : Bool) → terms_cost (filter is_left ts) ≤ terms_cost ts → terms_cost (cond b (t ∷ filter is_left ts) (filter is_left ts)) ≤ terms_cost (t ∷ ts)
+    left_step : (t : K × ℤ) (ts : List (K × ℤ)) (b : Bool) → terms_cost (filter is_left ts) ≤ terms_cost ts →
+        terms_cost (cond b (t ∷ filter is_left ts) (filter is_left ts)) ≤ terms_cost (t ∷ ts)
     left_step t ts true h = omega (arith, h)
     left_step t ts false h = omega (arith, h)
 
@@ -157,11 +163,22 @@ module _ {K : Type 0} (name : K → List ℕ) where
 
   term_short : (first : Bool) (t : K × ℤ) → length (term first t.1 (name t.0)) ≤ term_cost long t
   term_short first t =
-      omega (arith, sign_short first t.1, factor_short (unsigned_abs t.1), length-append (sign first t.1) (factor (unsigned_abs t.1) ++ name t.0), length-append (factor (unsigned_abs t.1)) (name t.0))
+      omega (
+        arith,
+        sign_short first t.1,
+        factor_short (unsigned_abs t.1),
+        length-append (sign first t.1) (factor (unsigned_abs t.1) ++ name t.0),
+        length-append (factor (unsigned_abs t.1)) (name t.0),
+      )
 
   terms_short : (first : Bool) (ts : List (K × ℤ)) → length (terms name first ts) ≤ terms_cost long ts
   terms_short first [] = omega arith
-  terms_short first (t ∷ ts) = omega (arith, term_short first t, terms_short false ts, length-append (term first t.1 (name t.0)) (terms name false ts))
+  terms_short first (t ∷ ts) = omega (
+    arith,
+    term_short first t,
+    terms_short false ts,
+    length-append (term first t.1 (name t.0)) (terms name false ts),
+  )
 
   behind_short : (n : ℤ) → length (constant_behind n) ≤ constant_cost n
   behind_short (pos zero) = omega arith
@@ -175,4 +192,9 @@ module _ {K : Type 0} (name : K → List ℕ) where
 
   pub sum_short : (ts : List (K × ℤ)) (n : ℤ) → length (sum_text name ts n) ≤ max 1 (terms_cost long ts + constant_cost n)
   sum_short [] n = omega (arith, alone_short n)
-  sum_short (t ∷ ts) n = omega (arith, terms_short true (t ∷ ts), behind_short n, length-append (terms name true (t ∷ ts)) (constant_behind n))
+  sum_short (t ∷ ts) n = omega (
+    arith,
+    terms_short true (t ∷ ts),
+    behind_short n,
+    length-append (terms name true (t ∷ ts)) (constant_behind n),
+  )

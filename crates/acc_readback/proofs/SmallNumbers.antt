@@ -26,5 +26,7 @@ terms_end : {K : Type 0} (ts : List (K × ℤ)) → AreSmall ts → AreEnds (fla
 terms_end [] h = tt
 terms_end (t ∷ ts) h = ends_behind (size_mark t.1) (flat_map term_sizes ts) (small_ends t.1 h.0) (terms_end ts h.1)
 
-pub small_terms_end : {K : Type 0} (all : Terms K) (ts : List (K × ℤ)) (n : ℤ) → all ≡ terms_and ts n → AreSmall ts → IsSmall n → AreEnds (terms_sizes all)
-small_terms_end all ts n is h k = subst (λ us. AreEnds (terms_sizes us)) (sym is) (ends_behind (flat_map term_sizes ts) (size_mark n) (terms_end ts h) (small_ends n k))
+pub small_terms_end : {K : Type 0} (all : Terms K) (ts : List (K × ℤ)) (n : ℤ) → all ≡ terms_and ts n → AreSmall ts → IsSmall n →
+    AreEnds (terms_sizes all)
+small_terms_end all ts n is h k = subst (λ us. AreEnds (terms_sizes us)) (sym is)
+    (ends_behind (flat_map term_sizes ts) (size_mark n) (terms_end ts h) (small_ends n k))

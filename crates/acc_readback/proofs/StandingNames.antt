@@ -45,44 +45,54 @@ AreSame names variables = (x : List ℕ) → IsName x → stands_in x names ≡ 
 
 pub same_within : (locals : List (List ℕ)) → AreSame (names_within locals) locals
 same_within locals x h =
-    list_any-append (bytes_eq x) locals (codes "self" ∷ []) ∙ ap (λ (b : Bool). stands_in x locals || (b || false)) (not_self x h.1) ∙ or-false (stands_in x locals)
+    list_any-append (bytes_eq x) locals (codes "self" ∷ []) ∙ ap (λ (b : Bool). stands_in x locals || (b || false)) (not_self x h.1) ∙
+    or-false (stands_in x locals)
 
 pub same_with : (names variables own : List (List ℕ)) → AreSame names variables → AreSame (names ++ own) (variables ++ own)
 same_with names variables own same x h =
-    list_any-append (bytes_eq x) names own ∙ ap (λ (b : Bool). b || stands_in x own) (same x h) ∙ sym (list_any-append (bytes_eq x) variables own)
+    list_any-append (bytes_eq x) names own ∙ ap (λ (b : Bool). b || stands_in x own) (same x h) ∙ sym
+    (list_any-append (bytes_eq x) variables own)
 
 -- what is new behind the one is new behind the other
-pub same_new : (names variables own : List (List ℕ)) → AreSame names variables → AllIn IsName own → defines_again names own ≡ defines_again variables own
+pub same_new : (names variables own : List (List ℕ)) → AreSame names variables → AllIn IsName own →
+    defines_again names own ≡ defines_again variables own
 same_new names variables [] same h = refl
 same_new names variables (x ∷ xs) same h =
     ap (λ (b : Bool). b || defines_again (names ++ x ∷ []) xs) (same x h.0)
-    ∙ ap (λ (b : Bool). stands_in x variables || b) (same_new (names ++ x ∷ []) (variables ++ x ∷ []) xs (same_with names variables (x ∷ []) same) h.1)
+    ∙ ap (λ (b : Bool). stands_in x variables || b)
+    (same_new (names ++ x ∷ []) (variables ++ x ∷ []) xs (same_with names variables (x ∷ []) same) h.1)
 
 -- ---- items whose names are new
 
 -- a later name is none of the earlier ones
-not_among : (earlier names : List (List ℕ)) (n : ℕ) (x : List ℕ) → defines_again earlier names ≡ false → slice_get names n ≡ Some x → stands_in x earlier ≡ false
+not_among : (earlier names : List (List ℕ)) (n : ℕ) (x : List ℕ) → defines_again earlier names ≡ false → slice_get names n ≡ Some x →
+    stands_in x earlier ≡ false
 not_among earlier [] n x new at = absurd cc
 not_among earlier (y ∷ ys) zero x new at =
-    let is : y ≡ x = cc in subst (λ (z : List ℕ). stands_in z earlier ≡ false) is (not_either (stands_in y earlier) (defines_again (earlier ++ y ∷ []) ys) new).0
+    let is : y ≡ x = cc in subst (λ (z : List ℕ). stands_in z earlier ≡ false) is
+    (not_either (stands_in y earlier) (defines_again (earlier ++ y ∷ []) ys) new).0
 not_among earlier (y ∷ ys) (suc n) x new at =
     let later = not_among (earlier ++ y ∷ []) ys n x (not_either (stands_in y earlier) (defines_again (earlier ++ y ∷ []) ys) new).1 at in
     (not_either (stands_in x earlier) (stands_in x (y ∷ [])) (sym (list_any-append (bytes_eq x) earlier (y ∷ [])) ∙ later)).0
 
 -- a later name isn't the one before it
-not_before : (earlier names : List (List ℕ)) (n : ℕ) (x y : List ℕ) → defines_again earlier (y ∷ names) ≡ false → slice_get names n ≡ Some x → bytes_eq x y ≡ false
+not_before : (earlier names : List (List ℕ)) (n : ℕ) (x y : List ℕ) → defines_again earlier (y ∷ names) ≡ false →
+    slice_get names n ≡ Some x → bytes_eq x y ≡ false
 not_before earlier names n x y new at =
-    let later = not_among (earlier ++ y ∷ []) names n x (not_either (stands_in y earlier) (defines_again (earlier ++ y ∷ []) names) new).1 at in
+    let later = not_among (earlier ++ y ∷ []) names n x (not_either (stands_in y earlier) (defines_again (earlier ++ y ∷ []) names) new).1
+    at in
     let last = (not_either (stands_in x earlier) (stands_in x (y ∷ [])) (sym (list_any-append (bytes_eq x) earlier (y ∷ [])) ∙ later)).1 in
     (not_either (bytes_eq x y) false last).0
 
-pub named_at : {T : Type 0} (name : T → List ℕ) (ts : List T) (n : ℕ) (t : T) → slice_get ts n ≡ Some t → slice_get (map name ts) n ≡ Some (name t)
+pub named_at : {T : Type 0} (name : T → List ℕ) (ts : List T) (n : ℕ) (t : T) → slice_get ts n ≡ Some t →
+    slice_get (map name ts) n ≡ Some (name t)
 named_at name [] n t at = absurd cc
 named_at name (s ∷ ts) zero t at = let is : s ≡ t = cc in ap (λ z. Some (name z)) is
 named_at name (s ∷ ts) (suc n) t at = named_at name ts n t at
 
 -- the item with a number is the first of its name
-pub found_new : {T U : Type 0} (name : T → List ℕ) (title : U → List ℕ) (tree : T → U) → ((t : T) → title (tree t) ≡ name t) → (earlier : List (List ℕ)) (ts : List T) (n : ℕ) (t : T) → defines_again earlier (map name ts) ≡ false → slice_get ts n ≡ Some t →
+pub found_new : {T U : Type 0} (name : T → List ℕ) (title : U → List ℕ) (tree : T → U) → ((t : T) → title (tree t) ≡ name t) →
+    (earlier : List (List ℕ)) (ts : List T) (n : ℕ) (t : T) → defines_again earlier (map name ts) ≡ false → slice_get ts n ≡ Some t →
     find (λ u. bytes_eq (name t) (title u)) (map tree ts) ≡ Some (tree t)
 found_new name title tree titled earlier [] n t new at = absurd cc
 found_new {T} {U} name title tree titled earlier (s ∷ ts) zero t new at =
@@ -90,6 +100,8 @@ found_new {T} {U} name title tree titled earlier (s ∷ ts) zero t new at =
     let same : bytes_eq (name t) (title (tree s)) ≡ true = ap (bytes_eq (name t)) (titled s ∙ ap name is) ∙ itself (name t) in
     ap (λ (b : Bool). cond b (Some (tree s)) (find (λ u. bytes_eq (name t) (title u)) (map tree ts))) same ∙ ap (λ z. Some (tree z)) is
 found_new name title tree titled earlier (s ∷ ts) (suc n) t new at =
-    let other : bytes_eq (name t) (title (tree s)) ≡ false = ap (bytes_eq (name t)) (titled s) ∙ not_before earlier (map name ts) n (name t) (name s) new (named_at name ts n t at) in
+    let other : bytes_eq (name t) (title (tree s)) ≡ false =
+    ap (bytes_eq (name t)) (titled s) ∙ not_before earlier (map name ts) n (name t) (name s) new (named_at name ts n t at) in
     ap (λ (b : Bool). cond b (Some (tree s)) (find (λ u. bytes_eq (name t) (title u)) (map tree ts))) other
-    ∙ found_new name title tree titled (earlier ++ name s ∷ []) ts n t (not_either (stands_in (name s) earlier) (defines_again (earlier ++ name s ∷ []) (map name ts)) new).1 at
+    ∙ found_new name title tree titled (earlier ++ name s ∷ []) ts n t
+    (not_either (stands_in (name s) earlier) (defines_again (earlier ++ name s ∷ []) (map name ts)) new).1 at

@@ -14,11 +14,13 @@ use Rattle.acc_base.specs.declared.designs.Design.{Design}
 use Rattle.acc_statements.specs.Counts.{if_there, path_statements, step_statements, point_statements, type_statements, statements_of}
 use Rattle.acc_print.specs.Names.{Scope, name_at, within, outside}
 use Rattle.acc_readback.specs.Trees.{names_tree, clause_tree}
-use Rattle.acc_readback.specs.TypeTrees.{read_statement_tree, action_statement_tree, path_tree, first_path, step_tree, variant_tree, point_tree, first_point, type_tree, table_tree, entry_tree, hint_tree, tree_of}
+use Rattle.acc_readback.specs.TypeTrees.{read_statement_tree, action_statement_tree, path_tree, first_path, step_tree, variant_tree}
+use Rattle.acc_readback.specs.TypeTrees.{point_tree, first_point, type_tree, table_tree, entry_tree, hint_tree, tree_of}
 use Rattle.acc_readback.specs.PrintableTypes.{IsPathSaid, ArePathsSaid, IsStepSaid, IsPointSaid, ArePointsSaid, IsTypeSaid, IsSaid}
 
 -- what items have together that have at most so much each
-sum_few : {X Y : Type 0} (P : X → Type 0) (tree : X → Y) (count : Y → ℕ) (most : ℕ) → ((x : X) → P x → count (tree x) ≤ most) → (xs : List X) → AllIn P xs → sum_by count (map tree xs) ≤ length xs * most
+sum_few : {X Y : Type 0} (P : X → Type 0) (tree : X → Y) (count : Y → ℕ) (most : ℕ) → ((x : X) → P x → count (tree x) ≤ most) →
+    (xs : List X) → AllIn P xs → sum_by count (map tree xs) ≤ length xs * most
 sum_few P tree count most each [] h = omega arith
 sum_few P tree count most each (x ∷ xs) h =
     let sum = sum_by-cons count (tree x) (map tree xs) in
@@ -35,11 +37,13 @@ one_at_most (Some x) = omega arith
 path_few : (s : Scope) (points : List Point) (p : Path) → IsPathSaid s points p → path_statements (path_tree s points p) ≤ 18
 path_few s points p h = let same = length-map p.actions (action_statement_tree s) in let few = h.few_actions in omega (arith, same, few)
 
-paths_few : (s : Scope) (points : List Point) (ps : List Path) → length ps ≤ 16 → ArePathsSaid s points ps → path_statements (first_path s points ps) + sum_by path_statements (map (path_tree s points) (drop 1 ps)) ≤ 288
+paths_few : (s : Scope) (points : List Point) (ps : List Path) → length ps ≤ 16 → ArePathsSaid s points ps →
+    path_statements (first_path s points ps) + sum_by path_statements (map (path_tree s points) (drop 1 ps)) ≤ 288
 paths_few s points [] few h = absurd h
 paths_few s points (p ∷ ps) few h =
     let first = path_few s points p h.0 in
-    let others = sum_few (IsPathSaid s points) (path_tree s points) path_statements 18 (path_few s points) ps h.1 in omega (arith, few, first, others)
+    let others = sum_few (IsPathSaid s points) (path_tree s points) path_statements 18 (path_few s points) ps h.1 in
+    omega (arith, few, first, others)
 
 step_few : (s : Scope) (points : List Point) (st : Step) → IsStepSaid s points st → step_statements (step_tree s points st) ≤ 321
 step_few s points st h =
@@ -55,11 +59,13 @@ point_few s points p h =
     let next = step_few s points p.next h.next in
     let undo = step_few s points p.undo h.undo in omega (arith, variant, same, few, next, undo)
 
-points_few : (s : Scope) (points ps : List Point) → length ps ≤ 32 → ArePointsSaid s points ps → point_statements (first_point s points ps) + sum_by point_statements (map (point_tree s points) (drop 1 ps)) ≤ 22656
+points_few : (s : Scope) (points ps : List Point) → length ps ≤ 32 → ArePointsSaid s points ps →
+    point_statements (first_point s points ps) + sum_by point_statements (map (point_tree s points) (drop 1 ps)) ≤ 22656
 points_few s points [] few h = absurd h
 points_few s points (p ∷ ps) few h =
     let first = point_few s points p h.0 in
-    let others = sum_few (IsPointSaid s points) (point_tree s points) point_statements 708 (point_few s points) ps h.1 in omega (arith, few, first, others)
+    let others = sum_few (IsPointSaid s points) (point_tree s points) point_statements 708 (point_few s points) ps h.1 in
+    omega (arith, few, first, others)
 
 -- ---- types and the whole
 
@@ -72,7 +78,8 @@ type_few tables t h =
     let few_posts = h.few_posts in
     let repairs = length-map t.repairs (clause_tree s) in
     let few_repairs = h.few_repairs in
-    let points = points_few s t.points t.points h.few_points h.points in omega (arith, returns, locals, posts, few_posts, repairs, few_repairs, points)
+    let points = points_few s t.points t.points h.few_points h.points in
+    omega (arith, returns, locals, posts, few_posts, repairs, few_repairs, points)
 
 pub few_statements : (d : Design) → IsSaid d → statements_of (tree_of d) < 2 ^ 64 - 1
 unfolding statements_of
@@ -86,4 +93,16 @@ few_statements d h =
     let entries = length-map d.entries (entry_tree d) in
     let few_entries = h.few_entries in
     let hints = length-map d.hints (hint_tree d) in
-    let few_hints = h.few_hints in omega (arith, tables, few_tables, always, few_always, types, few_types, entries, few_entries, hints, few_hints)
+    let few_hints = h.few_hints in omega (
+      arith,
+      tables,
+      few_tables,
+      always,
+      few_always,
+      types,
+      few_types,
+      entries,
+      few_entries,
+      hints,
+      few_hints,
+    )

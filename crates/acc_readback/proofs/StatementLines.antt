@@ -1,5 +1,6 @@
 -- Each statement of a printed text stands on a line of its own.
-use Rattle.std.proofs.Common.{◌≡◌, ◌≢◌, ℕ, zero, suc, ◌-◌, ◌<◌, ◌≤◌, Bool, true, false, List, [], ◌∷◌, ◌++◌, length, take, drop, refl, sym, ap, subst, ◌∙◌, inl, inr, arith, append_assoc}
+use Rattle.std.proofs.Common.{◌≡◌, ◌≢◌, ℕ, zero, suc, ◌-◌, ◌<◌, ◌≤◌, Bool, true, false, List, [], ◌∷◌, ◌++◌, length, take, drop, refl, sym}
+use Rattle.std.proofs.Common.{ap, subst, ◌∙◌, inl, inr, arith, append_assoc}
 use Rattle.std.specs.Prelude.{map, not, ◌==◌}
 use Rattle.std.specs.List.{list_all}
 use Rattle.std.specs.Str.{bytes_eq}
@@ -12,7 +13,8 @@ use Rattle.acc_lex.specs.declared.words.Word.TheVariants as word
 use Rattle.acc_lex.specs.declared.words.Sign.{Sign}
 use Rattle.acc_lex.specs.declared.words.Sign.TheVariants as sign
 use Rattle.acc_lex.specs.Keywords.{keywords, sign_in, keyword_of}
-use Rattle.acc_lex.specs.Spellings.{Token, Letters, Digits, Mark, Item, Statement, mark_bytes, token_bytes, blanks, item_bytes, statement_bytes, IsToken, IsItem, ItemParted, IsStatement}
+use Rattle.acc_lex.specs.Spellings.{Token, Letters, Digits, Mark, Item, Statement, mark_bytes, token_bytes, blanks, item_bytes}
+use Rattle.acc_lex.specs.Spellings.{statement_bytes, IsToken, IsItem, ItemParted, IsStatement}
 use Rattle.acc_lex.specs.Texts.{IsLexed}
 use Rattle.acc_lex.specs.LineWords.{name_or_sign, token_word, item_word, statement_words}
 use Rattle.acc_lex.proofs.ByteFacts.{and_both}
@@ -56,7 +58,8 @@ items_end (i ∷ is) h = past_word 1 (item_word i) (map item_word is ++ word.Sig
 statement_end : (s : Statement) → IsStatement s → HasWords s → ends (statement_words s) ≡ 1
 statement_end s h g = by_items s.items h g
   where
-    by_items : (is : List Item) → IsRow item_bytes IsItem ItemParted is → HasWords (record { spaces = 0; items = is }) → ends (statement_words (record { spaces = 0; items = is })) ≡ 1
+    by_items : (is : List Item) → IsRow item_bytes IsItem ItemParted is → HasWords (record { spaces = 0; items = is }) →
+        ends (statement_words (record { spaces = 0; items = is })) ≡ 1
     by_items [] h g = absurd cc
     by_items (i ∷ is) h g = items_end (i ∷ is) h
 
@@ -108,14 +111,16 @@ lines_feeds text words l = ap feeds l.spelled ∙ all_feeds l.statements l.fit �
 
 fed_behind : (f : List ℕ) (ss : List Statement) → IsFed f → IsFed (f ++ joined ended_bytes ss)
 fed_behind f [] h = subst IsFed (sym (append-nil f)) h
-fed_behind f (s ∷ ss) h = subst IsFed (append_assoc f (ended_bytes s) (joined ended_bytes ss)) (fed_behind (f ++ ended_bytes s) ss (fed_line f (statement_bytes s) h))
+fed_behind f (s ∷ ss) h = subst IsFed (append_assoc f (ended_bytes s) (joined ended_bytes ss))
+    (fed_behind (f ++ ended_bytes s) ss (fed_line f (statement_bytes s) h))
 
 -- ---- the first statements are the first lines
 
 joined_parts : {S T : Type 0} (f : T → List S) (n : ℕ) (xs : List T) → joined f xs ≡ joined f (take n xs) ++ joined f (drop n xs)
 joined_parts f zero xs = refl
 joined_parts f (suc n) [] = refl
-joined_parts {S} f (suc n) (x ∷ xs) = ap (λ (bs : List S). f x ++ bs) (joined_parts f n xs) ∙ sym (append_assoc (f x) (joined f (take n xs)) (joined f (drop n xs)))
+joined_parts {S} f (suc n) (x ∷ xs) = ap (λ (bs : List S). f x ++ bs) (joined_parts f n xs) ∙ sym
+    (append_assoc (f x) (joined f (take n xs)) (joined f (drop n xs)))
 
 all_taken : {T : Type 0} (P : T → Type 0) (n : ℕ) (xs : List T) → AllIn P xs → AllIn P (take n xs)
 all_taken P zero xs h = tt
@@ -127,8 +132,15 @@ taken zero xs h = refl
 taken (suc n) [] h = absurd (omega (arith, h))
 taken (suc n) (x ∷ xs) h = ap suc (taken n xs (omega (arith, h)))
 
-first_of : (ss : List Statement) → AllIn IsStatement ss → AllIn HasWords ss → (n : ℕ) → Lines (joined ended_bytes (take n ss)) (joined statement_words (take n ss))
-first_of ss h g n = record { statements = take n ss; fit = all_taken IsStatement n ss h; some = all_taken HasWords n ss g; spelled = refl; mean = refl }
+first_of : (ss : List Statement) → AllIn IsStatement ss → AllIn HasWords ss → (n : ℕ) →
+    Lines (joined ended_bytes (take n ss)) (joined statement_words (take n ss))
+first_of ss h g n = record {
+  statements = take n ss;
+  fit = all_taken IsStatement n ss h;
+  some = all_taken HasWords n ss g;
+  spelled = refl;
+  mean = refl;
+}
 
 -- the first lines have so many ends
 record IsFront (text : List ℕ) (n : ℕ) : Type 0 where
@@ -142,10 +154,12 @@ front_is text words l n h =
     let fit = all_taken IsStatement n l.statements l.fit in
     let some = all_taken HasWords n l.statements l.some in
     let count : feeds f ≡ n = all_feeds (take n l.statements) fit ∙ taken n l.statements h in
-    let is : first_lines n text ≡ f = ap (first_lines n) (l.spelled ∙ joined_parts ended_bytes n l.statements) ∙ lines_of n f (joined ended_bytes (drop n l.statements)) (fed_behind [] (take n l.statements) tt) (sym count) in
+    let is : first_lines n text ≡ f = ap (first_lines n) (l.spelled ∙ joined_parts ended_bytes n l.statements) ∙ lines_of n f
+    (joined ended_bytes (drop n l.statements)) (fed_behind [] (take n l.statements) tt) (sym count) in
     record {
       words = joined statement_words (take n l.statements);
-      is_lexed = subst (λ (bs : List ℕ). IsLexed bs (joined statement_words (take n l.statements))) (sym is) (lexed f (joined statement_words (take n l.statements)) (first_of l.statements l.fit l.some n));
+      is_lexed = subst (λ (bs : List ℕ). IsLexed bs (joined statement_words (take n l.statements))) (sym is)
+          (lexed f (joined statement_words (take n l.statements)) (first_of l.statements l.fit l.some n));
       ends_are = all_ends (take n l.statements) fit some ∙ taken n l.statements h;
     }
 

@@ -1,5 +1,6 @@
 -- A printed sum spells its tree.
-use Rattle.std.proofs.Common.{ℕ, ◌^◌, ◌<◌, Bool, true, false, List, [], ◌∷◌, ◌++◌, refl, sym, subst, append_assoc, zero, suc, ℤ, pos, negsuc}
+use Rattle.std.proofs.Common.{ℕ, ◌^◌, ◌<◌, Bool, true, false, List, [], ◌∷◌, ◌++◌, refl, sym, subst, append_assoc, zero, suc, ℤ, pos}
+use Rattle.std.proofs.Common.{negsuc}
 use Rattle.std.specs.Prelude.{◌==◌, if◌then◌else◌, unsigned_abs, codes}
 use Rattle.std.specs.Fmt.{decimal}
 use Rattle.acc_grammar.specs.Readers.{AllIn, joined}
@@ -44,11 +45,13 @@ sum_words W (t ∷ ts) n = (leading t.1 ++ multiple (unsigned_abs t.1) (W t.0)) 
 
 -- ---- parts
 
-multiple_part : (b : Bool) (n : ℕ) (x : List ℕ) (ws : List Word) → n < 2 ^ 64 → Part x ws → Part ((if b then [] else decimal n ++ codes "*") ++ x) (if b then ws else number n ++ (just sign.Times ++ ws))
+multiple_part : (b : Bool) (n : ℕ) (x : List ℕ) (ws : List Word) → n < 2 ^ 64 → Part x ws →
+    Part ((if b then [] else decimal n ++ codes "*") ++ x) (if b then ws else number n ++ (just sign.Times ++ ws))
 multiple_part true n x ws h p = p
 multiple_part false n x ws h p =
     subst (λ (text : List ℕ). Part text (number n ++ (just sign.Times ++ ws))) (sym (append_assoc (decimal n) (codes "*") x))
-    (parts (decimal n) (codes "*" ++ x) (number n) (just sign.Times ++ ws) (numbered n h) refl (fronts (codes "*") x (just sign.Times) ws times p))
+    (parts (decimal n) (codes "*" ++ x) (number n) (just sign.Times ++ ws) (numbered n h) refl
+    (fronts (codes "*") x (just sign.Times) ws times p))
 
 behind_sign : (n : ℤ) (x : List ℕ) (ws : List Word) → Part x ws → Part (sign_text false n ++ x) (direction n ++ ws)
 behind_sign (pos n) x ws p = fronts (codes " + ") x (just sign.Plus) ws (between (codes "+") (just sign.Plus) plus) p
@@ -62,10 +65,12 @@ behind_minus (negsuc n) x ws p = fronts (codes "-") x (just sign.Minus) ws minus
 abbrev pub IsTermPart : {K : Type 0} → (K → List ℕ) → (K → List Word) → K × ℤ → Type 0
 IsTermPart name W t = IsWritten t.1 × Part (name t.0) (W t.0)
 
-further_part : {K : Type 0} (name : K → List ℕ) (W : K → List Word) (t : K × ℤ) → IsTermPart name W t → Part (term false t.1 (name t.0)) (further W t)
+further_part : {K : Type 0} (name : K → List ℕ) (W : K → List Word) (t : K × ℤ) → IsTermPart name W t →
+    Part (term false t.1 (name t.0)) (further W t)
 further_part name W t h = behind_sign t.1 _ _ (multiple_part (unsigned_abs t.1 == 1) (unsigned_abs t.1) (name t.0) (W t.0) h.0 h.1)
 
-first_part : {K : Type 0} (name : K → List ℕ) (W : K → List Word) (t : K × ℤ) → IsTermPart name W t → Part (term true t.1 (name t.0)) (leading t.1 ++ multiple (unsigned_abs t.1) (W t.0))
+first_part : {K : Type 0} (name : K → List ℕ) (W : K → List Word) (t : K × ℤ) → IsTermPart name W t →
+    Part (term true t.1 (name t.0)) (leading t.1 ++ multiple (unsigned_abs t.1) (W t.0))
 first_part name W t h = behind_minus t.1 _ _ (multiple_part (unsigned_abs t.1 == 1) (unsigned_abs t.1) (name t.0) (W t.0) h.0 h.1)
 
 constant_part : (n : ℤ) → IsWritten n → Part (constant_behind n) (constant_words n)
@@ -90,16 +95,21 @@ rest_apart name (t ∷ ts) n = by t.1
     by (pos m) = refl
     by (negsuc m) = refl
 
-rest_part : {K : Type 0} (name : K → List ℕ) (W : K → List Word) (ts : List (K × ℤ)) (n : ℤ) → AllIn (IsTermPart name W) ts → IsWritten n → Part (terms name false ts ++ constant_behind n) (joined (further W) ts ++ constant_words n)
+rest_part : {K : Type 0} (name : K → List ℕ) (W : K → List Word) (ts : List (K × ℤ)) (n : ℤ) → AllIn (IsTermPart name W) ts → IsWritten n →
+    Part (terms name false ts ++ constant_behind n) (joined (further W) ts ++ constant_words n)
 rest_part name W [] n h g = constant_part n g
 rest_part name W (t ∷ ts) n h g =
-    subst (λ (text : List ℕ). Part text ((further W t ++ joined (further W) ts) ++ constant_words n)) (sym (append_assoc (term false t.1 (name t.0)) (terms name false ts) (constant_behind n)))
-    (subst (λ (ws : List Word). Part (term false t.1 (name t.0) ++ (terms name false ts ++ constant_behind n)) ws) (sym (append_assoc (further W t) (joined (further W) ts) (constant_words n)))
+    subst (λ (text : List ℕ). Part text ((further W t ++ joined (further W) ts) ++ constant_words n))
+    (sym (append_assoc (term false t.1 (name t.0)) (terms name false ts) (constant_behind n)))
+    (subst (λ (ws : List Word). Part (term false t.1 (name t.0) ++ (terms name false ts ++ constant_behind n)) ws)
+    (sym (append_assoc (further W t) (joined (further W) ts) (constant_words n)))
     (parts _ _ _ _ (further_part name W t h.0) (rest_apart name ts n) (rest_part name W ts n h.1 g)))
 
 -- a sum
-pub sum_part : {K : Type 0} (name : K → List ℕ) (W : K → List Word) (ts : List (K × ℤ)) (n : ℤ) → AllIn (IsTermPart name W) ts → IsWritten n → Part (sum_text name ts n) (sum_words W ts n)
+pub sum_part : {K : Type 0} (name : K → List ℕ) (W : K → List Word) (ts : List (K × ℤ)) (n : ℤ) → AllIn (IsTermPart name W) ts →
+    IsWritten n → Part (sum_text name ts n) (sum_words W ts n)
 sum_part name W [] n h g = alone_part n g
 sum_part name W (t ∷ ts) n h g =
-    subst (λ (text : List ℕ). Part text (sum_words W (t ∷ ts) n)) (sym (append_assoc (term true t.1 (name t.0)) (terms name false ts) (constant_behind n)))
+    subst (λ (text : List ℕ). Part text (sum_words W (t ∷ ts) n))
+    (sym (append_assoc (term true t.1 (name t.0)) (terms name false ts) (constant_behind n)))
     (parts _ _ _ _ (first_part name W t h.0) (rest_apart name ts n) (rest_part name W ts n h.1 g))

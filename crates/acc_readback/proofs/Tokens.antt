@@ -1,5 +1,6 @@
 -- Parts of one token: words, numbers and marks.
-use Rattle.std.proofs.Common.{◌≡◌, ◌≢◌, ℕ, ◌^◌, ◌<◌, Bool, true, false, List, [], ◌∷◌, ◌++◌, Some, None, refl, sym, ap, subst, ◌∙◌, append_assoc, inl, inr, arith, rules, zero, suc, length, get_or}
+use Rattle.std.proofs.Common.{◌≡◌, ◌≢◌, ℕ, ◌^◌, ◌<◌, Bool, true, false, List, [], ◌∷◌, ◌++◌, Some, None, refl, sym, ap, subst, ◌∙◌}
+use Rattle.std.proofs.Common.{append_assoc, inl, inr, arith, rules, zero, suc, length, get_or}
 use Rattle.std.specs.Prelude.{◌-◌, ◌&&◌, min, codes}
 use Rattle.std.specs.Char.{is_ascii_digit}
 use Rattle.std.specs.Fmt.{decimal}
@@ -60,12 +61,14 @@ leading c h g = grind (arith, nat_tests)
 
 numeral : (ds : List ℕ) → 0 < length ds → 48 < get_or ds 0 0 → list_all is_ascii_digit ds ≡ true → IsRun is_leading is_digit ds
 numeral [] some first digits = absurd (omega arith)
-numeral (c ∷ cs) some first digits = let k = both (is_ascii_digit c) (list_all is_ascii_digit cs) digits in (leading c first k.0, each_passes is_digit cs k.1)
+numeral (c ∷ cs) some first digits = let k = both (is_ascii_digit c) (list_all is_ascii_digit cs) digits in
+    (leading c first k.0, each_passes is_digit cs k.1)
 
 is_numeral : (n : ℕ) → n < 2 ^ 64 → IsNumeral (decimal n)
 unfolding AreDigits
 is_numeral zero h = inl (decimal_digit 0 (omega arith))
-is_numeral (suc n) h = inr (numeral (decimal (suc n)) (decimal_nonempty (suc n) h) (first_decimal (suc n) (omega arith) h) (digits_decimal own (suc n) h))
+is_numeral (suc n) h = inr (numeral (decimal (suc n)) (decimal_nonempty (suc n) h) (first_decimal (suc n) (omega arith) h)
+    (digits_decimal own (suc n) h))
 
 within : (n : ℕ) → n < 2 ^ 64 → min n (2 ^ 64 - 1) ≡ n
 within n h = omega arith
@@ -129,8 +132,11 @@ times = mark sign.Times refl (λ b. tt)
 
 -- a front between spaces
 pub between : (text : List ℕ) (ws : List Word) → Front text ws → Front (32 ∷ (text ++ codes " ")) ws
-between text ws f bytes words r = space ((text ++ codes " ") ++ bytes) (ws ++ words) (subst (λ (bs : List ℕ). Rest bs (ws ++ words)) (sym (append_assoc text (codes " ") bytes)) (f (32 ∷ bytes) words (space bytes words r)))
+between text ws f bytes words r = space ((text ++ codes " ") ++ bytes) (ws ++ words)
+    (subst (λ (bs : List ℕ). Rest bs (ws ++ words)) (sym (append_assoc text (codes " ") bytes))
+    (f (32 ∷ bytes) words (space bytes words r)))
 
 -- an equals sign between spaces
 pub equals_between : Front (codes " = ") (just sign.Equal)
-equals_between bytes words r = space (61 ∷ 32 ∷ bytes) (word.Sign sign.Equal ∷ words) (token (Mark sign.Equal) (32 ∷ bytes) words (some_bytes (codes "=") refl) refl (space bytes words r))
+equals_between bytes words r = space (61 ∷ 32 ∷ bytes) (word.Sign sign.Equal ∷ words)
+    (token (Mark sign.Equal) (32 ∷ bytes) words (some_bytes (codes "=") refl) refl (space bytes words r))

@@ -22,9 +22,11 @@ use Rattle.acc_base.specs.declared.designs.TxType.{TxType}
 use Rattle.acc_form.specs.Ranges.{lin_rel_in, clause_in, read_in, action_in, target_in, path_in, step_in, point_in, head_in, type_in}
 use Rattle.acc_print.specs.Names.{Scope, name_at, within}
 use Rattle.acc_readback.specs.Printable.{IsName, IsLinRelSaid, IsClauseSaid}
-use Rattle.acc_readback.specs.PrintableTypes.{IsReadSaid, IsActionSaid, IsTargetSaid, IsPathSaid, ArePathsSaid, IsStepSaid, IsPointSaid, ArePointsSaid, IsTypeSaid}
+use Rattle.acc_readback.specs.PrintableTypes.{IsReadSaid, IsActionSaid, IsTargetSaid, IsPathSaid, ArePathsSaid, IsStepSaid, IsPointSaid}
+use Rattle.acc_readback.specs.PrintableTypes.{ArePointsSaid, IsTypeSaid}
 use Rattle.acc_readback.proofs.NamePlaces.{there}
-use Rattle.acc_readback.proofs.ValueRanges.{all_pass, item_there, variable_in, value_in, values_in, place_in, column_of_row_in, clause_range}
+use Rattle.acc_readback.proofs.ValueRanges.{all_pass, item_there, variable_in, value_in, values_in, place_in, column_of_row_in}
+use Rattle.acc_readback.proofs.ValueRanges.{clause_range}
 
 some_item : {X : Type 0} (x : X) (xs : List X) → not (length (x ∷ xs) == 0) ≡ true
 some_item x xs = ap not (ne_eqb (length (x ∷ xs)) 0 (λ e. absurd (omega (arith, e))))
@@ -55,17 +57,24 @@ target_range points target.Commit h = refl
 target_range points target.Undone h = refl
 target_range points (target.Refuse n) h = refl
 
-path_range : (s : Scope) (points : List Point) (p : Path) → IsPathSaid s points p → path_in s.tables (length s.names) (length points) p ≡ true
+path_range : (s : Scope) (points : List Point) (p : Path) → IsPathSaid s points p →
+    path_in s.tables (length s.names) (length points) p ≡ true
 path_range s points p h =
-    both_true (both_true (all_pass (IsLinRelSaid s.names) (lin_rel_in (length s.names)) (λ (r : LinRel) g. value_in s.names r.lin g) p.guard h.guard)
-    (all_pass (IsActionSaid s) (action_in s.tables (length s.names)) (action_range s) p.actions h.actions)) (target_range points p.target h.target)
+    both_true (both_true (all_pass (IsLinRelSaid s.names) (lin_rel_in (length s.names)) (λ (r : LinRel) g. value_in s.names r.lin g) p.guard
+    h.guard)
+    (all_pass (IsActionSaid s) (action_in s.tables (length s.names)) (action_range s) p.actions h.actions))
+    (target_range points p.target h.target)
 
 paths_range : (s : Scope) (points : List Point) (ps : List Path) → ArePathsSaid s points ps
     → (not (length ps == 0) ≡ true) × (list_all (path_in s.tables (length s.names) (length points)) ps ≡ true)
 paths_range s points [] h = absurd h
-paths_range s points (p ∷ ps) h = (some_item p ps, all_pass (IsPathSaid s points) (path_in s.tables (length s.names) (length points)) (path_range s points) (p ∷ ps) h)
+paths_range s points (p ∷ ps) h = (
+  some_item p ps,
+  all_pass (IsPathSaid s points) (path_in s.tables (length s.names) (length points)) (path_range s points) (p ∷ ps) h,
+)
 
-step_range : (s : Scope) (points : List Point) (st : Step) → IsStepSaid s points st → step_in s.tables (length s.names) (length points) st ≡ true
+step_range : (s : Scope) (points : List Point) (st : Step) → IsStepSaid s points st →
+    step_in s.tables (length s.names) (length points) st ≡ true
 step_range s points st h =
     let paths = paths_range s points st.paths h.paths in
     both_true (both_true paths.0 (all_pass (IsReadSaid s) (read_in s.tables (length s.names)) (read_range s) st.reads h.reads)) paths.1
@@ -75,16 +84,22 @@ step_range s points st h =
 clauses_range : (s : Scope) (cs : List Clause) → AllIn (IsClauseSaid s) cs → list_all (clause_in s.tables (length s.names)) cs ≡ true
 clauses_range s cs h = all_pass (IsClauseSaid s) (clause_in s.tables (length s.names)) (clause_range s) cs h
 
-point_range : (s : Scope) (points : List Point) (p : Point) → IsPointSaid s points p → point_in s.tables (length s.names) (length points) p ≡ true
+point_range : (s : Scope) (points : List Point) (p : Point) → IsPointSaid s points p →
+    point_in s.tables (length s.names) (length points) p ≡ true
 point_range s points p h =
-    both_true (both_true (both_true (clauses_range s p.clauses h.clauses) (value_in s.names p.variant h.variant)) (step_range s points p.next h.next)) (step_range s points p.undo h.undo)
+    both_true (both_true (both_true (clauses_range s p.clauses h.clauses) (value_in s.names p.variant h.variant))
+    (step_range s points p.next h.next)) (step_range s points p.undo h.undo)
 
 points_range : (s : Scope) (points ps : List Point) → ArePointsSaid s points ps
     → (not (length ps == 0) ≡ true) × (list_all (point_in s.tables (length s.names) (length points)) ps ≡ true)
 points_range s points [] h = absurd h
-points_range s points (p ∷ ps) h = (some_item p ps, all_pass (IsPointSaid s points) (point_in s.tables (length s.names) (length points)) (point_range s points) (p ∷ ps) h)
+points_range s points (p ∷ ps) h = (
+  some_item p ps,
+  all_pass (IsPointSaid s points) (point_in s.tables (length s.names) (length points)) (point_range s points) (p ∷ ps) h,
+)
 
-returns_range : (names : List (List ℕ)) (xs : List ℕ) → AllIn IsName (map (name_at names) xs) → list_all (λ x. nat_lt x (length names)) xs ≡ true
+returns_range : (names : List (List ℕ)) (xs : List ℕ) → AllIn IsName (map (name_at names) xs) →
+    list_all (λ x. nat_lt x (length names)) xs ≡ true
 returns_range names [] h = refl
 returns_range names (x ∷ xs) h = both_true (lt-ltb x (length names) (there names x h.0)) (returns_range names xs h.1)
 
@@ -94,6 +109,8 @@ type_range tables t h =
     let count : length s.names ≡ length t.locals + 1 = length-append t.locals (codes "self" ∷ []) in
     let points = points_range s t.points t.points h.points in
     let clauses = both_true (clauses_range s t.posts h.posts) (clauses_range s t.repairs h.repairs) in
-    let head : head_in t ≡ true = both_true (both_true (le-leb t.params (length t.locals) h.params) points.0) (returns_range t.locals t.returns h.returns) in
-    both_true (both_true head (subst (λ (n : ℕ). (list_all (clause_in tables n) t.posts && list_all (clause_in tables n) t.repairs) ≡ true) count clauses))
+    let head : head_in t ≡ true = both_true (both_true (le-leb t.params (length t.locals) h.params) points.0)
+    (returns_range t.locals t.returns h.returns) in
+    both_true (both_true head (subst (λ (n : ℕ). (list_all (clause_in tables n) t.posts && list_all (clause_in tables n) t.repairs) ≡ true)
+    count clauses))
     (subst (λ (n : ℕ). list_all (point_in tables n (length t.points)) t.points ≡ true) count points.1)

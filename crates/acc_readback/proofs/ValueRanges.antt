@@ -1,5 +1,6 @@
 -- What a text stands for names nothing that is out of range: values, rows and clauses.
-use Rattle.std.proofs.Common.{◌≡◌, ◌<◌, ℕ, zero, suc, Bool, true, List, [], ◌∷◌, length, Option, Some, None, refl, subst, arith, length-append}
+use Rattle.std.proofs.Common.{◌≡◌, ◌<◌, ℕ, zero, suc, Bool, true, List, [], ◌∷◌, length, Option, Some, None, refl, subst, arith}
+use Rattle.std.proofs.Common.{length-append}
 use Rattle.std.specs.Prelude.{nat_lt, slice_get, ℤ, ◌&&◌}
 use Rattle.std.specs.List.{list_all}
 use Rattle.std.specs.Cmp.Derive.{both_true}
@@ -14,12 +15,14 @@ use Rattle.acc_base.specs.declared.forms.Clause.{Clause}
 use Rattle.acc_base.specs.declared.tables.Table.{Table}
 use Rattle.acc_form.specs.Ranges.{term_in, lin_in, row_in, has_column, cell_in, atom_in, product_in, rel_in, clause_in}
 use Rattle.acc_print.specs.Names.{Scope, name_at, table_name, column_name, with_own}
-use Rattle.acc_readback.specs.Printable.{IsName, IsVariable, IsTermSaid, IsLinSaid, IsKeySaid, IsRowSaid, IsCellSaid, IsAtomSaid, IsUnknownSaid, IsRelSaid, IsClauseSaid}
+use Rattle.acc_readback.specs.Printable.{IsName, IsVariable, IsTermSaid, IsLinSaid, IsKeySaid, IsRowSaid, IsCellSaid, IsAtomSaid}
+use Rattle.acc_readback.specs.Printable.{IsUnknownSaid, IsRelSaid, IsClauseSaid}
 use Rattle.acc_readback.proofs.NamePlaces.{there}
 use Rattle.acc_readback.proofs.VariableNumbers.{variable_there}
 
 -- a test that each item passes that has a property
-pub all_pass : {X : Type 0} (P : X → Type 0) (test : X → Bool) → ((x : X) → P x → test x ≡ true) → (xs : List X) → AllIn P xs → list_all test xs ≡ true
+pub all_pass : {X : Type 0} (P : X → Type 0) (test : X → Bool) → ((x : X) → P x → test x ≡ true) → (xs : List X) → AllIn P xs →
+    list_all test xs ≡ true
 all_pass P test each [] h = refl
 all_pass P test each (x ∷ xs) h = both_true (each x h.0) (all_pass P test each xs h.1)
 
@@ -79,4 +82,5 @@ pub clause_range : (s : Scope) (c : Clause) → IsClauseSaid s c → clause_in s
 clause_range s c h =
     let own = with_own s c.vars in
     subst (λ (n : ℕ). (list_all (rel_in s.tables n) c.guards && rel_in s.tables n c.rel) ≡ true) (length-append s.names c.vars)
-    (both_true (all_pass (IsRelSaid own) (rel_in s.tables (length own.names)) (relation_in own) c.guards h.guards) (relation_in own c.rel h.relation))
+    (both_true (all_pass (IsRelSaid own) (rel_in s.tables (length own.names)) (relation_in own) c.guards h.guards)
+    (relation_in own c.rel h.relation))

@@ -1,5 +1,6 @@
 -- Variables by their names: the variable that a name stands for is the one that has the name.
-use Rattle.std.proofs.Common.{◌≡◌, ◌<◌, ◌≤◌, ◌+◌, ◌-◌, ℕ, zero, suc, Bool, true, false, List, [], ◌∷◌, ◌++◌, length, Option, refl, sym, ap, subst, ◌∙◌, inl, inr, arith, append-nil, length-append}
+use Rattle.std.proofs.Common.{◌≡◌, ◌<◌, ◌≤◌, ◌+◌, ◌-◌, ℕ, zero, suc, Bool, true, false, List, [], ◌∷◌, ◌++◌, length, Option, refl, sym, ap}
+use Rattle.std.proofs.Common.{subst, ◌∙◌, inl, inr, arith, append-nil, length-append}
 use Rattle.std.specs.Prelude.{if◌then◌else◌, unwrap_or, codes}
 use Rattle.std.specs.Str.{bytes_eq}
 use Rattle.std.proofs.lemmas.Bool.{or_parts, cases_lt}
@@ -79,15 +80,18 @@ module _ (names : List (List ℕ)) (v : Variables) (f : Fits names v) (n : ℕ) 
   local_back : n < length v.locals → variable_of v (variable_named (name_at (front v ++ v.own) n)) ≡ n
   local_back lt =
       let x = name_at v.locals n in
-      let same = name_in_front (front v) v.own n (omega (arith, length-append v.locals (itself v.in_type))) ∙ name_in_front v.locals (itself v.in_type) n lt in
+      let same = name_in_front (front v) v.own n (omega (arith, length-append v.locals (itself v.in_type))) ∙ name_in_front v.locals
+      (itself v.in_type) n lt in
       ap (λ (y : List ℕ). variable_of v (variable_named y)) same ∙ (by_name v x (is_name_at v.locals n f.locals lt)
-      ∙ (ap (λ (o : Option ℕ). fitted (named v x o)) (place_new [] v.locals n f.new_locals lt) ∙ fitted_small n (omega (arith, f.few_locals))))
+      ∙ (ap (λ (o : Option ℕ). fitted (named v x o)) (place_new [] v.locals n f.new_locals lt) ∙ fitted_small n
+      (omega (arith, f.few_locals))))
 
   self_back : length v.locals ≤ n → n < length (front v) → variable_of v (variable_named (name_at (front v ++ v.own) n)) ≡ n
   self_back le lt =
       let long = length-append v.locals (itself v.in_type) in
       let at = itself_at v.in_type (n - length v.locals) (omega (arith, long)) in
-      let same = name_in_front (front v) v.own n lt ∙ (name_behind v.locals (itself v.in_type) n (n - length v.locals) (omega arith) ∙ at.0) in
+      let same = name_in_front (front v) v.own n lt ∙
+      (name_behind v.locals (itself v.in_type) n (n - length v.locals) (omega arith) ∙ at.0) in
       let last : n ≡ length v.locals = omega (arith, at.1) in
       by_self v (name_at (front v ++ v.own) n) same ∙ (fitted_small (length v.locals) (omega (arith, f.few_locals)) ∙ sym last)
 
@@ -99,13 +103,21 @@ module _ (names : List (List ℕ)) (v : Variables) (f : Fits names v) (n : ℕ) 
       let apart = sym (list_any-append (bytes_eq x) v.locals (itself v.in_type)) ∙ new_apart (front v) v.own k f.new_own within in
       let none = place_none x v.locals (or_parts (stands_in x v.locals) (stands_in x (itself v.in_type)) apart).0 in
       let there : first_own v + k ≡ n = omega (arith, f.first) in
-      let few : first_own v ≤ 49 = omega (arith, f.first, length-append v.locals (itself v.in_type), itself_short v.in_type, f.few_locals) in
-      ap (λ (y : List ℕ). variable_of v (variable_named y)) (name_behind (front v) v.own n k (omega arith)) ∙ (by_name v x (is_name_at v.own k f.own within)
+      let few : first_own v ≤ 49 = omega (
+        arith,
+        f.first,
+        length-append v.locals (itself v.in_type),
+        itself_short v.in_type,
+        f.few_locals,
+      ) in
+      ap (λ (y : List ℕ). variable_of v (variable_named y)) (name_behind (front v) v.own n k (omega arith)) ∙
+      (by_name v x (is_name_at v.own k f.own within)
       ∙ (ap (λ (o : Option ℕ). fitted (named v x o)) none
       ∙ (ap (λ (o : Option ℕ). fitted (first_own v + unwrap_or o 0)) (place_new (front v) v.own k f.new_own within)
       ∙ (fitted_small (first_own v + k) (omega (arith, f.few_own)) ∙ there))))
 
-pub variable_back : (names : List (List ℕ)) (v : Variables) → Fits names v → (n : ℕ) → IsVariable (name_at names n) → variable_of v (variable_tree names n) ≡ n
+pub variable_back : (names : List (List ℕ)) (v : Variables) → Fits names v → (n : ℕ) → IsVariable (name_at names n) →
+    variable_of v (variable_tree names n) ≡ n
 variable_back names v f n h =
     let lt : n < length (front v ++ v.own) = subst (λ (xs : List (List ℕ)). n < length xs) f.all (variable_there names n h) in
     ap (λ (xs : List (List ℕ)). variable_of v (variable_tree xs n)) f.all ∙ elim (cases_lt n (length v.locals)) [
@@ -120,7 +132,8 @@ variable_back names v f n h =
 abbrev pub with_names : Variables → List (List ℕ) → Variables
 with_names v own = record { in_type = v.in_type; locals = v.locals; own = own }
 
-pub fits_own : (names : List (List ℕ)) (v : Variables) (own : List (List ℕ)) → Fits names v → v.own ≡ [] → AllIn IsName own → AreNew names own → length own ≤ 8 → Fits (names ++ own) (with_names v own)
+pub fits_own : (names : List (List ℕ)) (v : Variables) (own : List (List ℕ)) → Fits names v → v.own ≡ [] → AllIn IsName own →
+    AreNew names own → length own ≤ 8 → Fits (names ++ own) (with_names v own)
 fits_own names v own f none spelled new few =
     let same : names ≡ front v = f.all ∙ (ap (λ (xs : List (List ℕ)). front v ++ xs) none ∙ append-nil (front v)) in
     record {

@@ -1,6 +1,7 @@
 -- The tree that the printed text of a design spells: values, rows, clauses and the statements of a step.
 -- Clause `lexed` of `print` speaks of this.
-use Rattle.std.specs.Prelude.{ℕ, Bool, true, false, if◌then◌else◌, ◌==◌, List, [], ◌∷◌, ◌++◌, map, Option, Some, None, slice_get, ℤ, pos, zero, unsigned_abs, codes}
+use Rattle.std.specs.Prelude.{ℕ, Bool, true, false, if◌then◌else◌, ◌==◌, List, [], ◌∷◌, ◌++◌, map, Option, Some, None, slice_get, ℤ, pos}
+use Rattle.std.specs.Prelude.{zero, unsigned_abs, codes}
 use Rattle.std.specs.Str.{bytes_eq}
 use Rattle.acc_base.specs.declared.forms.Lin.{Lin}
 use Rattle.acc_base.specs.declared.forms.LinRel.{LinRel}

@@ -35,7 +35,8 @@ module _ (d : Design) (told : Option (List ℕ)) (base : List ℕ) (events : Lis
   of_text : base ≡ printed d → IfSome told (λ file. Counts file (printed d) events)
   of_text is = subst (λ (b : List ℕ). IfSome told (λ file. Counts file b events)) is counts
 
-  pub history_refused : (error : RecoverError) (fault : Type 0) → RefusesHistory d base events error rows → RefusesRecovery d error told fault
+  pub history_refused : (error : RecoverError) (fault : Type 0) → RefusesHistory d base events error rows →
+      RefusesRecovery d error told fault
   history_refused OtherDesign fault why =
       if_told told (λ file. Counts file base events) (λ file. IsOfOther file (printed d))
       (λ file c. record { base = base; events = events; counts = c; other = why.0 }) counts
@@ -61,14 +62,16 @@ module _ (d : Design) (told : Option (List ℕ)) (base : List ℕ) (events : Lis
 
 -- ---- where ending and settling fails
 
-pub settle_refused : (d : Design) (error : RecoverError) (told : Option (List ℕ)) (a b c : ℕ) → a ≤ b → FailsToSettle error (Rose b c) → RefusesRecovery d error told (Rose a c)
+pub settle_refused : (d : Design) (error : RecoverError) (told : Option (List ℕ)) (a b c : ℕ) → a ≤ b → FailsToSettle error (Rose b c) →
+    RefusesRecovery d error told (Rose a c)
 settle_refused d Disk told a b c le rose = omega (arith, le, rose)
 settle_refused d Memory told a b c le why = tt
 settle_refused d (NotRead e) told a b c le why = absurd why
 settle_refused d OtherDesign told a b c le why = absurd why
 settle_refused d (Unlawful at) told a b c le why = absurd why
 
-pub settle_back : (error : RecoverError) (fault : Type 0) (d : Design) (told : Option (List ℕ)) (rows : List Row) → FailsToSettle error fault → AreRowsOnTheWay d told rows → HandsBack error d told rows
+pub settle_back : (error : RecoverError) (fault : Type 0) (d : Design) (told : Option (List ℕ)) (rows : List Row) →
+    FailsToSettle error fault → AreRowsOnTheWay d told rows → HandsBack error d told rows
 settle_back Disk fault d told rows why way = inr way
 settle_back Memory fault d told rows why way = inr way
 settle_back (NotRead e) fault d told rows why way = absurd why
@@ -85,9 +88,15 @@ module _ {D : Type 0} (clock : D → ℕ) (left_since : D → ℕ → List ℕ �
   found_is = tail.durable ∙ sym (append-nil old.durable) ∙ ap (λ (l : List Event). old.durable ++ l) (sym none) ∙ was.same
 
   either : (image : List ℕ) → CountsEither mid.base mid.durable mid.tail image → CountsRecovered d old.base found image
-  either image (inl c) = inl (subst (λ (es : List Event). Counts image old.base es) found_is (subst (λ (b : List ℕ). Counts image b mid.durable) tail.base c))
+  either image (inl c) = inl (subst (λ (es : List Event). Counts image old.base es) found_is
+      (subst (λ (b : List ℕ). Counts image b mid.durable) tail.base c))
   either image (inr c) =
-      inr (last, r, subst (λ (es : List Event). Counts image old.base es) is.same (subst (λ (b : List ℕ). Counts image b (mid.durable ++ mid.tail)) tail.base c))
+      inr (
+        last,
+        r,
+        subst (λ (es : List Event). Counts image old.base es) is.same
+            (subst (λ (b : List ℕ). Counts image b (mid.durable ++ mid.tail)) tail.base c),
+      )
 
   pub one_settling : (new : D) → AtAnyMoment clock left_since mid.disk new (CountsEither mid.base mid.durable mid.tail)
       → AtAnyMoment clock left_since old.disk new (CountsRecovered d old.base found)
@@ -96,8 +105,10 @@ module _ {D : Type 0} (clock : D → ℕ) (left_since : D → ℕ → List ℕ �
       (weaker clock left_since mid.disk new (CountsEither mid.base mid.durable mid.tail) (CountsRecovered d old.base found) either run)
 
 module _ {D : Type 0} (clock : D → ℕ) (left_since : D → ℕ → List ℕ → Type 0) (d : Design) (base : List ℕ) (found : List Event) where
-  pub attached : (old new : D) → AtAnyMoment clock left_since old new (λ image. Counts image base found) → AtAnyMoment clock left_since old new (CountsRecovered d base found)
-  attached old new run = weaker clock left_since old new (λ image. Counts image base found) (CountsRecovered d base found) (λ image counts. inl counts) run
+  pub attached : (old new : D) → AtAnyMoment clock left_since old new (λ image. Counts image base found) →
+      AtAnyMoment clock left_since old new (CountsRecovered d base found)
+  attached old new run = weaker clock left_since old new (λ image. Counts image base found) (CountsRecovered d base found)
+      (λ image counts. inl counts) run
 
   -- what was read is what anybody counts
   and_ended : (file : List ℕ) (old new : D) (wal : Journal D) (state : Running) → IsReplayed d wal state → Counts file base found
@@ -106,13 +117,17 @@ module _ {D : Type 0} (clock : D → ℕ) (left_since : D → ℕ → List ℕ �
       → AtAnyMoment clock left_since old new (CountsRecovered d base found)
   and_ended file old new wal state replayed c read first second =
       let same = one_reading file wal.base base wal.durable found read c in
-      let at_base = subst (λ (b : List ℕ). AtAnyMoment clock left_since wal.disk new (CountsRecovered state.design b state.world.events)) same.0 second in
-      let at_found = subst (λ (es : List Event). AtAnyMoment clock left_since wal.disk new (CountsRecovered state.design base es)) (same_events d wal state replayed ∙ same.1) at_base in
-      let at_design = subst (λ (x : Design). AtAnyMoment clock left_since wal.disk new (CountsRecovered x base found)) replayed.design at_found in
+      let at_base = subst (λ (b : List ℕ). AtAnyMoment clock left_since wal.disk new (CountsRecovered state.design b state.world.events))
+      same.0 second in
+      let at_found = subst (λ (es : List Event). AtAnyMoment clock left_since wal.disk new (CountsRecovered state.design base es))
+      (same_events d wal state replayed ∙ same.1) at_base in
+      let at_design = subst (λ (x : Design). AtAnyMoment clock left_since wal.disk new (CountsRecovered x base found)) replayed.design
+      at_found in
       together clock left_since old wal.disk new (CountsRecovered d base found) (attached old wal.disk first) at_design
 
   -- from the calm disk that attaching leaves
-  pub moments_all : (told : D → Option (List ℕ)) (may_leave : D → List ℕ → Type 0) (file : List ℕ) (old new : D) (wal : Journal D) (state : Running)
+  pub moments_all : (told : D → Option (List ℕ)) (may_leave : D → List ℕ → Type 0) (file : List ℕ) (old new : D) (wal : Journal D)
+      (state : Running)
       → IsReplayed d wal state → Counts file base found → Counts file wal.base wal.durable
       → AtAnyMoment clock left_since old wal.disk (λ image. Counts image base found) → IsCalm (told wal.disk) (may_leave wal.disk)
       → ((now : List ℕ) → told wal.disk ≡ Some now → Counts now wal.base wal.durable)

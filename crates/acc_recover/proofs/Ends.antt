@@ -26,7 +26,8 @@ use Rattle.acc_recover.proofs.Ways.{on_the_way}
 led_logged : (d : Design) (events : List Event) (w last : World) → LeadLawfully d w events last → last.events ≡ w.events ++ events
 led_logged d [] w last l = ap (λ (x : World). x.events) (sym l) ∙ sym (append-nil w.events)
 led_logged d (e ∷ rest) w last l =
-    led_logged d rest l.0 last l.2 ∙ ap (λ (es : List Event). es ++ rest) (event_logged d w e l.0 l.1.event) ∙ append_assoc w.events (e ∷ []) rest
+    led_logged d rest l.0 last l.2 ∙ ap (λ (es : List Event). es ++ rest) (event_logged d w e l.0 l.1.event) ∙ append_assoc w.events
+    (e ∷ []) rest
 
 pub kept_run : (d e : Design) (events : List Event) (w : World) → IsAccepted d → e ≡ d → LeadLawfully d start events w → IsKept e w
 kept_run d e events w a is l =
@@ -44,7 +45,8 @@ module _ {D : Type 0} (d : Design) (old : Journal D) (state : Running) (read : I
   pub same_events : state.world.events ≡ old.durable
   same_events = led_logged d old.durable start state.world read.comes
 
-  counts_text : (told : Option (List ℕ)) → IfSome told (λ file. Counts file old.base old.durable) → IfSome told (λ file. Counts file (printed d) old.durable)
+  counts_text : (told : Option (List ℕ)) → IfSome told (λ file. Counts file old.base old.durable) →
+      IfSome told (λ file. Counts file (printed d) old.durable)
   counts_text told counts = subst (λ (b : List ℕ). IfSome told (λ file. Counts file b old.durable)) read.text counts
 
   pub recovers_file : (told : Option (List ℕ)) (now : Journal D) (w : World) (frames : List Frame) (count : ℕ)
@@ -53,12 +55,14 @@ module _ {D : Type 0} (d : Design) (old : Journal D) (state : Running) (read : I
   recovers_file told now w frames count counts r opened are long = record {
     found = old.durable;
     counts = counts_text told counts;
-    recovery = subst (λ x. IsRecovery x old.durable w) read.design (subst (λ (es : List Event). IsRecovery state.design es w) same_events r);
+    recovery = subst (λ x. IsRecovery x old.durable w) read.design
+        (subst (λ (es : List Event). IsRecovery state.design es w) same_events r);
     settled = subst (λ (b : List ℕ). IsOpened b w.events now) read.text opened;
     unfinished_were = record { first = state.world; comes = read.comes; count_is = long ∙ ap length are };
   }
 
-  pub rows_on_the_way : (told : Option (List ℕ)) (e : Design) (w : World) (rows : List Row) → IfSome told (λ file. Counts file old.base old.durable)
+  pub rows_on_the_way : (told : Option (List ℕ)) (e : Design) (w : World) (rows : List Row) →
+      IfSome told (λ file. Counts file old.base old.durable)
       → e ≡ state.design → IsKept e w → GoesOn state.design state.world w → rows ≡ w.rows → AreRowsOnTheWay d told rows
   rows_on_the_way told e w rows counts same kept goes are = record {
     found = old.durable;

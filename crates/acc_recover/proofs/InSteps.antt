@@ -1,5 +1,6 @@
 -- The journal keeps step with the state.
-use Rattle.std.proofs.Common.{◌≡◌, ℕ, ◌≤◌, ◌<◌, ◌+◌, ◌^◌, ◌++◌, List, [], ◌∷◌, false, length, refl, sym, ◌∙◌, ap, arith, append_assoc, length-append}
+use Rattle.std.proofs.Common.{◌≡◌, ℕ, ◌≤◌, ◌<◌, ◌+◌, ◌^◌, ◌++◌, List, [], ◌∷◌, false, length, refl, sym, ◌∙◌, ap, arith, append_assoc}
+use Rattle.std.proofs.Common.{length-append}
 use Rattle.std.proofs.lemmas.List.{append-nil, flat_map_more}
 use Rattle.acc_base.specs.declared.machines.Event.{Event}
 use Rattle.acc_wal.specs.Spellings.{body, event_bytes}
@@ -30,11 +31,22 @@ module _ {D : Type 0} (events : List Event) where
   pub tail_short : (wal : Journal D) → InStep events wal → length events ≤ 2 ^ 24 → length (body wal.tail) + 14 < 2 ^ 32
   tail_short wal i few = omega (arith, i.short, ap length i.same, length-append wal.durable wal.tail, few)
 
-  pub still_in_step : (more : List Event) (old new : Journal D) (event : Event) → InStep events old → Pushes event old new → length (event_bytes event) ≤ 14 → more ≡ events ++ event ∷ [] → InStep more new
+  pub still_in_step : (more : List Event) (old new : Journal D) (event : Event) → InStep events old → Pushes event old new →
+      length (event_bytes event) ≤ 14 → more ≡ events ++ event ∷ [] → InStep more new
   unfolding body
   still_in_step more old new event i p brief is = record {
-    same = ap (λ (l : List Event). l ++ new.tail) p.durable ∙ ap (λ (l : List Event). old.durable ++ l) p.tail ∙ sym (append_assoc old.durable old.tail (event ∷ [])) ∙ ap (λ (l : List Event). l ++ event ∷ []) i.same ∙ sym is;
-    short = omega (arith, i.short, ap (λ (l : List Event). length (body l)) p.tail, ap length (flat_map_more event_bytes [] old.tail event), length-append (body old.tail) (event_bytes event), brief, ap length p.tail, length-append old.tail (event ∷ []));
+    same = ap (λ (l : List Event). l ++ new.tail) p.durable ∙ ap (λ (l : List Event). old.durable ++ l) p.tail ∙ sym
+        (append_assoc old.durable old.tail (event ∷ [])) ∙ ap (λ (l : List Event). l ++ event ∷ []) i.same ∙ sym is;
+    short = omega (
+      arith,
+      i.short,
+      ap (λ (l : List Event). length (body l)) p.tail,
+      ap length (flat_map_more event_bytes [] old.tail event),
+      length-append (body old.tail) (event_bytes event),
+      brief,
+      ap length p.tail,
+      length-append old.tail (event ∷ []),
+    );
     unspent = p.spent;
   }
 

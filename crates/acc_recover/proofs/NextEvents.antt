@@ -1,5 +1,6 @@
 -- The next event of a recovery, told from the frames: it is next, it may come, it is short, and it lowers what is left.
-use Rattle.std.proofs.Common.{◌≡◌, ℕ, zero, suc, ◌<◌, ◌≤◌, ◌^◌, List, [], ◌∷◌, length, Bool, true, false, Option, Some, None, refl, sym, ap, subst, ◌∙◌, arith}
+use Rattle.std.proofs.Common.{◌≡◌, ℕ, zero, suc, ◌<◌, ◌≤◌, ◌^◌, List, [], ◌∷◌, length, Bool, true, false, Option, Some, None, refl, sym, ap}
+use Rattle.std.proofs.Common.{subst, ◌∙◌, arith}
 use Rattle.std.specs.Prelude.{slice_get, sum_by, nat_lt, if◌then◌else◌}
 use Rattle.std.proofs.lemmas.Option.{same_Some, none-some}
 use Rattle.std.proofs.lemmas.Bool.Decides.{nat_tests}
@@ -52,11 +53,13 @@ first_is : (frames : List Frame) (t : ℕ) → first_forward frames ≡ Some t �
 first_is [] t h = absurd (none-some t h)
 first_is (f ∷ frames) t h = by f.side refl h (first_is frames t)
   where
-    earlier : f.side ≡ UndoSide → (m : IsFirstForward frames t) (j : ℕ) (z : Frame) → j < suc m.i → slice_get (f ∷ frames) j ≡ Some z → z.side ≡ UndoSide
+    earlier : f.side ≡ UndoSide → (m : IsFirstForward frames t) (j : ℕ) (z : Frame) → j < suc m.i → slice_get (f ∷ frames) j ≡ Some z →
+        z.side ≡ UndoSide
     earlier e m zero z l q = sym (ap (λ (x : Frame). x.side) (same_Some f z q)) ∙ e
     earlier e m (suc j) z l q = m.before j z (omega arith) q
 
-    by : (s : Side) → f.side ≡ s → (if is_forward s then Some f.t else first_forward frames) ≡ Some t → (first_forward frames ≡ Some t → IsFirstForward frames t) → IsFirstForward (f ∷ frames) t
+    by : (s : Side) → f.side ≡ s → (if is_forward s then Some f.t else first_forward frames) ≡ Some t →
+        (first_forward frames ≡ Some t → IsFirstForward frames t) → IsFirstForward (f ∷ frames) t
     by Next e k ih = record { i = 0; g = f; at = refl; number = same_Some f.t t k; side = e; before = λ j z l q. absurd (omega arith) }
     by UndoSide e k ih = let m = ih k in record { i = suc m.i; g = m.g; at = m.at; number = m.number; side = m.side; before = earlier e m }
 
@@ -94,7 +97,8 @@ backward w e (undo t f at none least) = undone_by t
 module _ (d : Design) (w : World) (steady : IsSteady d w) where
   -- ---- it is next
 
-  lowest_forward : (t : ℕ) (m : IsFirstForward (unfinished w) t) (u : ℕ) (g : Frame) → transaction_at u w.transactions ≡ Some (Forward g) → m.g.t ≤ u
+  lowest_forward : (t : ℕ) (m : IsFirstForward (unfinished w) t) (u : ℕ) (g : Frame) → transaction_at u w.transactions ≡ Some (Forward g) →
+      m.g.t ≤ u
   lowest_forward t m u g at =
       not_below m.g.t u
       (λ l. let n = of_number d w steady m.i m.g m.at in let b = n.fewer u g l (frame_from u w g (Forward g) at refl) in
@@ -114,14 +118,16 @@ module _ (d : Design) (w : World) (steady : IsSteady d w) where
       two_sides (sym (steady.each u (Forward g) h).side_is ∙ none_forward (unfinished w) none p.j g p.is))
       (λ u g h. not_below f.t u (λ l. let b = n.fewer u g l h in let z = b.1 in omega arith))
 
-  next_by : (first : Option ℕ) (frames : List Frame) (e : Event) → first_forward (unfinished w) ≡ first → unfinished w ≡ frames → ending_from first frames ≡ Some e → IsNext w e
+  next_by : (first : Option ℕ) (frames : List Frame) (e : Event) → first_forward (unfinished w) ≡ first → unfinished w ≡ frames →
+      ending_from first frames ≡ Some e → IsNext w e
   next_by (Some t) frames e h is k = subst (IsNext w) (same_Some (Abort t Crash) e k) (crash_next t h)
   next_by None [] e h is k = absurd (none-some e k)
   next_by None (f ∷ frames) e h is k = subst (IsNext w) (same_Some (Undo f.t) e k) (undo_next f frames is h)
 
   pub next_is : (frames : List Frame) (e : Event) → frames ≡ unfinished w → Some e ≡ ending_from (first_forward frames) frames → IsNext w e
   next_is frames e is k =
-      next_by (first_forward (unfinished w)) (unfinished w) e refl refl (ap (λ (fs : List Frame). ending_from (first_forward fs) fs) (sym is) ∙ sym k)
+      next_by (first_forward (unfinished w)) (unfinished w) e refl refl
+      (ap (λ (fs : List Frame). ending_from (first_forward fs) fs) (sym is) ∙ sym k)
 
   -- ---- it may come
 
@@ -150,7 +156,8 @@ module _ (d : Design) (w : World) (steady : IsSteady d w) where
 
   -- ---- it lowers what may still come
 
-  pub falls : IsAccepted d → (e : Event) (d2 : Design) (after : World) → IsNext w e → d2 ≡ d → IsLawful d w e after → sum_by (rest_of d2) after.transactions < sum_by (rest_of d) w.transactions
+  pub falls : IsAccepted d → (e : Event) (d2 : Design) (after : World) → IsNext w e → d2 ≡ d → IsLawful d w e after →
+      sum_by (rest_of d2) after.transactions < sum_by (rest_of d) w.transactions
   falls a e d2 after n q l =
       let f = rests_fall d a.sound (run_rules d a.formed) w after e steady (backward w e n) l.event in
       subst (λ (x : Design). sum_by (rest_of x) after.transactions < sum_by (rest_of d) w.transactions) (sym q) (omega arith)

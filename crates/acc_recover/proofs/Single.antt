@@ -23,7 +23,8 @@ next_same w e f (undo t g at none least) (undo u h there nobody low) = ap (λ n.
 
 -- where nothing is unfinished, no event is next
 nothing_next : (w : World) (e : Event) → unfinished w ≡ [] → IsNext w e → ⊥
-nothing_next w e idle (crash t f at least) = none_open w.transactions idle (t - 1) (Forward f) f (at_place t w.transactions (Forward f) at).1 refl
+nothing_next w e idle (crash t f at least) = none_open w.transactions idle (t - 1) (Forward f) f
+    (at_place t w.transactions (Forward f) at).1 refl
 nothing_next w e idle (undo t f at none least) =
     let o = opened t w f at in none_open w.transactions idle (t - 1) o.x f (at_place t w.transactions o.x o.at).1 o.frame
 
@@ -39,5 +40,6 @@ one_end d (e ∷ xs) (f ∷ ys) w a b r s =
 
 pub one_recovery : (d : Design) (found : List Event) (one other : World) → IsRecovery d found one → IsRecovery d found other → one ≡ other
 one_recovery d found one other r s =
-    let first : s.first ≡ r.first = same_Some s.first r.first (sym (lead_runs d found start s.first s.comes) ∙ lead_runs d found start r.first r.comes) in
+    let first : s.first ≡ r.first = same_Some s.first r.first
+    (sym (lead_runs d found start s.first s.comes) ∙ lead_runs d found start r.first r.comes) in
     one_end d r.more s.more r.first one other r.recovers (subst (λ (x : World). Recovers d x s.more other) first s.recovers)

@@ -1,5 +1,6 @@
 -- What is told of a whole schedule.
-use Rattle.std.proofs.Common.{◌≡◌, ℕ, ◌≤◌, Bool, true, false, List, [], ◌++◌, length, Option, Some, None, refl, sym, ap, subst, ◌∙◌, append_assoc}
+use Rattle.std.proofs.Common.{◌≡◌, ℕ, ◌≤◌, Bool, true, false, List, [], ◌++◌, length, Option, Some, None, refl, sym, ap, subst, ◌∙◌}
+use Rattle.std.proofs.Common.{append_assoc}
 use Rattle.std.specs.Prelude.{Result, Ok, Err, IfOk, codes, All, IsSome, IsTrue, IsFalse, slice_get}
 use Rattle.std.specs.List.{flat_map, range_with_len}
 use Rattle.std.specs.Fmt.{decimal}
@@ -47,7 +48,8 @@ begun_by numbers history false all some full = let a = some refl in (a, full a.0
 
 -- the stages of a schedule: after the mentions, after the passes, after the places, and after the replies
 pub tells_schedule : (d : Design) (calls : List Call) (order : List ℕ) (a b c e : Stage) (s : Scheduled)
-    → IsPlayed d calls order a.text.items (play_of a) → play_of b ≡ record (play_of a) { world = b.state.world } → b.text.items ≡ a.text.items
+    → IsPlayed d calls order a.text.items (play_of a) → play_of b ≡ record (play_of a) { world = b.state.world } →
+    b.text.items ≡ a.text.items
     → EndsAll (with_locks d) a.state.world b.state.world
     → EndsPlaces (with_locks d) calls (play_of b) (range_with_len 1 (length calls)) (play_of c) → c.text.items ≡ b.text.items
     → length c.numbers.items ≡ length calls

@@ -21,7 +21,8 @@ use Rattle.acc_schedule.specs.Stages.{HasBegun, Opened, Opens}
 abbrev pub TurnsSoFar : Rules → World → List ℕ → World → List ℕ → Type 0
 TurnsSoFar m was all w left = (v : World) → TurnsEach m w left v → TurnsEach m was all v
 
-pub turns_more : (d : Design) (was w new : World) (all left : List ℕ) (t : ℕ) → TurnsSoFar (with_locks d) was all w (t ∷ left) → Takes d w t new
+pub turns_more : (d : Design) (was w new : World) (all left : List ℕ) (t : ℕ) → TurnsSoFar (with_locks d) was all w (t ∷ left) →
+    Takes d w t new
     → TurnsSoFar (with_locks d) was all new left
 turns_more d was w new all left t so_far takes v h =
     so_far v (turns takes.turn takes.allowed (subst (λ (z : World). TurnsEach (with_locks d) z left v) takes.after h))
@@ -53,7 +54,8 @@ bounded d w good = let e = good.steady.ends in omega arith
 pub begun_stays : (m : Rules) (calls : List Call) (place : ℕ) (p : Play) (t : ℕ) → 0 < place
     → slice_get p.numbers (place - 1) ≡ Some (Some t) → EndsPlace m calls place p (number_of p place) p
 begun_stays m calls place p t h at =
-    subst (λ (o : Option ℕ). EndsPlace m calls place p o p) (sym (ap (option_and_then (λ n. n)) (item_is place p.numbers (Some t) h at))) refl
+    subst (λ (o : Option ℕ). EndsPlace m calls place p o p) (sym (ap (option_and_then (λ n. n)) (item_is place p.numbers (Some t) h at)))
+    refl
 
 -- one that can't begin stays
 pub full_stays : (d : Design) (calls : List Call) (place : ℕ) (p q : Play) → 0 < place → slice_get p.numbers (place - 1) ≡ Some None
@@ -67,7 +69,8 @@ full_stays d calls place p q h at begun =
     opens_of : HasBegun d calls place p (number_of p place) None q → Opens d calls place p None q
     opens_of k = subst (λ (o : Option ℕ). HasBegun d calls place p o None q) none k
 
-    at_world : (call : Call) → item_at place calls ≡ Some call → (o : Option World) → BeginsWithRoom d p.world call o → Opened place p o None q
+    at_world : (call : Call) → item_at place calls ≡ Some call → (o : Option World) → BeginsWithRoom d p.world call o →
+        Opened place p o None q
         → EndsPlace (with_locks d) calls place p None q
     at_world call is None allowed same = record { call = call; is_call = is; world = None; allowed = allowed; ends = same }
     at_world call is (Some w) allowed same = absurd same

@@ -1,5 +1,6 @@
 -- Mentions of places by the rules of locks.
-use Rattle.std.proofs.Common.{◌≡◌, ℕ, zero, suc, ◌-◌, ◌<◌, ◌≤◌, List, [], ◌∷◌, ◌++◌, length, Option, Some, None, refl, sym, ap, subst, ◌∙◌, arith}
+use Rattle.std.proofs.Common.{◌≡◌, ℕ, zero, suc, ◌-◌, ◌<◌, ◌≤◌, List, [], ◌∷◌, ◌++◌, length, Option, Some, None, refl, sym, ap, subst, ◌∙◌}
+use Rattle.std.proofs.Common.{arith}
 use Rattle.std.specs.Prelude.{IsSome, IsSomeAnd, option_and_then, slice_get, slice_set}
 use Rattle.std.proofs.lemmas.Option.{none-some, same_Some}
 use Rattle.acc_base.specs.declared.bounds.TheConstants.{MOST_EVENTS, MOST_UNFINISHED}
@@ -44,7 +45,8 @@ absent_goes d place p t closed h =
 -- ---- a place begins
 
 -- a place that has begun has its number
-pub has_begun : (d : Design) (calls : List Call) (place : ℕ) (p : Play) (t : ℕ) → 0 < place → slice_get p.numbers (place - 1) ≡ Some (Some t)
+pub has_begun : (d : Design) (calls : List Call) (place : ℕ) (p : Play) (t : ℕ) → 0 < place →
+    slice_get p.numbers (place - 1) ≡ Some (Some t)
     → HasBegun d calls place p (number_of p place) (Some t) p
 has_begun d calls place p t h at =
     subst (λ (o : Option ℕ). HasBegun d calls place p o (Some t) p)
@@ -60,7 +62,8 @@ pub begins_here : (d : Design) (calls : List Call) (place : ℕ) (p q : Play) (c
     → q.places ≡ p.places ++ place ∷ [] → HasBegun d calls place p (number_of p place) (Some t) q
 begins_here d calls place p q call t h at call_at room begins number numbers places =
     let set_so : q.numbers ≡ with_item place (Some (next_number p.world)) p.numbers =
-    numbers ∙ ap (λ (n : ℕ). slice_set p.numbers (place - 1) (Some n)) number ∙ sym (set_is place (Some (next_number p.world)) p.numbers h) in
+    numbers ∙ ap (λ (n : ℕ). slice_set p.numbers (place - 1) (Some n)) number ∙ sym
+    (set_is place (Some (next_number p.world)) p.numbers h) in
     subst (λ (o : Option ℕ). HasBegun d calls place p o (Some t) q) (sym (unbegun place p h at))
     (record {
       call = call;
@@ -101,7 +104,14 @@ mention_goes d calls p q place t x begun goes = by (number_of p place) begun
         → Opened place p o (Some t) q → Mentions (with_locks d) calls place p None x
     opens call is None allowed h = absurd h
     opens call is (Some w) allowed h =
-        record { call = call; is_call = is; world = Some w; allowed = allowed; opens = moved (next_number p.world) (with_place p place w) h.0 h.1 }
+        record {
+          call = call;
+          is_call = is;
+          world = Some w;
+          allowed = allowed;
+          opens =
+              moved (next_number p.world) (with_place p place w) h.0 h.1;
+        }
 
     by : (o : Option ℕ) → HasBegun d calls place p o (Some t) q → Mentions (with_locks d) calls place p o x
     by (Some n) h = moved n p (same_Some t n h.0) h.1

@@ -1,5 +1,6 @@
 -- Which words spell a number.
-use Rattle.std.proofs.Common.{◌≡◌, ◌≢◌, ℕ, ◌+◌, ◌*◌, ◌^◌, ◌<◌, ◌≤◌, Bool, true, false, List, [], ◌∷◌, length, get_or, take, refl, ap, sym, rules, subst, ◌∙◌, arith, zero, suc, ℤ, pos, negsuc, Option, None, Some, MatchOption}
+use Rattle.std.proofs.Common.{◌≡◌, ◌≢◌, ℕ, ◌+◌, ◌*◌, ◌^◌, ◌<◌, ◌≤◌, Bool, true, false, List, [], ◌∷◌, length, get_or, take, refl, ap, sym}
+use Rattle.std.proofs.Common.{rules, subst, ◌∙◌, arith, zero, suc, ℤ, pos, negsuc, Option, None, Some, MatchOption}
 use Rattle.std.specs.Prelude.{◌==◌, ◌||◌, ◌&&◌, not}
 use Rattle.std.specs.Char.{is_ascii_digit, digit_value}
 use Rattle.std.specs.Cmp.{first_so, second_so}
@@ -9,7 +10,8 @@ use Rattle.std.specs.Int.Signed.{mag}
 use Rattle.std.specs.Str.Parse.{digits_value}
 use Rattle.std.proofs.lemmas.Bool.Decides.{nat_tests}
 use Rattle.std.proofs.lemmas.Int.Digits.{digits_value_more}
-use Rattle.std.proofs.lemmas.Fmt.{decimal_digit, digits_decimal, digits_value-decimal, decimal_nonempty, first_decimal, decimal-digits_value, decimal_injective, signed_decimal_injective}
+use Rattle.std.proofs.lemmas.Fmt.{decimal_digit, digits_decimal, digits_value-decimal, decimal_nonempty, first_decimal}
+use Rattle.std.proofs.lemmas.Fmt.{decimal-digits_value, decimal_injective, signed_decimal_injective}
 use Rattle.std.proofs.lemmas.Str.Parse.{IsNumeralModel, numerals_by_value, digits_value-take-le}
 use Rattle.acc_base.specs.Numbers.{IsSmall}
 use Rattle.acc_script.specs.Pieces.{is_blank}
@@ -33,7 +35,8 @@ digit_low b h = grind (arith, nat_tests)
 pub digit_is : (b : ℕ) → is_ascii_digit b ≡ true → digit_value b + 48 ≡ b
 digit_is b h = grind (arith, nat_tests)
 
-pub value_grows : (ds : List ℕ) (i : ℕ) → i < length ds → digits_value 10 (take i ds) * 10 + digit_value (get_or ds i 0) ≤ digits_value 10 ds
+pub value_grows : (ds : List ℕ) (i : ℕ) → i < length ds →
+    digits_value 10 (take i ds) * 10 + digit_value (get_or ds i 0) ≤ digits_value 10 ds
 value_grows ds i h = omega (arith, digits_value_more 10 ds i h, digits_value-take-le 10 ds (i + 1) (omega arith))
 
 -- a numeral is made of digits
@@ -49,7 +52,8 @@ numeral_digits (c ∷ cs) h = by (is_ascii_digit c) (list_all is_ascii_digit cs)
 -- and spells its value
 pub numeral_spells : (ds : List ℕ) → is_numeral ds ≡ true → digits_value 10 ds < 2 ^ 64 → ds ≡ decimal (digits_value 10 ds)
 numeral_spells [] h g = cc
-numeral_spells (c ∷ cs) h g = sym (decimal-digits_value own (c ∷ cs) (numeral_digits (c ∷ cs) h) (omega arith) (λ zero_first. alone cs (by (is_ascii_digit c) (list_all is_ascii_digit cs) (not (c == 48)) (is_blank cs) h (no c zero_first))) g)
+numeral_spells (c ∷ cs) h g = sym (decimal-digits_value own (c ∷ cs) (numeral_digits (c ∷ cs) h) (omega arith)
+    (λ zero_first. alone cs (by (is_ascii_digit c) (list_all is_ascii_digit cs) (not (c == 48)) (is_blank cs) h (no c zero_first))) g)
   where
     by : (a b y z : Bool) → (a && (b && (y || z))) ≡ true → y ≡ false → z ≡ true
     by a b y true e n = refl
@@ -67,7 +71,8 @@ numeral_spells (c ∷ cs) h g = sym (decimal-digits_value own (c ∷ cs) (numera
 -- what a number is spelled by is a numeral
 pub spelled_numeral : (n : ℕ) → n < 2 ^ 64 → is_numeral (decimal n) ≡ true
 spelled_numeral zero h = ap is_numeral (decimal_digit 0 (omega arith))
-spelled_numeral (suc n) h = by (decimal (suc n)) (decimal_nonempty (suc n) h) (first_decimal (suc n) (omega arith) h) (digits_decimal own (suc n) h)
+spelled_numeral (suc n) h = by (decimal (suc n)) (decimal_nonempty (suc n) h) (first_decimal (suc n) (omega arith) h)
+    (digits_decimal own (suc n) h)
   where
     by : (ds : List ℕ) → 0 < length ds → 48 < get_or ds 0 0 → list_all is_ascii_digit ds ≡ true → is_numeral ds ≡ true
     by [] some first digits = absurd (omega arith)
@@ -87,8 +92,11 @@ pub no_numeral : (word : List ℕ) → is_numeral word ≡ false → (n : ℕ) �
 no_numeral word h n below e = let wrong : true ≡ false = sym (spelled_numeral n below) ∙ (ap is_numeral (sym e) ∙ h) in cc
 
 -- and a numeral spells its value, or too large a number
-pub natural_answers : (word : List ℕ) (o : Option ℕ) → is_numeral word ≡ true → MatchOption o (2 ^ 64 ≤ digits_value 10 word) (λ value. (value < 2 ^ 64) × (value ≡ digits_value 10 word)) → MatchOption o ((n : ℕ) → n < 2 ^ 64 → word ≢ decimal n) (λ n. (n < 2 ^ 64) × (word ≡ decimal n))
-natural_answers word None h large = λ n below e. absurd (omega (arith, large, below, sym (digits_value-decimal own n below), ap (digits_value 10) e))
+pub natural_answers : (word : List ℕ) (o : Option ℕ) → is_numeral word ≡ true →
+    MatchOption o (2 ^ 64 ≤ digits_value 10 word) (λ value. (value < 2 ^ 64) × (value ≡ digits_value 10 word)) →
+    MatchOption o ((n : ℕ) → n < 2 ^ 64 → word ≢ decimal n) (λ n. (n < 2 ^ 64) × (word ≡ decimal n))
+natural_answers word None h large = λ n below e. absurd
+    (omega (arith, large, below, sym (digits_value-decimal own n below), ap (digits_value 10) e))
 natural_answers word (Some v) h is = (is.0, subst (λ n. word ≡ decimal n) (sym is.1) (numeral_spells word h (omega arith)))
 
 -- a number is spelled in one way
@@ -100,7 +108,8 @@ pub no_minus : (n : ℕ) (digits : List ℕ) → n < 2 ^ 64 → 45 ∷ digits �
 no_minus n digits h e = let d : is_numeral (45 ∷ digits) ≡ true = ap is_numeral e ∙ spelled_numeral n h in cc d
 
 -- a minus before what spells no number other than 0
-pub no_negative : (word digits : List ℕ) → word ≡ 45 ∷ digits → ((n : ℕ) → n ≤ 2 ^ 45 → 0 < n → digits ≢ decimal n) → (v : ℤ) → IsSmall v → word ≢ signed_decimal v
+pub no_negative : (word digits : List ℕ) → word ≡ 45 ∷ digits → ((n : ℕ) → n ≤ 2 ^ 45 → 0 < n → digits ≢ decimal n) → (v : ℤ) → IsSmall v →
+    word ≢ signed_decimal v
 no_negative word digits w none (pos n) small e = no_minus n digits (omega arith) (sym w ∙ e)
 no_negative word digits w none (negsuc n) small e = none (suc n) small (omega arith) (let f : digits ≡ decimal (suc n) = cc in f)
 

@@ -1,5 +1,6 @@
 -- How long lines and words are together, and how long the events of a script's calls are.
-use Rattle.std.proofs.Common.{◌≡◌, ℕ, ◌+◌, ◌*◌, ◌≤◌, Bool, true, false, cond, List, [], ◌∷◌, ◌++◌, length, map, ap, inl, inr, arith, length-append, MatchBool}
+use Rattle.std.proofs.Common.{◌≡◌, ℕ, ◌+◌, ◌*◌, ◌≤◌, Bool, true, false, cond, List, [], ◌∷◌, ◌++◌, length, map, ap, inl, inr, arith}
+use Rattle.std.proofs.Common.{length-append, MatchBool}
 use Rattle.std.specs.Prelude.{◌==◌}
 use Rattle.std.specs.List.{onto_first}
 use Rattle.std.specs.Fmt.{signed_decimal}
@@ -27,7 +28,8 @@ lengths-pieces : (c : ℕ) (text : List ℕ) → lengths (pieces c text) ≤ len
 lengths-pieces c [] = omega arith
 lengths-pieces c (b ∷ text) = by (b == c) (lengths-pieces c text)
   where
-    by : (t : Bool) → lengths (pieces c text) ≤ length text → lengths (cond t ([] ∷ pieces c text) (onto_first b (pieces c text))) ≤ length (b ∷ text)
+    by : (t : Bool) → lengths (pieces c text) ≤ length text →
+        lengths (cond t ([] ∷ pieces c text) (onto_first b (pieces c text))) ≤ length (b ∷ text)
     by true ih = omega arith
     by false ih = omega (arith, lengths-onto_first b (pieces c text))
 
@@ -41,7 +43,16 @@ words_few ((b ∷ p) ∷ ps) = omega (arith, words_few ps)
 call_short : (d : Design) (line : List ℕ) (call : Call) → IsCallLine d line call → begin_size call ≤ 10 * length line
 call_short d line call h =
     let rest = h.tape_words ++ ask_words call.ask in
-    omega (arith, words_few (pieces 32 line), lengths-pieces 32 line, ap length h.spelled, length-append (map signed_decimal call.params) rest, length-append h.tape_words (ask_words call.ask), length-map call.params signed_decimal, tape_long h.tape_words call h.taped)
+    omega (
+      arith,
+      words_few (pieces 32 line),
+      lengths-pieces 32 line,
+      ap length h.spelled,
+      length-append (map signed_decimal call.params) rest,
+      length-append h.tape_words (ask_words call.ask),
+      length-map call.params signed_decimal,
+      tape_long h.tape_words call h.taped,
+    )
   where
     tape_long : (words : List (List ℕ)) (c : Call) → SpellTape words c.tape → length c.tape ≤ length words
     tape_long words c t =
@@ -51,14 +62,24 @@ call_short d line call h =
         ]
 
 -- and so are lines with calls
-says_short : (d : Design) (lines : List (List ℕ)) (calls : List Call) → AreSaid (SaysCall d) lines calls → begins_size calls ≤ 10 * lengths lines
+says_short : (d : Design) (lines : List (List ℕ)) (calls : List Call) → AreSaid (SaysCall d) lines calls →
+    begins_size calls ≤ 10 * lengths lines
 says_short d [] calls h = omega (arith, ap begins_size h)
 says_short d (line ∷ lines) calls h = by (is_skipped line) h (says_short d lines)
   where
-    by : (b : Bool) → MatchBool b (AreSaid (SaysCall d) lines calls) (Says (SaysCall d) line (AreSaid (SaysCall d) lines) calls) → ((xs : List Call) → AreSaid (SaysCall d) lines xs → begins_size xs ≤ 10 * lengths lines) → begins_size calls ≤ 10 * lengths (line ∷ lines)
+    by : (b : Bool) → MatchBool b (AreSaid (SaysCall d) lines calls) (Says (SaysCall d) line (AreSaid (SaysCall d) lines) calls) →
+        ((xs : List Call) → AreSaid (SaysCall d) lines xs → begins_size xs ≤ 10 * lengths lines) →
+        begins_size calls ≤ 10 * lengths (line ∷ lines)
     by true g ih = omega (arith, ih calls g)
     by false g ih =
-        omega (arith, ap begins_size g.parts, sum_by-append begin_size g.here g.behind, ap begins_size g.said.alone, call_short d line g.said.call g.said.asked, ih g.behind g.rest)
+        omega (
+          arith,
+          ap begins_size g.parts,
+          sum_by-append begin_size g.here g.behind,
+          ap begins_size g.said.alone,
+          call_short d line g.said.call g.said.asked,
+          ih g.behind g.rest,
+        )
 
 -- the events of a script's calls take at most ten bytes for each byte of the script
 pub script_short : (d : Design) (text : List ℕ) (calls : List Call) → IsScript d text calls → begins_size calls ≤ 10 * length text

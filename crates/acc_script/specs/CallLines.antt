@@ -1,5 +1,6 @@
 -- Scripts: a line asks for a transaction, by its type's name, its parameters, its tape, and after how many steps it is asked to turn.
-use Rattle.std.specs.Prelude.{◌≡◌, ◌⊎◌, ℕ, ◌<◌, ◌^◌, Bool, true, List, [], ◌∷◌, ◌++◌, map, position, slice_get, Option, Some, None, ℤ, codes}
+use Rattle.std.specs.Prelude.{◌≡◌, ◌⊎◌, ℕ, ◌<◌, ◌^◌, Bool, true, List, [], ◌∷◌, ◌++◌, map, position, slice_get, Option, Some, None, ℤ}
+use Rattle.std.specs.Prelude.{codes}
 use Rattle.std.specs.Fmt.{decimal, signed_decimal}
 use Rattle.std.specs.Str.{bytes_eq}
 use Rattle.acc_base.specs.declared.designs.Design.{Design}

@@ -87,7 +87,8 @@ module _ (names : List Unknown) where
     scaled_parts u n false = let none = ap (λ z. z *ℤ D) (*ℤ-zero n) ∙ zero-*ℤ D in omega (arith, ints, none)
 
     all_scaled : (ts : List (Unknown × ℤ)) → total (map (λ t. t.1 *ℤ scaled (is_bare_one t.0) t.0) ts)
-        ≡ total (map (λ t. t.1 *ℤ part names f (is_bare_one t.0) t.0) ts) +ℤ total (map (λ t. t.1 *ℤ unit names f (is_bare_one t.0)) ts) *ℤ D
+        ≡ total (map (λ t. t.1 *ℤ part names f (is_bare_one t.0) t.0) ts) +ℤ total (map (λ t. t.1 *ℤ unit names f (is_bare_one t.0)) ts) *ℤ
+        D
     all_scaled [] = let none = zero-*ℤ D in omega (arith, ints, none)
     all_scaled (t ∷ ts) =
         let here = scaled_parts t.0 t.1 (is_bare_one t.0) in
@@ -122,7 +123,8 @@ module _ (names : List Unknown) where
       terms_hold (Err e) a b = tt
 
       same : (constant : ℤ) → constant ≡ r.form.constant +ℤ total (map (λ t. t.1 *ℤ unit names (λ _. pos 0) (is_bare_one t.0)) r.form.terms)
-          → (terms : Sparse) (f : ℕ → ℤ) → worth f terms ≡ pos 0 +ℤ total (map (λ t. t.1 *ℤ part names f (is_bare_one t.0) t.0) r.form.terms)
+          → (terms : Sparse) (f : ℕ → ℤ) → worth f terms ≡ pos 0 +ℤ total
+          (map (λ t. t.1 *ℤ part names f (is_bare_one t.0) t.0) r.form.terms)
           → (D : ℤ) → constant *ℤ D +ℤ worth f terms ≡ rel_worth f D r
       same constant c terms f w D =
           let along = ap (λ z. z *ℤ D) c in

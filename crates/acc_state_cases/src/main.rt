@@ -6,7 +6,8 @@
 //!
 //! - `state ITEM; ITEM ..` makes calls of a fresh state, and asks about it. `begin CALL` gives the new number, `full` or `crowd`, for a
 //!   call as scripts spell it; `turn T` and `crash T` what they answer, or that there is no such transaction; `take EVENT` whether the
-//!   event is taken; `stuck`, `events`, `unfinished`, `is_unfinished T`, `reply T`, `dump` and questions about rows their answers. `fill N CALL`
+//!   event is taken; `stuck`, `events`, `unfinished`, `is_unfinished T`, `reply T`, `dump` and questions about rows their answers. `fill N
+//! CALL`
 //!   begins a call N times; `spend N CALL` begins it and turns it to its end, until there are at least N events.
 //! - `replay EVENT; EVENT ..` does events again: how many there are then, and the rows; or which of them, from 0, isn't lawful.
 //! - `compatible TYPE POINT LOCALS TYPE POINT LOCALS` tells by which entry two places aren't compatible.

@@ -24,10 +24,14 @@ use Rattle.acc_syntax.specs.declared.trees.TypeTree.{TypeTree}
 use Rattle.acc_syntax.specs.declared.trees.EntryTree.{EntryTree}
 use Rattle.acc_syntax.specs.declared.trees.HintTree.{HintTree}
 use Rattle.acc_syntax.specs.declared.trees.DesignTree.{DesignTree}
-use Rattle.acc_syntax.specs.Spelling.{just, name, names, variable, sum, place, cell, guard, point_name, pairs, side_sign, clause, clause_statement, table, read_statement, values, action_statement, target_statement, names_statement, variant_statement, entry, hint, path, step, side, point, type_words, spelled_design}
+use Rattle.acc_syntax.specs.Spelling.{just, name, names, variable, sum, place, cell, guard, point_name, pairs, side_sign, clause}
+use Rattle.acc_syntax.specs.Spelling.{clause_statement, table, read_statement, values, action_statement, target_statement, names_statement}
+use Rattle.acc_syntax.specs.Spelling.{variant_statement, entry, hint, path, step, side, point, type_words, spelled_design}
 use Rattle.acc_statements.specs.Ends.{is_end, ends}
 use Rattle.acc_statements.specs.Counts.{if_there, path_statements, step_statements, point_statements, type_statements, statements_of}
-use Rattle.acc_statements.proofs.Within.{no_ends, behind, past_word, past_part, end_then, end_last, either, joined_none, joined_ones, joined_sum, name_none, names_none, variable_none, sum_none, sums_none, place_none, cell_none, guard_none, side_none, point_name_none, pairs_none}
+use Rattle.acc_statements.proofs.Within.{no_ends, behind, past_word, past_part, end_then, end_last, either, joined_none, joined_ones}
+use Rattle.acc_statements.proofs.Within.{joined_sum, name_none, names_none, variable_none, sum_none, sums_none, place_none, cell_none}
+use Rattle.acc_statements.proofs.Within.{guard_none, side_none, point_name_none, pairs_none}
 use Rattle.acc_statements.proofs.ClauseEnds.{clause_none}
 
 -- ---- a statement has one end
@@ -55,7 +59,8 @@ table_one t =
     past_part 1 (joined name t.columns) _ (joined_none name t.columns name_none) end_last)))
 
 -- a variable, =, and two parts
-assigned : (s : Sign) (x a : List Word) → is_end (word.Sign s) ≡ false → ends x ≡ 0 → ends a ≡ 0 → ends (just s ++ (x ++ (just sign.Equal ++ (a ++ just sign.End)))) ≡ 1
+assigned : (s : Sign) (x a : List Word) → is_end (word.Sign s) ≡ false → ends x ≡ 0 → ends a ≡ 0 →
+    ends (just s ++ (x ++ (just sign.Equal ++ (a ++ just sign.End)))) ≡ 1
 assigned s x a e h k = past_word 1 _ _ e (past_part 1 x _ h (past_word 1 _ _ refl (past_part 1 a _ k end_last)))
 
 read_one : (r : ReadTree) → ends (read_statement r) ≡ 1
@@ -79,7 +84,8 @@ values_none None = no_ends
 values_none (Some s) = sums_none s
 
 -- a word, and two parts
-ended_both : (s : Sign) (a b : List Word) → is_end (word.Sign s) ≡ false → ends a ≡ 0 → ends b ≡ 0 → ends (just s ++ (a ++ (b ++ just sign.End))) ≡ 1
+ended_both : (s : Sign) (a b : List Word) → is_end (word.Sign s) ≡ false → ends a ≡ 0 → ends b ≡ 0 →
+    ends (just s ++ (a ++ (b ++ just sign.End))) ≡ 1
 ended_both s a b e h k = past_word 1 _ _ e (past_part 1 a _ h (past_part 1 b _ k end_last))
 
 action_one : (a : ActionTree) → ends (action_statement a) ≡ 1
@@ -121,14 +127,18 @@ hint_one h =
 
 path_ends : (p : PathTree) → ends (path p) ≡ path_statements p
 path_ends p =
-    let rest = behind (length p.actions) 1 (joined action_statement p.actions) (target_statement p.target) (joined_ones action_statement p.actions action_one) (target_one p.target) in
-    let whole = past_word (1 + (length p.actions + 1)) (word.Sign sign.Path) _ refl (past_part (1 + (length p.actions + 1)) (guard p.guard) _ (guard_none p.guard) (end_then (length p.actions + 1) _ rest)) in
+    let rest = behind (length p.actions) 1 (joined action_statement p.actions) (target_statement p.target)
+    (joined_ones action_statement p.actions action_one) (target_one p.target) in
+    let whole = past_word (1 + (length p.actions + 1)) (word.Sign sign.Path) _ refl
+    (past_part (1 + (length p.actions + 1)) (guard p.guard) _ (guard_none p.guard) (end_then (length p.actions + 1) _ rest)) in
     omega (arith, whole)
 
 step_ends : (s : StepTree) → 1 + ends (step s) ≡ step_statements s
 step_ends s =
-    let paths = behind (path_statements s.first) (sum_by path_statements s.others) (path s.first) (joined path s.others) (path_ends s.first) (joined_sum path path_statements s.others path_ends) in
-    let whole = behind (length s.reads) (path_statements s.first + sum_by path_statements s.others) (joined read_statement s.reads) _ (joined_ones read_statement s.reads read_one) paths in
+    let paths = behind (path_statements s.first) (sum_by path_statements s.others) (path s.first) (joined path s.others) (path_ends s.first)
+    (joined_sum path path_statements s.others path_ends) in
+    let whole = behind (length s.reads) (path_statements s.first + sum_by path_statements s.others) (joined read_statement s.reads) _
+    (joined_ones read_statement s.reads read_one) paths in
     omega (arith, whole)
 
 side_ends : (s : Sign) (st : StepTree) → is_end (word.Sign s) ≡ false → ends (side s st) ≡ step_statements st
@@ -138,22 +148,31 @@ side_ends s st e =
 
 point_ends : (p : PointTree) → ends (point p) ≡ point_statements p
 point_ends p =
-    let sides = behind (step_statements p.next) (step_statements p.undo) (side sign.Next p.next) (side sign.Undo p.undo) (side_ends sign.Next p.next refl) (side_ends sign.Undo p.undo refl) in
-    let held = behind (length p.holds) (step_statements p.next + step_statements p.undo) (joined (clause_statement sign.Holds) p.holds) _ (joined_ones (clause_statement sign.Holds) p.holds holds_one) sides in
-    let rest = behind (if_there p.variant) (length p.holds + (step_statements p.next + step_statements p.undo)) (variant_statement p.variant) _ (variant_ends p.variant) held in
+    let sides = behind (step_statements p.next) (step_statements p.undo) (side sign.Next p.next) (side sign.Undo p.undo)
+    (side_ends sign.Next p.next refl) (side_ends sign.Undo p.undo refl) in
+    let held = behind (length p.holds) (step_statements p.next + step_statements p.undo) (joined (clause_statement sign.Holds) p.holds) _
+    (joined_ones (clause_statement sign.Holds) p.holds holds_one) sides in
+    let rest = behind (if_there p.variant) (length p.holds + (step_statements p.next + step_statements p.undo))
+    (variant_statement p.variant) _ (variant_ends p.variant) held in
     let count = if_there p.variant + (length p.holds + (step_statements p.next + step_statements p.undo)) in
-    let whole = past_word (1 + count) (word.Sign sign.Point) _ refl (past_word (1 + count) (word.Name p.name) _ refl (end_then count _ rest)) in
+    let whole = past_word (1 + count) (word.Sign sign.Point) _ refl
+    (past_word (1 + count) (word.Name p.name) _ refl (end_then count _ rest)) in
     omega (arith, whole)
 
 type_ends : (t : TypeTree) → ends (type_words t) ≡ type_statements t
 type_ends t =
-    let points = behind (point_statements t.first) (sum_by point_statements t.others) (point t.first) (joined point t.others) (point_ends t.first) (joined_sum point point_statements t.others point_ends) in
-    let repaired = behind (length t.repaired) _ (joined (clause_statement sign.Repairs) t.repaired) _ (joined_ones (clause_statement sign.Repairs) t.repaired repairs_one) points in
-    let ensured = behind (length t.ensured) _ (joined (clause_statement sign.Ensures) t.ensured) _ (joined_ones (clause_statement sign.Ensures) t.ensured ensures_one) repaired in
+    let points = behind (point_statements t.first) (sum_by point_statements t.others) (point t.first) (joined point t.others)
+    (point_ends t.first) (joined_sum point point_statements t.others point_ends) in
+    let repaired = behind (length t.repaired) _ (joined (clause_statement sign.Repairs) t.repaired) _
+    (joined_ones (clause_statement sign.Repairs) t.repaired repairs_one) points in
+    let ensured = behind (length t.ensured) _ (joined (clause_statement sign.Ensures) t.ensured) _
+    (joined_ones (clause_statement sign.Ensures) t.ensured ensures_one) repaired in
     let locals = behind (if_there t.locals) _ (names_statement sign.Local t.locals) _ (local_ends t.locals) ensured in
     let returns = behind (if_there t.returns) _ (names_statement sign.Returns t.returns) _ (returns_ends t.returns) locals in
-    let limited = end_then _ _ (past_word _ (word.Sign sign.Limit) _ refl (past_word _ (word.Number t.limit) _ refl (end_then _ _ returns))) in
-    let whole = past_word _ (word.Sign sign.Type) _ refl (past_word _ (word.Name t.name) _ refl (past_part _ (joined name t.params) _ (joined_none name t.params name_none) limited)) in
+    let limited = end_then _ _ (past_word _ (word.Sign sign.Limit) _ refl (past_word _ (word.Number t.limit) _ refl (end_then _ _ returns)))
+    in
+    let whole = past_word _ (word.Sign sign.Type) _ refl
+    (past_word _ (word.Name t.name) _ refl (past_part _ (joined name t.params) _ (joined_none name t.params name_none) limited)) in
     omega (arith, whole)
 
 -- ---- the whole text
@@ -161,8 +180,11 @@ type_ends t =
 pub spelled_ends : (d : DesignTree) → ends (spelled_design d) ≡ statements_of d
 unfolding statements_of
 spelled_ends d =
-    let hints = behind (length d.entries) (length d.hints) (joined entry d.entries) (joined hint d.hints) (joined_ones entry d.entries entry_one) (joined_ones hint d.hints hint_one) in
-    let types = behind (sum_by type_statements d.types) _ (joined type_words d.types) _ (joined_sum type_words type_statements d.types type_ends) hints in
-    let always = behind (length d.always) _ (joined (clause_statement sign.Always) d.always) _ (joined_ones (clause_statement sign.Always) d.always always_one) types in
+    let hints = behind (length d.entries) (length d.hints) (joined entry d.entries) (joined hint d.hints)
+    (joined_ones entry d.entries entry_one) (joined_ones hint d.hints hint_one) in
+    let types = behind (sum_by type_statements d.types) _ (joined type_words d.types) _
+    (joined_sum type_words type_statements d.types type_ends) hints in
+    let always = behind (length d.always) _ (joined (clause_statement sign.Always) d.always) _
+    (joined_ones (clause_statement sign.Always) d.always always_one) types in
     let whole = behind (length d.tables) _ (joined table d.tables) _ (joined_ones table d.tables table_one) always in
     omega (arith, whole)

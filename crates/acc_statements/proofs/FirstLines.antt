@@ -1,5 +1,6 @@
 -- The first lines of a text.
-use Rattle.std.proofs.Common.{◌≡◌, ◌≢◌, ℕ, zero, suc, ◌+◌, ◌-◌, ◌<◌, ◌≤◌, Bool, true, false, cond, List, [], ◌∷◌, ◌++◌, length, take, drop, get_or, refl, sym, ap, ◌∙◌, inl, inr, arith, add-one, append_assoc, length-drop, Some, None}
+use Rattle.std.proofs.Common.{◌≡◌, ◌≢◌, ℕ, zero, suc, ◌+◌, ◌-◌, ◌<◌, ◌≤◌, Bool, true, false, cond, List, [], ◌∷◌, ◌++◌, length, take, drop}
+use Rattle.std.proofs.Common.{get_or, refl, sym, ap, ◌∙◌, inl, inr, arith, add-one, append_assoc, length-drop, Some, None}
 use Rattle.std.proofs.Math.Seq.{take-suc, drop-cons, take-length}
 use Rattle.std.specs.List.{position, position_or_len}
 use Rattle.std.proofs.lemmas.Grind.{common_steps}
@@ -104,7 +105,8 @@ lines_fed zero text h = tt
 lines_fed (suc n) [] h = tt
 lines_fed (suc n) (b ∷ bs) h = elim (flag (b == 10)) [
   | inl e ↦ feed_then b (first_lines (next b n) bs) (eqb-true b 10 e) (lines_fed (next b n) bs (next_le b n bs h))
-  | inr e ↦ (let k = feeds_past b bs e in let l : suc n ≤ feeds bs = omega (arith, k, h) in rw e (byte_then b n bs l (lines_fed (suc n) bs l)))
+  | inr e ↦ (let k = feeds_past b bs e in let l : suc n ≤ feeds bs = omega (arith, k, h) in
+      rw e (byte_then b n bs l (lines_fed (suc n) bs l)))
 ]
 
 -- ---- lines and any front of a text
@@ -118,7 +120,8 @@ lines_within (suc n) zero (b ∷ bs) h = absurd (omega (arith, h))
 lines_within (suc n) (suc k) (b ∷ bs) h = let r = lines_within (next b n) k bs (next_le b n (take k bs) h) in (r.0, (λ i. b ∷ r.1 i))
 
 -- more lines than that have the front and the byte behind it
-pub lines_past : (n k : ℕ) (text : List ℕ) → feeds (take k text) < n → n ≤ feeds text → (k < length text) × ((rest : List ℕ) × (first_lines n text ≡ take (suc k) text ++ rest))
+pub lines_past : (n k : ℕ) (text : List ℕ) → feeds (take k text) < n → n ≤ feeds text → (k < length text) ×
+    ((rest : List ℕ) × (first_lines n text ≡ take (suc k) text ++ rest))
 lines_past zero k text h l = absurd (omega (arith, h))
 lines_past (suc n) k [] h l = absurd (omega (arith, l))
 lines_past (suc n) zero (b ∷ bs) h l = (omega arith, (first_lines (next b n) bs, refl))
@@ -129,21 +132,27 @@ lines_past (suc n) (suc k) (b ∷ bs) h l =
 -- ---- going over a text byte by byte
 
 -- a byte is gone over
-front_step : (m i : ℕ) (text : List ℕ) → i < length text → take i text ++ first_lines (suc m) (drop i text) ≡ take (i + 1) text ++ first_lines (next (get_or text i 0) m) (drop (i + 1) text)
+front_step : (m i : ℕ) (text : List ℕ) → i < length text →
+    take i text ++ first_lines (suc m) (drop i text) ≡ take (i + 1) text ++ first_lines (next (get_or text i 0) m) (drop (i + 1) text)
 front_step m i text h =
     let behind : List ℕ = first_lines (next (get_or text i 0) m) (drop (suc i) text) in
     let front : take (suc i) text ≡ take i text ++ (get_or text i 0 ∷ []) = take-suc text i 0 h in
-    ap (λ (z : List ℕ). take i text ++ first_lines (suc m) z) (drop-cons text i 0 h) ∙ sym (append_assoc (take i text) (get_or text i 0 ∷ []) behind) ∙ ap (λ (z : List ℕ). z ++ behind) (sym front) ∙ ap (λ (z : ℕ). take z text ++ first_lines (next (get_or text i 0) m) (drop z text)) (sym (add-one i))
+    ap (λ (z : List ℕ). take i text ++ first_lines (suc m) z) (drop-cons text i 0 h) ∙ sym
+    (append_assoc (take i text) (get_or text i 0 ∷ []) behind) ∙ ap (λ (z : List ℕ). z ++ behind) (sym front) ∙ ap
+    (λ (z : ℕ). take z text ++ first_lines (next (get_or text i 0) m) (drop z text)) (sym (add-one i))
 
 -- a line feed is gone over
-pub front_at_feed : (left i : ℕ) (text : List ℕ) → i < length text → get_or text i 0 ≡ 10 → left ≢ 0 → take i text ++ first_lines left (drop i text) ≡ take (i + 1) text ++ first_lines (left - 1) (drop (i + 1) text)
+pub front_at_feed : (left i : ℕ) (text : List ℕ) → i < length text → get_or text i 0 ≡ 10 → left ≢ 0 →
+    take i text ++ first_lines left (drop i text) ≡ take (i + 1) text ++ first_lines (left - 1) (drop (i + 1) text)
 front_at_feed zero i text h is some = absurd (some refl)
 front_at_feed (suc m) i text h is some =
     let less : m ≡ suc m - 1 = omega arith in
-    front_step m i text h ∙ ap (λ (z : ℕ). take (i + 1) text ++ first_lines (next z m) (drop (i + 1) text)) is ∙ ap (λ (z : ℕ). take (i + 1) text ++ first_lines z (drop (i + 1) text)) less
+    front_step m i text h ∙ ap (λ (z : ℕ). take (i + 1) text ++ first_lines (next z m) (drop (i + 1) text)) is ∙ ap
+    (λ (z : ℕ). take (i + 1) text ++ first_lines z (drop (i + 1) text)) less
 
 -- any other byte is gone over
-pub front_past_feed : (left i : ℕ) (text : List ℕ) → i < length text → get_or text i 0 ≢ 10 → left ≢ 0 → take i text ++ first_lines left (drop i text) ≡ take (i + 1) text ++ first_lines left (drop (i + 1) text)
+pub front_past_feed : (left i : ℕ) (text : List ℕ) → i < length text → get_or text i 0 ≢ 10 → left ≢ 0 →
+    take i text ++ first_lines left (drop i text) ≡ take (i + 1) text ++ first_lines left (drop (i + 1) text)
 front_past_feed zero i text h not some = absurd (some refl)
 front_past_feed (suc m) i text h not some = elim (flag (get_or text i 0 == 10)) [
   | inl e ↦ absurd (not (eqb-true (get_or text i 0) 10 e))
@@ -160,14 +169,19 @@ no_feeds text (suc i) h none =
     ap (λ (z : ℕ). feeds (take z text)) (sym (add-one i)) ∙ more ∙ before
 
 -- the first line, its line feed, and what stands behind
-pub first_cut : (text : List ℕ) (end : ℕ) → position (λ b. b == 10) text ≡ Some end → (text ≡ take end text ++ (10 ∷ take (length text - (end + 1)) (drop (end + 1) text))) × (feeds (take end text) ≡ 0)
+pub first_cut : (text : List ℕ) (end : ℕ) → position (λ b. b == 10) text ≡ Some end →
+    (text ≡ take end text ++ (10 ∷ take (length text - (end + 1)) (drop (end + 1) text))) × (feeds (take end text) ≡ 0)
 first_cut text end e =
     let p = position-Some (λ b. b == 10) text end 0 e in
     let feed : get_or text end 0 ≡ 10 = eqb-true (get_or text end 0) 10 p.1 in
     let behind : List ℕ = drop (end + 1) text in
-    let all : take (length text - (end + 1)) behind ≡ behind = ap (λ (z : ℕ). take z behind) (sym (length-drop (end + 1) text)) ∙ take-length behind in
-    let split : drop end text ≡ 10 ∷ behind = drop-cons text end 0 p.0 ∙ ap (λ (z : ℕ). z ∷ drop (suc end) text) feed ∙ ap (λ (z : ℕ). 10 ∷ drop z text) (sym (add-one end)) in
-    (sym (take-append-drop end text) ∙ ap (λ (z : List ℕ). take end text ++ z) (split ∙ ap (λ (z : List ℕ). 10 ∷ z) (sym all)), no_feeds text end (omega (arith, p.0)) p.2)
+    let all : take (length text - (end + 1)) behind ≡ behind =
+    ap (λ (z : ℕ). take z behind) (sym (length-drop (end + 1) text)) ∙ take-length behind in
+    let split : drop end text ≡ 10 ∷ behind = drop-cons text end 0 p.0 ∙ ap (λ (z : ℕ). z ∷ drop (suc end) text) feed ∙ ap
+    (λ (z : ℕ). 10 ∷ drop z text) (sym (add-one end)) in (
+      sym (take-append-drop end text) ∙ ap (λ (z : List ℕ). take end text ++ z) (split ∙ ap (λ (z : List ℕ). 10 ∷ z) (sym all)),
+      no_feeds text end (omega (arith, p.0)) p.2,
+    )
 
 none_is : (b : Bool) (i : ℕ) → cond b (Some i) None ≡ None → b ≡ false
 none_is true i e = absurd (let wrong : is_some (Some i) ≡ false = ap is_some e in cc)
@@ -179,4 +193,5 @@ one_line text e =
     let place : ℕ = position_or_len (λ b. b == 10) text in
     let outside : nat_lt place (length text) ≡ false = none_is (nat_lt place (length text)) place e in
     let past : length text ≤ place = grind (arith, common_steps) in
-    ap feeds (sym (take-length text)) ∙ no_feeds text (length text) (omega arith) (λ k lt. fails_before_first (λ b. b == 10) text k 0 (omega (arith, lt, past)))
+    ap feeds (sym (take-length text)) ∙ no_feeds text (length text) (omega arith)
+    (λ k lt. fails_before_first (λ b. b == 10) text k 0 (omega (arith, lt, past)))

@@ -10,7 +10,8 @@ use Rattle.acc_statements.proofs.FirstLines.{later_lines, lines_fed}
 use Rattle.acc_statements.proofs.Within.{ends_both}
 
 -- of more lines at least as many statements end
-more_ends : (text : List ℕ) (m n : ℕ) (v w : List Word) → m ≤ n → m ≤ feeds text → IsLexed (first_lines m text) v → IsLexed (first_lines n text) w → ends v ≤ ends w
+more_ends : (text : List ℕ) (m n : ℕ) (v w : List Word) → m ≤ n → m ≤ feeds text → IsLexed (first_lines m text) v →
+    IsLexed (first_lines n text) w → ends v ≤ ends w
 more_ends text m n v w le few k l =
     let r = later_lines m n text le in
     let p = fed_parted (first_lines m text) r.0 w (lines_fed m text few) (subst (λ (z : List ℕ). IsLexed z w) r.1 l) in

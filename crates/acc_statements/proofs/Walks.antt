@@ -23,7 +23,17 @@ pub record IsAt (text rest : List ℕ) (number from n : ℕ) : Type 0 where
   pub few : from ≤ n
 
 pub at_start : (text : List ℕ) (n : ℕ) → IsAt text text 1 0 n
-at_start text n = record { front = []; fed = tt; whole = refl; words = []; lexed = nothing_lexed; counted = sym no_ends; line = refl; few = omega arith }
+at_start text n = record {
+  front = [];
+  fed = tt;
+  whole = refl;
+  words = [];
+  lexed = nothing_lexed;
+  counted = sym no_ends;
+  line = refl;
+  few =
+      omega arith;
+}
 
 -- the words of what is left, and of how many more statements they are the end
 pub record IsLeft (text rest : List ℕ) (from n : ℕ) : Type 0 where
@@ -50,7 +60,8 @@ pub record IsNext (l : List ℕ) (from : ℕ) : Type 0 where
   pub lexed : IsLexed l words
   pub few : from + ends words < 2 ^ 64
 
-pub next_at : (text rest l behind : List ℕ) (number from n : ℕ) → HasStatement text n → IsAt text rest number from n → Comes rest l behind → IsNext l from
+pub next_at : (text rest l behind : List ℕ) (number from n : ℕ) → HasStatement text n → IsAt text rest number from n → Comes rest l behind →
+    IsNext l from
 next_at text rest l behind number from n s a c =
     let left = left_at text rest number from n s a in
     let p = lexed_cut l behind left.words (subst (λ (z : List ℕ). IsLexed z left.words) c.0 left.lexed) in
@@ -58,11 +69,13 @@ next_at text rest l behind number from n s a c =
     record { words = p.front; lexed = p.first; few = omega (arith, sum, left.few) }
 
 -- the lines so far and a further one, with the words of both
-further_lexed : (text rest l behind : List ℕ) (w : List Word) (number from n : ℕ) → (a : IsAt text rest number from n) → Comes rest l behind → IsLexed l w → IsLexed (longer a.front l) (a.words ++ w)
+further_lexed : (text rest l behind : List ℕ) (w : List Word) (number from n : ℕ) → (a : IsAt text rest number from n) →
+    Comes rest l behind → IsLexed l w → IsLexed (longer a.front l) (a.words ++ w)
 further_lexed text rest l behind w number from n a c k = fed_both a.front (l ++ (10 ∷ [])) a.words w a.fed a.lexed (with_feed l w k)
 
 -- a line on which the statement doesn't end
-pub at_next : (text rest l behind : List ℕ) (w : List Word) (number from to n : ℕ) → IsAt text rest number from n → Comes rest l behind → IsLexed l w → to ≡ from + ends w → to ≤ n → IsAt text behind (number + 1) to n
+pub at_next : (text rest l behind : List ℕ) (w : List Word) (number from to n : ℕ) → IsAt text rest number from n → Comes rest l behind →
+    IsLexed l w → to ≡ from + ends w → to ≤ n → IsAt text behind (number + 1) to n
 at_next text rest l behind w number from to n a c k is le = record {
   front = longer a.front l;
   fed = fed_line a.front l a.fed;
@@ -75,17 +88,21 @@ at_next text rest l behind w number from to n a c k is le = record {
 }
 
 -- the lines before the next one
-before_lexed : (text rest : List ℕ) (number from n : ℕ) → (a : IsAt text rest number from n) → IsLexed (first_lines (number - 1) text) a.words
+before_lexed : (text rest : List ℕ) (number from n : ℕ) → (a : IsAt text rest number from n) →
+    IsLexed (first_lines (number - 1) text) a.words
 before_lexed text rest number from n a =
     let is : feeds a.front ≡ number - 1 = omega (arith, a.line) in
-    subst (λ (z : List ℕ). IsLexed z a.words) (sym (first_are text a.front rest a.fed a.whole) ∙ ap (λ (z : ℕ). first_lines z text) is) a.lexed
+    subst (λ (z : List ℕ). IsLexed z a.words) (sym (first_are text a.front rest a.fed a.whole) ∙ ap (λ (z : ℕ). first_lines z text) is)
+    a.lexed
 
 -- the statements of a line that has its line feed
-pub on_line : (text rest l behind : List ℕ) (w : List Word) (number from to n : ℕ) → IsAt text rest number from n → Comes rest l behind → IsLexed l w → to ≡ from + ends w → OnLine text number from to
+pub on_line : (text rest l behind : List ℕ) (w : List Word) (number from to n : ℕ) → IsAt text rest number from n → Comes rest l behind →
+    IsLexed l w → to ≡ from + ends w → OnLine text number from to
 on_line text rest l behind w number from to n a c k is =
     let whole = longer_whole text a.front rest l behind a.whole c.0 in
     let line : feeds (longer a.front l) ≡ number = omega (arith, longer_feeds a.front l c.1, a.line) in
-    let first : longer a.front l ≡ first_lines number text = sym (first_are text (longer a.front l) behind (fed_line a.front l a.fed) whole) ∙ ap (λ (z : ℕ). first_lines z text) line in
+    let first : longer a.front l ≡ first_lines number text =
+    sym (first_are text (longer a.front l) behind (fed_line a.front l a.fed) whole) ∙ ap (λ (z : ℕ). first_lines z text) line in
     record {
       low = omega (arith, a.line);
       high = omega (arith, feeds_front text (longer a.front l) behind whole, line);
@@ -98,7 +115,8 @@ on_line text rest l behind w number from to n a c k is =
     }
 
 -- those of the last line, which has none
-pub on_last : (text rest : List ℕ) (w : List Word) (number from to n : ℕ) → IsAt text rest number from n → feeds rest ≡ 0 → IsLexed rest w → to ≡ from + ends w → OnLine text number from to
+pub on_last : (text rest : List ℕ) (w : List Word) (number from to n : ℕ) → IsAt text rest number from n → feeds rest ≡ 0 → IsLexed rest w →
+    to ≡ from + ends w → OnLine text number from to
 on_last text rest w number from to n a none k is =
     let count = feeds_front text a.front rest a.whole in
     let all : text ≡ first_lines number text = sym (all_lines number text (omega (arith, count, none, a.line))) in

@@ -1,5 +1,6 @@
 -- How many ends words have: none within a statement.
-use Rattle.std.proofs.Common.{◌≡◌, ℕ, ◌+◌, ◌≤◌, Bool, true, false, cond, List, [], ◌∷◌, ◌++◌, length, Option, Some, None, refl, sym, ◌∙◌, arith}
+use Rattle.std.proofs.Common.{◌≡◌, ℕ, ◌+◌, ◌≤◌, Bool, true, false, cond, List, [], ◌∷◌, ◌++◌, length, Option, Some, None, refl, sym, ◌∙◌}
+use Rattle.std.proofs.Common.{arith}
 use Rattle.std.specs.Prelude.{sum_by, if◌then◌else◌}
 use Rattle.std.proofs.lemmas.List.Sums.{sum_by-append, sum_by-cons, count_by-le-length}
 use Rattle.acc_grammar.specs.Readers.{joined}
@@ -25,7 +26,8 @@ use Rattle.acc_syntax.specs.declared.trees.PairTree.{PairTree}
 use Rattle.acc_syntax.specs.declared.trees.Pairs.{Pairs}
 use Rattle.acc_syntax.specs.declared.trees.SideTree.{SideTree}
 use Rattle.acc_syntax.specs.declared.trees.SideTree.TheVariants as side_tree
-use Rattle.acc_syntax.specs.Spelling.{just, name, number, names, further, variable, term, signed_term, sum, sums, place, cell, relation_sign, lin_rel, guard, side_sign, point_name, pair, pairs}
+use Rattle.acc_syntax.specs.Spelling.{just, name, number, names, further, variable, term, signed_term, sum, sums, place, cell}
+use Rattle.acc_syntax.specs.Spelling.{relation_sign, lin_rel, guard, side_sign, point_name, pair, pairs}
 use Rattle.acc_statements.specs.Ends.{is_end, ends}
 
 -- ---- words, one behind another
@@ -84,9 +86,11 @@ pub joined_ones : {T : Type 0} (spell : T → List Word) (xs : List T) → ((x :
 joined_ones spell [] h = no_ends
 joined_ones spell (x ∷ xs) h = omega (arith, behind 1 (length xs) (spell x) (joined spell xs) (h x) (joined_ones spell xs h))
 
-pub joined_sum : {T : Type 0} (spell : T → List Word) (count : T → ℕ) (xs : List T) → ((x : T) → ends (spell x) ≡ count x) → ends (joined spell xs) ≡ sum_by count xs
+pub joined_sum : {T : Type 0} (spell : T → List Word) (count : T → ℕ) (xs : List T) → ((x : T) → ends (spell x) ≡ count x) →
+    ends (joined spell xs) ≡ sum_by count xs
 joined_sum spell count [] h = no_ends
-joined_sum spell count (x ∷ xs) h = behind (count x) (sum_by count xs) (spell x) (joined spell xs) (h x) (joined_sum spell count xs h) ∙ sym (sum_by-cons count x xs)
+joined_sum spell count (x ∷ xs) h = behind (count x) (sum_by count xs) (spell x) (joined spell xs) (h x) (joined_sum spell count xs h) ∙ sym
+    (sum_by-cons count x xs)
 
 pub further_none : {T : Type 0} (spell : T → List Word) → ((x : T) → ends (spell x) ≡ 0) → (x : T) → ends (further spell x) ≡ 0
 further_none spell h x = past_word 0 _ (spell x) refl (h x)
@@ -121,7 +125,8 @@ signed_term_none : (s : SignedTerm) → ends (signed_term s) ≡ 0
 signed_term_none s = past_part 0 _ (term s.term) (sign_none s.minus) (term_none s.term)
 
 pub sum_none : (s : Sum) → ends (sum s) ≡ 0
-sum_none s = past_part 0 _ _ (minus_none s.minus) (past_part 0 (term s.first) _ (term_none s.first) (joined_none signed_term s.others signed_term_none))
+sum_none s = past_part 0 _ _ (minus_none s.minus)
+    (past_part 0 (term s.first) _ (term_none s.first) (joined_none signed_term s.others signed_term_none))
 
 pub sums_none : (s : Sums) → ends (sums s) ≡ 0
 sums_none s = past_part 0 (sum s.first) _ (sum_none s.first) (joined_none (further sum) s.others (further_none sum sum_none))
@@ -146,7 +151,8 @@ lin_rel_none r = compared_none (sum r.left) (sum r.right) r.relation (sum_none r
 
 pub guard_none : (g : Option LinRels) → ends (guard g) ≡ 0
 guard_none None = no_ends
-guard_none (Some rs) = past_part 0 (lin_rel rs.first) _ (lin_rel_none rs.first) (joined_none (further lin_rel) rs.others (further_none lin_rel lin_rel_none))
+guard_none (Some rs) = past_part 0 (lin_rel rs.first) _ (lin_rel_none rs.first)
+    (joined_none (further lin_rel) rs.others (further_none lin_rel lin_rel_none))
 
 pub side_none : (s : SideTree) → ends (just (side_sign s)) ≡ 0
 side_none side_tree.Next = past_word 0 _ [] refl no_ends
@@ -160,4 +166,5 @@ pair_none p = past_part 0 (variable p.held) _ (variable_none p.held) (past_word 
 
 pub pairs_none : (ps : Option Pairs) → ends (pairs ps) ≡ 0
 pairs_none None = no_ends
-pairs_none (Some ps) = past_word 0 _ _ refl (past_part 0 (pair ps.first) _ (pair_none ps.first) (joined_none (further pair) ps.others (further_none pair pair_none)))
+pairs_none (Some ps) = past_word 0 _ _ refl (past_part 0 (pair ps.first) _ (pair_none ps.first)
+    (joined_none (further pair) ps.others (further_none pair pair_none)))

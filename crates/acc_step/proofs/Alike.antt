@@ -1,5 +1,6 @@
 -- Numbers that are the same or both far from 0 on the same side: each is in range, is 0 or is at most 0 where the other is.
-use Rattle.std.proofs.Common.{◌≡◌, Bool, true, false, ap, sym, ◌∙◌, refl, arith, ℤ, pos, negsuc, ◌<ℤ◌, ◌^◌, inl, inr, Some, None, if◌then◌else◌}
+use Rattle.std.proofs.Common.{◌≡◌, Bool, true, false, ap, sym, ◌∙◌, refl, arith, ℤ, pos, negsuc, ◌<ℤ◌, ◌^◌, inl, inr, Some, None}
+use Rattle.std.proofs.Common.{if◌then◌else◌}
 use Rattle.std.specs.Prelude.{int_le, Decides}
 use Rattle.std.specs.Ordering.{int_eq}
 use Rattle.std.proofs.lemmas.Int.{ints}

@@ -30,20 +30,26 @@ module _ (p : Place) (ws vs : List Write) (db : List Row) where
       ap (λ xs. written xs db) e ∙ sym (change_none p f (written ws db) (none_found (find here (written ws db)) h))
 
   -- a change of a row that is there is a write of the changed one
-  change_there : (f : Row → Row) (cols new : List ℤ) → IsInOrder db → columns_at p (written ws db) ≡ Some cols → ((r : Row) → r.cols ≡ cols → f r ≡ row_of (place_of r) new) → vs ≡ with_write ws (Some (Puts (row_of p new))) → written vs db ≡ change_row p.0 p.1 f (written ws db)
+  change_there : (f : Row → Row) (cols new : List ℤ) → IsInOrder db → columns_at p (written ws db) ≡ Some cols →
+      ((r : Row) → r.cols ≡ cols → f r ≡ row_of (place_of r) new) → vs ≡ with_write ws (Some (Puts (row_of p new))) →
+      written vs db ≡ change_row p.0 p.1 f (written ws db)
   change_there f cols new order h made e = write_more (Puts (row_of p new)) e ∙ by (find here (written ws db)) refl h
     where
-      by : (o : Option Row) → find here (written ws db) ≡ o → columns_of o ≡ Some cols → put (row_of p new) (written ws db) ≡ change_row p.0 p.1 f (written ws db)
+      by : (o : Option Row) → find here (written ws db) ≡ o → columns_of o ≡ Some cols →
+          put (row_of p new) (written ws db) ≡ change_row p.0 p.1 f (written ws db)
       by None g k = cc
       by (Some r) g k =
           let at : p ≡ place_of r = found_at p (written ws db) r g in
           let same : r.cols ≡ cols = cc in
-          sym (change_put p f (row_of p new) r (written ws db) refl (written_in_order ws db order) g (made r same ∙ ap (λ q. row_of q new) (sym at)))
+          sym (change_put p f (row_of p new) r (written ws db) refl (written_in_order ws db order) g
+          (made r same ∙ ap (λ q. row_of q new) (sym at)))
 
-  pub set_changed : (c : ℕ) (v : ℤ) → IsInOrder db → vs ≡ with_write ws (set_of p c v (columns_at p (written ws db))) → written vs db ≡ change_row p.0 p.1 (set_cell c v) (written ws db)
+  pub set_changed : (c : ℕ) (v : ℤ) → IsInOrder db → vs ≡ with_write ws (set_of p c v (columns_at p (written ws db))) →
+      written vs db ≡ change_row p.0 p.1 (set_cell c v) (written ws db)
   set_changed c v order e = by (columns_at p (written ws db)) refl e
     where
-      by : (o : Option (List ℤ)) → columns_at p (written ws db) ≡ o → vs ≡ with_write ws (set_of p c v o) → written vs db ≡ change_row p.0 p.1 (set_cell c v) (written ws db)
+      by : (o : Option (List ℤ)) → columns_at p (written ws db) ≡ o → vs ≡ with_write ws (set_of p c v o) →
+          written vs db ≡ change_row p.0 p.1 (set_cell c v) (written ws db)
       by None h g = change_absent (set_cell c v) h g
       by (Some cols) h g =
           change_there (set_cell c v) cols (slice_set cols c v) order h (λ r same. ap (λ xs. row_of (place_of r) (slice_set xs c v)) same) g
@@ -52,16 +58,21 @@ module _ (p : Place) (ws vs : List Write) (db : List Row) where
     abbrev adds : Row → Row
     adds r = set_cell c (cell c r +ℤ v) r
 
-    pub add_changed : (w : Option Write) → IsInOrder db → Some w ≡ add_of side p c v (columns_at p (written ws db)) → vs ≡ with_write ws w → written vs db ≡ change_row p.0 p.1 adds (written ws db)
+    pub add_changed : (w : Option Write) → IsInOrder db → Some w ≡ add_of side p c v (columns_at p (written ws db)) → vs ≡ with_write ws w →
+        written vs db ≡ change_row p.0 p.1 adds (written ws db)
     add_changed w order d e = by (columns_at p (written ws db)) refl d
       where
-        there : (cols : List ℤ) (b : Bool) → columns_at p (written ws db) ≡ Some cols → Some w ≡ (if b then Some (Some (put_with p c (sum_in c v cols) cols)) else None) → written vs db ≡ change_row p.0 p.1 adds (written ws db)
+        there : (cols : List ℤ) (b : Bool) → columns_at p (written ws db) ≡ Some cols →
+            Some w ≡ (if b then Some (Some (put_with p c (sum_in c v cols) cols)) else None) →
+            written vs db ≡ change_row p.0 p.1 adds (written ws db)
         there cols true h g =
             let is : w ≡ Some (put_with p c (sum_in c v cols) cols) = cc in
-            change_there adds cols (slice_set cols c (sum_in c v cols)) order h (λ r same. ap (λ xs. row_of (place_of r) (slice_set xs c (sum_in c v xs))) same) (e ∙ ap (with_write ws) is)
+            change_there adds cols (slice_set cols c (sum_in c v cols)) order h
+            (λ r same. ap (λ xs. row_of (place_of r) (slice_set xs c (sum_in c v xs))) same) (e ∙ ap (with_write ws) is)
         there cols false h g = cc
 
-        by : (o : Option (List ℤ)) → columns_at p (written ws db) ≡ o → Some w ≡ add_of side p c v o → written vs db ≡ change_row p.0 p.1 adds (written ws db)
+        by : (o : Option (List ℤ)) → columns_at p (written ws db) ≡ o → Some w ≡ add_of side p c v o →
+            written vs db ≡ change_row p.0 p.1 adds (written ws db)
         by None h g = let none : w ≡ None = cc in change_absent adds h (e ∙ ap (with_write ws) none)
         by (Some cols) h g = there cols (may_store side (sum_in c v cols)) h g
 
@@ -69,7 +80,8 @@ module _ (p : Place) (ws vs : List Write) (db : List Row) where
     may_add = not (list_any here (written ws db)) || may_store side (column_of (written ws db) p.0 p.1 c +ℤ v)
 
     -- whether the sum may be stored, by the row that is there
-    pub may_add_by : (o : Option Row) → find here (written ws db) ≡ o → may_add ≡ (elim o [ None ↦ true | Some r ↦ may_store side (sum_in c v r.cols) ])
+    pub may_add_by : (o : Option Row) → find here (written ws db) ≡ o →
+        may_add ≡ (elim o [ None ↦ true | Some r ↦ may_store side (sum_in c v r.cols) ])
     may_add_by None f = ap (λ b. not b || may_store side (column_of (written ws db) p.0 p.1 c +ℤ v)) (any_none here (written ws db) f)
     may_add_by (Some r) f = (λ i. not (any_some here (written ws db) r f i) || may_store side (cell_of c (f i) +ℤ v))
 

@@ -24,12 +24,15 @@ use Rattle.acc_store.specs.Bounds.{AreWithin}
 use Rattle.acc_step.proofs.Bounds.{within_weaker, action_within}
 
 -- each action takes the values at most 2^45 farther from 0
-pub actions_within : (side : Side) (env : List ℤ) (acts : List Action) (m : ℕ) (db after : List Row) → 2 ^ 45 ≤ m → after_actions side env acts db ≡ Some after → AreWithin m db → AreWithin (m + length acts * 2 ^ 45) after
+pub actions_within : (side : Side) (env : List ℤ) (acts : List Action) (m : ℕ) (db after : List Row) → 2 ^ 45 ≤ m →
+    after_actions side env acts db ≡ Some after → AreWithin m db → AreWithin (m + length acts * 2 ^ 45) after
 actions_within side env [] m db after large e h =
     within_weaker m (m + 0 * 2 ^ 45) (omega arith) after (subst (AreWithin m) (same_Some db after e) h)
 actions_within side env (a ∷ rest) m db after large e h =
     let g = goes_on side env a rest db after e in
-    within_weaker ((m + 2 ^ 45) + length rest * 2 ^ 45) (m + length (a ∷ rest) * 2 ^ 45) (omega arith) after (actions_within side env rest (m + 2 ^ 45) (after_action env a db) after (omega arith) g.rest_goes (action_within env m large a db g.small h))
+    within_weaker ((m + 2 ^ 45) + length rest * 2 ^ 45) (m + length (a ∷ rest) * 2 ^ 45) (omega arith) after
+    (actions_within side env rest (m + 2 ^ 45) (after_action env a db) after (omega arith) g.rest_goes
+    (action_within env m large a db g.small h))
 
 -- from at most n rows, each of whose values is within m of 0
 pub record Leaves (n m : ℕ) (f : Frame) (after : List Row) (s : Reading) : Type 0 where
@@ -40,7 +43,9 @@ pub record Leaves (n m : ℕ) (f : Frame) (after : List Row) (s : Reading) : Typ
   pub kept : length s.locals ≡ length f.locals
   pub at : f.pos ≤ length f.tape → s.at ≤ length f.tape
 
-pub goes_leaves : (d : Design) (db : List Row) (f : Frame) (side : Side) (after : List Row) (s : Reading) (i : ℕ) (to : Target) (n m : ℕ) → effect_of d db f side ≡ Goes after s i to → IsRunnable d → IsSmallFrame f → IsInOrder db → length db ≤ n → AreWithin m db → 2 ^ 45 ≤ m → Leaves n m f after s
+pub goes_leaves : (d : Design) (db : List Row) (f : Frame) (side : Side) (after : List Row) (s : Reading) (i : ℕ) (to : Target) (n m : ℕ) →
+    effect_of d db f side ≡ Goes after s i to → IsRunnable d → IsSmallFrame f → IsInOrder db → length db ≤ n → AreWithin m db → 2 ^ 45 ≤ m →
+    Leaves n m f after s
 goes_leaves d db f side after s i to n m e runnable fits order few within large =
     let by = parts after s i to d db f side e in
     let env = variables f.t s.locals in
@@ -52,7 +57,8 @@ goes_leaves d db f side after s i to n m e runnable fits order few within large 
     record {
       order = actions_in_order side env by.path.actions db after by.actions order;
       few = omega arith;
-      within = within_weaker (m + length by.path.actions * 2 ^ 45) (m + 16 * 2 ^ 45) (omega arith) after (actions_within side env by.path.actions m db after large by.actions within);
+      within = within_weaker (m + length by.path.actions * 2 ^ 45) (m + 16 * 2 ^ 45) (omega arith) after
+          (actions_within side env by.path.actions m db after large by.actions within);
       small = read.small;
       kept = read.kept;
       at = read.at;

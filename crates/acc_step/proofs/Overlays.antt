@@ -20,7 +20,8 @@ pub written_in_order : (ws : List Write) (db : List Row) → IsInOrder db → Is
 written_in_order [] db order = order
 written_in_order (w ∷ ws) db order = written_in_order ws (write w db) (write_in_order w db order)
 
-pub columns_written : (p : Place) (w : Write) (db : List Row) → IsInOrder db → columns_step p w (columns_at p db) ≡ columns_at p (write w db)
+pub columns_written : (p : Place) (w : Write) (db : List Row) → IsInOrder db →
+    columns_step p w (columns_at p db) ≡ columns_at p (write w db)
 columns_written p (Puts r) db order = by (is_at p.0 p.1 r) ∙ sym (ap columns_of (find_put p r db))
   where
     by : (b : Bool) → (if b then Some r.cols else columns_at p db) ≡ columns_of (if b then Some r else find (is_at p.0 p.1) db)
@@ -28,12 +29,14 @@ columns_written p (Puts r) db order = by (is_at p.0 p.1 r) ∙ sym (ap columns_o
     by false = refl
 columns_written p (Gone t k) db order = by (is_eq (place_cmp p (t, k.parts))) refl
   where
-    by : (b : Bool) → is_eq (place_cmp p (t, k.parts)) ≡ b → (if b then None else columns_at p db) ≡ columns_of (find (is_at p.0 p.1) (drop_row t k.parts db))
+    by : (b : Bool) → is_eq (place_cmp p (t, k.parts)) ≡ b →
+        (if b then None else columns_at p db) ≡ columns_of (find (is_at p.0 p.1) (drop_row t k.parts db))
     by true h = sym (ap columns_of (find_dropped p (t, k.parts) db (is_equal (place_cmp p (t, k.parts)) h) order))
     by false h = sym (ap columns_of (find_kept p (t, k.parts) db h))
 
 -- the columns that the writes leave at a place are those of the row that stands there
-pub columns_are : (p : Place) (ws : List Write) (db : List Row) → IsInOrder db → columns_after p ws (columns_at p db) ≡ columns_at p (written ws db)
+pub columns_are : (p : Place) (ws : List Write) (db : List Row) → IsInOrder db →
+    columns_after p ws (columns_at p db) ≡ columns_at p (written ws db)
 columns_are p [] db order = refl
 columns_are p (w ∷ ws) db order =
     ap (columns_after p ws) (columns_written p w db order) ∙ columns_are p ws (write w db) (write_in_order w db order)

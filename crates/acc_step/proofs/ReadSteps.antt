@@ -1,5 +1,6 @@
 -- One read, and then the rest.
-use Rattle.std.proofs.Common.{◌≡◌, ℕ, ◌+◌, ◌<◌, Bool, true, false, cond, List, ◌∷◌, length, get_or, set, drop, ap, sym, ◌∙◌, refl, arith, ℤ, Option, Some, None}
+use Rattle.std.proofs.Common.{◌≡◌, ℕ, ◌+◌, ◌<◌, Bool, true, false, cond, List, ◌∷◌, length, get_or, set, drop, ap, sym, ◌∙◌, refl, arith, ℤ}
+use Rattle.std.proofs.Common.{Option, Some, None}
 use Rattle.std.specs.Prelude.{option_and_then}
 use Rattle.std.specs.List.{list_all}
 use Rattle.std.specs.Cmp.{first_so}
@@ -31,9 +32,15 @@ module _ (db : List Row) (f : Frame) (s : Reading) (r : Read) where
   then_read (Some v) = Some (record { locals = set s.locals (assigned r) v; at = at_after (length f.tape) s.at r })
 
   one_read : after_read db f s r ≡ then_read (read_of db f.tape s.at (variables f.t s.locals) r)
-  one_read = by (list_all is_small (read_value db f.tape s.at (variables f.t s.locals) r ∷ lin_values (variables f.t s.locals) (read_key r)))
+  one_read =
+      by (list_all is_small (read_value db f.tape s.at (variables f.t s.locals) r ∷ lin_values (variables f.t s.locals) (read_key r)))
     where
-      by : (b : Bool) → cond b (Some (record { locals = set s.locals (assigned r) (read_value db f.tape s.at (variables f.t s.locals) r); at = at_after (length f.tape) s.at r })) None ≡ then_read (cond b (Some (read_value db f.tape s.at (variables f.t s.locals) r)) None)
+      by : (b : Bool) →
+          cond b (Some (record {
+            locals = set s.locals (assigned r) (read_value db f.tape s.at (variables f.t s.locals) r);
+            at =
+                at_after (length f.tape) s.at r;
+          })) None ≡ then_read (cond b (Some (read_value db f.tape s.at (variables f.t s.locals) r)) None)
       by true = refl
       by false = refl
 
@@ -45,6 +52,8 @@ module _ (db : List Row) (f : Frame) (s : Reading) (r : Read) where
     read_fails e =
         ap (λ rs. after_reads db f rs s) rest_is ∙ ap (option_and_then (after_reads db f (drop (i + 1) reads))) (one_read ∙ ap then_read e)
 
-    pub read_goes : (x : ℤ) → read_of db f.tape s.at (variables f.t s.locals) r ≡ Some x → after_reads db f (drop i reads) s ≡ after_reads db f (drop (i + 1) reads) (record { locals = set s.locals (assigned r) x; at = at_after (length f.tape) s.at r })
+    pub read_goes : (x : ℤ) → read_of db f.tape s.at (variables f.t s.locals) r ≡ Some x →
+        after_reads db f (drop i reads) s ≡ after_reads db f (drop (i + 1) reads)
+        (record { locals = set s.locals (assigned r) x; at = at_after (length f.tape) s.at r })
     read_goes x e =
         ap (λ rs. after_reads db f rs s) rest_is ∙ ap (option_and_then (after_reads db f (drop (i + 1) reads))) (one_read ∙ ap then_read e)

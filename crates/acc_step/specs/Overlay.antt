@@ -1,5 +1,6 @@
 -- The rows of a store with writes over them, a place at a time.
-use Rattle.std.specs.Prelude.{◌≤◌, ℕ, Bool, true, List, [], ◌∷◌, ◌++◌, length, Option, Some, None, IfSome, find, if◌then◌else◌, ℤ, pos, ◌+ℤ◌, slice_set, slice_index_or}
+use Rattle.std.specs.Prelude.{◌≤◌, ℕ, Bool, true, List, [], ◌∷◌, ◌++◌, length, Option, Some, None, IfSome, find, if◌then◌else◌, ℤ, pos}
+use Rattle.std.specs.Prelude.{◌+ℤ◌, slice_set, slice_index_or}
 use Rattle.std.specs.Ordering.{is_eq}
 use Rattle.acc_base.specs.declared.tables.Row.{Row}
 use Rattle.acc_base.specs.declared.designs.Side.{Side}

@@ -1,5 +1,6 @@
 -- The columns of the row at a place as actions change the rows.
-use Rattle.std.specs.Prelude.{◌≤◌, ℕ, Bool, true, false, List, [], ◌∷◌, All, Option, Some, None, IfSome, option_map, if◌then◌else◌, ℤ, slice_set, unsigned_abs}
+use Rattle.std.specs.Prelude.{◌≤◌, ℕ, Bool, true, false, List, [], ◌∷◌, All, Option, Some, None, IfSome, option_map, if◌then◌else◌, ℤ}
+use Rattle.std.specs.Prelude.{slice_set, unsigned_abs}
 use Rattle.std.specs.Ordering.{is_eq}
 use Rattle.acc_base.specs.declared.designs.Side.{Side}
 use Rattle.acc_base.specs.declared.steps.Action.{Action}

@@ -1,5 +1,6 @@
 //! Changes of rows, as writes over the rows of a store.
-ghost use Rattle.std.specs.Prelude.{◌≡◌, ◌≤◌, ◌^◌, length, All, Some, None, IfOk, IfSome, IsErrOf, OnOk, if◌then◌else◌, slice_set, slice_index_or, pos, ◌+ℤ◌, unsigned_abs, true, false};
+ghost use Rattle.std.specs.Prelude.{◌≡◌, ◌≤◌, ◌^◌, length, All, Some, None, IfOk, IfSome, IsErrOf, OnOk, if◌then◌else◌, slice_set};
+ghost use Rattle.std.specs.Prelude.{slice_index_or, pos, ◌+ℤ◌, unsigned_abs, true, false};
 ghost use Rattle.acc_base.specs.Tables.{IsInOrder};
 ghost use Rattle.acc_store.specs.Bounds.{AreWithin};
 ghost use Rattle.acc_store.specs.Rows.{written, row_of, IsNarrow};

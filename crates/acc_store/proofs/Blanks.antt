@@ -1,5 +1,6 @@
 -- Blank entries: where a change leaves one, and that none is left once each write's is forgotten.
-use Rattle.std.proofs.Common.{◌≡◌, ℕ, ◌+◌, ◌<◌, ◌≤◌, subst, Bool, true, false, cond, not, ◌&&◌, ◌||◌, List, [], length, get_or, take, drop, ap, sym, ◌∙◌, refl, Option, None}
+use Rattle.std.proofs.Common.{◌≡◌, ℕ, ◌+◌, ◌<◌, ◌≤◌, subst, Bool, true, false, cond, not, ◌&&◌, ◌||◌, List, [], length, get_or, take, drop}
+use Rattle.std.proofs.Common.{ap, sym, ◌∙◌, refl, Option, None}
 use Rattle.std.specs.List.{list_any}
 use Rattle.std.specs.BTreeMap.{is_at as at}
 use Rattle.std.proofs.lemmas.List.{drop_more, drop_all, take_all, take-append-drop}
@@ -8,7 +9,8 @@ use Rattle.acc_base.specs.Tables.{Place, place_cmp}
 use Rattle.acc_base.proofs.Places.{one_place, is_equal}
 use Rattle.acc_store.specs.declared.writes.Write.{Write}
 use Rattle.acc_store.specs.Contents.{Content}
-use Rattle.acc_store.specs.Rows.{Entry, entry_at, is_blank, is_blank_at, BlanksAre, HasNoBlank, AddsBlanks, ClearsBlanks, WritesBlanks, is_put, is_gone, leaves_blank}
+use Rattle.acc_store.specs.Rows.{Entry, entry_at, is_blank, is_blank_at, BlanksAre, HasNoBlank, AddsBlanks, ClearsBlanks, WritesBlanks}
+use Rattle.acc_store.specs.Rows.{is_put, is_gone, leaves_blank}
 
 -- ---- a change of the entry at one place
 

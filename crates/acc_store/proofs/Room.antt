@@ -1,5 +1,6 @@
 -- Entries that are kept, and whose places are fit.
-use Rattle.std.proofs.Common.{◌≡◌, ℕ, ◌<◌, ◌≤◌, Bool, true, false, cond, List, [], ◌∷◌, length, get_or, ap, sym, ◌∙◌, refl, arith, Option, Some, None, is_some}
+use Rattle.std.proofs.Common.{◌≡◌, ℕ, ◌<◌, ◌≤◌, Bool, true, false, cond, List, [], ◌∷◌, length, get_or, ap, sym, ◌∙◌, refl, arith, Option}
+use Rattle.std.proofs.Common.{Some, None, is_some}
 use Rattle.std.specs.List.{list_all}
 use Rattle.std.specs.Cmp.Derive.{both_true}
 use Rattle.std.specs.Cmp.{first_so, second_so}
@@ -21,7 +22,8 @@ pub fit_insert : (p : Place) (v : Content) (es : List Entry) → IsFit p → Are
 fit_insert p v [] f a = (f, tt)
 fit_insert p v (e ∷ es) f a = by (place_cmp p e.0) (fit_insert p v es f a.1)
   where
-    by : (o : Ordering) → AreFit (insert_entry place_cmp es p v) → AreFit (match_ordering o ((p, v) ∷ e ∷ es) ((e.0, v) ∷ es) (e ∷ insert_entry place_cmp es p v))
+    by : (o : Ordering) → AreFit (insert_entry place_cmp es p v) →
+        AreFit (match_ordering o ((p, v) ∷ e ∷ es) ((e.0, v) ∷ es) (e ∷ insert_entry place_cmp es p v))
     by Less ih = (f, a)
     by Equal ih = a
     by Greater ih = (a.0, ih)
@@ -35,7 +37,8 @@ fit_remove test (e ∷ es) a = by (test e.0) (fit_remove test es a.1)
     by false ih = (a.0, ih)
 
 -- a change at one place keeps the room if it does so there
-pub kept_by : (es fs : List Entry) (p : Place) (t : Content) → ((n : ℕ) → has_room_at es p n ≡ true → can_hold n (Some t) ≡ true) → ((q : Place) → entry_at q fs ≡ cond (at (place_cmp p) q) (Some t) (entry_at q es)) → KeepsRoom es fs
+pub kept_by : (es fs : List Entry) (p : Place) (t : Content) → ((n : ℕ) → has_room_at es p n ≡ true → can_hold n (Some t) ≡ true) →
+    ((q : Place) → entry_at q fs ≡ cond (at (place_cmp p) q) (Some t) (entry_at q es)) → KeepsRoom es fs
 kept_by es fs p t wide new q n room = by (at (place_cmp p) q) refl (new q)
   where
     by : (b : Bool) → at (place_cmp p) q ≡ b → entry_at q fs ≡ cond b (Some t) (entry_at q es) → has_room_at fs q n ≡ true
@@ -52,28 +55,34 @@ none_absent es p n absent room = by (entry_at p es) absent room
     by None g h = cc
     by (Some s) g h = cc
 
-pub wide_absent : (es : List Entry) (p : Place) (t : Content) → has_entry es p ≡ false → (n : ℕ) → has_room_at es p n ≡ true → can_hold n (Some t) ≡ true
+pub wide_absent : (es : List Entry) (p : Place) (t : Content) → has_entry es p ≡ false → (n : ℕ) → has_room_at es p n ≡ true →
+    can_hold n (Some t) ≡ true
 wide_absent es p t absent n room = absurd (none_absent es p n absent room)
 
 -- the room of an entry that is there
 pub room_there : (es : List Entry) (p : Place) (s : Content) (n : ℕ) → entry_at p es ≡ Some s → has_room_at es p n ≡ true → n ≤ s.room
 room_there es p s n there room = leb-true n s.room (sym (ap (can_hold n) there) ∙ room)
 
-pub wide_there : (es : List Entry) (p : Place) (s t : Content) → entry_at p es ≡ Some s → s.room ≤ t.room → (n : ℕ) → has_room_at es p n ≡ true → can_hold n (Some t) ≡ true
+pub wide_there : (es : List Entry) (p : Place) (s t : Content) → entry_at p es ≡ Some s → s.room ≤ t.room → (n : ℕ) →
+    has_room_at es p n ≡ true → can_hold n (Some t) ≡ true
 wide_there es p s t there more n room = let few = room_there es p s n there room in le-leb n t.room (omega arith)
 
 pub room_kept : (es fs : List Entry) → KeepsRoom es fs → (w : Write) → has_room es w ≡ true → has_room fs w ≡ true
 room_kept es fs kept (Puts r) h = kept (place_of r) (length r.cols) h
 room_kept es fs kept (Gone t k) h = refl
 
-pub rooms_kept : (es fs : List Entry) → KeepsRoom es fs → (ws : List Write) → list_all (has_room es) ws ≡ true → list_all (has_room fs) ws ≡ true
+pub rooms_kept : (es fs : List Entry) → KeepsRoom es fs → (ws : List Write) → list_all (has_room es) ws ≡ true →
+    list_all (has_room fs) ws ≡ true
 rooms_kept es fs kept [] h = refl
 rooms_kept es fs kept (w ∷ ws) h =
-    both_true (room_kept es fs kept w (first_so (has_room es w) (list_all (has_room es) ws) h)) (rooms_kept es fs kept ws (second_so (has_room es w) (list_all (has_room es) ws) h))
+    both_true (room_kept es fs kept w (first_so (has_room es w) (list_all (has_room es) ws) h))
+    (rooms_kept es fs kept ws (second_so (has_room es w) (list_all (has_room es) ws) h))
 
-pub passes_at : {X : Type 0} (p : X → Bool) (xs : List X) (i : ℕ) (x : X) → list_all p xs ≡ true → i < length xs → x ≡ get_or xs i x → p x ≡ true
+pub passes_at : {X : Type 0} (p : X → Bool) (xs : List X) (i : ℕ) (x : X) → list_all p xs ≡ true → i < length xs → x ≡ get_or xs i x →
+    p x ≡ true
 passes_at p xs i x all within here = by (p x) refl
   where
     by : (b : Bool) → p x ≡ b → b ≡ true
     by true e = refl
-    by false e = let f : list_all p xs ≡ false = list_all_at p xs i x within (ap p (sym here) ∙ e) in let g : true ≡ false = sym all ∙ f in cc
+    by false e = let f : list_all p xs ≡ false = list_all_at p xs i x within (ap p (sym here) ∙ e) in let g : true ≡ false = sym all ∙ f in
+        cc

@@ -9,17 +9,21 @@ use Rattle.acc_base.specs.Tables.{Place, best, parts_at, with_part}
 use Rattle.acc_store.specs.Contents.{Content}
 use Rattle.acc_store.specs.Rows.{Entry, with_row, live, part_in, IsRising}
 
-pub parts-with_row : (n : ℕ) (p : Place) (v : Option (List ℤ)) (rows : List Row) → parts_at n (with_row p v rows) ≡ with_part (part_in n p v) (parts_at n rows)
+pub parts-with_row : (n : ℕ) (p : Place) (v : Option (List ℤ)) (rows : List Row) →
+    parts_at n (with_row p v rows) ≡ with_part (part_in n p v) (parts_at n rows)
 parts-with_row n p None rows = refl
 parts-with_row n p (Some c) rows = refl
 
 -- the parts of entries that end with one more
-pub parts-last : (n : ℕ) (es : List Entry) (p : Place) (s : Content) → parts_at n (live (es ++ (p, s) ∷ [])) ≡ parts_at n (live es) ++ with_part (part_in n p s.cells) []
+pub parts-last : (n : ℕ) (es : List Entry) (p : Place) (s : Content) →
+    parts_at n (live (es ++ (p, s) ∷ [])) ≡ parts_at n (live es) ++ with_part (part_in n p s.cells) []
 parts-last n [] p s = parts-with_row n p s.cells []
 parts-last n (e ∷ es) p s =
-    parts-with_row n e.0 e.1.cells (live (es ++ (p, s) ∷ [])) ∙ by (part_in n e.0 e.1.cells) (parts-last n es p s) ∙ ap (λ xs. xs ++ with_part (part_in n p s.cells) []) (sym (parts-with_row n e.0 e.1.cells (live es)))
+    parts-with_row n e.0 e.1.cells (live (es ++ (p, s) ∷ [])) ∙ by (part_in n e.0 e.1.cells) (parts-last n es p s) ∙ ap
+    (λ xs. xs ++ with_part (part_in n p s.cells) []) (sym (parts-with_row n e.0 e.1.cells (live es)))
   where
-    by : (x : Option ℤ) → parts_at n (live (es ++ (p, s) ∷ [])) ≡ parts_at n (live es) ++ with_part (part_in n p s.cells) [] → with_part x (parts_at n (live (es ++ (p, s) ∷ []))) ≡ with_part x (parts_at n (live es)) ++ with_part (part_in n p s.cells) []
+    by : (x : Option ℤ) → parts_at n (live (es ++ (p, s) ∷ [])) ≡ parts_at n (live es) ++ with_part (part_in n p s.cells) [] →
+        with_part x (parts_at n (live (es ++ (p, s) ∷ []))) ≡ with_part x (parts_at n (live es)) ++ with_part (part_in n p s.cells) []
     by None ih = ih
     by (Some x) ih = ap (λ xs. x ∷ xs) ih
 

@@ -1,12 +1,17 @@
 //! Rows in an ordered map: look-ups and changes.
-ghost use Rattle.std.specs.Prelude.{◌≡◌, ◌≤◌, ◌<◌, ◌^◌, length, map, option_copied, OnOk, OnErr, All, [], true, false, pos, IfOk, IfSome, IsOk, ◌++◌, find};
+ghost use Rattle.std.specs.Prelude.{◌≡◌, ◌≤◌, ◌<◌, ◌^◌, length, map, option_copied, OnOk, OnErr, All, [], true, false, pos, IfOk, IfSome};
+ghost use Rattle.std.specs.Prelude.{IsOk, ◌++◌, find};
 ghost use Rattle.std.specs.Prelude.{◌+◌, ◌+ℤ◌, unsigned_abs};
 ghost use Rattle.std.specs.List.{list_any, list_all, sum_by};
 ghost use Rattle.std.specs.Int.{int_min, int_max};
 ghost use Rattle.acc_base.specs.Numbers.{total};
 ghost use Rattle.std.specs.BTreeMap.{keys, is_at as at};
-ghost use Rattle.acc_base.specs.Tables.{is_at, column_of, count_of, sum_of, least_of, greatest_of, parts_at, place_cmp, place_of, cell, best, put, drop_row};
-ghost use Rattle.acc_store.specs.Rows.{live, cells_at as cells_there, column_in, columns_of, one_in, part_in, IsRising, SumsFit, IsUp, AreFit, IsFit, below, write as written_by, written, IsNarrow, has_entry, has_room, has_room_at, KeepsRoom, HasNoBlank, BlanksAre, AddsBlanks, ClearsBlanks, WritesBlanks, is_put, is_gone, leaves_blank, is_blank_at as is_blank_there, row_of as row_with, with_row};
+ghost use Rattle.acc_base.specs.Tables.{is_at, column_of, count_of, sum_of, least_of, greatest_of, parts_at, place_cmp, place_of, cell};
+ghost use Rattle.acc_base.specs.Tables.{best, put, drop_row};
+ghost use Rattle.acc_store.specs.Rows.{live, cells_at as cells_there, column_in, columns_of, one_in, part_in, IsRising, SumsFit, IsUp};
+ghost use Rattle.acc_store.specs.Rows.{AreFit, IsFit, below, write as written_by, written, IsNarrow, has_entry, has_room, has_room_at};
+ghost use Rattle.acc_store.specs.Rows.{KeepsRoom, HasNoBlank, BlanksAre, AddsBlanks, ClearsBlanks, WritesBlanks, is_put, is_gone};
+ghost use Rattle.acc_store.specs.Rows.{leaves_blank, is_blank_at as is_blank_there, row_of as row_with, with_row};
 
 use crate::places::{MOST_PARTS, Place};
 use crate::slots::Slot;

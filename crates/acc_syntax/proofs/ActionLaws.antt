@@ -31,7 +31,8 @@ put_exact : Exact CanFollow action_statement IsPut Free put_at
 unfolding put_at
 put_exact =
     let values = closed_exact sign.End refl values_exact (λ vs rest. values_end vs _ refl refl (record { times = refl; signed = refl })) in
-    let whole = made_free (after_exact sign.Put refl (seq_exact place_exact values)) (λ p. action.Put p.0 p.1) action_statement (λ a p. refl) (λ a rest. (tt, tt)) in
+    let whole = made_free (after_exact sign.Put refl (seq_exact place_exact values)) (λ p. action.Put p.0 p.1) action_statement
+    (λ a p. refl) (λ a rest. (tt, tt)) in
     trees_exact (same_exact (λ ws. simp bind_assoc) whole) (λ t p. (p.0.0, p.0.1, p.2)) (λ t q. ((q.0, q.1), (tt, tt), q.2))
 
 abbrev IsDel : ActionTree → Type 0
@@ -51,7 +52,8 @@ set_exact : Exact CanFollow action_statement IsSet Free set_at
 unfolding set_at
 set_exact =
     let value = closed_exact sign.End refl sum_exact (λ v rest. sum_ends v _ (record { times = refl; signed = refl })) in
-    let whole = made_free (after_exact sign.Set refl (seq_exact cell_exact value)) (λ p. action.Set p.0 p.1) action_statement (λ a p. refl) (λ a rest. (tt, tt)) in
+    let whole = made_free (after_exact sign.Set refl (seq_exact cell_exact value)) (λ p. action.Set p.0 p.1) action_statement (λ a p. refl)
+    (λ a rest. (tt, tt)) in
     trees_exact (same_exact (λ ws. simp bind_assoc) whole) (λ t p. (p.0.0, p.0.1, p.2)) (λ t q. ((q.0, q.1), (tt, tt), q.2))
 
 abbrev IsAdd : ActionTree → Type 0
@@ -61,7 +63,8 @@ add_exact : Exact CanFollow action_statement IsAdd Free add_at
 unfolding add_at
 add_exact =
     let value = closed_exact sign.End refl sum_exact (λ v rest. sum_ends v _ (record { times = refl; signed = refl })) in
-    let whole = made_free (after_exact sign.Add refl (seq_exact cell_exact value)) (λ p. action.Add p.0 p.1) action_statement (λ a p. refl) (λ a rest. (tt, tt)) in
+    let whole = made_free (after_exact sign.Add refl (seq_exact cell_exact value)) (λ p. action.Add p.0 p.1) action_statement (λ a p. refl)
+    (λ a rest. (tt, tt)) in
     trees_exact (same_exact (λ ws. simp bind_assoc) whole) (λ t p. (p.0.0, p.0.1, p.2)) (λ t q. ((q.0, q.1), (tt, tt), q.2))
 
 -- ---- an action of any kind
@@ -112,7 +115,8 @@ pub action_shrinks : Shrinks action_at
 action_shrinks = item_shrinks action_exact starts_action action_head refl (λ t rest p g. action_starts t rest) (λ t p. begun_long begun t)
 
 pub actions_exact : Exact CanFollow (joined action_statement) All (Runs action_statement starts_action Free) (many starts_action action_at)
-actions_exact = trees_exact (many_exact action_exact starts_action action_head refl (λ t rest p g. action_starts t rest) (λ t p. begun_long begun t)) (λ t p. tt) (λ t q. all_in t)
+actions_exact = trees_exact (many_exact action_exact starts_action action_head refl (λ t rest p g. action_starts t rest)
+    (λ t p. begun_long begun t)) (λ t p. tt) (λ t q. all_in t)
 
 pub actions_end : (ts : List ActionTree) (rest : List Word) → starts_action rest ≡ false → Runs action_statement starts_action Free ts rest
 actions_end [] rest h = h

@@ -6,6 +6,7 @@ use Rattle.acc_grammar.specs.Readers.{OutcomeOf, ◌>>=◌}
 use Rattle.acc_grammar.specs.Answers.{Gives}
 
 -- what comes behind the part isn't read
-pub stops_whole : {S A B : Type 0} (fault : Fault) (rest : List S) (read : OutcomeOf S A) (f : A × List S → OutcomeOf S B) → Gives {T = A} (Err fault) rest read → Gives {T = B} (Err fault) rest (read >>= f)
+pub stops_whole : {S A B : Type 0} (fault : Fault) (rest : List S) (read : OutcomeOf S A) (f : A × List S → OutcomeOf S B) →
+    Gives {T = A} (Err fault) rest read → Gives {T = B} (Err fault) rest (read >>= f)
 stops_whole Memory rest read f g = tt
 stops_whole Syntax rest read f g = rw g refl

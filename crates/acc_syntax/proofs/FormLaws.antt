@@ -1,11 +1,13 @@
 -- The readers of forms and of relations between them are exact.
-use Rattle.std.proofs.Common.{◌≡◌, ℕ, ◌<◌, Bool, true, false, List, [], ◌∷◌, ◌++◌, length, Option, Some, None, Ok, refl, sym, ap, subst, ◌∙◌, append_assoc, arith, inl, inr}
+use Rattle.std.proofs.Common.{◌≡◌, ℕ, ◌<◌, Bool, true, false, List, [], ◌∷◌, ◌++◌, length, Option, Some, None, Ok, refl, sym, ap, subst}
+use Rattle.std.proofs.Common.{◌∙◌, append_assoc, arith, inl, inr}
 use Rattle.acc_lex.specs.declared.words.Sign.{Sign}
 use Rattle.acc_lex.specs.declared.words.Sign.TheVariants as sign
 use Rattle.acc_lex.specs.declared.words.Word.{Word}
 use Rattle.acc_lex.specs.declared.words.Word.TheVariants as word
 use Rattle.acc_grammar.specs.Readers.{joined, many}
-use Rattle.acc_grammar.proofs.Exact.{bind_assoc, Exact, All, Each, seq_exact, Made, made_exact, trees_exact, same_exact, either, Or, either_exact, maybe_exact}
+use Rattle.acc_grammar.proofs.Exact.{bind_assoc, Exact, All, Each, seq_exact, Made, made_exact, trees_exact, same_exact, either, Or}
+use Rattle.acc_grammar.proofs.Exact.{either_exact, maybe_exact}
 use Rattle.acc_grammar.proofs.Many.{Shrinks, item_shrinks, Runs, many_exact}
 use Rattle.acc_syntax.specs.declared.trees.Variable.TheVariants.{Named, Oneself}
 use Rattle.acc_syntax.specs.declared.trees.Sums.{Sums}
@@ -23,10 +25,13 @@ use Rattle.acc_syntax.specs.declared.trees.FormRelTree.{FormRelTree}
 use Rattle.acc_syntax.specs.Spelling.{just, name, number, further, sums, operand, form_term, signed_form_term, form, form_rel}
 use Rattle.acc_syntax.specs.WordReaders.{same_sign, comes, is_number, sign_at, further_at}
 use Rattle.acc_syntax.specs.ValueReaders.{starts_signed_term}
-use Rattle.acc_syntax.specs.FormReaders.{key_and_column_at, named_operand, named_operand_at, has_operand_at, count_operand_at, sum_operand_at, self_operand_at, operand_at, operand_factor_at, form_product_of, form_number_term_at, form_term_at, signed_form_term_at, form_at, form_rel_at}
+use Rattle.acc_syntax.specs.FormReaders.{key_and_column_at, named_operand, named_operand_at, has_operand_at, count_operand_at}
+use Rattle.acc_syntax.specs.FormReaders.{sum_operand_at, self_operand_at, operand_at, operand_factor_at, form_product_of}
+use Rattle.acc_syntax.specs.FormReaders.{form_number_term_at, form_term_at, signed_form_term_at, form_at, form_rel_at}
 use Rattle.acc_syntax.proofs.Following.{CanFollow}
 use Rattle.acc_syntax.proofs.Combinators.{all_in, Sure, sure_exact}
-use Rattle.acc_syntax.proofs.WordLaws.{same_is, comes_head, number_head, name_exact, number_exact, after_exact, further_shrinks, furthers_exact, furthers_end}
+use Rattle.acc_syntax.proofs.WordLaws.{same_is, comes_head, number_head, name_exact, number_exact, after_exact, further_shrinks}
+use Rattle.acc_syntax.proofs.WordLaws.{furthers_exact, furthers_end}
 use Rattle.acc_syntax.proofs.KindLaws.{none_is, not_that, BeginsOne, Kinds, or_told}
 use Rattle.acc_syntax.proofs.SumLaws.{direction, direction_exact, signed_head, minus, MinusGoes, minus_exact, Stop}
 use Rattle.acc_syntax.proofs.RowLaws.{sums_exact, sums_ends, place_exact, cell_exact}
@@ -78,11 +83,15 @@ key_and_column_exact : Exact CanFollow key_and_column All KeyGoes key_and_column
 unfolding key_and_column_at
 key_and_column_exact =
     let column = after_exact sign.Close refl (after_exact sign.Dot refl name_exact) in
-    let there = made_exact (after_exact sign.Open refl (seq_exact sums_exact column)) (λ p. Some p) key_and_column KeyGoes (λ a p. refl) (λ a rest g. tt) (λ a rest p g. (sums_ends a.0 _ refl (record { times = refl; signed = refl }), tt)) key_heads in
-    let whole = maybe_exact there (comes sign.Open) (comes_head sign.Open) None refl (λ t rest p g. subst (λ (z : Option (Sums × List ℕ)). comes sign.Open (key_and_column z ++ rest) ≡ true) p.2 refl) (λ rest h. h) (λ rest h. h) in
+    let there = made_exact (after_exact sign.Open refl (seq_exact sums_exact column)) (λ p. Some p) key_and_column KeyGoes (λ a p. refl)
+    (λ a rest g. tt) (λ a rest p g. (sums_ends a.0 _ refl (record { times = refl; signed = refl }), tt)) key_heads in
+    let whole = maybe_exact there (comes sign.Open) (comes_head sign.Open) None refl
+    (λ t rest p g. subst (λ (z : Option (Sums × List ℕ)). comes sign.Open (key_and_column z ++ rest) ≡ true) p.2 refl) (λ rest h. h)
+    (λ rest h. h) in
     trees_exact (same_exact (λ ws. simp bind_assoc) whole) (λ t p. tt) (λ t q. trees t)
   where
-    trees : (k : Option (Sums × List ℕ)) → Or (Made (λ (p : Sums × List ℕ). Some p) (Each All All)) (λ (u : Option (Sums × List ℕ)). None ≡ u) k
+    trees : (k : Option (Sums × List ℕ)) → Or (Made (λ (p : Sums × List ℕ). Some p) (Each All All))
+        (λ (u : Option (Sums × List ℕ)). None ≡ u) k
     trees None = inr refl
     trees (Some p) = inl (p, (tt, tt), refl)
 
@@ -91,7 +100,8 @@ IsNamed t = (x : List ℕ) × (k : Option (Sums × List ℕ)) × (named_operand 
 
 named_is : (x : List ℕ) (k : Option (Sums × List ℕ)) → operand (named_operand x k) ≡ name x ++ key_and_column k
 named_is x None = refl
-named_is x (Some p) = ap (λ (z : List Word). word.Name x ∷ (word.Sign sign.Open ∷ z)) (append_assoc (sums p.0) (just sign.Close) (just sign.Dot ++ name p.1))
+named_is x (Some p) = ap (λ (z : List Word). word.Name x ∷ (word.Sign sign.Open ∷ z))
+    (append_assoc (sums p.0) (just sign.Close) (just sign.Dot ++ name p.1))
 
 named_from : (x : List ℕ) (k : Option (Sums × List ℕ)) (rest : List Word) → KeyGoes k rest → OperandGoes (named_operand x k) rest
 named_from x None rest g = g
@@ -104,7 +114,8 @@ named_to x (Some p) rest g = tt
 named_exact : Exact CanFollow operand IsNamed OperandGoes named_operand_at
 unfolding named_operand_at
 named_exact =
-    let whole = made_exact (seq_exact name_exact key_and_column_exact) (λ p. named_operand p.0 p.1) operand OperandGoes (λ a p. named_is a.0 a.1) (λ a rest g. named_from a.0 a.1 rest g.1) (λ a rest p g. (tt, named_to a.0 a.1 rest g)) operand_heads in
+    let whole = made_exact (seq_exact name_exact key_and_column_exact) (λ p. named_operand p.0 p.1) operand OperandGoes
+    (λ a p. named_is a.0 a.1) (λ a rest g. named_from a.0 a.1 rest g.1) (λ a rest p g. (tt, named_to a.0 a.1 rest g)) operand_heads in
     trees_exact (same_exact (λ ws. simp bind_assoc) whole) (λ t p. (p.0.0, p.0.1, p.2)) (λ t q. ((q.0, q.1), (tt, tt), q.2))
 
 -- ---- the other kinds
@@ -117,17 +128,27 @@ unfolding self_operand_at sign_at
 self_sure [] h = absurd cc
 self_sure (word.Name x ∷ ws) h = absurd cc
 self_sure (word.Number n ∷ ws) h = absurd cc
-self_sure (word.Sign s ∷ ws) h = ((operands.Variable Oneself, ws), rw h refl, ap (λ (z : Sign). word.Sign z ∷ ws) (same_is s sign.Oneself h), refl, tt)
+self_sure (word.Sign s ∷ ws) h = (
+  (operands.Variable Oneself, ws),
+  rw h refl,
+  ap (λ (z : Sign). word.Sign z ∷ ws) (same_is s sign.Oneself h),
+  refl,
+  tt,
+)
 
 self_again : (t : Operand) (rest : List Word) → IsOneself t → self_operand_at (operand t ++ rest) ≡ Ok (t, rest)
 unfolding self_operand_at sign_at
 self_again t rest p = subst (λ (z : Operand). self_operand_at (operand z ++ rest) ≡ Ok (z, rest)) p refl
 
 -- `self`, or what begins with a name
-self_or_named_exact : Exact CanFollow operand (Or IsOneself IsNamed) OperandGoes (either (comes sign.Oneself) self_operand_at named_operand_at)
-self_or_named_exact = sure_exact (comes sign.Oneself) (comes_head sign.Oneself) self_sure (λ t rest p g. self_again t rest p) named_exact (λ t rest p g. subst (λ (z : Operand). comes sign.Oneself (operand z ++ rest) ≡ true) p refl) (λ t rest q g. subst (λ (z : Operand). comes sign.Oneself (operand z ++ rest) ≡ false) q.2 (not_self q.0 q.1 rest))
+self_or_named_exact : Exact CanFollow operand (Or IsOneself IsNamed) OperandGoes
+    (either (comes sign.Oneself) self_operand_at named_operand_at)
+self_or_named_exact = sure_exact (comes sign.Oneself) (comes_head sign.Oneself) self_sure (λ t rest p g. self_again t rest p) named_exact
+    (λ t rest p g. subst (λ (z : Operand). comes sign.Oneself (operand z ++ rest) ≡ true) p refl)
+    (λ t rest q g. subst (λ (z : Operand). comes sign.Oneself (operand z ++ rest) ≡ false) q.2 (not_self q.0 q.1 rest))
   where
-    not_self : (x : List ℕ) (k : Option (Sums × List ℕ)) (rest : List Word) → comes sign.Oneself (operand (named_operand x k) ++ rest) ≡ false
+    not_self : (x : List ℕ) (k : Option (Sums × List ℕ)) (rest : List Word) →
+        comes sign.Oneself (operand (named_operand x k) ++ rest) ≡ false
     not_self x None rest = refl
     not_self x (Some p) rest = refl
 
@@ -137,7 +158,8 @@ IsHas t = (p : Place) × (operands.Has p ≡ t)
 has_exact : Exact CanFollow operand IsHas OperandGoes has_operand_at
 unfolding has_operand_at
 has_exact =
-    let whole = made_exact (after_exact sign.Has refl place_exact) (λ p. operands.Has p) operand OperandGoes (λ a p. refl) (λ a rest g. tt) (λ a rest p g. tt) operand_heads in
+    let whole = made_exact (after_exact sign.Has refl place_exact) (λ p. operands.Has p) operand OperandGoes (λ a p. refl) (λ a rest g. tt)
+    (λ a rest p g. tt) operand_heads in
     trees_exact (same_exact (λ ws. simp bind_assoc) whole) (λ t p. (p.0, p.2)) (λ t q. (q.0, tt, q.1))
 
 abbrev IsCount : Operand → Type 0
@@ -146,7 +168,8 @@ IsCount t = (p : Place) × (operands.Count p ≡ t)
 count_exact : Exact CanFollow operand IsCount OperandGoes count_operand_at
 unfolding count_operand_at
 count_exact =
-    let whole = made_exact (after_exact sign.Count refl place_exact) (λ p. operands.Count p) operand OperandGoes (λ a p. refl) (λ a rest g. tt) (λ a rest p g. tt) operand_heads in
+    let whole = made_exact (after_exact sign.Count refl place_exact) (λ p. operands.Count p) operand OperandGoes (λ a p. refl)
+    (λ a rest g. tt) (λ a rest p g. tt) operand_heads in
     trees_exact (same_exact (λ ws. simp bind_assoc) whole) (λ t p. (p.0, p.2)) (λ t q. (q.0, tt, q.1))
 
 abbrev IsSum : Operand → Type 0
@@ -155,7 +178,8 @@ IsSum t = (c : Cell) × (operands.Sum c ≡ t)
 sum_exact : Exact CanFollow operand IsSum OperandGoes sum_operand_at
 unfolding sum_operand_at
 sum_exact =
-    let whole = made_exact (after_exact sign.Sum refl cell_exact) (λ c. operands.Sum c) operand OperandGoes (λ a p. refl) (λ a rest g. tt) (λ a rest p g. tt) operand_heads in
+    let whole = made_exact (after_exact sign.Sum refl cell_exact) (λ c. operands.Sum c) operand OperandGoes (λ a p. refl) (λ a rest g. tt)
+    (λ a rest p g. tt) operand_heads in
     trees_exact (same_exact (λ ws. simp bind_assoc) whole) (λ t p. (p.0, p.2)) (λ t q. (q.0, tt, q.1))
 
 -- ---- an operand of any kind
@@ -211,7 +235,8 @@ operand_exact : Exact CanFollow operand All OperandGoes operand_at
 operand_exact = trees_exact operand_kinds.exact (λ t p. tt) (λ t q. operand_trees t)
 
 -- no operand begins with a word that none of the kinds begins with
-not_operand : (k : Sign) → same_sign sign.End k ≡ false → none_is begins k ≡ true → (t : Operand) (rest : List Word) → comes k (operand t ++ rest) ≡ false
+not_operand : (k : Sign) → same_sign sign.End k ≡ false → none_is begins k ≡ true → (t : Operand) (rest : List Word) →
+    comes k (operand t ++ rest) ≡ false
 not_operand k h n t rest = tells k h t rest ∙ not_that first begins k t n (operand_kinds.firsts t (operand_trees t))
 
 operand_is_no_number : (t : Operand) (rest : List Word) → is_number (operand t ++ rest) ≡ false
@@ -240,8 +265,10 @@ factor_heads (Some x) w more after g = operand_heads x w more after g
 factor_exact : Exact CanFollow factor All FactorGoes operand_factor_at
 unfolding operand_factor_at
 factor_exact =
-    let inner = made_exact (after_exact sign.Times refl operand_exact) (λ x. Some x) factor FactorGoes (λ a p. refl) (λ a rest g. g) (λ a rest p g. g) factor_heads in
-    let whole = maybe_exact inner (comes sign.Times) (comes_head sign.Times) None refl (λ t rest p g. subst (λ (z : Option Operand). comes sign.Times (factor z ++ rest) ≡ true) p.2 refl) (λ rest h. h) (λ rest h. h) in
+    let inner = made_exact (after_exact sign.Times refl operand_exact) (λ x. Some x) factor FactorGoes (λ a p. refl) (λ a rest g. g)
+    (λ a rest p g. g) factor_heads in
+    let whole = maybe_exact inner (comes sign.Times) (comes_head sign.Times) None refl
+    (λ t rest p g. subst (λ (z : Option Operand). comes sign.Times (factor z ++ rest) ≡ true) p.2 refl) (λ rest h. h) (λ rest h. h) in
     trees_exact (same_exact (λ ws. simp bind_assoc) whole) (λ t p. tt) (λ t q. trees t)
   where
     trees : (t : Option Operand) → Or (Made (λ (x : Operand). Some x) All) (λ (u : Option Operand). None ≡ u) t
@@ -278,9 +305,13 @@ product_starts n (Some x) rest = refl
 form_term_exact : Exact CanFollow form_term All TermGoes form_term_at
 unfolding form_term_at form_number_term_at
 form_term_exact =
-    let product = made_exact (seq_exact number_exact factor_exact) (λ p. form_product_of p.0 p.1) form_term TermGoes (λ a p. product_is a.0 a.1) (λ a rest g. product_from a.0 a.1 rest g.1) (λ a rest p g. (tt, product_to a.0 a.1 rest g)) term_heads in
+    let product = made_exact (seq_exact number_exact factor_exact) (λ p. form_product_of p.0 p.1) form_term TermGoes
+    (λ a p. product_is a.0 a.1) (λ a rest g. product_from a.0 a.1 rest g.1) (λ a rest p g. (tt, product_to a.0 a.1 rest g))
+    term_heads in
     let plain = made_exact operand_exact Plain form_term TermGoes (λ a p. refl) (λ a rest g. g) (λ a rest p g. g) term_heads in
-    let whole = either_exact product plain is_number number_head (λ t rest p g. subst (λ (z : FormTerm). is_number (form_term z ++ rest) ≡ true) p.2 (product_starts p.0.0 p.0.1 rest)) (λ t rest p g. subst (λ (z : FormTerm). is_number (form_term z ++ rest) ≡ false) p.2 (operand_is_no_number p.0 rest)) in
+    let whole = either_exact product plain is_number number_head
+    (λ t rest p g. subst (λ (z : FormTerm). is_number (form_term z ++ rest) ≡ true) p.2 (product_starts p.0.0 p.0.1 rest))
+    (λ t rest p g. subst (λ (z : FormTerm). is_number (form_term z ++ rest) ≡ false) p.2 (operand_is_no_number p.0 rest)) in
     trees_exact (same_exact (λ ws. simp bind_assoc) whole) (λ t p. tt) (λ t q. trees t)
   where
     trees : (t : FormTerm) → Or (Made (λ (p : ℕ × Option Operand). form_product_of p.0 p.1) (Each All All)) (Made Plain All) t
@@ -289,7 +320,8 @@ form_term_exact =
     trees (Product n x) = inl ((n, Some x), (tt, tt), refl)
 
 -- no term begins with a word that no operand begins with
-not_term : (k : Sign) → same_sign sign.End k ≡ false → none_is begins k ≡ true → (t : FormTerm) (rest : List Word) → comes k (form_term t ++ rest) ≡ false
+not_term : (k : Sign) → same_sign sign.End k ≡ false → none_is begins k ≡ true → (t : FormTerm) (rest : List Word) →
+    comes k (form_term t ++ rest) ≡ false
 not_term k h n (Constant m) rest = refl
 not_term k h n (Plain x) rest = not_operand k h n x rest
 not_term k h n (Product m x) rest = refl
@@ -306,10 +338,13 @@ signed_is false t = refl
 signed_exact : Exact CanFollow signed_form_term All SignedGoes signed_form_term_at
 unfolding signed_form_term_at
 signed_exact =
-    let whole = made_exact (seq_exact direction_exact form_term_exact) (λ p. record { minus = p.0; term = p.1 }) signed_form_term SignedGoes (λ a p. signed_is a.0 a.1) (λ a rest g. g.1) (λ a rest p g. (tt, g)) (λ b w more after g. form_term_exact.heads b.term w more after g) in
+    let whole = made_exact (seq_exact direction_exact form_term_exact) (λ p. record { minus = p.0; term = p.1 }) signed_form_term SignedGoes
+    (λ a p. signed_is a.0 a.1) (λ a rest g. g.1) (λ a rest p g. (tt, g))
+    (λ b w more after g. form_term_exact.heads b.term w more after g) in
     trees_exact (same_exact (λ ws. simp bind_assoc) whole) (λ t p. tt) (λ t q. ((t.minus, t.term), (tt, tt), refl))
 
-signed_starts : (m : Bool) (t : FormTerm) (rest : List Word) → starts_signed_term (signed_form_term (record { minus = m; term = t }) ++ rest) ≡ true
+signed_starts : (m : Bool) (t : FormTerm) (rest : List Word) →
+    starts_signed_term (signed_form_term (record { minus = m; term = t }) ++ rest) ≡ true
 signed_starts true t rest = refl
 signed_starts false t rest = refl
 
@@ -318,13 +353,15 @@ signed_long true t = omega arith
 signed_long false t = omega arith
 
 pub signed_form_term_shrinks : Shrinks signed_form_term_at
-signed_form_term_shrinks = item_shrinks signed_exact starts_signed_term signed_head refl (λ t rest p g. signed_starts t.minus t.term rest) (λ t p. signed_long t.minus t.term)
+signed_form_term_shrinks = item_shrinks signed_exact starts_signed_term signed_head refl (λ t rest p g. signed_starts t.minus t.term rest)
+    (λ t p. signed_long t.minus t.term)
 
 abbrev SignedRuns : List SignedFormTerm → List Word → Type 0
 SignedRuns = Runs signed_form_term starts_signed_term SignedGoes
 
 signed_terms_exact : Exact CanFollow (joined signed_form_term) All SignedRuns (many starts_signed_term signed_form_term_at)
-signed_terms_exact = trees_exact (many_exact signed_exact starts_signed_term signed_head refl (λ t rest p g. signed_starts t.minus t.term rest) (λ t p. signed_long t.minus t.term)) (λ t p. tt) (λ t q. all_in t)
+signed_terms_exact = trees_exact (many_exact signed_exact starts_signed_term signed_head refl
+    (λ t rest p g. signed_starts t.minus t.term rest) (λ t p. signed_long t.minus t.term)) (λ t p. tt) (λ t q. all_in t)
 
 -- ---- forms
 
@@ -334,18 +371,23 @@ FormGoes f rest = TermGoes f.first (joined signed_form_term f.others ++ rest) ×
 form_heads : (f : FormTree) (w : Word) (more after : List Word) → FormGoes f (w ∷ more) → FormGoes f (w ∷ after)
 form_heads f w more after g = (seq_exact form_term_exact signed_terms_exact).heads (f.first, f.others) w more after g
 
-form_is : (m : Bool) (t : FormTerm) (ss : List SignedFormTerm) → form (record { minus = m; first = t; others = ss }) ≡ minus m ++ (form_term t ++ joined signed_form_term ss)
+form_is : (m : Bool) (t : FormTerm) (ss : List SignedFormTerm) →
+    form (record { minus = m; first = t; others = ss }) ≡ minus m ++ (form_term t ++ joined signed_form_term ss)
 form_is true t ss = refl
 form_is false t ss = refl
 
-no_minus : (m : Bool) (t : FormTerm) (ss : List SignedFormTerm) (rest : List Word) → MinusGoes m ((form_term t ++ joined signed_form_term ss) ++ rest)
+no_minus : (m : Bool) (t : FormTerm) (ss : List SignedFormTerm) (rest : List Word) →
+    MinusGoes m ((form_term t ++ joined signed_form_term ss) ++ rest)
 no_minus true t ss rest = tt
-no_minus false t ss rest = ap (comes sign.Minus) (append_assoc (form_term t) (joined signed_form_term ss) rest) ∙ not_term sign.Minus refl refl t _
+no_minus false t ss rest = ap (comes sign.Minus) (append_assoc (form_term t) (joined signed_form_term ss) rest) ∙ not_term sign.Minus refl
+    refl t _
 
 form_exact : Exact CanFollow form All FormGoes form_at
 unfolding form_at
 form_exact =
-    let whole = made_exact (seq_exact minus_exact (seq_exact form_term_exact signed_terms_exact)) (λ p. record { minus = p.0; first = p.1.0; others = p.1.1 }) form FormGoes (λ a p. form_is a.0 a.1.0 a.1.1) (λ a rest g. g.1) (λ a rest p g. (no_minus a.0 a.1.0 a.1.1 rest, g)) form_heads in
+    let whole = made_exact (seq_exact minus_exact (seq_exact form_term_exact signed_terms_exact))
+    (λ p. record { minus = p.0; first = p.1.0; others = p.1.1 }) form FormGoes (λ a p. form_is a.0 a.1.0 a.1.1) (λ a rest g. g.1)
+    (λ a rest p g. (no_minus a.0 a.1.0 a.1.1 rest, g)) form_heads in
     trees_exact (same_exact (λ ws. simp bind_assoc) whole) (λ t p. tt) (λ t q. ((t.minus, (t.first, t.others)), (tt, (tt, tt)), refl))
 
 -- where a form may end
@@ -359,13 +401,16 @@ term_ends (Plain x) rest h o = operand_ends x rest o
 term_ends (Product n x) rest h o = operand_ends x rest o
 
 -- further terms begin with no other word than plus or minus
-not_signed : (k : Sign) → same_sign sign.Plus k ≡ false → same_sign sign.Minus k ≡ false → (m : Bool) (t : FormTerm) (rest : List Word) → comes k (signed_form_term (record { minus = m; term = t }) ++ rest) ≡ false
+not_signed : (k : Sign) → same_sign sign.Plus k ≡ false → same_sign sign.Minus k ≡ false → (m : Bool) (t : FormTerm) (rest : List Word) →
+    comes k (signed_form_term (record { minus = m; term = t }) ++ rest) ≡ false
 not_signed k p q true t rest = q
 not_signed k p q false t rest = p
 
-none_in : (k : Sign) → same_sign sign.Plus k ≡ false → same_sign sign.Minus k ≡ false → (ss : List SignedFormTerm) (rest : List Word) → comes k rest ≡ false → comes k (joined signed_form_term ss ++ rest) ≡ false
+none_in : (k : Sign) → same_sign sign.Plus k ≡ false → same_sign sign.Minus k ≡ false → (ss : List SignedFormTerm) (rest : List Word) →
+    comes k rest ≡ false → comes k (joined signed_form_term ss ++ rest) ≡ false
 none_in k p q [] rest h = h
-none_in k p q (s ∷ ss) rest h = ap (comes k) (append_assoc (signed_form_term s) (joined signed_form_term ss) rest) ∙ not_signed k p q s.minus s.term (joined signed_form_term ss ++ rest)
+none_in k p q (s ∷ ss) rest h = ap (comes k) (append_assoc (signed_form_term s) (joined signed_form_term ss) rest) ∙ not_signed k p q
+    s.minus s.term (joined signed_form_term ss ++ rest)
 
 first_ends : (t : FormTerm) (ss : List SignedFormTerm) (rest : List Word) → FormStop rest → TermGoes t (joined signed_form_term ss ++ rest)
 first_ends t ss rest h = term_ends t _ (none_in sign.Times refl refl ss rest h.stop.times) (none_in sign.Open refl refl ss rest h.key)
@@ -377,7 +422,9 @@ signed_end (s ∷ ss) rest h = (first_ends s.term ss rest h, signed_end ss rest 
 form_ends : (f : FormTree) (rest : List Word) → FormStop rest → FormGoes f rest
 form_ends f rest h = (first_ends f.first f.others rest h, signed_end f.others rest h)
 
-not_form_at : (k : Sign) → same_sign sign.End k ≡ false → none_is begins k ≡ true → same_sign sign.Minus k ≡ false → (m : Bool) (t : FormTerm) (ss : List SignedFormTerm) (rest : List Word) → comes k (form (record { minus = m; first = t; others = ss }) ++ rest) ≡ false
+not_form_at : (k : Sign) → same_sign sign.End k ≡ false → none_is begins k ≡ true → same_sign sign.Minus k ≡ false →
+    (m : Bool) (t : FormTerm) (ss : List SignedFormTerm) (rest : List Word) →
+    comes k (form (record { minus = m; first = t; others = ss }) ++ rest) ≡ false
 not_form_at k h n q true t ss rest = q
 not_form_at k h n q false t ss rest = ap (comes k) (append_assoc (form_term t) (joined signed_form_term ss) rest) ∙ not_term k h n t _
 
@@ -404,7 +451,9 @@ left_ends f r behind rest = form_ends f _ (record { stop = relation_stops r (beh
 pub form_rel_exact : Exact CanFollow form_rel All FormRelGoes form_rel_at
 unfolding form_rel_at
 form_rel_exact =
-    let whole = made_exact (seq_exact form_exact (seq_exact relation_exact form_exact)) (λ p. record { left = p.0; relation = p.1.0; right = p.1.1 }) form_rel FormRelGoes (λ a p. refl) (λ a rest g. g.1.1) (λ a rest p g. (left_ends a.0 a.1.0 (form a.1.1) rest, (tt, g))) form_rel_heads in
+    let whole = made_exact (seq_exact form_exact (seq_exact relation_exact form_exact))
+    (λ p. record { left = p.0; relation = p.1.0; right = p.1.1 }) form_rel FormRelGoes (λ a p. refl) (λ a rest g. g.1.1)
+    (λ a rest p g. (left_ends a.0 a.1.0 (form a.1.1) rest, (tt, g))) form_rel_heads in
     trees_exact (same_exact (λ ws. simp bind_assoc) whole) (λ t p. tt) (λ t q. ((t.left, (t.relation, t.right)), (tt, (tt, tt)), refl))
 
 pub form_rel_ends : (r : FormRelTree) (rest : List Word) → FormStop rest → FormRelGoes r rest
@@ -412,7 +461,8 @@ form_rel_ends r rest h = form_ends r.right rest h
 
 -- no relation begins with `forall`
 pub rel_is_no_forall : (r : FormRelTree) (rest : List Word) → comes sign.Forall (form_rel r ++ rest) ≡ false
-rel_is_no_forall r rest = ap (comes sign.Forall) (append_assoc (form r.left) (relation_word r.relation ++ form r.right) rest) ∙ not_forall r.left _
+rel_is_no_forall r rest = ap (comes sign.Forall) (append_assoc (form r.left) (relation_word r.relation ++ form r.right) rest) ∙ not_forall
+    r.left _
 
 -- ---- lists of relations
 

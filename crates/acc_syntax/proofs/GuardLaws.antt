@@ -39,7 +39,8 @@ relation_exact =
     last_kind relation_begun sign.Equal equal (λ t p. ap relation_sign p.2))) in
     trees_exact kinds.exact (λ t p. tt) (λ t q. trees t)
   where
-    trees : (r : Relation) → Or (Made (λ (o : Unit {0}). relation.AtMost) All) (Or (Made (λ (o : Unit {0}). relation.AtLeast) All) (Made (λ (o : Unit {0}). relation.Equal) All)) r
+    trees : (r : Relation) → Or (Made (λ (o : Unit {0}). relation.AtMost) All)
+        (Or (Made (λ (o : Unit {0}). relation.AtLeast) All) (Made (λ (o : Unit {0}). relation.Equal) All)) r
     trees relation.AtMost = inl (tt, tt, refl)
     trees relation.AtLeast = inr (inl (tt, tt, refl))
     trees relation.Equal = inr (inr (tt, tt, refl))
@@ -62,7 +63,9 @@ left_ends r behind rest = relation_stops r (behind ++ rest)
 pub lin_rel_exact : Exact CanFollow lin_rel All LinRelGoes lin_rel_at
 unfolding lin_rel_at
 lin_rel_exact =
-    let whole = made_exact (seq_exact sum_exact (seq_exact relation_exact sum_exact)) (λ p. record { left = p.0; relation = p.1.0; right = p.1.1 }) lin_rel LinRelGoes (λ a p. refl) (λ a rest g. g.1.1) (λ a rest p g. (sum_ends a.0 _ (left_ends a.1.0 (sum a.1.1) rest), (tt, g))) lin_rel_heads in
+    let whole = made_exact (seq_exact sum_exact (seq_exact relation_exact sum_exact))
+    (λ p. record { left = p.0; relation = p.1.0; right = p.1.1 }) lin_rel LinRelGoes (λ a p. refl) (λ a rest g. g.1.1)
+    (λ a rest p g. (sum_ends a.0 _ (left_ends a.1.0 (sum a.1.1) rest), (tt, g))) lin_rel_heads in
     trees_exact (same_exact (λ ws. simp bind_assoc) whole) (λ t p. tt) (λ t q. ((t.left, (t.relation, t.right)), (tt, (tt, tt)), refl))
 
 pub further_lin_rel_shrinks : Shrinks (further_at lin_rel_at)
@@ -88,14 +91,19 @@ lin_rels_heads rs w more after g = (seq_exact lin_rel_exact further_lin_rels_exa
 lin_rels_exact : Exact CanFollow lin_rels All LinRelsGoes lin_rels_at
 unfolding lin_rels_at
 lin_rels_exact =
-    let whole = made_exact (seq_exact lin_rel_exact further_lin_rels_exact) (λ p. record { first = p.0; others = p.1 }) lin_rels LinRelsGoes (λ a p. refl) (λ a rest g. g) (λ a rest p g. g) lin_rels_heads in
+    let whole = made_exact (seq_exact lin_rel_exact further_lin_rels_exact) (λ p. record { first = p.0; others = p.1 }) lin_rels LinRelsGoes
+    (λ a p. refl) (λ a rest g. g) (λ a rest p g. g) lin_rels_heads in
     trees_exact (same_exact (λ ws. simp bind_assoc) whole) (λ t p. tt) (λ t q. ((t.first, t.others), (tt, tt), refl))
 
 lin_rel_ends : (r : LinRelTree) (rest : List Word) → Stop rest → LinRelGoes r rest
 lin_rel_ends r rest h = sum_ends r.right rest h
 
 lin_rels_end : (rs : LinRels) (rest : List Word) → comes sign.Comma rest ≡ false → Stop rest → LinRelsGoes rs rest
-lin_rels_end rs rest c h = (lin_rel_ends rs.first (joined (further lin_rel) rs.others ++ rest) (ends_before Stop lin_rel comma_stops rs.others rest h), furthers_end Stop lin_rel LinRelGoes comma_stops lin_rel_ends rs.others rest c h)
+lin_rels_end rs rest c h = (
+  lin_rel_ends rs.first (joined (further lin_rel) rs.others ++ rest)
+      (ends_before Stop lin_rel comma_stops rs.others rest h),
+  furthers_end Stop lin_rel LinRelGoes comma_stops lin_rel_ends rs.others rest c h,
+)
 
 -- ---- a guard that may be left out
 
@@ -111,18 +119,22 @@ lin_rel_starts : (r : LinRelTree) (rest : List Word) → starts_sum (lin_rel r +
 lin_rel_starts r rest = ap starts_sum (append_assoc (sum r.left) (relation_word r.relation ++ sum r.right) rest) ∙ sum_starts r.left _
 
 lin_rels_start : (rs : LinRels) (rest : List Word) → starts_sum (lin_rels rs ++ rest) ≡ true
-lin_rels_start rs rest = ap starts_sum (append_assoc (lin_rel rs.first) (joined (further lin_rel) rs.others) rest) ∙ lin_rel_starts rs.first _
+lin_rels_start rs rest = ap starts_sum (append_assoc (lin_rel rs.first) (joined (further lin_rel) rs.others) rest) ∙ lin_rel_starts rs.first
+    _
 
 pub guard_exact : Exact CanFollow guard All GuardGoes guard_at
 unfolding guard_at
 guard_exact =
     let there = made_exact lin_rels_exact Some guard GuardGoes (λ a p. refl) (λ a rest g. g) (λ a rest p g. g) guard_heads in
-    trees_exact (maybe_exact there starts_sum sum_head None refl (λ t rest p g. subst (λ (z : Option LinRels). starts_sum (guard z ++ rest) ≡ true) p.2 (lin_rels_start p.0 rest)) (λ rest h. h) (λ rest h. h)) (λ t p. tt) (λ t q. trees t)
+    trees_exact (maybe_exact there starts_sum sum_head None refl
+    (λ t rest p g. subst (λ (z : Option LinRels). starts_sum (guard z ++ rest) ≡ true) p.2 (lin_rels_start p.0 rest)) (λ rest h. h)
+    (λ rest h. h)) (λ t p. tt) (λ t q. trees t)
   where
     trees : (g : Option LinRels) → Or (Made Some All) (λ (u : Option LinRels). None ≡ u) g
     trees None = inr refl
     trees (Some rs) = inl (rs, tt, refl)
 
-pub guard_ends : (g : Option LinRels) (rest : List Word) → comes sign.Comma rest ≡ false → starts_sum rest ≡ false → Stop rest → GuardGoes g rest
+pub guard_ends : (g : Option LinRels) (rest : List Word) → comes sign.Comma rest ≡ false → starts_sum rest ≡ false → Stop rest →
+    GuardGoes g rest
 guard_ends None rest c s h = s
 guard_ends (Some rs) rest c s h = lin_rels_end rs rest c h

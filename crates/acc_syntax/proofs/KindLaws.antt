@@ -22,7 +22,8 @@ head_not : (b c : Bool) → cond b false c ≡ true → (b ≡ false) × (c ≡ 
 head_not true c h = absurd cc
 head_not false c h = (refl, h)
 
-pub not_that : {T : Type 0} (first : T → Sign) (ss : List Sign) (k : Sign) (t : T) → none_is ss k ≡ true → BeginsOne first ss t → same_sign (first t) k ≡ false
+pub not_that : {T : Type 0} (first : T → Sign) (ss : List Sign) (k : Sign) (t : T) → none_is ss k ≡ true → BeginsOne first ss t →
+    same_sign (first t) k ≡ false
 not_that first [] k t n q = absurd q
 not_that first (s ∷ ss) k t n (inl p) = subst (λ (z : Sign). same_sign z k ≡ false) p (head_not (same_sign s k) (none_is ss k) n).0
 not_that first (s ∷ ss) k t n (inr q) = not_that first ss k t (head_not (same_sign s k) (none_is ss k) n).1 q
@@ -32,14 +33,20 @@ abbrev pub Begun : {T : Type 0} → (T → List Word) → (T → Sign) → Type 
 Begun {T} spell first = (t : T) → (ws : List Word) × (spell t ≡ word.Sign (first t) ∷ ws)
 
 -- a reader of the trees that begin with one of these words
-pub record Kinds {T : Type 0} (spell : T → List Word) (first : T → Sign) (goes : T → List Word → Type 0) (Q : T → Type 0) (ss : List Sign) (read : List Word → WordsRead T) : Type 0 where
+pub record Kinds {T : Type 0} (spell : T → List Word) (first : T → Sign) (goes : T → List Word → Type 0) (Q : T → Type 0) (ss : List Sign)
+    (read : List Word → WordsRead T) : Type 0 where
   pub exact : Exact CanFollow spell Q goes read
   pub firsts : (t : T) → Q t → BeginsOne first ss t
 
 -- a kind by a word that tells which trees begin with it, and then the others
-pub or_told : {T : Type 0} {spell : T → List Word} {first : T → Sign} {goes : T → List Word → Type 0} {P Q : T → Type 0} {ss : List Sign} {ra rb : List Word → WordsRead T} (k : Sign) → ((t : T) (rest : List Word) → comes k (spell t ++ rest) ≡ same_sign (first t) k) → Exact CanFollow spell P goes ra → ((t : T) → P t → k ≡ first t) → none_is ss k ≡ true → Kinds spell first goes Q ss rb → Kinds spell first goes (Or P Q) (k ∷ ss) (λ ws. cond (comes k ws) (ra ws) (rb ws))
+pub or_told : {T : Type 0} {spell : T → List Word} {first : T → Sign} {goes : T → List Word → Type 0} {P Q : T → Type 0} {ss : List Sign}
+    {ra rb : List Word → WordsRead T} (k : Sign) → ((t : T) (rest : List Word) → comes k (spell t ++ rest) ≡ same_sign (first t) k) →
+    Exact CanFollow spell P goes ra → ((t : T) → P t → k ≡ first t) → none_is ss k ≡ true → Kinds spell first goes Q ss rb →
+    Kinds spell first goes (Or P Q) (k ∷ ss) (λ ws. cond (comes k ws) (ra ws) (rb ws))
 or_told {first = first} {ss = ss} k tells e is n others = record {
-  exact = either_exact e others.exact (comes k) (comes_head k) (λ t rest p g. tells t rest ∙ subst (λ (z : Sign). same_sign z k ≡ true) (is t p) (same_refl k)) (λ t rest q g. tells t rest ∙ not_that first ss k t n (others.firsts t q));
+  exact = either_exact e others.exact (comes k) (comes_head k)
+      (λ t rest p g. tells t rest ∙ subst (λ (z : Sign). same_sign z k ≡ true) (is t p) (same_refl k))
+      (λ t rest q g. tells t rest ∙ not_that first ss k t n (others.firsts t q));
   firsts = λ t o. elim o [ inl p ↦ inl (is t p) | inr q ↦ inr (others.firsts t q) ];
 }
 
@@ -48,11 +55,14 @@ module _ {T : Type 0} {spell : T → List Word} {first : T → Sign} (begun : Be
   comes_first s t rest = let b = begun t in ap (λ (z : List Word). comes s (z ++ rest)) b.1
 
   -- a kind by its first word, and then the others
-  pub or_kind : {P Q : T → Type 0} {ss : List Sign} {ra rb : List Word → WordsRead T} (k : Sign) → Exact CanFollow spell P Free ra → ((t : T) → P t → k ≡ first t) → none_is ss k ≡ true → Kinds spell first Free Q ss rb → Kinds spell first Free (Or P Q) (k ∷ ss) (λ ws. cond (comes k ws) (ra ws) (rb ws))
+  pub or_kind : {P Q : T → Type 0} {ss : List Sign} {ra rb : List Word → WordsRead T} (k : Sign) → Exact CanFollow spell P Free ra →
+      ((t : T) → P t → k ≡ first t) → none_is ss k ≡ true → Kinds spell first Free Q ss rb →
+      Kinds spell first Free (Or P Q) (k ∷ ss) (λ ws. cond (comes k ws) (ra ws) (rb ws))
   or_kind k e is n others = or_told k (λ t rest. comes_first k t rest) e is n others
 
   -- the last kind
-  pub last_kind : {P : T → Type 0} {ra : List Word → WordsRead T} (k : Sign) → Exact CanFollow spell P Free ra → ((t : T) → P t → k ≡ first t) → Kinds spell first Free P (k ∷ []) ra
+  pub last_kind : {P : T → Type 0} {ra : List Word → WordsRead T} (k : Sign) → Exact CanFollow spell P Free ra →
+      ((t : T) → P t → k ≡ first t) → Kinds spell first Free P (k ∷ []) ra
   last_kind k e is = record { exact = e; firsts = λ t p. inl (is t p) }
 
   pub begun_long : (t : T) → 0 < length (spell t)

@@ -1,5 +1,6 @@
 -- Where `self` stands: with more words, with fewer, and with one more.
-use Rattle.std.proofs.Common.{◌≡◌, ℕ, zero, suc, ◌+◌, ◌<◌, Bool, true, false, List, [], ◌∷◌, ◌++◌, length, take, get_or, refl, sym, ap, subst, ◌∙◌, arith, append_assoc, inl, inr, ◌⊎◌}
+use Rattle.std.proofs.Common.{◌≡◌, ℕ, zero, suc, ◌+◌, ◌<◌, Bool, true, false, List, [], ◌∷◌, ◌++◌, length, take, get_or, refl, sym, ap}
+use Rattle.std.proofs.Common.{subst, ◌∙◌, arith, append_assoc, inl, inr, ◌⊎◌}
 use Rattle.std.specs.Prelude.{Contains, ◌||◌}
 use Rattle.std.proofs.lemmas.List.{append-nil, take_more}
 use Rattle.std.proofs.lemmas.List.Elements.{Contains-append_right, Contains-append_cases}
@@ -19,13 +20,15 @@ oneself = word.Sign sign.Oneself
 -- ---- more and fewer words
 
 pub own_front : (front more : List Word) → OwnInTypes (front ++ more) → OwnInTypes front
-own_front front more h before after e = h before (after ++ more) (ap (λ (z : List Word). z ++ more) e ∙ append_assoc before (oneself ∷ after) more)
+own_front front more h before after e = h before (after ++ more)
+    (ap (λ (z : List Word). z ++ more) e ∙ append_assoc before (oneself ∷ after) more)
 
 -- a split of one more word is one behind all, or one of the others
 abbrev IsSplitOf : List Word → Word → List Word → List Word → Type 0
 IsSplitOf front w before after = ((front ≡ before) × (w ≡ oneself)) ⊎ ((rest : List Word) × (front ≡ before ++ (oneself ∷ rest)))
 
-split_push : (front : List Word) (w : Word) (before after : List Word) → front ++ (w ∷ []) ≡ before ++ (oneself ∷ after) → IsSplitOf front w before after
+split_push : (front : List Word) (w : Word) (before after : List Word) → front ++ (w ∷ []) ≡ before ++ (oneself ∷ after) →
+    IsSplitOf front w before after
 split_push [] w [] after e = let head : w ≡ oneself = cc in inl (refl, head)
 split_push [] w (b ∷ []) after e = absurd cc
 split_push [] w (b ∷ c ∷ before) after e = absurd cc
@@ -55,7 +58,8 @@ no_oneself w h e = let wrong : CanFollow oneself = subst CanFollow e h in absurd
 pub own_more : (front more : List Word) → AllIn CanFollow more → OwnInTypes front → OwnInTypes (front ++ more)
 own_more front [] p h = subst OwnInTypes (sym (append-nil front)) h
 own_more front (w ∷ more) p h =
-    subst OwnInTypes (append_assoc front (w ∷ []) more) (own_more (front ++ (w ∷ [])) more p.1 (own_push front w h (λ e. absurd (no_oneself w p.0 e))))
+    subst OwnInTypes (append_assoc front (w ∷ []) more)
+    (own_more (front ++ (w ∷ [])) more p.1 (own_push front w h (λ e. absurd (no_oneself w p.0 e))))
 
 pub nothing_own : OwnInTypes []
 nothing_own [] after e = absurd cc
@@ -83,7 +87,8 @@ or_false false = refl
 
 pub has_push : (s : Sign) (ws : List Word) (w : Word) → has s (ws ++ (w ∷ [])) ≡ (has s ws || comes s (w ∷ []))
 has_push s [] w = or_false (comes s (w ∷ []))
-has_push s (v ∷ ws) w = ap (λ (z : Bool). comes s (v ∷ []) || z) (has_push s ws w) ∙ or_assoc (comes s (v ∷ [])) (has s ws) (comes s (w ∷ []))
+has_push s (v ∷ ws) w = ap (λ (z : Bool). comes s (v ∷ []) || z) (has_push s ws w) ∙ or_assoc (comes s (v ∷ [])) (has s ws)
+    (comes s (w ∷ []))
 
 pub comes_is : (s : Sign) (w : Word) → comes s (w ∷ []) ≡ true → w ≡ word.Sign s
 comes_is s (word.Sign t) h = ap (λ (z : Sign). word.Sign z) (same_is t s h)
@@ -163,5 +168,7 @@ module _ (ws : List Word) (i : ℕ) (w : Word) (lt : i < length ws) (is : w ≡ 
   pub has_on : (s : Sign) → has s (take (i + 1) ws) ≡ (has s (take i ws) || comes s (w ∷ []))
   has_on s = ap (has s) one_more ∙ has_push s (take i ws) w
 
-  pub either_on : (has sign.Entry (take (i + 1) ws) || has sign.Hint (take (i + 1) ws)) ≡ ((has sign.Entry (take i ws) || has sign.Hint (take i ws)) || (comes sign.Entry (w ∷ []) || comes sign.Hint (w ∷ [])))
-  either_on = rw (has_on sign.Entry, has_on sign.Hint) (or_swap (has sign.Entry (take i ws)) (comes sign.Entry (w ∷ [])) (has sign.Hint (take i ws)) (comes sign.Hint (w ∷ [])))
+  pub either_on : (has sign.Entry (take (i + 1) ws) || has sign.Hint (take (i + 1) ws)) ≡
+      ((has sign.Entry (take i ws) || has sign.Hint (take i ws)) || (comes sign.Entry (w ∷ []) || comes sign.Hint (w ∷ [])))
+  either_on = rw (has_on sign.Entry, has_on sign.Hint)
+      (or_swap (has sign.Entry (take i ws)) (comes sign.Entry (w ∷ [])) (has sign.Hint (take i ws)) (comes sign.Hint (w ∷ [])))

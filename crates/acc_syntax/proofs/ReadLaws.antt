@@ -32,7 +32,8 @@ let_exact : Exact CanFollow read_statement IsLet Free let_at
 unfolding let_at assigned_at
 let_exact =
     let value = closed_exact sign.End refl sum_exact (λ v rest. sum_ends v _ (record { times = refl; signed = refl })) in
-    let whole = made_free (after_exact sign.Let refl (seq_exact variable_exact (after_exact sign.Equal refl value))) (λ p. read.Let p.0 p.1) read_statement (λ a p. refl) (λ a rest. (tt, tt)) in
+    let whole = made_free (after_exact sign.Let refl (seq_exact variable_exact (after_exact sign.Equal refl value))) (λ p. read.Let p.0 p.1)
+    read_statement (λ a p. refl) (λ a rest. (tt, tt)) in
     trees_exact (same_exact (λ ws. simp bind_assoc) whole) (λ t p. (p.0.0, p.0.1, p.2)) (λ t q. ((q.0, q.1), (tt, tt), q.2))
 
 -- this word, X = row
@@ -43,16 +44,20 @@ row_read_exact : (s : Sign) → is_own s ≡ false → Exact CanFollow (row_read
 unfolding row_read_at assigned_at
 row_read_exact s n =
     let row = closed_exact sign.End refl place_exact (λ p rest. tt) in
-    let whole = made_free (after_exact s n (seq_exact variable_exact (after_exact sign.Equal refl row))) (λ p. p) (row_read s) (λ a p. refl) (λ a rest. (tt, tt)) in
+    let whole = made_free (after_exact s n (seq_exact variable_exact (after_exact sign.Equal refl row))) (λ p. p) (row_read s) (λ a p. refl)
+    (λ a rest. (tt, tt)) in
     trees_exact (same_exact (λ ws. simp bind_assoc) whole) (λ t p. tt) (λ t q. (t, (tt, tt), refl))
 
 -- a read of a row
 abbrev IsOfRow : (Variable → Place → ReadTree) → ReadTree → Type 0
 IsOfRow make t = (x : Variable) × (p : Place) × (make x p ≡ t)
 
-of_row : (s : Sign) → is_own s ≡ false → (make : Variable → Place → ReadTree) → ((x : Variable) (p : Place) → read_statement (make x p) ≡ row_read s (x, p)) → Exact CanFollow read_statement (IsOfRow make) Free (made (λ (p : Variable × Place). make p.0 p.1) (row_read_at s))
+of_row : (s : Sign) → is_own s ≡ false → (make : Variable → Place → ReadTree) →
+    ((x : Variable) (p : Place) → read_statement (make x p) ≡ row_read s (x, p)) →
+    Exact CanFollow read_statement (IsOfRow make) Free (made (λ (p : Variable × Place). make p.0 p.1) (row_read_at s))
 of_row s n make is =
-    trees_exact (made_free (row_read_exact s n) (λ p. make p.0 p.1) read_statement (λ a p. is a.0 a.1) (λ a rest. tt)) (λ t p. (p.0.0, p.0.1, p.2)) (λ t q. ((q.0, q.1), tt, q.2))
+    trees_exact (made_free (row_read_exact s n) (λ p. make p.0 p.1) read_statement (λ a p. is a.0 a.1) (λ a rest. tt))
+    (λ t p. (p.0.0, p.0.1, p.2)) (λ t q. ((q.0, q.1), tt, q.2))
 
 -- this word, X = row.column
 abbrev cell_read : Sign → Variable × Cell → List Word
@@ -62,16 +67,20 @@ cell_read_exact : (s : Sign) → is_own s ≡ false → Exact CanFollow (cell_re
 unfolding cell_read_at assigned_at
 cell_read_exact s n =
     let column = closed_exact sign.End refl cell_exact (λ c rest. tt) in
-    let whole = made_free (after_exact s n (seq_exact variable_exact (after_exact sign.Equal refl column))) (λ p. p) (cell_read s) (λ a p. refl) (λ a rest. (tt, tt)) in
+    let whole = made_free (after_exact s n (seq_exact variable_exact (after_exact sign.Equal refl column))) (λ p. p) (cell_read s)
+    (λ a p. refl) (λ a rest. (tt, tt)) in
     trees_exact (same_exact (λ ws. simp bind_assoc) whole) (λ t p. tt) (λ t q. (t, (tt, tt), refl))
 
 -- a read of a column
 abbrev IsOfCell : (Variable → Cell → ReadTree) → ReadTree → Type 0
 IsOfCell make t = (x : Variable) × (c : Cell) × (make x c ≡ t)
 
-of_cell : (s : Sign) → is_own s ≡ false → (make : Variable → Cell → ReadTree) → ((x : Variable) (c : Cell) → read_statement (make x c) ≡ cell_read s (x, c)) → Exact CanFollow read_statement (IsOfCell make) Free (made (λ (p : Variable × Cell). make p.0 p.1) (cell_read_at s))
+of_cell : (s : Sign) → is_own s ≡ false → (make : Variable → Cell → ReadTree) →
+    ((x : Variable) (c : Cell) → read_statement (make x c) ≡ cell_read s (x, c)) →
+    Exact CanFollow read_statement (IsOfCell make) Free (made (λ (p : Variable × Cell). make p.0 p.1) (cell_read_at s))
 of_cell s n make is =
-    trees_exact (made_free (cell_read_exact s n) (λ p. make p.0 p.1) read_statement (λ a p. is a.0 a.1) (λ a rest. tt)) (λ t p. (p.0.0, p.0.1, p.2)) (λ t q. ((q.0, q.1), tt, q.2))
+    trees_exact (made_free (cell_read_exact s n) (λ p. make p.0 p.1) read_statement (λ a p. is a.0 a.1) (λ a rest. tt))
+    (λ t p. (p.0.0, p.0.1, p.2)) (λ t q. ((q.0, q.1), tt, q.2))
 
 get_exact : Exact CanFollow read_statement (IsOfCell read.Get) Free get_at
 unfolding get_at
@@ -114,8 +123,11 @@ mul_exact : Exact CanFollow read_statement IsMul Free mul_at
 unfolding mul_at assigned_at
 mul_exact =
     let right = closed_exact sign.End refl variable_exact (λ b rest. tt) in
-    let whole = made_free (after_exact sign.Mul refl (seq_exact variable_exact (after_exact sign.Equal refl (seq_exact variable_exact right)))) (λ p. read.Mul p.0 p.1.0 p.1.1) read_statement (λ a p. refl) (λ a rest. (tt, (tt, tt))) in
-    trees_exact (same_exact (λ ws. simp bind_assoc) whole) (λ t p. (p.0.0, p.0.1.0, p.0.1.1, p.2)) (λ t q. ((q.0, (q.1, q.2)), (tt, (tt, tt)), q.3))
+    let whole = made_free (after_exact sign.Mul refl
+    (seq_exact variable_exact (after_exact sign.Equal refl (seq_exact variable_exact right)))) (λ p. read.Mul p.0 p.1.0 p.1.1)
+    read_statement (λ a p. refl) (λ a rest. (tt, (tt, tt))) in
+    trees_exact (same_exact (λ ws. simp bind_assoc) whole) (λ t p. (p.0.0, p.0.1.0, p.0.1.1, p.2))
+    (λ t q. ((q.0, (q.1, q.2)), (tt, (tt, tt)), q.3))
 
 abbrev IsDiv : ReadTree → Type 0
 IsDiv t = (x : Variable) × (a : Variable) × (n : ℕ) × (read.Div x a n ≡ t)
@@ -124,8 +136,11 @@ div_exact : Exact CanFollow read_statement IsDiv Free div_at
 unfolding div_at assigned_at
 div_exact =
     let divisor = closed_exact sign.End refl number_exact (λ n rest. tt) in
-    let whole = made_free (after_exact sign.Div refl (seq_exact variable_exact (after_exact sign.Equal refl (seq_exact variable_exact divisor)))) (λ p. read.Div p.0 p.1.0 p.1.1) read_statement (λ a p. refl) (λ a rest. (tt, (tt, tt))) in
-    trees_exact (same_exact (λ ws. simp bind_assoc) whole) (λ t p. (p.0.0, p.0.1.0, p.0.1.1, p.2)) (λ t q. ((q.0, (q.1, q.2)), (tt, (tt, tt)), q.3))
+    let whole = made_free (after_exact sign.Div refl
+    (seq_exact variable_exact (after_exact sign.Equal refl (seq_exact variable_exact divisor)))) (λ p. read.Div p.0 p.1.0 p.1.1)
+    read_statement (λ a p. refl) (λ a rest. (tt, (tt, tt))) in
+    trees_exact (same_exact (λ ws. simp bind_assoc) whole) (λ t p. (p.0.0, p.0.1.0, p.0.1.1, p.2))
+    (λ t q. ((q.0, (q.1, q.2)), (tt, (tt, tt)), q.3))
 
 -- ---- a read of any kind
 
@@ -170,7 +185,9 @@ read_exact =
     last_kind begun sign.Div div_exact (λ t p. ap first p.3)))))))))) in
     trees_exact kinds.exact (λ t p. tt) (λ t q. trees t)
   where
-    trees : (t : ReadTree) → Or IsLet (Or (IsOfCell read.Get) (Or (IsOfRow read.Has) (Or (IsOfRow read.Count) (Or (IsOfCell read.Sum) (Or (IsOfRow read.Least) (Or (IsOfRow read.Greatest) (Or IsTake (Or IsMul IsDiv)))))))) t
+    trees : (t : ReadTree) → Or IsLet (Or (IsOfCell read.Get)
+        (Or (IsOfRow read.Has) (Or (IsOfRow read.Count)
+        (Or (IsOfCell read.Sum) (Or (IsOfRow read.Least) (Or (IsOfRow read.Greatest) (Or IsTake (Or IsMul IsDiv)))))))) t
     trees (read.Let x v) = inl (x, v, refl)
     trees (read.Get x c) = inr (inl (x, c, refl))
     trees (read.Has x p) = inr (inr (inl (x, p, refl)))
@@ -205,7 +222,8 @@ pub read_shrinks : Shrinks read_at
 read_shrinks = item_shrinks read_exact starts_read read_head refl (λ t rest p g. read_starts t rest) (λ t p. begun_long begun t)
 
 pub reads_exact : Exact CanFollow (joined read_statement) All (Runs read_statement starts_read Free) (many starts_read read_at)
-reads_exact = trees_exact (many_exact read_exact starts_read read_head refl (λ t rest p g. read_starts t rest) (λ t p. begun_long begun t)) (λ t p. tt) (λ t q. all_in t)
+reads_exact = trees_exact (many_exact read_exact starts_read read_head refl (λ t rest p g. read_starts t rest) (λ t p. begun_long begun t))
+    (λ t p. tt) (λ t q. all_in t)
 
 pub reads_end : (ts : List ReadTree) (rest : List Word) → starts_read rest ≡ false → Runs read_statement starts_read Free ts rest
 reads_end [] rest h = h

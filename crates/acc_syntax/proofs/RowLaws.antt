@@ -36,7 +36,8 @@ sums_heads s w more after g = (seq_exact sum_exact further_sums_exact).heads (s.
 pub sums_exact : Exact CanFollow sums All SumsGoes sums_at
 unfolding sums_at
 sums_exact =
-    let whole = made_exact (seq_exact sum_exact further_sums_exact) (λ p. record { first = p.0; others = p.1 }) sums SumsGoes (λ a p. refl) (λ a rest g. g) (λ a rest p g. g) sums_heads in
+    let whole = made_exact (seq_exact sum_exact further_sums_exact) (λ p. record { first = p.0; others = p.1 }) sums SumsGoes (λ a p. refl)
+    (λ a rest g. g) (λ a rest p g. g) sums_heads in
     trees_exact (same_exact (λ ws. simp bind_assoc) whole) (λ t p. tt) (λ t q. ((t.first, t.others), (tt, tt), refl))
 
 -- a comma ends a sum
@@ -44,7 +45,10 @@ pub comma_stops : (ws : List Word) → Stop (word.Sign sign.Comma ∷ ws)
 comma_stops ws = record { times = refl; signed = refl }
 
 pub sums_ends : (s : Sums) (rest : List Word) → comes sign.Comma rest ≡ false → Stop rest → SumsGoes s rest
-sums_ends s rest c h = (sum_ends s.first (joined (further sum) s.others ++ rest) (ends_before Stop sum comma_stops s.others rest h), furthers_end Stop sum SumGoes comma_stops sum_ends s.others rest c h)
+sums_ends s rest c h = (
+  sum_ends s.first (joined (further sum) s.others ++ rest) (ends_before Stop sum comma_stops s.others rest h),
+  furthers_end Stop sum SumGoes comma_stops sum_ends s.others rest c h,
+)
 
 -- ---- values that may be left out
 
@@ -57,19 +61,23 @@ values_heads None w more after g = sym (sum_head w more after) ∙ g
 values_heads (Some s) w more after g = sums_heads s w more after g
 
 sums_start : (s : Sums) (rest : List Word) → starts_sum (sums s ++ rest) ≡ true
-sums_start s rest = ap starts_sum (append_assoc (sum s.first) (joined (further sum) s.others) rest) ∙ sum_starts s.first (joined (further sum) s.others ++ rest)
+sums_start s rest = ap starts_sum (append_assoc (sum s.first) (joined (further sum) s.others) rest) ∙ sum_starts s.first
+    (joined (further sum) s.others ++ rest)
 
 pub values_exact : Exact CanFollow values All ValuesGoes values_at
 unfolding values_at
 values_exact =
     let there = made_exact sums_exact Some values ValuesGoes (λ a p. refl) (λ a rest g. g) (λ a rest p g. g) values_heads in
-    trees_exact (maybe_exact there starts_sum sum_head None refl (λ t rest p g. subst (λ (z : Option Sums). starts_sum (values z ++ rest) ≡ true) p.2 (sums_start p.0 rest)) (λ rest h. h) (λ rest h. h)) (λ t p. tt) (λ t q. trees t)
+    trees_exact (maybe_exact there starts_sum sum_head None refl
+    (λ t rest p g. subst (λ (z : Option Sums). starts_sum (values z ++ rest) ≡ true) p.2 (sums_start p.0 rest)) (λ rest h. h)
+    (λ rest h. h)) (λ t p. tt) (λ t q. trees t)
   where
     trees : (v : Option Sums) → Or (Made Some All) (λ (u : Option Sums). None ≡ u) v
     trees None = inr refl
     trees (Some s) = inl (s, tt, refl)
 
-pub values_end : (v : Option Sums) (rest : List Word) → comes sign.Comma rest ≡ false → starts_sum rest ≡ false → Stop rest → ValuesGoes v rest
+pub values_end : (v : Option Sums) (rest : List Word) → comes sign.Comma rest ≡ false → starts_sum rest ≡ false → Stop rest →
+    ValuesGoes v rest
 values_end None rest c s h = s
 values_end (Some x) rest c s h = sums_ends x rest c h
 
@@ -79,11 +87,13 @@ pub place_exact : Exact CanFollow place All Free place_at
 unfolding place_at
 place_exact =
     let key = closed_exact sign.Close refl sums_exact (λ s rest. sums_ends s _ refl (record { times = refl; signed = refl })) in
-    let whole = made_free (seq_exact name_exact (after_exact sign.Open refl key)) (λ p. record { table = p.0; key = p.1 }) place (λ a p. refl) (λ a rest. (tt, tt)) in
+    let whole = made_free (seq_exact name_exact (after_exact sign.Open refl key)) (λ p. record { table = p.0; key = p.1 }) place
+    (λ a p. refl) (λ a rest. (tt, tt)) in
     trees_exact (same_exact (λ ws. simp bind_assoc) whole) (λ t p. tt) (λ t q. ((t.table, t.key), (tt, tt), refl))
 
 pub cell_exact : Exact CanFollow cell All Free cell_at
 unfolding cell_at
 cell_exact =
-    let whole = made_free (seq_exact place_exact (after_exact sign.Dot refl name_exact)) (λ p. record { place = p.0; column = p.1 }) cell (λ a p. refl) (λ a rest. (tt, tt)) in
+    let whole = made_free (seq_exact place_exact (after_exact sign.Dot refl name_exact)) (λ p. record { place = p.0; column = p.1 }) cell
+    (λ a p. refl) (λ a rest. (tt, tt)) in
     trees_exact (same_exact (λ ws. simp bind_assoc) whole) (λ t p. tt) (λ t q. ((t.place, t.column), (tt, tt), refl))

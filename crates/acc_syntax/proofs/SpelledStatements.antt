@@ -47,7 +47,11 @@ use Rattle.acc_syntax.specs.declared.trees.Pairs.{Pairs}
 use Rattle.acc_syntax.specs.declared.trees.EntryTree.{EntryTree}
 use Rattle.acc_syntax.specs.declared.trees.HintTree.{HintTree}
 use Rattle.acc_syntax.specs.declared.trees.DesignTree.{DesignTree}
-use Rattle.acc_syntax.specs.Spelling.{just, name, number, names, further, variable, term, signed_term, sum, sums, place, cell, relation_sign, lin_rel, guard, operand, form_term, signed_form_term, form, form_rel, form_rels, binder, premises, clause, clause_statement, table, read_statement, values, action_statement, target_statement, names_statement, variant_statement, side_sign, point_name, pair, pairs, entry, hint, path, step, side, point, limit, type_words, spelled_design}
+use Rattle.acc_syntax.specs.Spelling.{just, name, number, names, further, variable, term, signed_term, sum, sums, place, cell}
+use Rattle.acc_syntax.specs.Spelling.{relation_sign, lin_rel, guard, operand, form_term, signed_form_term, form, form_rel, form_rels}
+use Rattle.acc_syntax.specs.Spelling.{binder, premises, clause, clause_statement, table, read_statement, values, action_statement}
+use Rattle.acc_syntax.specs.Spelling.{target_statement, names_statement, variant_statement, side_sign, point_name, pair, pairs, entry, hint}
+use Rattle.acc_syntax.specs.Spelling.{path, step, side, point, limit, type_words, spelled_design}
 
 -- ---- words within a statement
 
@@ -67,7 +71,9 @@ none_within : Within []
 none_within = record { at = λ rest h. h }
 
 both_within : {a b : List Word} → Within a → Within b → Within (a ++ b)
-both_within {a} {b} p q = record { at = λ rest h. subst (InStatements false) (sym (append_assoc a b rest)) (p.at (b ++ rest) (q.at rest h)) }
+both_within {a} {b} p q = record {
+  at = λ rest h. subst (InStatements false) (sym (append_assoc a b rest)) (p.at (b ++ rest) (q.at rest h));
+}
 
 joined_within : {T : Type 0} (spell : T → List Word) → ((t : T) → Within (spell t)) → (ts : List T) → Within (joined spell ts)
 joined_within spell each [] = none_within
@@ -114,7 +120,8 @@ sums_within : (s : Sums) → Within (sums s)
 sums_within s = both_within (sum_within s.first) (joined_within (further sum) (further_within sum sum_within) s.others)
 
 place_within : (p : Place) → Within (place p)
-place_within p = both_within (name_within p.table) (both_within (just_within sign.Open refl) (both_within (sums_within p.key) (just_within sign.Close refl)))
+place_within p = both_within (name_within p.table)
+    (both_within (just_within sign.Open refl) (both_within (sums_within p.key) (just_within sign.Close refl)))
 
 cell_within : (c : Cell) → Within (cell c)
 cell_within c = both_within (place_within c.place) (both_within (just_within sign.Dot refl) (name_within c.column))
@@ -132,7 +139,8 @@ lin_rel_within r = both_within (sum_within r.left) (both_within (relation_within
 
 guard_within : (g : Option LinRels) → Within (guard g)
 guard_within None = none_within
-guard_within (Some rs) = both_within (lin_rel_within rs.first) (joined_within (further lin_rel) (further_within lin_rel lin_rel_within) rs.others)
+guard_within (Some rs) = both_within (lin_rel_within rs.first)
+    (joined_within (further lin_rel) (further_within lin_rel lin_rel_within) rs.others)
 
 values_within : (v : Option Sums) → Within (values v)
 values_within None = none_within
@@ -156,13 +164,15 @@ signed_form_within : (s : SignedFormTerm) → Within (signed_form_term s)
 signed_form_within s = both_within (either_within s.minus sign.Minus sign.Plus refl refl) (form_term_within s.term)
 
 form_within : (f : FormTree) → Within (form f)
-form_within f = both_within (minus_within f.minus) (both_within (form_term_within f.first) (joined_within signed_form_term signed_form_within f.others))
+form_within f = both_within (minus_within f.minus)
+    (both_within (form_term_within f.first) (joined_within signed_form_term signed_form_within f.others))
 
 form_rel_within : (r : FormRelTree) → Within (form_rel r)
 form_rel_within r = both_within (form_within r.left) (both_within (relation_within r.relation) (form_within r.right))
 
 form_rels_within : (rs : FormRels) → Within (form_rels rs)
-form_rels_within rs = both_within (form_rel_within rs.first) (joined_within (further form_rel) (further_within form_rel form_rel_within) rs.others)
+form_rels_within rs = both_within (form_rel_within rs.first)
+    (joined_within (further form_rel) (further_within form_rel form_rel_within) rs.others)
 
 binder_within : (ns : Option Names) → Within (binder ns)
 binder_within None = none_within
@@ -189,7 +199,8 @@ pair_within p = both_within (variable_within p.held) (both_within (just_within s
 
 pairs_within : (ps : Option Pairs) → Within (pairs ps)
 pairs_within None = none_within
-pairs_within (Some ps) = both_within (just_within sign.Colon refl) (both_within (pair_within ps.first) (joined_within (further pair) (further_within pair pair_within) ps.others))
+pairs_within (Some ps) = both_within (just_within sign.Colon refl)
+    (both_within (pair_within ps.first) (joined_within (further pair) (further_within pair pair_within) ps.others))
 
 -- ---- statements
 
@@ -219,24 +230,37 @@ joined_whole : {T : Type 0} (spell : T → List Word) → ((t : T) → Whole (sp
 joined_whole spell each [] = no_whole
 joined_whole spell each (t ∷ ts) = both_whole (each t) (joined_whole spell each ts)
 
-either_begun : {ws : List Word} (b : Bool) (s t : Sign) → is_end_sign s ≡ false → is_end_sign t ≡ false → Ends ws → Whole (cond b (just s) (just t) ++ ws)
+either_begun : {ws : List Word} (b : Bool) (s t : Sign) → is_end_sign s ≡ false → is_end_sign t ≡ false → Ends ws →
+    Whole (cond b (just s) (just t) ++ ws)
 either_begun true s t e f h = begun s e h
 either_begun false s t e f h = begun t f h
 
 table_whole : (t : TableTree) → Whole (table t)
-table_whole t = either_begun t.private sign.Private sign.Table refl refl (then_ends (name_within t.name) (then_ends (number_within t.width) (then_ends (joined_within name name_within t.columns) last)))
+table_whole t = either_begun t.private sign.Private sign.Table refl refl
+    (then_ends (name_within t.name) (then_ends (number_within t.width) (then_ends (joined_within name name_within t.columns) last)))
 
 read_whole : (r : ReadTree) → Whole (read_statement r)
-read_whole (read.Let x v) = begun sign.Let refl (then_ends (variable_within x) (then_ends (just_within sign.Equal refl) (then_ends (sum_within v) last)))
-read_whole (read.Get x c) = begun sign.Get refl (then_ends (variable_within x) (then_ends (just_within sign.Equal refl) (then_ends (cell_within c) last)))
-read_whole (read.Has x p) = begun sign.Has refl (then_ends (variable_within x) (then_ends (just_within sign.Equal refl) (then_ends (place_within p) last)))
-read_whole (read.Count x p) = begun sign.Count refl (then_ends (variable_within x) (then_ends (just_within sign.Equal refl) (then_ends (place_within p) last)))
-read_whole (read.Sum x c) = begun sign.Sum refl (then_ends (variable_within x) (then_ends (just_within sign.Equal refl) (then_ends (cell_within c) last)))
-read_whole (read.Least x p) = begun sign.Least refl (then_ends (variable_within x) (then_ends (just_within sign.Equal refl) (then_ends (place_within p) last)))
-read_whole (read.Greatest x p) = begun sign.Greatest refl (then_ends (variable_within x) (then_ends (just_within sign.Equal refl) (then_ends (place_within p) last)))
+read_whole (read.Let x v) = begun sign.Let refl
+    (then_ends (variable_within x) (then_ends (just_within sign.Equal refl) (then_ends (sum_within v) last)))
+read_whole (read.Get x c) = begun sign.Get refl
+    (then_ends (variable_within x) (then_ends (just_within sign.Equal refl) (then_ends (cell_within c) last)))
+read_whole (read.Has x p) = begun sign.Has refl
+    (then_ends (variable_within x) (then_ends (just_within sign.Equal refl) (then_ends (place_within p) last)))
+read_whole (read.Count x p) = begun sign.Count refl
+    (then_ends (variable_within x) (then_ends (just_within sign.Equal refl) (then_ends (place_within p) last)))
+read_whole (read.Sum x c) = begun sign.Sum refl
+    (then_ends (variable_within x) (then_ends (just_within sign.Equal refl) (then_ends (cell_within c) last)))
+read_whole (read.Least x p) = begun sign.Least refl
+    (then_ends (variable_within x) (then_ends (just_within sign.Equal refl) (then_ends (place_within p) last)))
+read_whole (read.Greatest x p) = begun sign.Greatest refl
+    (then_ends (variable_within x) (then_ends (just_within sign.Equal refl) (then_ends (place_within p) last)))
 read_whole (read.Take x) = begun sign.Take refl (then_ends (variable_within x) last)
-read_whole (read.Mul x a b) = begun sign.Mul refl (then_ends (variable_within x) (then_ends (just_within sign.Equal refl) (then_ends (variable_within a) (then_ends (variable_within b) last))))
-read_whole (read.Div x a n) = begun sign.Div refl (then_ends (variable_within x) (then_ends (just_within sign.Equal refl) (then_ends (variable_within a) (then_ends (number_within n) last))))
+read_whole (read.Mul x a b) = begun sign.Mul refl
+    (then_ends (variable_within x) (then_ends (just_within sign.Equal refl)
+    (then_ends (variable_within a) (then_ends (variable_within b) last))))
+read_whole (read.Div x a n) = begun sign.Div refl
+    (then_ends (variable_within x) (then_ends (just_within sign.Equal refl)
+    (then_ends (variable_within a) (then_ends (number_within n) last))))
 
 action_whole : (a : ActionTree) → Whole (action_statement a)
 action_whole (action.Put p vs) = begun sign.Put refl (then_ends (place_within p) (then_ends (values_within vs) last))
@@ -265,24 +289,31 @@ variant_whole None = no_whole
 variant_whole (Some v) = begun sign.Variant refl (then_ends (sum_within v) last)
 
 entry_whole : (e : EntryTree) → Whole (entry e)
-entry_whole e = begun sign.Entry refl (then_ends (point_name_within e.held) (then_ends (just_within sign.By refl) (then_ends (point_name_within e.by) (then_ends (side_within e.side) (then_ends (pairs_within e.pairs) last)))))
+entry_whole e = begun sign.Entry refl (then_ends (point_name_within e.held)
+    (then_ends (just_within sign.By refl) (then_ends (point_name_within e.by)
+    (then_ends (side_within e.side) (then_ends (pairs_within e.pairs) last)))))
 
 hint_whole : (h : HintTree) → Whole (hint h)
-hint_whole h = begun sign.Hint refl (then_ends (point_name_within h.of) (then_ends (side_within h.side) (then_ends (sum_within h.value) last)))
+hint_whole h = begun sign.Hint refl (then_ends (point_name_within h.of)
+    (then_ends (side_within h.side) (then_ends (sum_within h.value) last)))
 
 -- ---- a design
 
 path_whole : (p : PathTree) → Whole (path p)
-path_whole p = begun sign.Path refl (then_ends (guard_within p.guard) (ended (both_whole (joined_whole action_statement action_whole p.actions) (target_whole p.target))))
+path_whole p = begun sign.Path refl (then_ends (guard_within p.guard)
+    (ended (both_whole (joined_whole action_statement action_whole p.actions) (target_whole p.target))))
 
 step_whole : (s : StepTree) → Whole (step s)
-step_whole s = both_whole (joined_whole read_statement read_whole s.reads) (both_whole (path_whole s.first) (joined_whole path path_whole s.others))
+step_whole s = both_whole (joined_whole read_statement read_whole s.reads)
+    (both_whole (path_whole s.first) (joined_whole path path_whole s.others))
 
 side_whole : (s : Sign) → is_end_sign s ≡ false → (st : StepTree) → Whole (side s st)
 side_whole s e st = begun s e (ended (step_whole st))
 
 point_whole : (p : PointTree) → Whole (point p)
-point_whole p = begun sign.Point refl (then_ends (name_within p.name) (ended (both_whole (variant_whole p.variant) (both_whole (clauses_whole sign.Holds refl p.holds) (both_whole (side_whole sign.Next refl p.next) (side_whole sign.Undo refl p.undo))))))
+point_whole p = begun sign.Point refl (then_ends (name_within p.name)
+    (ended (both_whole (variant_whole p.variant) (both_whole (clauses_whole sign.Holds refl p.holds)
+    (both_whole (side_whole sign.Next refl p.next) (side_whole sign.Undo refl p.undo))))))
 
 limit_whole : (n : ℕ) → Whole (limit n)
 limit_whole n = begun sign.Limit refl (then_ends (number_within n) last)
@@ -292,12 +323,14 @@ type_whole t =
     let points = both_whole (point_whole t.first) (joined_whole point point_whole t.others) in
     let clauses = both_whole (clauses_whole sign.Ensures refl t.ensured) (both_whole (clauses_whole sign.Repairs refl t.repaired) points) in
     let names = both_whole (names_whole sign.Returns refl t.returns) (both_whole (names_whole sign.Local refl t.locals) clauses) in
-    begun sign.Type refl (then_ends (name_within t.name) (then_ends (joined_within name name_within t.params) (ended (both_whole (limit_whole t.limit) names))))
+    begun sign.Type refl (then_ends (name_within t.name)
+    (then_ends (joined_within name name_within t.params) (ended (both_whole (limit_whole t.limit) names))))
 
 design_whole : (d : DesignTree) → Whole (spelled_design d)
 design_whole d =
     let last = both_whole (joined_whole entry entry_whole d.entries) (joined_whole hint hint_whole d.hints) in
-    both_whole (joined_whole table table_whole d.tables) (both_whole (clauses_whole sign.Always refl d.always) (both_whole (joined_whole type_words type_whole d.types) last))
+    both_whole (joined_whole table table_whole d.tables)
+    (both_whole (clauses_whole sign.Always refl d.always) (both_whole (joined_whole type_words type_whole d.types) last))
 
 -- a design's words are whole statements
 pub spelled_in : (d : DesignTree) → InStatements true (spelled_design d)

@@ -24,7 +24,13 @@ use Rattle.acc_syntax.proofs.TargetLaws.{target_exact, target_is_no_action}
 pub path_exact : Exact CanFollow path All Free path_at
 unfolding path_at
 path_exact =
-    let whole = made_free (after_exact sign.Path refl (seq_exact guard_exact (after_exact sign.End refl (seq_exact actions_exact target_exact)))) (λ p. record { guard = p.0; actions = p.1.0; target = p.1.1 }) path (λ a p. refl) (λ a rest. (guard_ends a.0 _ refl refl (record { times = refl; signed = refl }), (actions_end a.1.0 _ (target_is_no_action a.1.1 rest), tt))) in
+    let whole = made_free (after_exact sign.Path refl
+    (seq_exact guard_exact (after_exact sign.End refl (seq_exact actions_exact target_exact))))
+    (λ p. record { guard = p.0; actions = p.1.0; target = p.1.1 }) path (λ a p. refl)
+    (λ a rest. (
+      guard_ends a.0 _ refl refl (record { times = refl; signed = refl }),
+      (actions_end a.1.0 _ (target_is_no_action a.1.1 rest), tt),
+    )) in
     trees_exact (same_exact (λ ws. simp bind_assoc) whole) (λ t p. tt) (λ t q. ((t.guard, (t.actions, t.target)), (tt, (tt, tt)), refl))
 
 pub path_shrinks : Shrinks path_at
@@ -34,7 +40,8 @@ abbrev PathsRun : List PathTree → List Word → Type 0
 PathsRun = Runs path (comes sign.Path) Free
 
 paths_exact : Exact CanFollow (joined path) All PathsRun (many (comes sign.Path) path_at)
-paths_exact = trees_exact (many_exact path_exact (comes sign.Path) (comes_head sign.Path) refl (λ t rest p g. refl) (λ t p. omega arith)) (λ t p. tt) (λ t q. all_in t)
+paths_exact = trees_exact (many_exact path_exact (comes sign.Path) (comes_head sign.Path) refl (λ t rest p g. refl) (λ t p. omega arith))
+    (λ t p. tt) (λ t q. all_in t)
 
 paths_end : (ts : List PathTree) (rest : List Word) → comes sign.Path rest ≡ false → PathsRun ts rest
 paths_end [] rest h = h
@@ -51,7 +58,9 @@ step_heads s w more after g = paths_exact.heads s.others w more after g
 pub step_exact : Exact CanFollow step All StepGoes step_at
 unfolding step_at
 step_exact =
-    let whole = made_exact (seq_exact reads_exact (seq_exact path_exact paths_exact)) (λ p. record { reads = p.0; first = p.1.0; others = p.1.1 }) step StepGoes (λ a p. refl) (λ a rest g. g.1.1) (λ a rest p g. (reads_end a.0 _ refl, (tt, g))) step_heads in
+    let whole = made_exact (seq_exact reads_exact (seq_exact path_exact paths_exact))
+    (λ p. record { reads = p.0; first = p.1.0; others = p.1.1 }) step StepGoes (λ a p. refl) (λ a rest g. g.1.1)
+    (λ a rest p g. (reads_end a.0 _ refl, (tt, g))) step_heads in
     trees_exact (same_exact (λ ws. simp bind_assoc) whole) (λ t p. tt) (λ t q. ((t.reads, (t.first, t.others)), (tt, (tt, tt)), refl))
 
 pub step_ends : (s : StepTree) (rest : List Word) → comes sign.Path rest ≡ false → StepGoes s rest

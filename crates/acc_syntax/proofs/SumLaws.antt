@@ -1,12 +1,14 @@
 -- The readers of linear values are exact.
-use Rattle.std.proofs.Common.{◌≡◌, ℕ, ◌<◌, Bool, true, false, List, [], ◌∷◌, ◌++◌, length, Option, Some, None, Ok, refl, sym, ap, subst, ◌∙◌, append_assoc, arith, inl, inr}
+use Rattle.std.proofs.Common.{◌≡◌, ℕ, ◌<◌, Bool, true, false, List, [], ◌∷◌, ◌++◌, length, Option, Some, None, Ok, refl, sym, ap, subst}
+use Rattle.std.proofs.Common.{◌∙◌, append_assoc, arith, inl, inr}
 use Rattle.acc_lex.specs.declared.words.Sign.{Sign}
 use Rattle.acc_lex.specs.declared.words.Sign.TheVariants as sign
 use Rattle.acc_lex.specs.declared.words.Word.{Word}
 use Rattle.acc_lex.specs.declared.words.Word.TheVariants as word
 use Rattle.acc_lex.specs.Keywords.{keyword_of}
 use Rattle.acc_grammar.specs.Readers.{joined, many}
-use Rattle.acc_grammar.proofs.Exact.{bind_assoc, Exact, All, Free, Each, seq_exact, Made, made_exact, trees_exact, same_exact, Or, ByHead, either_exact, maybe_exact}
+use Rattle.acc_grammar.proofs.Exact.{bind_assoc, Exact, All, Free, Each, seq_exact, Made, made_exact, trees_exact, same_exact, Or, ByHead}
+use Rattle.acc_grammar.proofs.Exact.{either_exact, maybe_exact}
 use Rattle.acc_grammar.proofs.Many.{Shrinks, item_shrinks, Runs, many_exact}
 use Rattle.acc_syntax.specs.declared.trees.Variable.{Variable}
 use Rattle.acc_syntax.specs.declared.trees.Variable.TheVariants.{Named, Oneself}
@@ -16,7 +18,8 @@ use Rattle.acc_syntax.specs.declared.trees.SignedTerm.{SignedTerm}
 use Rattle.acc_syntax.specs.declared.trees.Sum.{Sum}
 use Rattle.acc_syntax.specs.Spelling.{just, number, variable, term, signed_term, sum}
 use Rattle.acc_syntax.specs.WordReaders.{same_sign, comes, is_number, sign_at, name_at}
-use Rattle.acc_syntax.specs.ValueReaders.{variable_at, factor_at, product_of, number_term_at, term_at, minus_at, direction_at, signed_term_at, starts_signed_term, sum_at, starts_sum}
+use Rattle.acc_syntax.specs.ValueReaders.{variable_at, factor_at, product_of, number_term_at, term_at, minus_at, direction_at}
+use Rattle.acc_syntax.specs.ValueReaders.{signed_term_at, starts_signed_term, sum_at, starts_sum}
 use Rattle.acc_grammar.proofs.RunReaders.{flag}
 use Rattle.acc_syntax.proofs.Following.{CanFollow}
 use Rattle.acc_syntax.proofs.Combinators.{made_free, all_in}
@@ -63,8 +66,10 @@ factor_heads (Some x) w more after g = tt
 factor_exact : Exact CanFollow factor All FactorGoes factor_at
 unfolding factor_at
 factor_exact =
-    let inner = made_exact (after_exact sign.Times refl variable_exact) (λ x. Some x) factor FactorGoes (λ a p. refl) (λ a rest g. tt) (λ a rest p g. tt) factor_heads in
-    let whole = maybe_exact inner (comes sign.Times) (comes_head sign.Times) None refl (λ t rest p g. subst (λ (z : Option Variable). comes sign.Times (factor z ++ rest) ≡ true) p.2 refl) (λ rest h. h) (λ rest h. h) in
+    let inner = made_exact (after_exact sign.Times refl variable_exact) (λ x. Some x) factor FactorGoes (λ a p. refl) (λ a rest g. tt)
+    (λ a rest p g. tt) factor_heads in
+    let whole = maybe_exact inner (comes sign.Times) (comes_head sign.Times) None refl
+    (λ t rest p g. subst (λ (z : Option Variable). comes sign.Times (factor z ++ rest) ≡ true) p.2 refl) (λ rest h. h) (λ rest h. h) in
     trees_exact (same_exact (λ ws. simp bind_assoc) whole) (λ t p. tt) (λ t q. trees t)
   where
     trees : (t : Option Variable) → Or (Made (λ (x : Variable). Some x) All) (λ (u : Option Variable). None ≡ u) t
@@ -105,9 +110,12 @@ variable_starts (Named x) rest = refl
 pub term_exact : Exact CanFollow term All TermGoes term_at
 unfolding term_at number_term_at
 term_exact =
-    let product = made_exact (seq_exact number_exact factor_exact) (λ p. product_of p.0 p.1) term TermGoes (λ a p. product_is a.0 a.1) (λ a rest g. product_from a.0 a.1 rest g.1) (λ a rest p g. (tt, product_to a.0 a.1 rest g)) term_heads in
+    let product = made_exact (seq_exact number_exact factor_exact) (λ p. product_of p.0 p.1) term TermGoes (λ a p. product_is a.0 a.1)
+    (λ a rest g. product_from a.0 a.1 rest g.1) (λ a rest p g. (tt, product_to a.0 a.1 rest g)) term_heads in
     let plain = made_exact variable_exact Plain term TermGoes (λ a p. refl) (λ a rest g. tt) (λ a rest p g. tt) term_heads in
-    let whole = either_exact product plain is_number number_head (λ t rest p g. subst (λ (z : Term). is_number (term z ++ rest) ≡ true) p.2 (product_starts p.0.0 p.0.1 rest)) (λ t rest p g. subst (λ (z : Term). is_number (term z ++ rest) ≡ false) p.2 (variable_starts p.0 rest)) in
+    let whole = either_exact product plain is_number number_head
+    (λ t rest p g. subst (λ (z : Term). is_number (term z ++ rest) ≡ true) p.2 (product_starts p.0.0 p.0.1 rest))
+    (λ t rest p g. subst (λ (z : Term). is_number (term z ++ rest) ≡ false) p.2 (variable_starts p.0 rest)) in
     trees_exact (same_exact (λ ws. simp bind_assoc) whole) (λ t p. tt) (λ t q. trees t)
   where
     trees : (t : Term) → Or (Made (λ (p : ℕ × Option Variable). product_of p.0 p.1) (Each All All)) (Made Plain All) t
@@ -135,7 +143,8 @@ unfolding direction_at
 direction_exact =
     let minus = made_free (sign_exact sign.Minus refl) (λ o. true) direction (λ a p. refl) (λ a rest. tt) in
     let plus = made_free (sign_exact sign.Plus refl) (λ o. false) direction (λ a p. refl) (λ a rest. tt) in
-    let kinds = or_kind direction_begun sign.Minus minus (λ t p. ap direction_sign p.2) refl (last_kind direction_begun sign.Plus plus (λ t p. ap direction_sign p.2)) in
+    let kinds = or_kind direction_begun sign.Minus minus (λ t p. ap direction_sign p.2) refl
+    (last_kind direction_begun sign.Plus plus (λ t p. ap direction_sign p.2)) in
     trees_exact kinds.exact (λ t p. tt) (λ t q. trees t)
   where
     trees : (b : Bool) → Or (Made (λ (o : Unit {0}). true) All) (Made (λ (o : Unit {0}). false) All) b
@@ -152,7 +161,8 @@ signed_is false t = refl
 pub signed_term_exact : Exact CanFollow signed_term All SignedGoes signed_term_at
 unfolding signed_term_at
 signed_term_exact =
-    let whole = made_exact (seq_exact direction_exact term_exact) (λ p. record { minus = p.0; term = p.1 }) signed_term SignedGoes (λ a p. signed_is a.0 a.1) (λ a rest g. g.1) (λ a rest p g. (tt, g)) (λ b w more after g. term_exact.heads b.term w more after g) in
+    let whole = made_exact (seq_exact direction_exact term_exact) (λ p. record { minus = p.0; term = p.1 }) signed_term SignedGoes
+    (λ a p. signed_is a.0 a.1) (λ a rest g. g.1) (λ a rest p g. (tt, g)) (λ b w more after g. term_exact.heads b.term w more after g) in
     trees_exact (same_exact (λ ws. simp bind_assoc) whole) (λ t p. tt) (λ t q. ((t.minus, t.term), (tt, tt), refl))
 
 pub signed_head : ByHead starts_signed_term
@@ -169,13 +179,15 @@ signed_long true t = omega arith
 signed_long false t = omega arith
 
 pub signed_term_shrinks : Shrinks signed_term_at
-signed_term_shrinks = item_shrinks signed_term_exact starts_signed_term signed_head refl (λ t rest p g. signed_starts t.minus t.term rest) (λ t p. signed_long t.minus t.term)
+signed_term_shrinks = item_shrinks signed_term_exact starts_signed_term signed_head refl (λ t rest p g. signed_starts t.minus t.term rest)
+    (λ t p. signed_long t.minus t.term)
 
 abbrev pub SignedRuns : List SignedTerm → List Word → Type 0
 SignedRuns = Runs signed_term starts_signed_term SignedGoes
 
 signed_terms_exact : Exact CanFollow (joined signed_term) All SignedRuns (many starts_signed_term signed_term_at)
-signed_terms_exact = trees_exact (many_exact signed_term_exact starts_signed_term signed_head refl (λ t rest p g. signed_starts t.minus t.term rest) (λ t p. signed_long t.minus t.term)) (λ t p. tt) (λ t q. all_in t)
+signed_terms_exact = trees_exact (many_exact signed_term_exact starts_signed_term signed_head refl
+    (λ t rest p g. signed_starts t.minus t.term rest) (λ t p. signed_long t.minus t.term)) (λ t p. tt) (λ t q. all_in t)
 
 -- ---- sums
 
@@ -194,8 +206,11 @@ minus_heads false w more after g = sym (comes_head sign.Minus w more after) ∙ 
 pub minus_exact : Exact CanFollow minus All MinusGoes minus_at
 unfolding minus_at
 minus_exact =
-    let there = made_exact (sign_exact sign.Minus refl) (λ o. true) minus MinusGoes (λ a p. refl) (λ a rest g. tt) (λ a rest p g. tt) minus_heads in
-    trees_exact (maybe_exact there (comes sign.Minus) (comes_head sign.Minus) false refl (λ t rest p g. subst (λ (z : Bool). comes sign.Minus (minus z ++ rest) ≡ true) p.2 refl) (λ rest h. h) (λ rest h. h)) (λ t p. tt) (λ t q. trees t)
+    let there = made_exact (sign_exact sign.Minus refl) (λ o. true) minus MinusGoes (λ a p. refl) (λ a rest g. tt) (λ a rest p g. tt)
+    minus_heads in
+    trees_exact (maybe_exact there (comes sign.Minus) (comes_head sign.Minus) false refl
+    (λ t rest p g. subst (λ (z : Bool). comes sign.Minus (minus z ++ rest) ≡ true) p.2 refl) (λ rest h. h) (λ rest h. h)) (λ t p. tt)
+    (λ t q. trees t)
   where
     trees : (b : Bool) → Or (Made (λ (o : Unit {0}). true) All) (λ (u : Bool). false ≡ u) b
     trees true = inl (tt, tt, refl)
@@ -207,7 +222,8 @@ SumGoes s rest = TermGoes s.first (joined signed_term s.others ++ rest) × Signe
 pub sum_heads : (s : Sum) (w : Word) (more after : List Word) → SumGoes s (w ∷ more) → SumGoes s (w ∷ after)
 sum_heads s w more after g = (seq_exact term_exact signed_terms_exact).heads (s.first, s.others) w more after g
 
-sum_is : (m : Bool) (t : Term) (ss : List SignedTerm) → sum (record { minus = m; first = t; others = ss }) ≡ minus m ++ (term t ++ joined signed_term ss)
+sum_is : (m : Bool) (t : Term) (ss : List SignedTerm) →
+    sum (record { minus = m; first = t; others = ss }) ≡ minus m ++ (term t ++ joined signed_term ss)
 sum_is true t ss = refl
 sum_is false t ss = refl
 
@@ -221,7 +237,9 @@ no_minus false (Product n x) ss rest = refl
 pub sum_exact : Exact CanFollow sum All SumGoes sum_at
 unfolding sum_at
 sum_exact =
-    let whole = made_exact (seq_exact minus_exact (seq_exact term_exact signed_terms_exact)) (λ p. record { minus = p.0; first = p.1.0; others = p.1.1 }) sum SumGoes (λ a p. sum_is a.0 a.1.0 a.1.1) (λ a rest g. g.1) (λ a rest p g. (no_minus a.0 a.1.0 a.1.1 rest, g)) sum_heads in
+    let whole = made_exact (seq_exact minus_exact (seq_exact term_exact signed_terms_exact))
+    (λ p. record { minus = p.0; first = p.1.0; others = p.1.1 }) sum SumGoes (λ a p. sum_is a.0 a.1.0 a.1.1) (λ a rest g. g.1)
+    (λ a rest p g. (no_minus a.0 a.1.0 a.1.1 rest, g)) sum_heads in
     trees_exact (same_exact (λ ws. simp bind_assoc) whole) (λ t p. tt) (λ t q. ((t.minus, (t.first, t.others)), (tt, (tt, tt)), refl))
 
 -- where a sum may end
@@ -238,16 +256,21 @@ no_times : (m : Bool) (t : Term) (rest : List Word) → comes sign.Times (signed
 no_times true t rest = refl
 no_times false t rest = refl
 
-no_times_in : (ss : List SignedTerm) (rest : List Word) → comes sign.Times rest ≡ false → comes sign.Times (joined signed_term ss ++ rest) ≡ false
+no_times_in : (ss : List SignedTerm) (rest : List Word) → comes sign.Times rest ≡ false →
+    comes sign.Times (joined signed_term ss ++ rest) ≡ false
 no_times_in [] rest h = h
-no_times_in (s ∷ ss) rest h = ap (comes sign.Times) (append_assoc (signed_term s) (joined signed_term ss) rest) ∙ no_times s.minus s.term (joined signed_term ss ++ rest)
+no_times_in (s ∷ ss) rest h = ap (comes sign.Times) (append_assoc (signed_term s) (joined signed_term ss) rest) ∙ no_times s.minus s.term
+    (joined signed_term ss ++ rest)
 
 signed_end : (ss : List SignedTerm) (rest : List Word) → Stop rest → SignedRuns ss rest
 signed_end [] rest h = h.signed
 signed_end (s ∷ ss) rest h = (term_ends s.term (joined signed_term ss ++ rest) (no_times_in ss rest h.times), signed_end ss rest h)
 
 pub sum_ends : (s : Sum) (rest : List Word) → Stop rest → SumGoes s rest
-sum_ends s rest h = (term_ends s.first (joined signed_term s.others ++ rest) (no_times_in s.others rest h.times), signed_end s.others rest h)
+sum_ends s rest h = (
+  term_ends s.first (joined signed_term s.others ++ rest) (no_times_in s.others rest h.times),
+  signed_end s.others rest h,
+)
 
 -- ---- a sum begins
 
@@ -256,7 +279,8 @@ sum_head (word.Sign t) more after = refl
 sum_head (word.Name x) more after = refl
 sum_head (word.Number n) more after = refl
 
-sum_starts_at : (m : Bool) (t : Term) (ss : List SignedTerm) (rest : List Word) → starts_sum (sum (record { minus = m; first = t; others = ss }) ++ rest) ≡ true
+sum_starts_at : (m : Bool) (t : Term) (ss : List SignedTerm) (rest : List Word) →
+    starts_sum (sum (record { minus = m; first = t; others = ss }) ++ rest) ≡ true
 sum_starts_at true t ss rest = refl
 sum_starts_at false (Constant n) ss rest = refl
 sum_starts_at false (Plain (Named x)) ss rest = refl

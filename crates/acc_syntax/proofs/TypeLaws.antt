@@ -24,8 +24,10 @@ use Rattle.acc_syntax.specs.DesignReaders.{point_head_at, point_at, limit_at, ty
 use Rattle.acc_syntax.specs.DesignReaders.{type_at, design_at}
 use Rattle.acc_syntax.proofs.Following.{CanFollow}
 use Rattle.acc_syntax.proofs.Combinators.{all_in, runs_end}
-use Rattle.acc_syntax.proofs.WordLaws.{comes_head, name_exact, number_exact, end_exact, after_exact, closed_exact, names_run, names_end, list_skips}
-use Rattle.acc_syntax.proofs.TableLaws.{tables_exact, tables_end, NamesStatementGoes, names_statement_exact, names_statement_ends, names_skip}
+use Rattle.acc_syntax.proofs.WordLaws.{comes_head, name_exact, number_exact, end_exact, after_exact, closed_exact, names_run, names_end}
+use Rattle.acc_syntax.proofs.WordLaws.{list_skips}
+use Rattle.acc_syntax.proofs.TableLaws.{tables_exact, tables_end, NamesStatementGoes, names_statement_exact, names_statement_ends}
+use Rattle.acc_syntax.proofs.TableLaws.{names_skip}
 use Rattle.acc_syntax.proofs.ClauseLaws.{ClausesRun, clauses_exact, clauses_end, clauses_skip, VariantGoes, variant_exact, variant_ends}
 use Rattle.acc_syntax.proofs.EntryLaws.{entries_exact, hints_exact}
 use Rattle.acc_syntax.proofs.StepLaws.{StepGoes, step_exact, step_ends, side_exact}
@@ -36,16 +38,28 @@ abbrev PointGoes : PointTree → List Word → Type 0
 PointGoes p rest = StepGoes p.undo rest
 
 -- what holds at the point, and its steps, are statements of their own
-variant_before : (v : Option Sum) (hs : List ClauseTree) (n u : StepTree) (rest : List Word) → VariantGoes v ((joined (clause_statement sign.Holds) hs ++ (side sign.Next n ++ side sign.Undo u)) ++ rest)
-variant_before v hs n u rest = variant_ends v _ (clauses_skip sign.Holds sign.Variant refl hs (side sign.Next n ++ side sign.Undo u) rest refl)
+variant_before : (v : Option Sum) (hs : List ClauseTree) (n u : StepTree) (rest : List Word) →
+    VariantGoes v ((joined (clause_statement sign.Holds) hs ++ (side sign.Next n ++ side sign.Undo u)) ++ rest)
+variant_before v hs n u rest = variant_ends v _
+    (clauses_skip sign.Holds sign.Variant refl hs (side sign.Next n ++ side sign.Undo u) rest refl)
 
 pub point_exact : Exact CanFollow point All PointGoes point_at
 unfolding point_at point_head_at
 point_exact =
     let sides = seq_exact (side_exact sign.Next refl) (side_exact sign.Undo refl) in
     let body = seq_exact variant_exact (seq_exact (clauses_exact sign.Holds refl) sides) in
-    let whole = made_exact (after_exact sign.Point refl (seq_exact name_exact (after_exact sign.End refl body))) (λ p. record { name = p.0; variant = p.1.0; holds = p.1.1.0; next = p.1.1.1.0; undo = p.1.1.1.1 }) point PointGoes (λ a p. refl) (λ a rest g. g.1.1.1.1) (λ a rest p g. (tt, (variant_before a.1.0 a.1.1.0 a.1.1.1.0 a.1.1.1.1 rest, (clauses_end sign.Holds a.1.1.0 _ refl, (step_ends a.1.1.1.0 _ refl, g))))) (λ b w more after g. step_exact.heads b.undo w more after g) in
-    trees_exact (same_exact (λ ws. simp bind_assoc) whole) (λ t p. tt) (λ t q. ((t.name, (t.variant, (t.holds, (t.next, t.undo)))), (tt, (tt, (tt, (tt, tt)))), refl))
+    let whole = made_exact (after_exact sign.Point refl (seq_exact name_exact (after_exact sign.End refl body)))
+    (λ p. record { name = p.0; variant = p.1.0; holds = p.1.1.0; next = p.1.1.1.0; undo = p.1.1.1.1 }) point PointGoes (λ a p. refl)
+    (λ a rest g. g.1.1.1.1) (λ a rest p g. (
+      tt,
+      (
+        variant_before a.1.0 a.1.1.0 a.1.1.1.0 a.1.1.1.1 rest,
+        (clauses_end sign.Holds a.1.1.0 _ refl, (step_ends a.1.1.1.0 _ refl, g)),
+      ),
+    ))
+    (λ b w more after g. step_exact.heads b.undo w more after g) in
+    trees_exact (same_exact (λ ws. simp bind_assoc) whole) (λ t p. tt)
+    (λ t q. ((t.name, (t.variant, (t.holds, (t.next, t.undo)))), (tt, (tt, (tt, (tt, tt)))), refl))
 
 pub point_shrinks : Shrinks point_at
 point_shrinks = item_shrinks point_exact (comes sign.Point) (comes_head sign.Point) refl (λ t rest p g. refl) (λ t p. omega arith)
@@ -54,7 +68,8 @@ abbrev PointsRun : List PointTree → List Word → Type 0
 PointsRun = Runs point (comes sign.Point) PointGoes
 
 points_exact : Exact CanFollow (joined point) All PointsRun (many (comes sign.Point) point_at)
-points_exact = trees_exact (many_exact point_exact (comes sign.Point) (comes_head sign.Point) refl (λ t rest p g. refl) (λ t p. omega arith)) (λ t p. tt) (λ t q. all_in t)
+points_exact = trees_exact (many_exact point_exact (comes sign.Point) (comes_head sign.Point) refl (λ t rest p g. refl)
+    (λ t p. omega arith)) (λ t p. tt) (λ t q. all_in t)
 
 -- where a point, and the points, may end
 pub record TypeStop (rest : List Word) : Type 0 where
@@ -85,18 +100,31 @@ type_heads t w more after g = (seq_exact point_exact points_exact).heads (t.firs
 repairs_before : (rs : List ClauseTree) (p : PointTree) (behind rest : List Word) → ClausesRun sign.Repairs rs ((point p ++ behind) ++ rest)
 repairs_before rs p behind rest = clauses_end sign.Repairs rs _ refl
 
-ensures_before : (es rs : List ClauseTree) (p : PointTree) (behind rest : List Word) → ClausesRun sign.Ensures es ((joined (clause_statement sign.Repairs) rs ++ (point p ++ behind)) ++ rest)
-ensures_before es rs p behind rest = clauses_end sign.Ensures es _ (clauses_skip sign.Repairs sign.Ensures refl rs (point p ++ behind) rest refl)
+ensures_before : (es rs : List ClauseTree) (p : PointTree) (behind rest : List Word) →
+    ClausesRun sign.Ensures es ((joined (clause_statement sign.Repairs) rs ++ (point p ++ behind)) ++ rest)
+ensures_before es rs p behind rest = clauses_end sign.Ensures es _
+    (clauses_skip sign.Repairs sign.Ensures refl rs (point p ++ behind) rest refl)
 
 -- no clause of a type begins with the word
-clauses_apart : (k : Sign) → same_sign sign.Ensures k ≡ false → same_sign sign.Repairs k ≡ false → same_sign sign.Point k ≡ false → (es rs : List ClauseTree) (p : PointTree) (behind rest : List Word) → comes k ((joined (clause_statement sign.Ensures) es ++ (joined (clause_statement sign.Repairs) rs ++ (point p ++ behind))) ++ rest) ≡ false
-clauses_apart k e r o es rs p behind rest = clauses_skip sign.Ensures k e es (joined (clause_statement sign.Repairs) rs ++ (point p ++ behind)) rest (clauses_skip sign.Repairs k r rs (point p ++ behind) rest o)
+clauses_apart : (k : Sign) → same_sign sign.Ensures k ≡ false → same_sign sign.Repairs k ≡ false → same_sign sign.Point k ≡ false →
+    (es rs : List ClauseTree) (p : PointTree) (behind rest : List Word) →
+    comes k ((joined (clause_statement sign.Ensures) es ++ (joined (clause_statement sign.Repairs) rs ++ (point p ++ behind))) ++ rest) ≡
+    false
+clauses_apart k e r o es rs p behind rest = clauses_skip sign.Ensures k e es
+    (joined (clause_statement sign.Repairs) rs ++ (point p ++ behind)) rest (clauses_skip sign.Repairs k r rs (point p ++ behind) rest o)
 
-locals_before : (ls : Option Names) (es rs : List ClauseTree) (p : PointTree) (behind rest : List Word) → NamesStatementGoes sign.Local ls ((joined (clause_statement sign.Ensures) es ++ (joined (clause_statement sign.Repairs) rs ++ (point p ++ behind))) ++ rest)
+locals_before : (ls : Option Names) (es rs : List ClauseTree) (p : PointTree) (behind rest : List Word) →
+    NamesStatementGoes sign.Local ls ((joined (clause_statement sign.Ensures) es ++
+    (joined (clause_statement sign.Repairs) rs ++ (point p ++ behind))) ++ rest)
 locals_before ls es rs p behind rest = names_statement_ends sign.Local ls _ (clauses_apart sign.Local refl refl refl es rs p behind rest)
 
-returns_before : (ns ls : Option Names) (es rs : List ClauseTree) (p : PointTree) (behind rest : List Word) → NamesStatementGoes sign.Returns ns ((names_statement sign.Local ls ++ (joined (clause_statement sign.Ensures) es ++ (joined (clause_statement sign.Repairs) rs ++ (point p ++ behind)))) ++ rest)
-returns_before ns ls es rs p behind rest = names_statement_ends sign.Returns ns _ (names_skip sign.Local sign.Returns refl ls (joined (clause_statement sign.Ensures) es ++ (joined (clause_statement sign.Repairs) rs ++ (point p ++ behind))) rest (clauses_apart sign.Returns refl refl refl es rs p behind rest))
+returns_before : (ns ls : Option Names) (es rs : List ClauseTree) (p : PointTree) (behind rest : List Word) →
+    NamesStatementGoes sign.Returns ns ((names_statement sign.Local ls ++
+    (joined (clause_statement sign.Ensures) es ++ (joined (clause_statement sign.Repairs) rs ++ (point p ++ behind)))) ++ rest)
+returns_before ns ls es rs p behind rest = names_statement_ends sign.Returns ns _
+    (names_skip sign.Local sign.Returns refl ls (joined (clause_statement sign.Ensures) es ++
+    (joined (clause_statement sign.Repairs) rs ++ (point p ++ behind))) rest
+    (clauses_apart sign.Returns refl refl refl es rs p behind rest))
 
 -- what stands behind a type's head
 abbrev BodyRead : Type 0
@@ -116,11 +144,41 @@ BodyGoes b rest = PointGoes b.1.1.1.1.0 (joined point b.1.1.1.1.1 ++ rest) × Po
 pub type_exact : Exact CanFollow type_words All TypeGoes type_at
 unfolding type_at type_head_at type_names_at type_clauses_at type_points_at
 type_exact =
-    let clauses = seq_exact (clauses_exact sign.Ensures refl) (seq_exact (clauses_exact sign.Repairs refl) (seq_exact point_exact points_exact)) in
+    let clauses = seq_exact (clauses_exact sign.Ensures refl)
+    (seq_exact (clauses_exact sign.Repairs refl) (seq_exact point_exact points_exact)) in
     let body = seq_exact (names_statement_exact sign.Returns refl) (seq_exact (names_statement_exact sign.Local refl) clauses) in
-    let ended = made_exact body (λ b. b) body_words BodyGoes (λ a p. refl) (λ a rest g. g.1.1.1.1) (λ a rest p g. (returns_before a.0 a.1.0 a.1.1.0 a.1.1.1.0 a.1.1.1.1.0 (joined point a.1.1.1.1.1) rest, (locals_before a.1.0 a.1.1.0 a.1.1.1.0 a.1.1.1.1.0 (joined point a.1.1.1.1.1) rest, (ensures_before a.1.1.0 a.1.1.1.0 a.1.1.1.1.0 (joined point a.1.1.1.1.1) rest, (repairs_before a.1.1.1.0 a.1.1.1.1.0 (joined point a.1.1.1.1.1) rest, g))))) (λ b w more after g. (seq_exact point_exact points_exact).heads b.1.1.1.1 w more after g) in
-    let whole = made_exact (after_exact sign.Type refl (seq_exact name_exact (seq_exact names_run (after_exact sign.End refl (seq_exact limit_exact ended))))) (λ p. record { name = p.0; params = p.1.0; limit = p.1.1.0; returns = p.1.1.1.0; locals = p.1.1.1.1.0; ensured = p.1.1.1.1.1.0; repaired = p.1.1.1.1.1.1.0; first = p.1.1.1.1.1.1.1.0; others = p.1.1.1.1.1.1.1.1 }) type_words TypeGoes (λ a p. refl) (λ a rest g. g.1.1.1) (λ a rest p g. (tt, (names_end a.1.0 _ refl, (tt, g)))) type_heads in
-    trees_exact (same_exact (λ ws. simp bind_assoc) whole) (λ t p. tt) (λ t q. ((t.name, (t.params, (t.limit, (t.returns, (t.locals, (t.ensured, (t.repaired, (t.first, t.others)))))))), (tt, (tt, (tt, ((t.returns, (t.locals, (t.ensured, (t.repaired, (t.first, t.others))))), (tt, (tt, (tt, (tt, (tt, tt))))), refl)))), refl))
+    let ended = made_exact body (λ b. b) body_words BodyGoes (λ a p. refl) (λ a rest g. g.1.1.1.1)
+    (λ a rest p g. (
+      returns_before a.0 a.1.0 a.1.1.0 a.1.1.1.0 a.1.1.1.1.0 (joined point a.1.1.1.1.1) rest,
+      (
+        locals_before a.1.0 a.1.1.0 a.1.1.1.0 a.1.1.1.1.0 (joined point a.1.1.1.1.1) rest,
+        (
+          ensures_before a.1.1.0 a.1.1.1.0 a.1.1.1.1.0 (joined point a.1.1.1.1.1) rest,
+          (repairs_before a.1.1.1.0 a.1.1.1.1.0 (joined point a.1.1.1.1.1) rest, g),
+        ),
+      ),
+    ))
+    (λ b w more after g. (seq_exact point_exact points_exact).heads b.1.1.1.1 w more after g) in
+    let whole = made_exact (after_exact sign.Type refl
+    (seq_exact name_exact (seq_exact names_run (after_exact sign.End refl (seq_exact limit_exact ended)))))
+    (λ p. record {
+      name = p.0;
+      params = p.1.0;
+      limit = p.1.1.0;
+      returns = p.1.1.1.0;
+      locals = p.1.1.1.1.0;
+      ensured = p.1.1.1.1.1.0;
+      repaired = p.1.1.1.1.1.1.0;
+      first = p.1.1.1.1.1.1.1.0;
+      others = p.1.1.1.1.1.1.1.1;
+    }) type_words TypeGoes (λ a p. refl)
+    (λ a rest g. g.1.1.1) (λ a rest p g. (tt, (names_end a.1.0 _ refl, (tt, g)))) type_heads in
+    trees_exact (same_exact (λ ws. simp bind_assoc) whole) (λ t p. tt)
+    (λ t q. (
+      (t.name, (t.params, (t.limit, (t.returns, (t.locals, (t.ensured, (t.repaired, (t.first, t.others)))))))),
+      (tt, (tt, (tt, ((t.returns, (t.locals, (t.ensured, (t.repaired, (t.first, t.others))))), (tt, (tt, (tt, (tt, (tt, tt))))), refl)))),
+      refl,
+    ))
 
 pub type_shrinks : Shrinks type_at
 type_shrinks = item_shrinks type_exact (comes sign.Type) (comes_head sign.Type) refl (λ t rest p g. refl) (λ t p. omega arith)
@@ -129,7 +187,8 @@ abbrev TypesRun : List TypeTree → List Word → Type 0
 TypesRun = Runs type_words (comes sign.Type) TypeGoes
 
 types_exact : Exact CanFollow (joined type_words) All TypesRun (many (comes sign.Type) type_at)
-types_exact = trees_exact (many_exact type_exact (comes sign.Type) (comes_head sign.Type) refl (λ t rest p g. refl) (λ t p. omega arith)) (λ t p. tt) (λ t q. all_in t)
+types_exact = trees_exact (many_exact type_exact (comes sign.Type) (comes_head sign.Type) refl (λ t rest p g. refl) (λ t p. omega arith))
+    (λ t p. tt) (λ t q. all_in t)
 
 type_ends : (t : TypeTree) (rest : List Word) → TypeStop rest → TypeGoes t rest
 type_ends t rest h = (step_ends t.first.undo _ (no_path t.others rest h.path), points_end t.others rest h)
@@ -145,8 +204,10 @@ abbrev last_words : List EntryTree → List HintTree → List Word
 last_words es hs = joined entry es ++ (joined hint hs ++ [])
 
 -- they begin with no other word
-last_apart : (k : Sign) → same_sign sign.Entry k ≡ false → same_sign sign.Hint k ≡ false → (es : List EntryTree) (hs : List HintTree) → comes k (last_words es hs ++ []) ≡ false
-last_apart k e h es hs = list_skips sign.Entry k entry (λ t. (_, refl)) e es (joined hint hs ++ []) [] (list_skips sign.Hint k hint (λ t. (_, refl)) h hs [] [] refl)
+last_apart : (k : Sign) → same_sign sign.Entry k ≡ false → same_sign sign.Hint k ≡ false → (es : List EntryTree) (hs : List HintTree) →
+    comes k (last_words es hs ++ []) ≡ false
+last_apart k e h es hs = list_skips sign.Entry k entry (λ t. (_, refl)) e es (joined hint hs ++ []) []
+    (list_skips sign.Hint k hint (λ t. (_, refl)) h hs [] [] refl)
 
 type_stop : (ts : List TypeTree) (es : List EntryTree) (hs : List HintTree) → TypeStop (joined type_words ts ++ (last_words es hs ++ []))
 type_stop [] es hs = record { path = last_apart sign.Path refl refl es hs; point = last_apart sign.Point refl refl es hs }
@@ -157,13 +218,17 @@ types_end [] es hs = last_apart sign.Type refl refl es hs
 types_end (t ∷ ts) es hs = (type_ends t _ (type_stop ts es hs), types_end ts es hs)
 
 -- the words of the types, the entries and the hints begin with no other word
-types_apart : (k : Sign) → same_sign sign.Type k ≡ false → same_sign sign.Entry k ≡ false → same_sign sign.Hint k ≡ false → (ts : List TypeTree) (es : List EntryTree) (hs : List HintTree) → comes k ((joined type_words ts ++ last_words es hs) ++ []) ≡ false
+types_apart : (k : Sign) → same_sign sign.Type k ≡ false → same_sign sign.Entry k ≡ false → same_sign sign.Hint k ≡ false →
+    (ts : List TypeTree) (es : List EntryTree) (hs : List HintTree) → comes k ((joined type_words ts ++ last_words es hs) ++ []) ≡ false
 types_apart k t e h ts es hs = list_skips sign.Type k type_words (λ y. (_, refl)) t ts (last_words es hs) [] (last_apart k e h es hs)
 
-no_table : (cs : List ClauseTree) (ts : List TypeTree) (es : List EntryTree) (hs : List HintTree) → starts_table ((joined (clause_statement sign.Always) cs ++ (joined type_words ts ++ last_words es hs)) ++ []) ≡ false
+no_table : (cs : List ClauseTree) (ts : List TypeTree) (es : List EntryTree) (hs : List HintTree) →
+    starts_table ((joined (clause_statement sign.Always) cs ++ (joined type_words ts ++ last_words es hs)) ++ []) ≡ false
 no_table cs ts es hs =
-    let private = clauses_skip sign.Always sign.Private refl cs (joined type_words ts ++ last_words es hs) [] (types_apart sign.Private refl refl refl ts es hs) in
-    let plain = clauses_skip sign.Always sign.Table refl cs (joined type_words ts ++ last_words es hs) [] (types_apart sign.Table refl refl refl ts es hs) in
+    let private = clauses_skip sign.Always sign.Private refl cs (joined type_words ts ++ last_words es hs) []
+    (types_apart sign.Private refl refl refl ts es hs) in
+    let plain = clauses_skip sign.Always sign.Table refl cs (joined type_words ts ++ last_words es hs) []
+    (types_apart sign.Table refl refl refl ts es hs) in
     rw (private, plain) refl
 
 -- what is read of a design
@@ -172,7 +237,8 @@ DesignRead = List TableTree × (List ClauseTree × (List TypeTree × (List Entry
 
 abbrev DesignRuns : DesignRead → List Word → Type 0
 DesignRuns d rest =
-    Runs table starts_table Free d.0 ((joined (clause_statement sign.Always) d.1.0 ++ (joined type_words d.1.1.0 ++ last_words d.1.1.1.0 d.1.1.1.1.0)) ++ rest) × (
+    Runs table starts_table Free d.0 ((joined (clause_statement sign.Always) d.1.0 ++
+    (joined type_words d.1.1.0 ++ last_words d.1.1.1.0 d.1.1.1.1.0)) ++ rest) × (
     ClausesRun sign.Always d.1.0 ((joined type_words d.1.1.0 ++ last_words d.1.1.1.0 d.1.1.1.1.0) ++ rest) × (
     TypesRun d.1.1.0 (last_words d.1.1.1.0 d.1.1.1.1.0 ++ rest) × (
     Runs entry (comes sign.Entry) Free d.1.1.1.0 ((joined hint d.1.1.1.1.0 ++ []) ++ rest) × (
@@ -203,5 +269,10 @@ pub design_exact : Exact CanFollow spelled_design All DesignGoes design_at
 unfolding design_at
 design_exact =
     let ended = seq_exact entries_exact (seq_exact hints_exact end_exact) in
-    let whole = made_exact (seq_exact tables_exact (seq_exact (clauses_exact sign.Always refl) (seq_exact types_exact ended))) (λ p. record { tables = p.0; always = p.1.0; types = p.1.1.0; entries = p.1.1.1.0; hints = p.1.1.1.1.0 }) spelled_design DesignGoes (λ a p. no_more (joined table a.0) (joined (clause_statement sign.Always) a.1.0) (joined type_words a.1.1.0) (joined entry a.1.1.1.0) (joined hint a.1.1.1.1.0)) (λ a rest g. g.1.1.1.1.1) (λ a rest p g. parts_end a rest g) (λ b w more after g. g) in
-    trees_exact (same_exact (λ ws. simp bind_assoc) whole) (λ t p. tt) (λ t q. ((t.tables, (t.always, (t.types, (t.entries, (t.hints, tt))))), (tt, (tt, (tt, (tt, (tt, tt))))), refl))
+    let whole = made_exact (seq_exact tables_exact (seq_exact (clauses_exact sign.Always refl) (seq_exact types_exact ended)))
+    (λ p. record { tables = p.0; always = p.1.0; types = p.1.1.0; entries = p.1.1.1.0; hints = p.1.1.1.1.0 }) spelled_design DesignGoes
+    (λ a p. no_more (joined table a.0) (joined (clause_statement sign.Always) a.1.0) (joined type_words a.1.1.0)
+    (joined entry a.1.1.1.0) (joined hint a.1.1.1.1.0)) (λ a rest g. g.1.1.1.1.1) (λ a rest p g. parts_end a rest g)
+    (λ b w more after g. g) in
+    trees_exact (same_exact (λ ws. simp bind_assoc) whole) (λ t p. tt)
+    (λ t q. ((t.tables, (t.always, (t.types, (t.entries, (t.hints, tt))))), (tt, (tt, (tt, (tt, (tt, tt))))), refl))

@@ -1,5 +1,6 @@
 -- What reading all words says of them.
-use Rattle.std.proofs.Common.{◌≡◌, ℕ, ◌+◌, ◌-◌, ◌<◌, ◌≤◌, false, List, [], ◌∷◌, ◌++◌, length, take, drop, Ok, Err, refl, sym, ap, subst, ◌∙◌, arith, append_assoc, length-append, inl, inr}
+use Rattle.std.proofs.Common.{◌≡◌, ℕ, ◌+◌, ◌-◌, ◌<◌, ◌≤◌, false, List, [], ◌∷◌, ◌++◌, length, take, drop, Ok, Err, refl, sym, ap, subst}
+use Rattle.std.proofs.Common.{◌∙◌, arith, append_assoc, length-append, inl, inr}
 use Rattle.std.proofs.lemmas.Bool.{cases_lt}
 use Rattle.std.proofs.lemmas.List.{append-nil, take_at, take_all, take-take, take-append-drop, length-take-le}
 use Rattle.acc_lex.specs.declared.words.Word.{Word}
@@ -38,13 +39,15 @@ one_tree t u e =
 not_text : (ws rest : List Word) → design_at ws ≡ Err rest → (t : DesignTree) → ¬ (ws ≡ spelled_design t)
 not_text ws rest h t e = let wrong = sym h ∙ is_read ws t e in absurd cc
 
-no_further : (front : List Word) (w : Word) → ((after : List Word) → design_at (front ++ (w ∷ after)) ≡ Err (w ∷ after)) → ¬ Begins (front ++ (w ∷ []))
+no_further : (front : List Word) (w : Word) → ((after : List Word) → design_at (front ++ (w ∷ after)) ≡ Err (w ∷ after)) →
+    ¬ Begins (front ++ (w ∷ []))
 no_further front w stuck b =
     not_text (front ++ (w ∷ b.0)) (w ∷ b.0) (stuck b.0) b.1 (sym (append_assoc front (w ∷ []) b.0) ∙ b.3.spelled)
 
 -- ---- words up to the first `self` outside the types, of which a tree is read
 
-module _ (ws : List Word) (k : ℕ) (within : k ≤ length ws) (own : OwnInTypes (take k ws)) (stray : k < length ws → ¬ OwnInTypes (take (k + 1) ws)) where
+module _ (ws : List Word) (k : ℕ) (within : k ≤ length ws) (own : OwnInTypes (take k ws)) (stray : k < length ws →
+    ¬ OwnInTypes (take (k + 1) ws)) where
   -- a `self` stands outside
   pub none_past : k < length ws → (t : DesignTree) → ¬ IsSpelling ws t
   none_past lt t s = stray lt (own_front (take (k + 1) ws) (drop (k + 1) ws) (subst OwnInTypes (sym (take-append-drop (k + 1) ws)) s.own))
@@ -61,7 +64,13 @@ module _ (ws : List Word) (k : ℕ) (within : k ≤ length ws) (own : OwnInTypes
   pub stops_before : (t : DesignTree) (rest : List Word) → k < length ws → design_at (take k ws) ≡ Ok (t, rest) → StopsAt ws k
   stops_before t rest lt h = record {
     in_range = within;
-    begins = ([], t, tt, subst (λ (z : List Word). IsSpelling z t) (sym (append-nil (take k ws))) (record { spelled = spelled_as (take k ws) t rest h; own = own }));
+    begins = (
+      [],
+      t,
+      tt,
+      subst (λ (z : List Word). IsSpelling z t) (sym (append-nil (take k ws)))
+          (record { spelled = spelled_as (take k ws) t rest h; own = own }),
+    );
     stops = no_begin_past;
     ends = none_past lt;
   }
@@ -77,25 +86,37 @@ module _ (ws : List Word) (k : ℕ) (within : k ≤ length ws) (own : OwnInTypes
       let s = design_exact.stops (take k ws) rest h in
       omega (arith, ap length s.split, length-append s.front rest, length-take-le k ws within)
 
-  stuck_at : (front rest : List Word) → take k ws ≡ front ++ rest → length front + length rest ≡ k → ((w : Word) (others after : List Word) → rest ≡ w ∷ others → design_at (front ++ (w ∷ after)) ≡ Err (w ∷ after)) → length front < length ws → ¬ Begins (take (length front + 1) ws)
+  stuck_at : (front rest : List Word) → take k ws ≡ front ++ rest → length front + length rest ≡ k →
+      ((w : Word) (others after : List Word) → rest ≡ w ∷ others → design_at (front ++ (w ∷ after)) ≡ Err (w ∷ after)) →
+      length front < length ws → ¬ Begins (take (length front + 1) ws)
   stuck_at front [] split len stuck lt b =
       let is : length front ≡ k = omega (arith, len) in
       no_begin_past (omega (arith, is, lt)) (subst (λ (z : ℕ). Begins (take (z + 1) ws)) is b)
   stuck_at front (w ∷ others) split len stuck lt b =
       let parted : take k ws ≡ (front ++ (w ∷ [])) ++ others = split ∙ sym (append_assoc front (w ∷ []) others) in
       let long : length (front ++ (w ∷ [])) ≡ length front + 1 = omega (arith, length-append front (w ∷ [])) in
-      let is : take (length front + 1) ws ≡ front ++ (w ∷ []) = sym (take-take (length front + 1) k ws (omega (arith, len))) ∙ ap (take (length front + 1)) parted ∙ take_at (front ++ (w ∷ [])) others (length front + 1) long in
+      let is : take (length front + 1) ws ≡ front ++ (w ∷ []) =
+      sym (take-take (length front + 1) k ws (omega (arith, len))) ∙ ap (take (length front + 1)) parted ∙ take_at (front ++ (w ∷ []))
+      others (length front + 1) long in
       no_further front w (λ after. stuck w others after refl) (subst Begins is b)
 
   -- a word with which no design goes on comes first
   pub stops_at : (rest : List Word) → design_at (take k ws) ≡ Err rest → StopsAt ws (k - length rest)
   stops_at rest h =
       let s = design_exact.stops (take k ws) rest h in
-      let len : length s.front + length rest ≡ k = omega (arith, ap length s.split, length-append s.front rest, length-take-le k ws within) in
+      let len : length s.front + length rest ≡ k =
+      omega (arith, ap length s.split, length-append s.front rest, length-take-le k ws within) in
       let place : length s.front ≡ k - length rest = omega (arith, len) in
-      let is : take (length s.front) ws ≡ s.front = sym (take-take (length s.front) k ws (omega (arith, len))) ∙ ap (take (length s.front)) s.split ∙ take_at s.front rest (length s.front) refl in
+      let is : take (length s.front) ws ≡ s.front =
+      sym (take-take (length s.front) k ws (omega (arith, len))) ∙ ap (take (length s.front)) s.split ∙ take_at s.front rest
+      (length s.front) refl in
       let front_own : OwnInTypes s.front = own_front s.front rest (subst OwnInTypes s.split own) in
-      let begins : Begins s.front = (s.more, s.tree, all_spell s.more s.plain, record { spelled = s.viable; own = own_more s.front s.more s.plain front_own }) in
+      let begins : Begins s.front = (
+        s.more,
+        s.tree,
+        all_spell s.more s.plain,
+        record { spelled = s.viable; own = own_more s.front s.more s.plain front_own },
+      ) in
       subst (StopsAt ws) place (record {
         in_range = omega (arith, len, within);
         begins = subst Begins (sym is) begins;

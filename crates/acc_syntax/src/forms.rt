@@ -4,7 +4,9 @@ ghost use Rattle.acc_grammar.specs.Readers.{many};
 ghost use Rattle.acc_grammar.specs.Answers.{Gives};
 ghost use Rattle.acc_syntax.specs.WordReaders.{comes, further_at};
 ghost use Rattle.acc_syntax.specs.ValueReaders.{starts_signed_term};
-ghost use Rattle.acc_syntax.specs.FormReaders.{key_and_column_at, named_operand_at, has_operand_at, count_operand_at, sum_operand_at, self_operand_at, operand_at, operand_factor_at, form_number_term_at, form_term_at, signed_form_term_at, form_at, form_rel_at};
+ghost use Rattle.acc_syntax.specs.FormReaders.{key_and_column_at, named_operand_at, has_operand_at, count_operand_at, sum_operand_at};
+ghost use Rattle.acc_syntax.specs.FormReaders.{self_operand_at, operand_at, operand_factor_at, form_number_term_at, form_term_at};
+ghost use Rattle.acc_syntax.specs.FormReaders.{signed_form_term_at, form_at, form_rel_at};
 
 use crate::boxes::Boxed;
 use crate::parsers::Parser;

@@ -2,7 +2,9 @@
 ghost use Rattle.std.specs.Prelude.{◌≡◌};
 ghost use Rattle.acc_grammar.specs.Readers.{many};
 ghost use Rattle.acc_grammar.specs.Answers.{Gives};
-ghost use Rattle.acc_syntax.specs.StatementReaders.{private_at, table_at, starts_table, put_at, del_at, set_at, add_at, action_at, starts_action, goto_at, commit_at, undone_at, refuse_at, target_at, names_at, names_statement_at};
+ghost use Rattle.acc_syntax.specs.StatementReaders.{private_at, table_at, starts_table, put_at, del_at, set_at, add_at, action_at};
+ghost use Rattle.acc_syntax.specs.StatementReaders.{starts_action, goto_at, commit_at, undone_at, refuse_at, target_at, names_at};
+ghost use Rattle.acc_syntax.specs.StatementReaders.{names_statement_at};
 
 use crate::parsers::Parser;
 use crate::trees::{ActionTree, Names, TableTree, TargetTree};

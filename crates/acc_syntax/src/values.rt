@@ -3,7 +3,9 @@ ghost use Rattle.std.specs.Prelude.{◌≡◌};
 ghost use Rattle.acc_grammar.specs.Readers.{many};
 ghost use Rattle.acc_grammar.specs.Answers.{Gives};
 ghost use Rattle.acc_syntax.specs.WordReaders.{comes, further_at};
-ghost use Rattle.acc_syntax.specs.ValueReaders.{variable_at, factor_at, number_term_at, term_at, minus_at, direction_at, signed_term_at, starts_signed_term, sum_at, starts_sum, sums_at, values_at, place_at, cell_at, relation_at, lin_rel_at, lin_rels_at, guard_at};
+ghost use Rattle.acc_syntax.specs.ValueReaders.{variable_at, factor_at, number_term_at, term_at, minus_at, direction_at, signed_term_at};
+ghost use Rattle.acc_syntax.specs.ValueReaders.{starts_signed_term, sum_at, starts_sum, sums_at, values_at, place_at, cell_at, relation_at};
+ghost use Rattle.acc_syntax.specs.ValueReaders.{lin_rel_at, lin_rels_at, guard_at};
 
 use crate::boxes::Boxed;
 use crate::parsers::Parser;

@@ -69,7 +69,8 @@ module _ (C : Entry → Type 0) where
     at_place s t ss ts others rest a b f g h false false e k =
         put_left_all s.0 (mixture p s.1 q t.1) (others ts) (summed s t a (subst (λ u. B (u, t.1)) (same_place s t e k) b)) g
 
-    after_all : (s : Entry) (ss : Sparse) (others : Sparse → Computation Sparse) → A s → ((ys : Sparse) → All B ys → Gives (others ys) (All C))
+    after_all : (s : Entry) (ss : Sparse) (others : Sparse → Computation Sparse) → A s →
+        ((ys : Sparse) → All B ys → Gives (others ys) (All C))
         → (ys : Sparse) → All B ys → Gives (mixed_after p q s others ys) (All C)
     after_all s ss others a h [] all = put_all s.0 (product p s.1) (others []) (one s a) (h [] all)
     after_all s ss others a h (t ∷ ts) all =

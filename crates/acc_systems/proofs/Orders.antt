@@ -24,7 +24,8 @@ some_product p m = gives_weaker (product p m) (λ n. n ≡ p *ℤ m) (λ _. Unit
 some_mixture : (p m q n : ℤ) → Gives (mixture p m q n) (λ _. Unit {0})
 some_mixture p m q n = gives_weaker (mixture p m q n) (λ v. v ≡ p *ℤ m +ℤ q *ℤ n) (λ _. Unit {0}) (λ v e. tt) (mixture_gives p m q n)
 
-put_rises : (k u : ℕ) (number : Computation ℤ) (others : Computation Sparse) → k ≤ u → Gives number (λ _. Unit {0}) → Gives others (Rises (suc u))
+put_rises : (k u : ℕ) (number : Computation ℤ) (others : Computation Sparse) → k ≤ u → Gives number (λ _. Unit {0}) →
+    Gives others (Rises (suc u))
     → Gives (put u number others) (Rises k)
 put_rises k u number others low h g =
     gives_chain number _ (λ _. Unit {0}) (Rises k) h (λ n _. gives_chain others _ (Rises (suc u)) (Rises k) g (λ rest r. (low, r)))

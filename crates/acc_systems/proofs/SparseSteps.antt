@@ -48,7 +48,8 @@ behind_left xs ys u (Ok n) r h = left_cases xs ys u n (int_eq n (pos 0)) r h
     left_cases xs ys u n false r h = behind_one xs ys (u, n) r (ok_same _ _ h)
 behind_left xs ys u (Err e) r h = absurd (cc)
 
-pub stopped_left : (e : Stop) (xs : Sparse) (u : ℕ) (n : Computation ℤ) (r : Computation Sparse) → StoppedBy e (behind xs (put_left u n (Ok [])))
+pub stopped_left : (e : Stop) (xs : Sparse) (u : ℕ) (n : Computation ℤ) (r : Computation Sparse) →
+    StoppedBy e (behind xs (put_left u n (Ok [])))
     → StoppedBy e (behind xs (put_left u n r))
 stopped_left (Refuted x) xs u (Ok n) r h = absurd (cc)
 stopped_left Wide xs u (Ok n) r h = absurd (cc)

@@ -124,7 +124,8 @@ module _ (f : ℕ → ℤ) where
         gives_equal (put_left s.0 (mixture p s.1 q t.1) (others ts)) _ _ (omega (arith, ints, one, all, two, more, moved, parts))
         (put_left_gives s.0 (mixture p s.1 q t.1) (others ts) (p *ℤ s.1 +ℤ q *ℤ t.1) _ (mixture_gives p s.1 q t.1) both)
 
-    after_gives : (s : ℕ × ℤ) (ss : Sparse) (others : Sparse → Computation Sparse) → ((ys : Sparse) → Mixes (others ys) ss ys) → (ys : Sparse)
+    after_gives : (s : ℕ × ℤ) (ss : Sparse) (others : Sparse → Computation Sparse) → ((ys : Sparse) → Mixes (others ys) ss ys) →
+        (ys : Sparse)
         → Mixes (mixed_after p q s others ys) (s ∷ ss) ys
     after_gives s ss others h [] =
         let one = times_times p s.1 (f s.0) in

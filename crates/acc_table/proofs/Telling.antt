@@ -21,7 +21,8 @@ use Rattle.acc_base.specs.Effects.{first_from}
 use Rattle.acc_base.specs.Entries.{Forbids}
 use Rattle.acc_base.specs.Locks.{Clashes, ClashesEither}
 use Rattle.acc_table.specs.Closures.{is_set, IsClosure}
-use Rattle.acc_table.specs.Entries.{pair_agrees, pairs_agree, entry_forbids, entry_clashes, either_clashes, entry_may_clash, either_may_clash, TellsLowest}
+use Rattle.acc_table.specs.Entries.{pair_agrees, pairs_agree, entry_forbids, entry_clashes, either_clashes, entry_may_clash}
+use Rattle.acc_table.specs.Entries.{either_may_clash, TellsLowest}
 
 -- ---- the first that passes
 

@@ -7,7 +7,8 @@ ghost use Rattle.acc_form.specs.WellFormed.{IsWellFormed};
 ghost use Rattle.acc_base.specs.Entries.{at_of, Forbids};
 ghost use Rattle.acc_base.specs.Locks.{ClashesEither};
 ghost use Rattle.acc_table.specs.Closures.{is_set};
-ghost use Rattle.acc_table.specs.Entries.{pairs_agree, entry_forbids, entry_clashes, either_clashes, entry_may_clash, either_may_clash, IsPointOf, TellsLowest};
+ghost use Rattle.acc_table.specs.Entries.{pairs_agree, entry_forbids, entry_clashes, either_clashes, entry_may_clash, either_may_clash};
+ghost use Rattle.acc_table.specs.Entries.{IsPointOf, TellsLowest};
 
 use crate::closures::undo_points;
 use acc_base::designs::{At, Design, Entry, Side};

@@ -7,7 +7,8 @@ use Rattle.acc_wal.specs.Wals.{CountsEither}
 use Rattle.acc_wal.specs.Fronts.{CountsFront}
 
 -- the durable part, or that with the whole tail, is such a front
-pub front_of_either : (base image : List ℕ) (durable tail : List Event) → CountsEither base durable tail image → CountsFront base (durable ++ tail) (length durable) image
+pub front_of_either : (base image : List ℕ) (durable tail : List Event) → CountsEither base durable tail image →
+    CountsFront base (durable ++ tail) (length durable) image
 front_of_either base image durable tail (inl before) = record {
   count = length durable;
   at_least = omega arith;
@@ -22,7 +23,8 @@ front_of_either base image durable tail (inr after) = record {
 }
 
 -- a front of a history is one of each history that goes on from it
-pub front_goes_on : (base image : List ℕ) (history more : List Event) (least lower : ℕ) → lower ≤ least → CountsFront base history least image → CountsFront base (history ++ more) lower image
+pub front_goes_on : (base image : List ℕ) (history more : List Event) (least lower : ℕ) → lower ≤ least →
+    CountsFront base history least image → CountsFront base (history ++ more) lower image
 front_goes_on base image history more least lower le front = record {
   count = front.count;
   at_least = omega (arith, le, front.at_least);

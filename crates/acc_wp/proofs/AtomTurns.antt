@@ -1,5 +1,6 @@
 -- What an action adds to the value of an atom.
-use Rattle.std.proofs.Common.{◌≡◌, ◌≤◌, ℕ, Bool, true, false, List, [], length, take, refl, ap, sym, ◌∙◌, arith, Option, Some, None, ℤ, pos, ◌+ℤ◌, if◌then◌else◌, ◌==◌}
+use Rattle.std.proofs.Common.{◌≡◌, ◌≤◌, ℕ, Bool, true, false, List, [], length, take, refl, ap, sym, ◌∙◌, arith, Option, Some, None, ℤ, pos}
+use Rattle.std.proofs.Common.{◌+ℤ◌, if◌then◌else◌, ◌==◌}
 use Rattle.std.specs.Prelude.{find, ◌&&◌}
 use Rattle.std.specs.List.{starts_with, list_all}
 use Rattle.std.specs.Ordering.{int_eq, is_eq}
@@ -33,7 +34,8 @@ use Rattle.acc_wp.proofs.Meetings.{meets_where_zero}
 
 -- ---- a row at a place, under a prefix
 
-given_under : (p : Place) (o : Option Row) → ((r : Row) → o ≡ Some r → p ≡ place_of r) → (u : ℕ) (q : List ℤ) (v : Row → ℤ) → given (where_passes (is_under u q) v) o ≡ (if (p.0 == u) && starts_with int_eq p.1 q then given v o else pos 0)
+given_under : (p : Place) (o : Option Row) → ((r : Row) → o ≡ Some r → p ≡ place_of r) → (u : ℕ) (q : List ℤ) (v : Row → ℤ) →
+    given (where_passes (is_under u q) v) o ≡ (if (p.0 == u) && starts_with int_eq p.1 q then given v o else pos 0)
 given_under p None at u q v = by ((p.0 == u) && starts_with int_eq p.1 q)
   where
     by : (b : Bool) → pos 0 ≡ (if b then pos 0 else pos 0)
@@ -73,7 +75,8 @@ module _ (env : List ℤ) (a : Action) (db : List Row) (order : IsInOrder db) wh
   becomes_at : (r : Row) → becomes env a now ≡ Some r → action_place env a ≡ place_of r
   becomes_at r e = by a now at_place e
     where
-      by : (x : Action) (o : Option Row) → ((y : Row) → o ≡ Some y → action_place env x ≡ place_of y) → becomes env x o ≡ Some r → action_place env x ≡ place_of r
+      by : (x : Action) (o : Option Row) → ((y : Row) → o ≡ Some y → action_place env x ≡ place_of y) → becomes env x o ≡ Some r →
+          action_place env x ≡ place_of r
       by (action.Put t k vs) o at h = let s : put_row env t k vs ≡ r = cc in ap (λ (z : Row). place_of z) s
       by (action.Del t k) o at h = absurd (cc)
       by (action.Set t k c v) None at h = absurd (cc)
@@ -86,19 +89,30 @@ module _ (env : List ℤ) (a : Action) (db : List Row) (order : IsInOrder db) wh
   touches u q = (acted_table a == u) && starts_with int_eq key q
 
   -- what the rows under a prefix give together
-  sum_turn : (u : ℕ) (q : List ℤ) (v : Row → ℤ) → row_sum (where_passes (is_under u q) v) after ≡ row_sum (where_passes (is_under u q) v) db +ℤ (if touches u q then growth env v a db else pos 0)
-  sum_turn u q v = by (touches u q) (given_under (action_place env a) now at_place u q v) (given_under (action_place env a) (becomes env a now) becomes_at u q v)
+  sum_turn : (u : ℕ) (q : List ℤ) (v : Row → ℤ) →
+      row_sum (where_passes (is_under u q) v) after ≡ row_sum (where_passes (is_under u q) v) db +ℤ
+      (if touches u q then growth env v a db else pos 0)
+  sum_turn u q v = by (touches u q) (given_under (action_place env a) now at_place u q v)
+      (given_under (action_place env a) (becomes env a now) becomes_at u q v)
     where
-      by : (b : Bool) → given (where_passes (is_under u q) v) now ≡ (if b then given v now else pos 0) → given (where_passes (is_under u q) v) (becomes env a now) ≡ (if b then given v (becomes env a now) else pos 0) → row_sum (where_passes (is_under u q) v) after ≡ row_sum (where_passes (is_under u q) v) db +ℤ (if b then growth env v a db else pos 0)
+      by : (b : Bool) → given (where_passes (is_under u q) v) now ≡ (if b then given v now else pos 0) →
+          given (where_passes (is_under u q) v) (becomes env a now) ≡ (if b then given v (becomes env a now) else pos 0) →
+          row_sum (where_passes (is_under u q) v) after ≡ row_sum (where_passes (is_under u q) v) db +ℤ
+          (if b then growth env v a db else pos 0)
       by true e g = let h = row_sum_after env (where_passes (is_under u q) v) a db order in omega (arith, ints, h, e, g)
       by false e g = let h = row_sum_after env (where_passes (is_under u q) v) a db order in omega (arith, ints, h, e, g)
 
   -- what the row at a place gives
-  row_turn : (u : ℕ) (q : List ℤ) (v : Row → ℤ) → (acted_table a ≡ u → length q ≡ length key) → given v (find (is_at u q) after) ≡ given v (find (is_at u q) db) +ℤ (if touches u q then growth env v a db else pos 0)
+  row_turn : (u : ℕ) (q : List ℤ) (v : Row → ℤ) → (acted_table a ≡ u → length q ≡ length key) →
+      given v (find (is_at u q) after) ≡ given v (find (is_at u q) db) +ℤ (if touches u q then growth env v a db else pos 0)
   row_turn u q v long =
-      ap (given v) (find_after env a (u, q) db order) ∙ (by (place_cmp (u, q) (action_place env a)) refl ∙ ap (λ b. given v (find (is_at u q) db) +ℤ (if b then growth env v a db else pos 0)) (same_place (acted_table a) u key q long))
+      ap (given v) (find_after env a (u, q) db order) ∙
+      (by (place_cmp (u, q) (action_place env a)) refl ∙ ap
+      (λ b. given v (find (is_at u q) db) +ℤ (if b then growth env v a db else pos 0)) (same_place (acted_table a) u key q long))
     where
-      by : (o : Ordering) → place_cmp (u, q) (action_place env a) ≡ o → given v (if is_eq o then becomes env a now else find (is_at u q) db) ≡ given v (find (is_at u q) db) +ℤ (if is_eq o then growth env v a db else pos 0)
+      by : (o : Ordering) → place_cmp (u, q) (action_place env a) ≡ o →
+          given v (if is_eq o then becomes env a now else find (is_at u q) db) ≡ given v (find (is_at u q) db) +ℤ
+          (if is_eq o then growth env v a db else pos 0)
       by Less e = omega (arith, ints)
       by Equal e =
           let s = one_place (u, q) (action_place env a) e in
@@ -124,17 +138,24 @@ module _ (env : List ℤ) (a : Action) (db : List Row) (order : IsInOrder db) wh
     abbrev zeros : Bool
     zeros = list_all (is_lin_zero env) (differences q (key_of a))
 
-    pub gained_by : (parts : List Part) (v : Row → ℤ) → (acted_table a ≡ u → starts_with int_eq key (lin_values env q) ≡ true → parts_value db env parts ≡ growth env v a db) → (if zeros then parts_value db env (if acted_table a == u then parts else []) else pos 0) ≡ (if touches u (lin_values env q) then growth env v a db else pos 0)
+    pub gained_by : (parts : List Part) (v : Row → ℤ) →
+        (acted_table a ≡ u → starts_with int_eq key (lin_values env q) ≡ true → parts_value db env parts ≡ growth env v a db) →
+        (if zeros then parts_value db env (if acted_table a == u then parts else []) else pos 0) ≡
+        (if touches u (lin_values env q) then growth env v a db else pos 0)
     gained_by parts v worth = by (acted_table a == u) refl
       where
-        at : (s : Bool) → starts_with int_eq key (lin_values env q) ≡ s → acted_table a ≡ u → (if s then parts_value db env parts else pos 0) ≡ (if s then growth env v a db else pos 0)
+        at : (s : Bool) → starts_with int_eq key (lin_values env q) ≡ s → acted_table a ≡ u →
+            (if s then parts_value db env parts else pos 0) ≡ (if s then growth env v a db else pos 0)
         at true e t = worth t e
         at false e t = refl
 
-        by : (b : Bool) → (acted_table a == u) ≡ b → (if zeros then parts_value db env (if b then parts else []) else pos 0) ≡ (if b && starts_with int_eq key (lin_values env q) then growth env v a db else pos 0)
+        by : (b : Bool) → (acted_table a == u) ≡ b →
+            (if zeros then parts_value db env (if b then parts else []) else pos 0) ≡
+            (if b && starts_with int_eq key (lin_values env q) then growth env v a db else pos 0)
         by true e =
             let t = (Decides-eqb (acted_table a) u).0 e in
-            ap (λ b. if b then parts_value db env parts else pos 0) (meets_where_zero env q (key_of a) (fits t)) ∙ at (starts_with int_eq key (lin_values env q)) refl t
+            ap (λ b. if b then parts_value db env parts else pos 0) (meets_where_zero env q (key_of a) (fits t)) ∙ at
+            (starts_with int_eq key (lin_values env q)) refl t
         by false e = none zeros
 
   -- keys that are as long as each other are the same where one begins with the other
@@ -142,7 +163,8 @@ module _ (env : List ℤ) (a : Action) (db : List Row) (order : IsInOrder db) wh
   same_key q long e =
       let n = length-map q (lin_value env) in
       let m = length-map (key_of a) (lin_value env) in
-      (ints_decide (lin_values env q) (take (length (lin_values env q)) key)).0 e ∙ take_all (length (lin_values env q)) key (omega (arith, n, m, long))
+      (ints_decide (lin_values env q) (take (length (lin_values env q)) key)).0 e ∙ take_all (length (lin_values env q)) key
+      (omega (arith, n, m, long))
 
   as_long : (q : List Lin) → length q ≡ length (key_of a) → length (lin_values env q) ≡ length key
   as_long q long = length-map q (lin_value env) ∙ (long ∙ sym (length-map (key_of a) (lin_value env)))
@@ -161,11 +183,14 @@ module _ (env : List ℤ) (a : Action) (db : List Row) (order : IsInOrder db) wh
 
   own_has : (u : ℕ) (q : List Lin) → acted_table a ≡ u → lin_values env q ≡ key → has_row db u (lin_values env q) ≡ given one now
   own_has u q t k =
-      has_is db u (lin_values env q) ∙ (ap (λ (z : List ℤ). given one (find (is_at u z) db)) k ∙ ap (λ (z : ℕ). given one (find (is_at z key) db)) (sym t))
+      has_is db u (lin_values env q) ∙ (ap (λ (z : List ℤ). given one (find (is_at u z) db)) k ∙ ap
+      (λ (z : ℕ). given one (find (is_at z key) db)) (sym t))
 
-  own_column : (u : ℕ) (q : List Lin) (c : ℕ) → acted_table a ≡ u → lin_values env q ≡ key → column_of db u (lin_values env q) c ≡ given (cell c) now
+  own_column : (u : ℕ) (q : List Lin) (c : ℕ) → acted_table a ≡ u → lin_values env q ≡ key →
+      column_of db u (lin_values env q) c ≡ given (cell c) now
   own_column u q c t k =
-      column_is db u (lin_values env q) c ∙ (ap (λ (z : List ℤ). given (cell c) (find (is_at u z) db)) k ∙ ap (λ (z : ℕ). given (cell c) (find (is_at z key) db)) (sym t))
+      column_is db u (lin_values env q) c ∙ (ap (λ (z : List ℤ). given (cell c) (find (is_at u z) db)) k ∙ ap
+      (λ (z : ℕ). given (cell c) (find (is_at z key) db)) (sym t))
 
   pub atom_turn : (A : Atom) → IsLong A → IsReady env a db → atom_value after env A ≡ atom_value db env A +ℤ gain A
   atom_turn One long ready = omega (arith, ints)
@@ -174,23 +199,27 @@ module _ (env : List ℤ) (a : Action) (db : List Row) (order : IsInOrder db) wh
       let turn = row_turn u (lin_values env q) one (λ t. as_long q (long t)) in
       let first = has_is after u (lin_values env q) in
       let last = has_is db u (lin_values env q) in
-      let gains = gained_by u q (λ t. at_most q (long t)) (presence_change a (Has u q)) one (λ t e. presence_growth env a db (Has u q) (own_has u q t (same_key q (long t) e))) in
+      let gains = gained_by u q (λ t. at_most q (long t)) (presence_change a (Has u q)) one
+      (λ t e. presence_growth env a db (Has u q) (own_has u q t (same_key q (long t) e))) in
       omega (arith, ints, turn, first, last, gains)
   atom_turn (Col u q c) long ready =
       let turn = row_turn u (lin_values env q) (cell c) (λ t. as_long q (long t)) in
       let first = column_is after u (lin_values env q) c in
       let last = column_is db u (lin_values env q) c in
-      let gains = gained_by u q (λ t. at_most q (long t)) (column_change a c (Col u q c)) (cell c) (λ t e. column_growth env a c db (Col u q c) ready (own_column u q c t (same_key q (long t) e))) in
+      let gains = gained_by u q (λ t. at_most q (long t)) (column_change a c (Col u q c)) (cell c)
+      (λ t e. column_growth env a c db (Col u q c) ready (own_column u q c t (same_key q (long t) e))) in
       omega (arith, ints, turn, first, last, gains)
   atom_turn (Count u q) long ready =
       let turn = sum_turn u (lin_values env q) one in
       let first = count_is (is_under u (lin_values env q)) after in
       let last = count_is (is_under u (lin_values env q)) db in
-      let gains = gained_by u q long (presence_change a (Has u (key_of a))) one (λ t e. presence_growth env a db (Has u (key_of a)) (own_has u (key_of a) t refl)) in
+      let gains = gained_by u q long (presence_change a (Has u (key_of a))) one
+      (λ t e. presence_growth env a db (Has u (key_of a)) (own_has u (key_of a) t refl)) in
       omega (arith, ints, turn, first, last, gains)
   atom_turn (Sum u q c) long ready =
       let turn = sum_turn u (lin_values env q) (cell c) in
       let first = total_is (is_under u (lin_values env q)) (cell c) after in
       let last = total_is (is_under u (lin_values env q)) (cell c) db in
-      let gains = gained_by u q long (column_change a c (Col u (key_of a) c)) (cell c) (λ t e. column_growth env a c db (Col u (key_of a) c) ready (own_column u (key_of a) c t refl)) in
+      let gains = gained_by u q long (column_change a c (Col u (key_of a) c)) (cell c)
+      (λ t e. column_growth env a c db (Col u (key_of a) c) ready (own_column u (key_of a) c t refl)) in
       omega (arith, ints, turn, first, last, gains)

@@ -1,5 +1,6 @@
 -- Forms keep the shapes of tables before an action.
-use Rattle.std.proofs.Common.{◌≡◌, ◌≤◌, ℕ, Bool, true, false, List, [], ◌∷◌, ◌++◌, length, map, refl, sym, ◌∙◌, subst, arith, Option, Some, None, ℤ, pos, ◌+ℤ◌, if◌then◌else◌, ◌==◌}
+use Rattle.std.proofs.Common.{◌≡◌, ◌≤◌, ℕ, Bool, true, false, List, [], ◌∷◌, ◌++◌, length, map, refl, sym, ◌∙◌, subst, arith, Option, Some}
+use Rattle.std.proofs.Common.{None, ℤ, pos, ◌+ℤ◌, if◌then◌else◌, ◌==◌}
 use Rattle.std.specs.Prelude.{slice_get}
 use Rattle.std.specs.List.{AllByRecursion, list_any}
 use Rattle.std.proofs.lemmas.Bool.Decides.{Decides-eqb}
@@ -54,10 +55,14 @@ module _ (tables : List Table) where
     pub long_enough : (A : Atom) → AtomFits tables A → IsLong env a db order A
     long_enough One h = tt
     long_enough (Var x) h = tt
-    long_enough (Has u q) h = λ e. same_width (slice_get tables u) (length (key_of a)) (length q) (key_at (acted_table a) u (length (key_of a)) e (action_key a fits)) h
-    long_enough (Col u q c) h = λ e. same_width (slice_get tables u) (length (key_of a)) (length q) (key_at (acted_table a) u (length (key_of a)) e (action_key a fits)) h.0
-    long_enough (Count u q) h = λ e. in_width (slice_get tables u) (length (key_of a)) (length q) (key_at (acted_table a) u (length (key_of a)) e (action_key a fits)) h
-    long_enough (Sum u q c) h = λ e. in_width (slice_get tables u) (length (key_of a)) (length q) (key_at (acted_table a) u (length (key_of a)) e (action_key a fits)) h.0
+    long_enough (Has u q) h = λ e. same_width (slice_get tables u) (length (key_of a)) (length q)
+        (key_at (acted_table a) u (length (key_of a)) e (action_key a fits)) h
+    long_enough (Col u q c) h = λ e. same_width (slice_get tables u) (length (key_of a)) (length q)
+        (key_at (acted_table a) u (length (key_of a)) e (action_key a fits)) h.0
+    long_enough (Count u q) h = λ e. in_width (slice_get tables u) (length (key_of a)) (length q)
+        (key_at (acted_table a) u (length (key_of a)) e (action_key a fits)) h
+    long_enough (Sum u q c) h = λ e. in_width (slice_get tables u) (length (key_of a)) (length q)
+        (key_at (acted_table a) u (length (key_of a)) e (action_key a fits)) h.0
 
     pub all_long : (ts : List Term) → AllByRecursion TermFits ts → AllByRecursion (λ t. IsLong env a db order t.0.atom) ts
     all_long [] h = tt
@@ -96,14 +101,16 @@ module _ (tables : List Table) where
       by true = lin_fits v
       by false = tt
 
-  presence_of_fits : (a : Action) (u : ℕ) (q : List Lin) → (acted_table a ≡ u → IsFullKey (slice_get tables u) (length q)) → AllByRecursion PartFits (presence_of a u q)
+  presence_of_fits : (a : Action) (u : ℕ) (q : List Lin) → (acted_table a ≡ u → IsFullKey (slice_get tables u) (length q)) →
+      AllByRecursion PartFits (presence_of a u q)
   presence_of_fits a u q h = by (acted_table a == u) refl
     where
       by : (b : Bool) → (acted_table a == u) ≡ b → AllByRecursion PartFits (if b then presence_change a (Has u q) else [])
       by true e = presence_fits a (Has u q) (h ((Decides-eqb (acted_table a) u).0 e))
       by false e = tt
 
-  column_of_fits : (a : Action) (u : ℕ) (q : List Lin) (c : ℕ) → (acted_table a ≡ u → IsFullKey (slice_get tables u) (length q)) → IsColumn (slice_get tables u) c → AllByRecursion PartFits (column_of a u q c)
+  column_of_fits : (a : Action) (u : ℕ) (q : List Lin) (c : ℕ) → (acted_table a ≡ u → IsFullKey (slice_get tables u) (length q)) →
+      IsColumn (slice_get tables u) c → AllByRecursion PartFits (column_of a u q c)
   column_of_fits a u q c h g = by (acted_table a == u) refl
     where
       by : (b : Bool) → (acted_table a == u) ≡ b → AllByRecursion PartFits (if b then column_change a c (Col u q c) else [])
@@ -122,7 +129,8 @@ module _ (tables : List Table) where
     change_fits (Count u q) h = presence_of_fits a u (key_of a) (own_key u)
     change_fits (Sum u q c) h = column_of_fits a u (key_of a) c (own_key u) h.1
 
-    parts_fit : (under : List Lin) (m : ℤ) (ps : List Part) → AllByRecursion PartFits ps → AllByRecursion TermFits (map (part_summand under m) ps)
+    parts_fit : (under : List Lin) (m : ℤ) (ps : List Part) → AllByRecursion PartFits ps →
+        AllByRecursion TermFits (map (part_summand under m) ps)
     parts_fit under m [] h = tt
     parts_fit under m (p ∷ ps) h = (h.0, parts_fit under m ps h.1)
 
@@ -130,23 +138,29 @@ module _ (tables : List Table) where
     changed_fit t [] h = tt
     changed_fit t (p ∷ ps) h = by (list_any is_false (lengthened t.0.under (differences (place_of t.0.atom) (key_of a))))
       where
-        by : (b : Bool) → AllByRecursion TermFits (if b then [] else map (part_summand (lengthened t.0.under (differences (place_of t.0.atom) (key_of a))) t.1) (p ∷ ps))
+        by : (b : Bool) → AllByRecursion TermFits (if b then [] else map
+            (part_summand (lengthened t.0.under (differences (place_of t.0.atom) (key_of a))) t.1) (p ∷ ps))
         by true = tt
         by false = parts_fit (lengthened t.0.under (differences (place_of t.0.atom) (key_of a))) t.1 (p ∷ ps) h
 
     summands_fit : (ts : List Term) → AllByRecursion TermFits ts → AllByRecursion TermFits (summands a ts)
     summands_fit [] h = tt
     summands_fit (t ∷ ts) h =
-        all-append TermFits (term_summands a t) (summands a ts) (changed_fit t (change a t.0.atom) (change_fits t.0.atom h.0)) (summands_fit ts h.1)
+        all-append TermFits (term_summands a t) (summands a ts) (changed_fit t (change a t.0.atom) (change_fits t.0.atom h.0))
+        (summands_fit ts h.1)
 
     summand_fits : (s : Term) (g : Form) → TermFits s → AllByRecursion TermFits g.terms → AllByRecursion TermFits (with_summand s g).terms
     summand_fits s g h rest = by (is_bare_one s.0)
       where
-        by : (b : Bool) → AllByRecursion TermFits (if b then record g { constant = g.constant +ℤ s.1 } else record g { terms = g.terms ++ s ∷ [] }).terms
+        by : (b : Bool) → AllByRecursion TermFits (if b then record g { constant = g.constant +ℤ s.1 } else record g {
+          terms =
+              g.terms ++ s ∷ [];
+        }).terms
         by true = rest
         by false = all-append TermFits g.terms (s ∷ []) rest (h, tt)
 
-    with_summands_fit : (ss : List Term) (g : Form) → AllByRecursion TermFits ss → AllByRecursion TermFits g.terms → AllByRecursion TermFits (with_summands ss g).terms
+    with_summands_fit : (ss : List Term) (g : Form) → AllByRecursion TermFits ss → AllByRecursion TermFits g.terms →
+        AllByRecursion TermFits (with_summands ss g).terms
     with_summands_fit [] g h rest = rest
     with_summands_fit (s ∷ ss) g h rest = with_summands_fit ss (with_summand s g) h.1 (summand_fits s g h.0 rest)
 
@@ -154,11 +168,13 @@ module _ (tables : List Table) where
     with_term_fits t [] h rest = (h, tt)
     with_term_fits t (s ∷ ts) h rest = by (unknown_eq s.0 t.0) (with_term_fits t ts h rest.1)
       where
-        by : (b : Bool) → AllByRecursion TermFits (with_term t ts) → AllByRecursion TermFits (if b then ((s.0, s.1 +ℤ t.1) ∷ ts) else (s ∷ with_term t ts))
+        by : (b : Bool) → AllByRecursion TermFits (with_term t ts) →
+            AllByRecursion TermFits (if b then ((s.0, s.1 +ℤ t.1) ∷ ts) else (s ∷ with_term t ts))
         by true ih = rest
         by false ih = (rest.0, ih)
 
-    with_terms_fit : (sums ts : List Term) → AllByRecursion TermFits sums → AllByRecursion TermFits ts → AllByRecursion TermFits (with_terms sums ts)
+    with_terms_fit : (sums ts : List Term) → AllByRecursion TermFits sums → AllByRecursion TermFits ts →
+        AllByRecursion TermFits (with_terms sums ts)
     with_terms_fit sums [] h g = h
     with_terms_fit sums (t ∷ ts) h g = with_terms_fit (with_term t sums) ts (with_term_fits t sums g.0 h) g.1
 
@@ -169,4 +185,5 @@ module _ (tables : List Table) where
     pub form_fits : (f : Form) → AllByRecursion TermFits f.terms → AllByRecursion TermFits (before_action a f).terms
     form_fits f h =
         let gains = with_summands_fit (summands a f.terms) (record { terms = []; constant = f.constant }) (summands_fit f.terms h) tt in
-        all-filter TermFits is_left _ (with_terms_fit [] (f.terms ++ map (multiple (pos 1)) (gained a f).terms) tt (all-append TermFits f.terms (map (multiple (pos 1)) (gained a f).terms) h (multiples_fit (pos 1) (gained a f).terms gains)))
+        all-filter TermFits is_left _ (with_terms_fit [] (f.terms ++ map (multiple (pos 1)) (gained a f).terms) tt
+        (all-append TermFits f.terms (map (multiple (pos 1)) (gained a f).terms) h (multiples_fit (pos 1) (gained a f).terms gains)))

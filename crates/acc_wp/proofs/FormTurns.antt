@@ -1,5 +1,6 @@
 -- What terms and forms are worth before and after an action.
-use Rattle.std.proofs.Common.{◌≡◌, Bool, true, false, List, [], ◌∷◌, ◌++◌, map, refl, ap, sym, ◌∙◌, arith, ℤ, pos, ◌+ℤ◌, ◌*ℤ◌, if◌then◌else◌}
+use Rattle.std.proofs.Common.{◌≡◌, Bool, true, false, List, [], ◌∷◌, ◌++◌, map, refl, ap, sym, ◌∙◌, arith, ℤ, pos, ◌+ℤ◌, ◌*ℤ◌}
+use Rattle.std.proofs.Common.{if◌then◌else◌}
 use Rattle.std.specs.Prelude.{◌&&◌}
 use Rattle.std.specs.List.{list_any, AllByRecursion}
 use Rattle.std.proofs.lemmas.Int.{ints}
@@ -36,7 +37,8 @@ module _ (env : List ℤ) (a : Action) (db : List Row) (order : IsInOrder db) (r
   unknown_turn : (u : Unknown) → IsLong env a db order u.atom → unknown_value after env u ≡ unknown_value db env u +ℤ unknown_gain u
   unknown_turn u long = by (all_zero env u.under)
     where
-      by : (b : Bool) → (if b then atom_value after env u.atom else pos 0) ≡ (if b then atom_value db env u.atom else pos 0) +ℤ (if b then gain env a db order u.atom else pos 0)
+      by : (b : Bool) → (if b then atom_value after env u.atom else pos 0) ≡ (if b then atom_value db env u.atom else pos 0) +ℤ
+          (if b then gain env a db order u.atom else pos 0)
       by true = atom_turn env a db order u.atom long ready
       by false = omega (arith, ints)
 
@@ -54,16 +56,24 @@ module _ (env : List ℤ) (a : Action) (db : List Row) (order : IsInOrder db) (r
       both true false x = sym (*ℤ-zero t.1)
       both false c x = sym (*ℤ-zero t.1)
 
-      fallen : (f : Bool) (ps : List Part) → list_any is_false (lengthened t.0.under (differences (place_of t.0.atom) (key_of a))) ≡ f → worth db env (if f then [] else map (part_summand (lengthened t.0.under (differences (place_of t.0.atom) (key_of a))) t.1) ps) ≡ (if all_zero env (lengthened t.0.under (differences (place_of t.0.atom) (key_of a))) then t.1 *ℤ parts_value db env ps else pos 0)
-      fallen true ps e = ap (λ b. if b then t.1 *ℤ parts_value db env ps else pos 0) (sym (never_zero env (lengthened t.0.under (differences (place_of t.0.atom) (key_of a))) e))
+      fallen : (f : Bool) (ps : List Part) → list_any is_false (lengthened t.0.under (differences (place_of t.0.atom) (key_of a))) ≡ f →
+          worth db env (if f then [] else map (part_summand (lengthened t.0.under (differences (place_of t.0.atom) (key_of a))) t.1) ps) ≡
+          (if all_zero env (lengthened t.0.under (differences (place_of t.0.atom) (key_of a))) then t.1 *ℤ parts_value db env ps else pos 0)
+      fallen true ps e = ap (λ b. if b then t.1 *ℤ parts_value db env ps else pos 0)
+          (sym (never_zero env (lengthened t.0.under (differences (place_of t.0.atom) (key_of a))) e))
       fallen false ps e = parts_worth db env (lengthened t.0.under (differences (place_of t.0.atom) (key_of a))) t.1 ps
 
-      by : (ps : List Part) → worth db env (changed_summands (key_of a) t ps) ≡ t.1 *ℤ (if all_zero env t.0.under then (if meets env a db order t.0.atom then parts_value db env ps else pos 0) else pos 0)
+      by : (ps : List Part) → worth db env (changed_summands (key_of a) t ps) ≡ t.1 *ℤ
+          (if all_zero env t.0.under then (if meets env a db order t.0.atom then parts_value db env ps else pos 0) else pos 0)
       by [] = nothing (all_zero env t.0.under) (meets env a db order t.0.atom)
       by (p ∷ ps) =
-          fallen (list_any is_false (lengthened t.0.under (differences (place_of t.0.atom) (key_of a)))) (p ∷ ps) refl ∙ (ap (λ b. if b then t.1 *ℤ parts_value db env (p ∷ ps) else pos 0) (lengthened_zero env t.0.under (differences (place_of t.0.atom) (key_of a))) ∙ both (all_zero env t.0.under) (meets env a db order t.0.atom) (parts_value db env (p ∷ ps)))
+          fallen (list_any is_false (lengthened t.0.under (differences (place_of t.0.atom) (key_of a)))) (p ∷ ps) refl ∙
+          (ap (λ b. if b then t.1 *ℤ parts_value db env (p ∷ ps) else pos 0)
+          (lengthened_zero env t.0.under (differences (place_of t.0.atom) (key_of a))) ∙ both (all_zero env t.0.under)
+          (meets env a db order t.0.atom) (parts_value db env (p ∷ ps)))
 
-  terms_turn : (ts : List Term) → AllByRecursion (λ t. IsLong env a db order t.0.atom) ts → worth after env ts ≡ worth db env ts +ℤ worth db env (summands a ts)
+  terms_turn : (ts : List Term) → AllByRecursion (λ t. IsLong env a db order t.0.atom) ts →
+      worth after env ts ≡ worth db env ts +ℤ worth db env (summands a ts)
   terms_turn [] long = omega (arith, ints)
   terms_turn (t ∷ ts) long =
       let rest = terms_turn ts long.1 in
@@ -74,7 +84,8 @@ module _ (env : List ℤ) (a : Action) (db : List Row) (order : IsInOrder db) (r
       omega (arith, ints, rest, both, own, turn, split)
 
   -- the form before the action is worth what the form is worth after it
-  pub form_turn : (f : Form) → AllByRecursion (λ t. IsLong env a db order t.0.atom) f.terms → form_value db env (before_action a f) ≡ form_value after env f
+  pub form_turn : (f : Form) → AllByRecursion (λ t. IsLong env a db order t.0.atom) f.terms →
+      form_value db env (before_action a f) ≡ form_value after env f
   form_turn f long =
       let sum = form_sum-value db env (without_constant f) (pos 1) (gained a f) in
       let one = one_times (form_value db env (gained a f)) in

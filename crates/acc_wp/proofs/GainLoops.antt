@@ -16,10 +16,13 @@ pub or_assoc : (a b c : Bool) → ((a || b) || c) ≡ (a || (b || c))
 or_assoc true b c = refl
 or_assoc false b c = refl
 
-summands_wide-append : (xs ys : List Term) (g : Form) → are_summands_wide (xs ++ ys) g ≡ (are_summands_wide xs g || are_summands_wide ys (with_summands xs g))
+summands_wide-append : (xs ys : List Term) (g : Form) →
+    are_summands_wide (xs ++ ys) g ≡ (are_summands_wide xs g || are_summands_wide ys (with_summands xs g))
 summands_wide-append [] ys g = refl
 summands_wide-append (x ∷ xs) ys g =
-    ap (λ b. is_summand_wide x g || b) (summands_wide-append xs ys (with_summand x g)) ∙ sym (or_assoc (is_summand_wide x g) (are_summands_wide xs (with_summand x g)) (are_summands_wide ys (with_summands xs (with_summand x g))))
+    ap (λ b. is_summand_wide x g || b) (summands_wide-append xs ys (with_summand x g)) ∙ sym
+    (or_assoc (is_summand_wide x g) (are_summands_wide xs (with_summand x g))
+    (are_summands_wide ys (with_summands xs (with_summand x g))))
 
 either : (p P g G : Bool) → ((p || P) || (g || G)) ≡ ((p || g) || (P || G))
 either true P g G = refl
@@ -31,7 +34,8 @@ either false false g G = refl
 abbrev pub gains_wide : Action → List Term → Form → Bool
 gains_wide a ts g = list_any (is_term_long a) ts || are_summands_wide (summands a ts) g
 
-module _ (a : Action) (terms : List Term) (i : ℕ) (d : Term) (within : i < length terms) (here : d ≡ get_or terms i d) (n : ℤ) (number : n ≡ d.1) (g : Form) where
+module _ (a : Action) (terms : List Term) (i : ℕ) (d : Term) (within : i < length terms) (here : d ≡ get_or terms i d) (n : ℤ)
+    (number : n ≡ d.1) (g : Form) where
   one_more : drop i terms ≡ d ∷ drop (i + 1) terms
   one_more = drop_more terms i d within ∙ ap (λ (x : Term). x ∷ drop (i + 1) terms) (sym here)
 
@@ -44,17 +48,28 @@ module _ (a : Action) (terms : List Term) (i : ℕ) (d : Term) (within : i < len
   abbrev next : Form
   next = with_summands (term_summands a own) g
 
-  pub gains_step : (new : Form) → new ≡ next → with_summands (summands a (drop (i + 1) terms)) new ≡ with_summands (summands a (drop i terms)) g
+  pub gains_step : (new : Form) → new ≡ next → with_summands (summands a (drop (i + 1) terms)) new ≡ with_summands
+      (summands a (drop i terms)) g
   gains_step new e =
-      ap (with_summands (summands a (drop (i + 1) terms))) e ∙ (sym (with_summands-append (term_summands a own) (summands a (drop (i + 1) terms)) g) ∙ (ap (λ (t : Term). with_summands (summands a (t ∷ drop (i + 1) terms)) g) (sym same) ∙ ap (λ (ts : List Term). with_summands (summands a ts) g) (sym one_more)))
+      ap (with_summands (summands a (drop (i + 1) terms))) e ∙
+      (sym (with_summands-append (term_summands a own) (summands a (drop (i + 1) terms)) g) ∙
+      (ap (λ (t : Term). with_summands (summands a (t ∷ drop (i + 1) terms)) g) (sym same) ∙ ap
+      (λ (ts : List Term). with_summands (summands a ts) g) (sym one_more)))
 
-  split : gains_wide a (drop i terms) g ≡ ((is_term_long a own || are_summands_wide (term_summands a own) g) || gains_wide a (drop (i + 1) terms) next)
+  split : gains_wide a (drop i terms) g ≡ ((is_term_long a own || are_summands_wide (term_summands a own) g) || gains_wide a
+      (drop (i + 1) terms) next)
   split =
-      ap (λ (ts : List Term). gains_wide a ts g) one_more ∙ (ap (λ (t : Term). gains_wide a (t ∷ drop (i + 1) terms) g) same ∙ (ap (λ b. list_any (is_term_long a) (own ∷ drop (i + 1) terms) || b) (summands_wide-append (term_summands a own) (summands a (drop (i + 1) terms)) g) ∙ either (is_term_long a own) (list_any (is_term_long a) (drop (i + 1) terms)) (are_summands_wide (term_summands a own) g) (are_summands_wide (summands a (drop (i + 1) terms)) next)))
+      ap (λ (ts : List Term). gains_wide a ts g) one_more ∙
+      (ap (λ (t : Term). gains_wide a (t ∷ drop (i + 1) terms) g) same ∙
+      (ap (λ b. list_any (is_term_long a) (own ∷ drop (i + 1) terms) || b)
+      (summands_wide-append (term_summands a own) (summands a (drop (i + 1) terms)) g) ∙ either (is_term_long a own)
+      (list_any (is_term_long a) (drop (i + 1) terms)) (are_summands_wide (term_summands a own) g)
+      (are_summands_wide (summands a (drop (i + 1) terms)) next)))
 
   pub gains_here : (is_term_long a own || are_summands_wide (term_summands a own) g) ≡ true → gains_wide a (drop i terms) g ≡ true
   gains_here e = split ∙ ap (λ b. b || gains_wide a (drop (i + 1) terms) next) e
 
-  pub gains_wide_step : (is_term_long a own || are_summands_wide (term_summands a own) g) ≡ false → (new : Form) → new ≡ next → gains_wide a (drop (i + 1) terms) new ≡ gains_wide a (drop i terms) g
+  pub gains_wide_step : (is_term_long a own || are_summands_wide (term_summands a own) g) ≡ false → (new : Form) → new ≡ next →
+      gains_wide a (drop (i + 1) terms) new ≡ gains_wide a (drop i terms) g
   gains_wide_step e new s =
       ap (gains_wide a (drop (i + 1) terms)) s ∙ (ap (λ b. b || gains_wide a (drop (i + 1) terms) next) (sym e) ∙ sym split)

@@ -1,5 +1,6 @@
 -- How much more the row at an action's place gives after the action, and that the parts of a change are worth that.
-use Rattle.std.proofs.Common.{◌≡◌, ◌<◌, ℕ, Bool, true, false, List, [], ◌++◌, length, refl, ap, sym, ◌∙◌, arith, Option, Some, None, ℤ, pos, ◌+ℤ◌, ◌-ℤ◌, if◌then◌else◌, ◌==◌, get_or-set_same, get_or-set_other}
+use Rattle.std.proofs.Common.{◌≡◌, ◌<◌, ℕ, Bool, true, false, List, [], ◌++◌, length, refl, ap, sym, ◌∙◌, arith, Option, Some, None, ℤ, pos}
+use Rattle.std.proofs.Common.{◌+ℤ◌, ◌-ℤ◌, if◌then◌else◌, ◌==◌, get_or-set_same, get_or-set_other}
 use Rattle.std.specs.Prelude.{slice_get}
 use Rattle.std.specs.Option.{option_map}
 use Rattle.std.proofs.lemmas.Int.{ints}
@@ -36,7 +37,8 @@ module _ (env : List ℤ) where
   still_there g None = omega (arith, ints)
   still_there g (Some r) = omega (arith, ints)
 
-  pub presence_growth : (a : Action) (db : List Row) (A : Atom) → atom_value db env A ≡ given one (stands env a db) → parts_value db env (presence_change a A) ≡ growth one a db
+  pub presence_growth : (a : Action) (db : List Row) (A : Atom) → atom_value db env A ≡ given one (stands env a db) →
+      parts_value db env (presence_change a A) ≡ growth one a db
   presence_growth (Put t k vs) db A e =
       let first = one_times (pos 1) in
       let last = minus_value db env A in
@@ -61,13 +63,16 @@ module _ (env : List ℤ) where
 
     set_same : d ≡ c → given (cell c) (option_map set_to o) ≡ x r
     set_same e =
-        ap (λ z. given (cell c) (option_map set_to z)) there ∙ (ap (λ (z : ℕ). cell z (set_cell d (x r) r)) (sym e) ∙ cell_set d (x r) r within)
+        ap (λ z. given (cell c) (option_map set_to z)) there ∙
+        (ap (λ (z : ℕ). cell z (set_cell d (x r) r)) (sym e) ∙ cell_set d (x r) r within)
 
     set_other : (d == c) ≡ false → given (cell c) (option_map set_to o) -ℤ given (cell c) o ≡ pos 0
     set_other e =
-        ap (λ z. given (cell c) (option_map set_to z) -ℤ given (cell c) z) there ∙ (let h = cell_other c d (x r) r e in omega (arith, ints, h))
+        ap (λ z. given (cell c) (option_map set_to z) -ℤ given (cell c) z) there ∙ (let h = cell_other c d (x r) r e in
+        omega (arith, ints, h))
 
-  pub column_growth : (a : Action) (c : ℕ) (db : List Row) (A : Atom) → IsReady a db → atom_value db env A ≡ given (cell c) (stands env a db) → parts_value db env (column_change a c A) ≡ growth (cell c) a db
+  pub column_growth : (a : Action) (c : ℕ) (db : List Row) (A : Atom) → IsReady a db →
+      atom_value db env A ≡ given (cell c) (stands env a db) → parts_value db env (column_change a c A) ≡ growth (cell c) a db
   column_growth (Put t k vs) c db A ready e =
       let both = parts-append db env (value_parts (slice_get vs c)) (minus A) in
       let first = value_parts_value db env vs c in
@@ -91,6 +96,7 @@ module _ (env : List ℤ) where
           let s = (Decides-eqb d c).0 h in
           let first = lin_parts_value db env v in
           let new = set_same d c (stands env (Add t k d v) db) ready.0 ready.1 ready.2 (λ r. cell d r +ℤ lin_value env v) s in
-          let old : given (cell c) (stands env (Add t k d v) db) ≡ cell d ready.0 = ap (given (cell c)) ready.1 ∙ ap (λ (z : ℕ). cell z ready.0) (sym s) in
+          let old : given (cell c) (stands env (Add t k d v) db) ≡ cell d ready.0 =
+          ap (given (cell c)) ready.1 ∙ ap (λ (z : ℕ). cell z ready.0) (sym s) in
           omega (arith, ints, first, new, old)
       by false h = sym (set_other d c (stands env (Add t k d v) db) ready.0 ready.1 ready.2 (λ r. cell d r +ℤ lin_value env v) h)

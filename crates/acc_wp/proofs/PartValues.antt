@@ -14,7 +14,8 @@ module _ (db : List Row) (env : List ℤ) where
   pub minus_value : (A : Atom) → parts_value db env (minus A) ≡ neg_ℤ (atom_value db env A)
   minus_value A = let h = minus_times (atom_value db env A) in omega (arith, ints, h)
 
-  pub value_parts_value : (vs : List Lin) (c : ℕ) → parts_value db env (value_parts (slice_get vs c)) ≡ slice_index_or (lin_values env vs) c (pos 0)
+  pub value_parts_value : (vs : List Lin) (c : ℕ) →
+      parts_value db env (value_parts (slice_get vs c)) ≡ slice_index_or (lin_values env vs) c (pos 0)
   value_parts_value [] c = refl
   value_parts_value (v ∷ vs) zero = lin_parts_value db env v
   value_parts_value (v ∷ vs) (suc c) = value_parts_value vs c

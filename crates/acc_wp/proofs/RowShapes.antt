@@ -24,14 +24,20 @@ module _ (tables : List Table) (env : List ℤ) where
   set_fits c x r h =
       (h.0, subst (λ (n : ℕ). AreColumns (slice_get tables r.table) n) (sym (length-set r.cols c (x r))) h.1)
 
-  pub rows_fit : (a : Action) (db : List Row) → ActionFits tables a → AllByRecursion (RowFits tables) db → AllByRecursion (RowFits tables) (after_action env a db)
+  pub rows_fit : (a : Action) (db : List Row) → ActionFits tables a → AllByRecursion (RowFits tables) db →
+      AllByRecursion (RowFits tables) (after_action env a db)
   rows_fit (action.Put t k vs) db fits h =
-      put_all (RowFits tables) (put_row env t k vs) db (subst (λ (n : ℕ). IsFullKey (slice_get tables t) n) (sym (length-map k (lin_value env))) fits.0, subst (λ (n : ℕ). AreColumns (slice_get tables t) n) (sym (length-map vs (lin_value env))) fits.1) h
+      put_all (RowFits tables) (put_row env t k vs) db (
+        subst (λ (n : ℕ). IsFullKey (slice_get tables t) n) (sym (length-map k (lin_value env))) fits.0,
+        subst (λ (n : ℕ). AreColumns (slice_get tables t) n) (sym (length-map vs (lin_value env))) fits.1,
+      ) h
   rows_fit (action.Del t k) db fits h = drop_all (RowFits tables) t (lin_values env k) db h
   rows_fit (action.Set t k c v) db fits h =
-      change_all (RowFits tables) (RowFits tables) t (lin_values env k) (with_set env c v) (λ r x. x) db (λ r e g x. set_fits c (λ y. lin_value env v) r x) h
+      change_all (RowFits tables) (RowFits tables) t (lin_values env k) (with_set env c v) (λ r x. x) db
+      (λ r e g x. set_fits c (λ y. lin_value env v) r x) h
   rows_fit (action.Add t k c v) db fits h =
-      change_all (RowFits tables) (RowFits tables) t (lin_values env k) (with_added env c v) (λ r x. x) db (λ r e g x. set_fits c (λ y. cell c y +ℤ lin_value env v) r x) h
+      change_all (RowFits tables) (RowFits tables) t (lin_values env k) (with_added env c v) (λ r x. x) db
+      (λ r e g x. set_fits c (λ y. cell c y +ℤ lin_value env v) r x) h
 
   pub stays_in_order : (a : Action) (db : List Row) → IsInOrder db → IsInOrder (after_action env a db)
   stays_in_order (action.Put t k vs) db h = put_in_order (put_row env t k vs) db h
@@ -44,17 +50,23 @@ module _ (tables : List Table) (env : List ℤ) where
   column_there None c n h g = absurd h
   column_there (Some t) c n h g = omega (arith, h, g)
 
-  finds : (t : ℕ) (k : List ℤ) (c : ℕ) (db : List Row) → list_any (is_at t k) db ≡ true → IsColumn (slice_get tables t) c → AllByRecursion (RowFits tables) db → HasColumn c (find (is_at t k) db)
+  finds : (t : ℕ) (k : List ℤ) (c : ℕ) (db : List Row) → list_any (is_at t k) db ≡ true → IsColumn (slice_get tables t) c →
+      AllByRecursion (RowFits tables) db → HasColumn c (find (is_at t k) db)
   finds t k c db there column fits = by (find (is_at t k) db) refl
     where
       by : (o : Option Row) → find (is_at t k) db ≡ o → HasColumn c o
       by None e = absurd (let f : true ≡ false = sym there ∙ any_none (is_at t k) db e in cc)
       by (Some r) e =
           let at : t ≡ r.table = ap (λ (p : ℕ × List ℤ). p.0) (found_at (t, k) db r e) in
-          let own = found_holds (RowFits tables) (is_at t k) db r e fits in
-          (r, refl, column_there (slice_get tables r.table) c (length r.cols) (subst (λ (z : ℕ). IsColumn (slice_get tables z) c) at column) own.1)
+          let own = found_holds (RowFits tables) (is_at t k) db r e fits in (
+            r,
+            refl,
+            column_there (slice_get tables r.table) c (length r.cols) (subst (λ (z : ℕ). IsColumn (slice_get tables z) c) at column)
+                own.1,
+          )
 
-  pub is_ready : (a : Action) (db : List Row) → ActionFits tables a → AllByRecursion (RowFits tables) db → IsThere env a db → IsReady env a db
+  pub is_ready : (a : Action) (db : List Row) → ActionFits tables a → AllByRecursion (RowFits tables) db → IsThere env a db →
+      IsReady env a db
   is_ready (action.Put t k vs) db fits rows there = tt
   is_ready (action.Del t k) db fits rows there = tt
   is_ready (action.Set t k c v) db fits rows there = finds t (lin_values env k) c db there fits.1 rows

@@ -1,5 +1,6 @@
 -- Where linear values that have to be 0 are all 0.
-use Rattle.std.proofs.Common.{◌≡◌, ℕ, Bool, true, false, List, [], ◌∷◌, ◌++◌, length, map, refl, ap, sym, ◌∙◌, arith, ℤ, pos, ◌+ℤ◌, if◌then◌else◌, ◌==◌, not, ◌||◌}
+use Rattle.std.proofs.Common.{◌≡◌, ℕ, Bool, true, false, List, [], ◌∷◌, ◌++◌, length, map, refl, ap, sym, ◌∙◌, arith, ℤ, pos, ◌+ℤ◌}
+use Rattle.std.proofs.Common.{if◌then◌else◌, ◌==◌, not, ◌||◌}
 use Rattle.std.specs.Prelude.{◌&&◌}
 use Rattle.std.specs.List.{list_all, list_any}
 use Rattle.std.specs.Ordering.{int_eq}
@@ -49,7 +50,8 @@ module _ (env : List ℤ) where
       off true c e = e
       off false c e = refl
 
-      by : (b : Bool) → is_false l ≡ b → (b || list_any is_false ls) ≡ true → (list_any is_false ls ≡ true → all_zero env ls ≡ false) → (is_lin_zero env l && all_zero env ls) ≡ false
+      by : (b : Bool) → is_false l ≡ b → (b || list_any is_false ls) ≡ true → (list_any is_false ls ≡ true → all_zero env ls ≡ false) →
+          (is_lin_zero env l && all_zero env ls) ≡ false
       by true e h ih = ap (λ x. x && all_zero env ls) (false_is l e)
       by false e h ih = off (is_lin_zero env l) (all_zero env ls) (ih h)
 
@@ -67,9 +69,12 @@ module _ (env : List ℤ) where
       and_assoc true c x = refl
       and_assoc false c x = refl
 
-      by : (b : Bool) → lin_eq l d ≡ b → (b || list_any (λ y. lin_eq y d) ls) ≡ true → (list_any (λ y. lin_eq y d) ls ≡ true → all_zero env ls ≡ (all_zero env ls && is_lin_zero env d)) → (is_lin_zero env l && all_zero env ls) ≡ ((is_lin_zero env l && all_zero env ls) && is_lin_zero env d)
+      by : (b : Bool) → lin_eq l d ≡ b → (b || list_any (λ y. lin_eq y d) ls) ≡ true →
+          (list_any (λ y. lin_eq y d) ls ≡ true → all_zero env ls ≡ (all_zero env ls && is_lin_zero env d)) →
+          (is_lin_zero env l && all_zero env ls) ≡ ((is_lin_zero env l && all_zero env ls) && is_lin_zero env d)
       by true e h ih =
-          twice (is_lin_zero env l) (all_zero env ls) ∙ ap (λ (y : Lin). (is_lin_zero env l && all_zero env ls) && is_lin_zero env y) ((lin_decides l d).0 e)
+          twice (is_lin_zero env l) (all_zero env ls) ∙ ap (λ (y : Lin). (is_lin_zero env l && all_zero env ls) && is_lin_zero env y)
+          ((lin_decides l d).0 e)
       by false e h ih =
           ap (λ x. is_lin_zero env l && x) (ih h) ∙ and_assoc (is_lin_zero env l) (all_zero env ls) (is_lin_zero env d)
 
@@ -93,7 +98,8 @@ module _ (env : List ℤ) where
       same true = refl
       same false = refl
 
-      by : (b : Bool) → is_zero d ≡ b → (c : Bool) → list_any (λ l. lin_eq l d) ls ≡ c → all_zero env (if b || c then ls else (ls ++ d ∷ [])) ≡ (all_zero env ls && is_lin_zero env d)
+      by : (b : Bool) → is_zero d ≡ b → (c : Bool) → list_any (λ l. lin_eq l d) ls ≡ c →
+          all_zero env (if b || c then ls else (ls ++ d ∷ [])) ≡ (all_zero env ls && is_lin_zero env d)
       by true e c h = same (all_zero env ls) ∙ ap (λ x. all_zero env ls && x) (sym (zero_is d e))
       by false e true h = among d ls h
       by false e false h = behind d ls
@@ -105,7 +111,8 @@ module _ (env : List ℤ) where
       by true = refl
       by false = refl
   lengthened_zero under (d ∷ ds) =
-      lengthened_zero (with_under d under) ds ∙ (ap (λ x. x && all_zero env ds) (with_zero d under) ∙ by (all_zero env under) (is_lin_zero env d) (all_zero env ds))
+      lengthened_zero (with_under d under) ds ∙ (ap (λ x. x && all_zero env ds) (with_zero d under) ∙ by (all_zero env under)
+      (is_lin_zero env d) (all_zero env ds))
     where
       by : (b c x : Bool) → ((b && c) && x) ≡ (b && (c && x))
       by true c x = refl

@@ -20,5 +20,7 @@ pub returns-clause-law : goal.returns-clause-law
 returns-clause-law c = λ h.
     let is : view c.in_ok-value.value ≡ cert c.args.c.now = c.in_ok-value.ensures in
     let low : depth (cert c.args.c.now) ≤ 127 = omega (arith, (cert_plain c.args.c.now).shallow) in
-    let back : read c.in_ok-to_vec.field-0.items ≡ Some (cert c.args.c.now) = c.in_ok-to_vec.ensures.reads_back (subst (λ d. depth d ≤ 127) (sym is) low) ∙ ap Some is in
-    sym (of_text c.in_ok-to_vec.field-0.items c.in_ok-to_vec.ensures.utf8) ∙ ap (λ r. and_then (given r) cert_of) back ∙ cert_read c.args.c.now h
+    let back : read c.in_ok-to_vec.field-0.items ≡ Some (cert c.args.c.now) =
+    c.in_ok-to_vec.ensures.reads_back (subst (λ d. depth d ≤ 127) (sym is) low) ∙ ap Some is in
+    sym (of_text c.in_ok-to_vec.field-0.items c.in_ok-to_vec.ensures.utf8) ∙ ap (λ r. and_then (given r) cert_of) back ∙ cert_read
+    c.args.c.now h

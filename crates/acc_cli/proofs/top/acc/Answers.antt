@@ -5,10 +5,20 @@ use Rattle.acc_cli.proofs.StatusLemmas.{zero_is_done}
 use Rattle.acc_cli.proofs.top.acc.Goals as goal
 
 pub returns-clause-answered : goal.returns-clause-answered
-returns-clause-answered g c = record { status = c.answer_line-ended.result.status; coded = c.code.ensures; holds = c.answer_line-ended.ensures.answered }
+returns-clause-answered g c = record {
+  status = c.answer_line-ended.result.status;
+  coded = c.code.ensures;
+  holds =
+      c.answer_line-ended.ensures.answered;
+}
 
 pub returns-clause-causes : goal.returns-clause-causes
-returns-clause-causes g c = record { status = c.answer_line-ended.result.status; coded = c.code.ensures; holds = causes_of _ _ _ _ _ _ _ _ _ c.answer_line-ended.ensures.answered }
+returns-clause-causes g c = record {
+  status = c.answer_line-ended.result.status;
+  coded = c.code.ensures;
+  holds =
+      causes_of _ _ _ _ _ _ _ _ _ c.answer_line-ended.ensures.answered;
+}
 
 pub returns-clause-promise : goal.returns-clause-promise
 returns-clause-promise g c is = promise_kept _ _ _ _ _ _ _ _ _ is c.answer_line-ended.ensures.answered

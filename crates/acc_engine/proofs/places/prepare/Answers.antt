@@ -8,7 +8,8 @@ use Rattle.acc_engine.proofs.places.prepare.Goals as goal
 pub event_len-requires : goal.event_len-requires
 event_len-requires g c =
     subst Fits (sym c.in-Ok.ensures)
-    (at_item (λ (call : Call). Fits (Begin call)) c.args.calls.now c.args.index c.index-calls-index.result c.requires.fits c.requires.within c.index-calls-index.is)
+    (at_item (λ (call : Call). Fits (Begin call)) c.args.calls.now c.args.index c.index-calls-index.result c.requires.fits c.requires.within
+    c.index-calls-index.is)
 
 pub returns-in-Ok-widen-clause-event : goal.returns-in-Ok-widen-clause-event
 returns-in-Ok-widen-clause-event g c = record {
@@ -20,4 +21,5 @@ returns-in-Ok-widen-clause-event g c = record {
 pub returns-in-Ok-widen-clause-fits : goal.returns-in-Ok-widen-clause-fits
 returns-in-Ok-widen-clause-fits g c =
     subst Fits (sym c.in-Ok.ensures)
-    (at_item (λ (call : Call). Fits (Begin call)) c.args.calls.now c.args.index c.index-calls-index.result c.requires.fits c.requires.within c.index-calls-index.is)
+    (at_item (λ (call : Call). Fits (Begin call)) c.args.calls.now c.args.index c.index-calls-index.result c.requires.fits c.requires.within
+    c.index-calls-index.is)

@@ -7,4 +7,5 @@ returns-then-not-design_in c = range_fault c.args.design.now (sym c.design_in.en
 
 pub returns : goal.returns
 returns c =
-    first_of_design c.args.design.now c.new-walk.result c.meet_design.new.walk (sym c.design_in.ensures ∙ c.if-not-design_in.false) c.new-walk.ensures c.meet_design.ensures
+    first_of_design c.args.design.now c.new-walk.result c.meet_design.new.walk (sym c.design_in.ensures ∙ c.if-not-design_in.false)
+    c.new-walk.ensures c.meet_design.ensures

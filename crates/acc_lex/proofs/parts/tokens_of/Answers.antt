@@ -18,10 +18,20 @@ few_feeds shape.Feed = omega arith
 few_feeds _ = omega arith
 
 pub loop-part-init : goal.loop-part-init
-loop-part-init c = record { place = omega arith; feeds = omega arith; tokens = λ i. c.new-tokens.ensures i ++ tokens_from 1 0 c.args.parts.now }
+loop-part-init c = record {
+  place = omega arith;
+  feeds = omega arith;
+  tokens =
+      λ i. c.new-tokens.ensures i ++ tokens_from 1 0 c.args.parts.now;
+}
 
 pub overflow_add-to : goal.overflow_add-to
-overflow_add-to c = omega (arith, len_step c.args.parts.now c.loop-part.part-index c.loop-part-test.true, c.loop-part.invariant.place, c.requires)
+overflow_add-to c = omega (
+  arith,
+  len_step c.args.parts.now c.loop-part.part-index c.loop-part-test.true,
+  c.loop-part.invariant.place,
+  c.requires,
+)
 
 pub loop-part-preserved : goal.loop-part-preserved
 loop-part-preserved c =
@@ -34,8 +44,15 @@ loop-part-preserved c =
       place = omega (arith, len_step ps i c.loop-part-test.true, c.loop-part.invariant.place);
       feeds = omega (arith, few, c.feeds_of-line.ensures, c.loop-part.invariant.feeds);
       tokens =
-          (λ j. c.in_ok-add_token.ensures j ++ tokens_from (c.loop-part.line + c.feeds_of-line.ensures j) to (drop (i + 1) ps)) ∙ (λ j. (c.loop-part.tokens ++ token_of (c.kind_of.ensures j) c.loop-part.line c.loop-part.from to) ++ behind) ∙ append_assoc c.loop-part.tokens (token_of (kind_of p.shape) c.loop-part.line c.loop-part.from to) behind ∙ ap (λ (z : List Token). c.loop-part.tokens ++ z) (sym (at_drop_more (tokens_from c.loop-part.line c.loop-part.from) ps i (record { shape = shape.Gap; len = 0 }) c.loop-part-test.true)) ∙ c.loop-part.invariant.tokens;
+          (λ j. c.in_ok-add_token.ensures j ++ tokens_from (c.loop-part.line + c.feeds_of-line.ensures j) to (drop (i + 1) ps)) ∙
+          (λ j. (c.loop-part.tokens ++ token_of (c.kind_of.ensures j) c.loop-part.line c.loop-part.from to) ++ behind) ∙ append_assoc
+          c.loop-part.tokens (token_of (kind_of p.shape) c.loop-part.line c.loop-part.from to) behind ∙ ap
+          (λ (z : List Token). c.loop-part.tokens ++ z)
+          (sym (at_drop_more (tokens_from c.loop-part.line c.loop-part.from) ps i (record { shape = shape.Gap; len = 0 })
+          c.loop-part-test.true)) ∙ c.loop-part.invariant.tokens;
     }
 
 pub returns : goal.returns
-returns c = sym (append-nil c.loop-part.tokens) ∙ sym (at_drop_all (λ (z : List Part). c.loop-part.tokens ++ tokens_from c.loop-part.line c.loop-part.from z) c.args.parts.now c.loop-part.part-index c.loop-part-test.false) ∙ c.loop-part.invariant.tokens
+returns c = sym (append-nil c.loop-part.tokens) ∙ sym
+    (at_drop_all (λ (z : List Part). c.loop-part.tokens ++ tokens_from c.loop-part.line c.loop-part.from z) c.args.parts.now
+    c.loop-part.part-index c.loop-part-test.false) ∙ c.loop-part.invariant.tokens

@@ -22,6 +22,7 @@ overflow_sub-b c = digit_low _ (passes_at is_digit c.args.digits.now c.loop-b.b-
 
 pub loop-b-preserved : goal.loop-b-preserved
 loop-b-preserved c =
-    let d = digit_is (get_or c.args.digits.now c.loop-b.b-index 0) (passes_at is_digit c.args.digits.now c.loop-b.b-index c.loop-b-test.true c.requires) in
+    let d = digit_is (get_or c.args.digits.now c.loop-b.b-index 0)
+    (passes_at is_digit c.args.digits.now c.loop-b.b-index c.loop-b-test.true c.requires) in
     let m = digits_value_more 10 c.args.digits.now c.loop-b.b-index c.loop-b-test.true in
     omega (arith, d, m)

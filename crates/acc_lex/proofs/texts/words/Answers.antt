@@ -15,7 +15,8 @@ only_memory text words errors.Memory a l = refl
 only_memory text words (errors.Bad line) a l = absurd (a.1.ends words l)
 
 lexed : (c : After-drop-tokens-inside-2) → IsLexed c.args.text.now c.in_ok-words_of.field-0
-lexed c = subst (IsLexed c.args.text.now) (sym (c.in_ok-words_of.ensures ∙ ap (words_of c.args.text.now) c.as_slice.ensures)) c.in_ok-tokens.ensures.words
+lexed c = subst (IsLexed c.args.text.now) (sym (c.in_ok-words_of.ensures ∙ ap (words_of c.args.text.now) c.as_slice.ensures))
+    c.in_ok-tokens.ensures.words
 
 pub returns-in_err-tokens-clause-only : goal.returns-in_err-tokens-clause-only
 returns-in_err-tokens-clause-only c words l =

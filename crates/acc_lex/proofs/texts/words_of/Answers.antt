@@ -17,7 +17,11 @@ loop-token-preserved c =
     let t = get_or ts i no_token in
     let more = told c.loop-token.empty t.kind (slice text t) in
     let behind = words_from (ends t.kind) text (drop (i + 1) ts) in
-    (λ j. c.in_ok-add_word.ensures j ++ words_from (c.ends-empty.ensures j) text (drop (i + 1) ts)) ∙ append_assoc c.loop-token.words more behind ∙ ap (λ (z : List Word). c.loop-token.words ++ z) (sym (at_drop_more (words_from c.loop-token.empty text) ts i no_token c.loop-token-test.true)) ∙ c.loop-token.invariant
+    (λ j. c.in_ok-add_word.ensures j ++ words_from (c.ends-empty.ensures j) text (drop (i + 1) ts)) ∙ append_assoc c.loop-token.words more
+    behind ∙ ap (λ (z : List Word). c.loop-token.words ++ z)
+    (sym (at_drop_more (words_from c.loop-token.empty text) ts i no_token c.loop-token-test.true)) ∙ c.loop-token.invariant
 
 pub returns : goal.returns
-returns c = sym (append-nil c.loop-token.words) ∙ sym (at_drop_all (λ (z : List Token). c.loop-token.words ++ words_from c.loop-token.empty c.args.text.now z) c.args.tokens.now c.loop-token.token-index c.loop-token-test.false) ∙ c.loop-token.invariant
+returns c = sym (append-nil c.loop-token.words) ∙ sym
+    (at_drop_all (λ (z : List Token). c.loop-token.words ++ words_from c.loop-token.empty c.args.text.now z) c.args.tokens.now
+    c.loop-token.token-index c.loop-token-test.false) ∙ c.loop-token.invariant

@@ -29,5 +29,7 @@ returns-clause-within c h =
     let tree = c.args.tree.now in
     let faults = limit_faults tree in
     let is = first_of_design 0 0 tree c.new-walk.result c.meet_design.new.walk h c.new-walk.ensures c.meet_design.ensures in
-    let stands : (f : ℕ × Limit) → IsLeast is_before faults f → f.0 < statements_of tree = λ f least. All-contains (λ (g : ℕ × Limit). g.0 < statements_of tree) faults f (faults_within tree) least.there in
-    subst (λ found. IfSome found (λ f. f.0 < statements_of tree)) (sym is) (some_weaker (IsLeast is_before faults) (λ f. f.0 < statements_of tree) _ stands (least_of is_before before_is_order faults))
+    let stands : (f : ℕ × Limit) → IsLeast is_before faults f → f.0 < statements_of tree =
+    λ f least. All-contains (λ (g : ℕ × Limit). g.0 < statements_of tree) faults f (faults_within tree) least.there in
+    subst (λ found. IfSome found (λ f. f.0 < statements_of tree)) (sym is)
+    (some_weaker (IsLeast is_before faults) (λ f. f.0 < statements_of tree) _ stands (least_of is_before before_is_order faults))

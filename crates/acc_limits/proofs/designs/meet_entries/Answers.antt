@@ -5,4 +5,5 @@ use Rattle.acc_limits.proofs.designs.meet_entries.Goals as goal
 
 pub loop-i-preserved : goal.loop-i-preserved
 loop-i-preserved c =
-    counted_next limit.EntriesAndHints 1024 entry_marks c.args.entries.now c.loop-i.i _ _ _ _ _ c.loop-i.invariant c.pass_if.ensures c.meet_entry.ensures c.loop-i-test.true c.index-entries-i.is
+    counted_next limit.EntriesAndHints 1024 entry_marks c.args.entries.now c.loop-i.i _ _ _ _ _ c.loop-i.invariant c.pass_if.ensures
+    c.meet_entry.ensures c.loop-i-test.true c.index-entries-i.is

@@ -5,4 +5,5 @@ use Rattle.acc_limits.proofs.designs.meet_tables.Goals as goal
 
 pub loop-i-preserved : goal.loop-i-preserved
 loop-i-preserved c =
-    counted_next limit.Tables 64 table_marks c.args.tables.now c.loop-i.i _ _ _ _ _ c.loop-i.invariant c.pass_if.ensures c.meet_table.ensures c.loop-i-test.true c.index-tables-i.is
+    counted_next limit.Tables 64 table_marks c.args.tables.now c.loop-i.i _ _ _ _ _ c.loop-i.invariant c.pass_if.ensures
+    c.meet_table.ensures c.loop-i-test.true c.index-tables-i.is

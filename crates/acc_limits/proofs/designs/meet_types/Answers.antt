@@ -5,4 +5,5 @@ use Rattle.acc_limits.proofs.designs.meet_types.Goals as goal
 
 pub loop-i-preserved : goal.loop-i-preserved
 loop-i-preserved c =
-    counted_next limit.Types 64 type_marks c.args.types.now c.loop-i.i _ _ _ _ _ c.loop-i.invariant c.pass_if.ensures c.meet_type.ensures c.loop-i-test.true c.index-types-i.is
+    counted_next limit.Types 64 type_marks c.args.types.now c.loop-i.i _ _ _ _ _ c.loop-i.invariant c.pass_if.ensures c.meet_type.ensures
+    c.loop-i-test.true c.index-types-i.is

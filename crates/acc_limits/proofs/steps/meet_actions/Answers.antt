@@ -5,4 +5,5 @@ use Rattle.acc_limits.proofs.steps.meet_actions.Goals as goal
 
 pub loop-i-preserved : goal.loop-i-preserved
 loop-i-preserved c =
-    counted_next limit.Actions 16 action_marks c.args.actions.now c.loop-i.i _ _ _ _ _ c.loop-i.invariant c.pass_if.ensures c.meet_action.ensures c.loop-i-test.true c.index-actions-i.is
+    counted_next limit.Actions 16 action_marks c.args.actions.now c.loop-i.i _ _ _ _ _ c.loop-i.invariant c.pass_if.ensures
+    c.meet_action.ensures c.loop-i-test.true c.index-actions-i.is

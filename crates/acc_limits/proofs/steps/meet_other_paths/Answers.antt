@@ -5,4 +5,5 @@ use Rattle.acc_limits.proofs.steps.meet_other_paths.Goals as goal
 
 pub loop-i-preserved : goal.loop-i-preserved
 loop-i-preserved c =
-    counted_next limit.Paths 15 path_marks c.args.paths.now c.loop-i.i _ _ _ _ _ c.loop-i.invariant c.pass_if.ensures c.meet_path.ensures c.loop-i-test.true c.index-paths-i.is
+    counted_next limit.Paths 15 path_marks c.args.paths.now c.loop-i.i _ _ _ _ _ c.loop-i.invariant c.pass_if.ensures c.meet_path.ensures
+    c.loop-i-test.true c.index-paths-i.is

@@ -5,4 +5,5 @@ use Rattle.acc_limits.proofs.steps.meet_reads.Goals as goal
 
 pub loop-i-preserved : goal.loop-i-preserved
 loop-i-preserved c =
-    counted_next limit.Reads 32 read_marks c.args.reads.now c.loop-i.i _ _ _ _ _ c.loop-i.invariant c.pass_if.ensures c.meet_read.ensures c.loop-i-test.true c.index-reads-i.is
+    counted_next limit.Reads 32 read_marks c.args.reads.now c.loop-i.i _ _ _ _ _ c.loop-i.invariant c.pass_if.ensures c.meet_read.ensures
+    c.loop-i-test.true c.index-reads-i.is

@@ -16,10 +16,12 @@ use Rattle.acc_meaning.proofs.Ended.{faults_within}
 use Rattle.acc_meaning.proofs.designs.meaning_of.Goals as goal
 
 -- what the walk over a design keeps is the first of its faults
-first_of : (d : DesignTree) (w v : Walk) → statements_of d < 2 ^ 64 → w ≡ start 0 0 → v ≡ after w (design_sizes d) → v.first ≡ fold (better is_before) None (size_faults d)
+first_of : (d : DesignTree) (w v : Walk) → statements_of d < 2 ^ 64 → w ≡ start 0 0 → v ≡ after w (design_sizes d) →
+    v.first ≡ fold (better is_before) None (size_faults d)
 unfolding size_faults
 first_of d w v few begun ended =
-    ap (λ (u : Walk). u.first) (ended ∙ ap (λ (u : Walk). after u (design_sizes d)) begun) ∙ first_after (start 0 0) (design_sizes d) (omega (arith, design_endings d))
+    ap (λ (u : Walk). u.first) (ended ∙ ap (λ (u : Walk). after u (design_sizes d)) begun) ∙ first_after (start 0 0) (design_sizes d)
+    (omega (arith, design_endings d))
 
 pub returns-clause-none : goal.returns-clause-none
 returns-clause-none c h =
@@ -39,5 +41,7 @@ returns-clause-within c h =
     let tree = c.args.tree.now in
     let faults = size_faults tree in
     let is = first_of tree c.new-walk.result c.design.new.walk h c.new-walk.ensures c.in_ok-design.ensures.walk in
-    let stands : (f : ℕ × Limit) → IsLeast is_before faults f → f.0 < statements_of tree = λ f least. All-contains (λ (g : ℕ × Limit). g.0 < statements_of tree) faults f (faults_within tree) least.there in
-    subst (λ found. IfSome found (λ f. f.0 < statements_of tree)) (sym is) (some_weaker (IsLeast is_before faults) (λ f. f.0 < statements_of tree) _ stands (least_of is_before before_is_order faults))
+    let stands : (f : ℕ × Limit) → IsLeast is_before faults f → f.0 < statements_of tree =
+    λ f least. All-contains (λ (g : ℕ × Limit). g.0 < statements_of tree) faults f (faults_within tree) least.there in
+    subst (λ found. IfSome found (λ f. f.0 < statements_of tree)) (sym is)
+    (some_weaker (IsLeast is_before faults) (λ f. f.0 < statements_of tree) _ stands (least_of is_before before_is_order faults))

@@ -5,4 +5,5 @@ use Rattle.acc_meaning.proofs.entries.numbers_of.Given as goal
 
 -- what has come so far
 abbrev pub invariant-loop-other : goal.invariant-loop-other
-invariant-loop-other l = l.numbers ≡ l.initial.numbers ++ map (pair_of (variables_in l.held) (variables_in l.step)) (take l.other-index l.trees.others)
+invariant-loop-other l = l.numbers ≡ l.initial.numbers ++ map (pair_of (variables_in l.held) (variables_in l.step))
+    (take l.other-index l.trees.others)

@@ -15,5 +15,6 @@ returns-clause-walk c =
     let is : c.in_ok-terms.terms ≡ rel_terms s r = search rules in
     let left : c.form_parts.new.walk ≡ after c.args.walk.now (form_sizes s r.left) = search rules in
     let right : c.form_parts-2.new.walk ≡ after c.form_parts.new.walk (form_sizes s r.right) = search rules in
-    let last : c.form_by.new.walk ≡ after c.form_parts-2.new.walk (terms_sizes (rel_terms s r)) = c.form_by.ensures.walk ∙ ap (λ (t : Terms Unknown). after c.form_parts-2.new.walk (terms_sizes t)) is in
+    let last : c.form_by.new.walk ≡ after c.form_parts-2.new.walk (terms_sizes (rel_terms s r)) =
+    c.form_by.ensures.walk ∙ ap (λ (t : Terms Unknown). after c.form_parts-2.new.walk (terms_sizes t)) is in
     walked_thrice (form_sizes s r.left) (form_sizes s r.right) (terms_sizes (rel_terms s r)) _ _ _ _ left right last

@@ -7,5 +7,7 @@ use Rattle.acc_meaning.proofs.values.parts.Goals as goal
 pub loop-other-preserved : goal.loop-other-preserved
 loop-other-preserved c = record {
   value = grind (arith, common_steps);
-  sized = subst (All IsTermSized) (sym c.in_ok-push-2.ensures.ok) (All-push IsTermSized c.loop-other.parts c.signed-in-loop-other.result c.loop-other.invariant.sized c.signed-in-loop-other.ensures.sized);
+  sized = subst (All IsTermSized) (sym c.in_ok-push-2.ensures.ok)
+      (All-push IsTermSized c.loop-other.parts c.signed-in-loop-other.result c.loop-other.invariant.sized
+      c.signed-in-loop-other.ensures.sized);
 }

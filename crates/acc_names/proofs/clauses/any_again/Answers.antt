@@ -16,9 +16,13 @@ loop-name-preserved c =
     let locals = c.args.locals.now in
     let own = c.loop-name.own in
     let e = c.in_ok-again.ensures in
-    let found = ap (λ z. z || c.in_ok-again.field-0) c.has.ensures ∙ ap (λ z. list_any (bytes_eq x) locals || z) e.again ∙ sym (list_any-append (bytes_eq x) locals own) in
+    let found = ap (λ z. z || c.in_ok-again.field-0) c.has.ensures ∙ ap (λ z. list_any (bytes_eq x) locals || z) e.again ∙ sym
+    (list_any-append (bytes_eq x) locals own) in
     let later = ap (λ z. locals ++ z) e.names ∙ sym (append_assoc locals own (x ∷ [])) in
     record {
-      again = ap (λ z. z || defines_again (locals ++ c.add.new.self) (drop (i + 1) names)) (or_assoc c.loop-name.again c.has.result c.in_ok-again.field-0) ∙ again_at (locals ++ own) (locals ++ c.add.new.self) names i x c.loop-name.again (c.has.result || c.in_ok-again.field-0) c.loop-name-test.true c.name-item.is found later ∙ c.loop-name.invariant.again;
+      again = ap (λ z. z || defines_again (locals ++ c.add.new.self) (drop (i + 1) names))
+          (or_assoc c.loop-name.again c.has.result c.in_ok-again.field-0) ∙ again_at (locals ++ own) (locals ++ c.add.new.self) names i x
+          c.loop-name.again (c.has.result || c.in_ok-again.field-0) c.loop-name-test.true c.name-item.is found later ∙
+          c.loop-name.invariant.again;
       own = gathered_at c.args.own.now own c.add.new.self names i x c.loop-name-test.true c.name-item.is c.loop-name.invariant.own e.names;
     }

@@ -6,4 +6,5 @@ use Rattle.acc_names.proofs.steps.paths_faults.Given as goal
 
 -- what is written, with what is left to write, is all of it
 abbrev pub invariant-loop-path : goal.invariant-loop-path
-invariant-loop-path l = l.faults.items ++ flat_map (path_faults (scope_in l.definitions) l.points) (drop l.path-index l.paths) ≡ l.fn.faults.items ++ flat_map (path_faults (scope_in l.definitions) l.points) l.paths
+invariant-loop-path l = l.faults.items ++ flat_map (path_faults (scope_in l.definitions) l.points) (drop l.path-index l.paths) ≡
+    l.fn.faults.items ++ flat_map (path_faults (scope_in l.definitions) l.points) l.paths

@@ -8,5 +8,6 @@ abbrev pub invariant-loop-tree : goal.invariant-loop-tree
 invariant-loop-tree l = record {
   named : l.names ≡ map (λ t. t.name) (take l.tree-index l.trees);
   lined : l.members.items ≡ map members_of (take l.tree-index l.trees);
-  told : l.faults.items ++ types_faults l.tables.trees.now l.names (drop l.tree-index l.trees) ≡ l.initial.faults.items ++ types_faults l.tables.trees.now [] l.trees;
+  told : l.faults.items ++ types_faults l.tables.trees.now l.names (drop l.tree-index l.trees) ≡ l.initial.faults.items ++ types_faults
+      l.tables.trees.now [] l.trees;
 }

@@ -7,6 +7,7 @@ use Rattle.acc_obligations.proofs.places.add_paths.Given as goal
 abbrev pub invariant-loop-i : goal.invariant-loop-i
 invariant-loop-i l =
     map stop l.out.items
-    ++ each_from l.i (λ j path. stop_alone (record { at = l.q.at; side = l.side; path = j }) l.q.ty.now l.q.point.now l.step path) (drop l.i l.paths)
+    ++ each_from l.i (λ j path. stop_alone (record { at = l.q.at; side = l.side; path = j }) l.q.ty.now l.q.point.now l.step path)
+    (drop l.i l.paths)
     ≡ map stop l.fn.out.items
     ++ each (λ j path. stop_alone (record { at = l.q.at; side = l.side; path = j }) l.q.ty.now l.q.point.now l.step path) l.paths

@@ -8,7 +8,8 @@ use Rattle.acc_parse.proofs.lines.good_words.Goals as goal
 pub returns-in-Ok-syntax : goal.returns-in-Ok-syntax
 returns-in-Ok-syntax c words l =
     let same = c.in-Ok.ensures.only words l in
-    let spelled : IsSpelling words c.in-Ok-syntax.field-0 = subst (λ z. IsSpelling z c.in-Ok-syntax.field-0) (c.as_slice.ensures ∙ same) c.in-Ok-syntax.ensures.answers in
+    let spelled : IsSpelling words c.in-Ok-syntax.field-0 =
+    subst (λ z. IsSpelling z c.in-Ok-syntax.field-0) (c.as_slice.ensures ∙ same) c.in-Ok-syntax.ensures.answers in
     subst (AreGood words) (sym (c.len.ensures ∙ ap length same)) (good_all words c.in-Ok-syntax.field-0 spelled)
 
 pub returns-in-Err-At : goal.returns-in-Err-At

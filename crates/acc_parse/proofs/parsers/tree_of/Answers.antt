@@ -22,7 +22,8 @@ wrong_line-requires-clause-judged c =
 
 pub returns-in-Ok-clause-ok : goal.returns-in-Ok-clause-ok
 returns-in-Ok-clause-ok c =
-    spelled_text c.args.text.now c.as_slice.result.now c.spelled_tree.result (subst (λ (z : List Word). IsLexed c.args.text.now z) (sym c.as_slice.ensures) c.in-Ok.ensures.exact) c.spelled_tree.ensures.ok
+    spelled_text c.args.text.now c.as_slice.result.now c.spelled_tree.result
+    (subst (λ (z : List Word). IsLexed c.args.text.now z) (sym c.as_slice.ensures) c.in-Ok.ensures.exact) c.spelled_tree.ensures.ok
 
 -- the words are the only ones of the text
 pub returns-in-Ok-clause-only : goal.returns-in-Ok-clause-only

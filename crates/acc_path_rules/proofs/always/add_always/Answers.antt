@@ -16,7 +16,8 @@ pub loop-k-init : goal.loop-k-init
 loop-k-init c =
     let d = c.args.d.now in
     let out = c.args.out.now in
-    subst (λ (cs : List Clause). Going out out (each_from 0 (λ (k : ℕ) (x : Clause). each_path d (always_at d k x)) cs) (always_drafts d)) (sym c.as_slice-clauses.ensures) (going_all out (always_drafts d))
+    subst (λ (cs : List Clause). Going out out (each_from 0 (λ (k : ℕ) (x : Clause). each_path d (always_at d k x)) cs) (always_drafts d))
+    (sym c.as_slice-clauses.ensures) (going_all out (always_drafts d))
 
 pub loop-k-preserved : goal.loop-k-preserved
 loop-k-preserved c =
@@ -26,7 +27,10 @@ loop-k-preserved c =
     let k = c.loop-k.k in
     let x = c.index-clauses-k.result in
     let all : map stop ps ≡ stops_of d = ap (map stop) c.as_slice.ensures.value ∙ c.in_ok-paths.ensures.value in
-    going_on _ _ _ (joined (at_stop (always_at d k x)) (map stop ps)) (each_from (k + 1) (λ (k : ℕ) (x : Clause). each_path d (always_at d k x)) (drop (k + 1) clauses)) _ _ (paths_each_next d ps all (always_at d) clauses k x c.loop-k-test.true c.index-clauses-k.is) c.loop-k.invariant c.in_ok-add_clause_always.ensures
+    going_on _ _ _ (joined (at_stop (always_at d k x)) (map stop ps))
+    (each_from (k + 1) (λ (k : ℕ) (x : Clause). each_path d (always_at d k x)) (drop (k + 1) clauses)) _ _
+    (paths_each_next d ps all (always_at d) clauses k x c.loop-k-test.true c.index-clauses-k.is) c.loop-k.invariant
+    c.in_ok-add_clause_always.ensures
 
 pub returns-in_err-add_clause_always : goal.returns-in_err-add_clause_always
 returns-in_err-add_clause_always c =
@@ -36,10 +40,14 @@ returns-in_err-add_clause_always c =
     let k = c.loop-k.k in
     let x = c.index-clauses-k.result in
     let all : map stop ps ≡ stops_of d = ap (map stop) c.as_slice.ensures.value ∙ c.in_ok-paths.ensures.value in
-    going_off _ _ _ (joined (at_stop (always_at d k x)) (map stop ps)) (each_from (k + 1) (λ (k : ℕ) (x : Clause). each_path d (always_at d k x)) (drop (k + 1) clauses)) _ _ _ _ _ c.from_residual-in_err-add_clause_always.ensures.1
-    (paths_each_next d ps all (always_at d) clauses k x c.loop-k-test.true c.index-clauses-k.is) c.loop-k.invariant c.in_err-add_clause_always.ensures
+    going_off _ _ _ (joined (at_stop (always_at d k x)) (map stop ps))
+    (each_from (k + 1) (λ (k : ℕ) (x : Clause). each_path d (always_at d k x)) (drop (k + 1) clauses)) _ _ _ _ _
+    c.from_residual-in_err-add_clause_always.ensures.1
+    (paths_each_next d ps all (always_at d) clauses k x c.loop-k-test.true c.index-clauses-k.is) c.loop-k.invariant
+    c.in_err-add_clause_always.ensures
 
 pub returns : goal.returns
 returns c =
     let d = c.args.d.now in
-    going_past _ _ _ _ (each_past (λ (k : ℕ) (x : Clause). each_path d (always_at d k x)) c.as_slice-clauses.result.now c.loop-k.k c.loop-k-test.false) c.loop-k.invariant
+    going_past _ _ _ _ (each_past (λ (k : ℕ) (x : Clause). each_path d (always_at d k x)) c.as_slice-clauses.result.now c.loop-k.k
+    c.loop-k-test.false) c.loop-k.invariant

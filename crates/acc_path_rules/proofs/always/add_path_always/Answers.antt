@@ -17,5 +17,6 @@ returns c =
     c.if-not-clause_names.ensures ∙ ap (λ (xs : List Action). clause_names xs clause) c.as_slice.ensures in
     always_added c.add_path_clause-2.result c.args.out.now c.add_path_clause-2.new.out d q c.args.k clause true names
     (path_added c.add_path_clause-2.result c.args.out.now c.add_path_clause-2.new.out 2 None c.args.k q.w (setting_at d q) [] clause
-    c.path_origin.result (seen c.path_setting-s.result) c.new.result clause c.path_origin.ensures c.path_setting-s.ensures.seen c.new.ensures
+    c.path_origin.result (seen c.path_setting-s.result) c.new.result clause c.path_origin.ensures c.path_setting-s.ensures.seen
+    c.new.ensures
     refl c.add_path_clause-2.ensures)

@@ -12,5 +12,6 @@ returns-in-Some c =
     let s = seen c.args.s.now in
     let side = c.args.q.now.side in
     let entry = entry_for c.args.entries.now c.args.held c.args.q.now.at side in
-    IfOk-weaker c.open_by_entry.result (λ (o : Option (List Rel)). o ≡ open_by s side (Some c.in-Some.e.now)) (λ (o : Option (List Rel)). o ≡ open_by s side entry)
+    IfOk-weaker c.open_by_entry.result (λ (o : Option (List Rel)). o ≡ open_by s side (Some c.in-Some.e.now))
+    (λ (o : Option (List Rel)). o ≡ open_by s side entry)
     (λ o h. h ∙ ap (open_by s side) c.in-Some.ensures.value) c.open_by_entry.ensures

@@ -21,7 +21,9 @@ loop-k-preserved c =
     let ps = c.as_slice.result.now in
     let k = c.loop-k.k in
     let all : map stop ps ≡ stops_of d = ap (map stop) c.as_slice.ensures.value ∙ c.in_ok-paths.ensures.value in
-    going_on _ _ _ (joined (at_stop (promise_at d k)) (map stop ps)) (each_number (k + 1) (MOST_CLAUSES - (k + 1)) (λ k. each_path d (promise_at d k))) _ _ (paths_number_next d ps all (promise_at d) MOST_CLAUSES k c.loop-k-test.true) c.loop-k.invariant c.in_ok-add_number_promises.ensures
+    going_on _ _ _ (joined (at_stop (promise_at d k)) (map stop ps))
+    (each_number (k + 1) (MOST_CLAUSES - (k + 1)) (λ k. each_path d (promise_at d k))) _ _
+    (paths_number_next d ps all (promise_at d) MOST_CLAUSES k c.loop-k-test.true) c.loop-k.invariant c.in_ok-add_number_promises.ensures
 
 pub returns-in_err-add_number_promises : goal.returns-in_err-add_number_promises
 returns-in_err-add_number_promises c =
@@ -29,7 +31,9 @@ returns-in_err-add_number_promises c =
     let ps = c.as_slice.result.now in
     let k = c.loop-k.k in
     let all : map stop ps ≡ stops_of d = ap (map stop) c.as_slice.ensures.value ∙ c.in_ok-paths.ensures.value in
-    going_off _ _ _ (joined (at_stop (promise_at d k)) (map stop ps)) (each_number (k + 1) (MOST_CLAUSES - (k + 1)) (λ k. each_path d (promise_at d k))) _ _ _ _ _ c.from_residual-in_err-add_number_promises.ensures.1
+    going_off _ _ _ (joined (at_stop (promise_at d k)) (map stop ps))
+    (each_number (k + 1) (MOST_CLAUSES - (k + 1)) (λ k. each_path d (promise_at d k))) _ _ _ _ _
+    c.from_residual-in_err-add_number_promises.ensures.1
     (paths_number_next d ps all (promise_at d) MOST_CLAUSES k c.loop-k-test.true) c.loop-k.invariant c.in_err-add_number_promises.ensures
 
 pub returns : goal.returns

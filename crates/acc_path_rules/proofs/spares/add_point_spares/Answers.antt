@@ -12,7 +12,10 @@ pub loop-k-init : goal.loop-k-init
 loop-k-init c =
     let d = c.args.d.now in
     let out = c.args.out.now in
-    subst (λ (cs : List Clause). Going out out (each_from 0 (λ (k : ℕ) (x : Clause). each_path d (spare_at d c.args.held.now.at c.args.held.now.ty.now c.args.held.now.point.now k x)) cs) (at_rest (held_drafts d) (rest c.args.held.now))) (sym c.as_slice-clauses.ensures) (going_all out (at_rest (held_drafts d) (rest c.args.held.now)))
+    subst (λ (cs : List Clause). Going out out (each_from 0
+    (λ (k : ℕ) (x : Clause). each_path d (spare_at d c.args.held.now.at c.args.held.now.ty.now c.args.held.now.point.now k x)) cs)
+    (at_rest (held_drafts d) (rest c.args.held.now))) (sym c.as_slice-clauses.ensures)
+    (going_all out (at_rest (held_drafts d) (rest c.args.held.now)))
 
 pub loop-k-preserved : goal.loop-k-preserved
 loop-k-preserved c =
@@ -22,7 +25,11 @@ loop-k-preserved c =
     let k = c.loop-k.k in
     let x = c.index-clauses-k.result in
     let all : map stop ps ≡ stops_of d = c.requires.all in
-    going_on _ _ _ (joined (at_stop (spare_at d c.args.held.now.at c.args.held.now.ty.now c.args.held.now.point.now k x)) (map stop ps)) (each_from (k + 1) (λ (k : ℕ) (x : Clause). each_path d (spare_at d c.args.held.now.at c.args.held.now.ty.now c.args.held.now.point.now k x)) (drop (k + 1) clauses)) _ _ (paths_each_next d ps all (spare_at d c.args.held.now.at c.args.held.now.ty.now c.args.held.now.point.now) clauses k x c.loop-k-test.true c.index-clauses-k.is) c.loop-k.invariant c.in_ok-add_clause_spares.ensures
+    going_on _ _ _ (joined (at_stop (spare_at d c.args.held.now.at c.args.held.now.ty.now c.args.held.now.point.now k x)) (map stop ps))
+    (each_from (k + 1) (λ (k : ℕ) (x : Clause). each_path d
+    (spare_at d c.args.held.now.at c.args.held.now.ty.now c.args.held.now.point.now k x)) (drop (k + 1) clauses)) _ _
+    (paths_each_next d ps all (spare_at d c.args.held.now.at c.args.held.now.ty.now c.args.held.now.point.now) clauses k x
+    c.loop-k-test.true c.index-clauses-k.is) c.loop-k.invariant c.in_ok-add_clause_spares.ensures
 
 pub returns-in_err-add_clause_spares : goal.returns-in_err-add_clause_spares
 returns-in_err-add_clause_spares c =
@@ -32,10 +39,16 @@ returns-in_err-add_clause_spares c =
     let k = c.loop-k.k in
     let x = c.index-clauses-k.result in
     let all : map stop ps ≡ stops_of d = c.requires.all in
-    going_off _ _ _ (joined (at_stop (spare_at d c.args.held.now.at c.args.held.now.ty.now c.args.held.now.point.now k x)) (map stop ps)) (each_from (k + 1) (λ (k : ℕ) (x : Clause). each_path d (spare_at d c.args.held.now.at c.args.held.now.ty.now c.args.held.now.point.now k x)) (drop (k + 1) clauses)) _ _ _ _ _ c.from_residual.ensures.1
-    (paths_each_next d ps all (spare_at d c.args.held.now.at c.args.held.now.ty.now c.args.held.now.point.now) clauses k x c.loop-k-test.true c.index-clauses-k.is) c.loop-k.invariant c.in_err-add_clause_spares.ensures
+    going_off _ _ _ (joined (at_stop (spare_at d c.args.held.now.at c.args.held.now.ty.now c.args.held.now.point.now k x)) (map stop ps))
+    (each_from (k + 1) (λ (k : ℕ) (x : Clause). each_path d
+    (spare_at d c.args.held.now.at c.args.held.now.ty.now c.args.held.now.point.now k x)) (drop (k + 1) clauses)) _ _ _ _ _
+    c.from_residual.ensures.1
+    (paths_each_next d ps all (spare_at d c.args.held.now.at c.args.held.now.ty.now c.args.held.now.point.now) clauses k x
+    c.loop-k-test.true c.index-clauses-k.is) c.loop-k.invariant c.in_err-add_clause_spares.ensures
 
 pub returns : goal.returns
 returns c =
     let d = c.args.d.now in
-    going_past _ _ _ _ (each_past (λ (k : ℕ) (x : Clause). each_path d (spare_at d c.args.held.now.at c.args.held.now.ty.now c.args.held.now.point.now k x)) c.as_slice-clauses.result.now c.loop-k.k c.loop-k-test.false) c.loop-k.invariant
+    going_past _ _ _ _ (each_past (λ (k : ℕ) (x : Clause). each_path d
+    (spare_at d c.args.held.now.at c.args.held.now.ty.now c.args.held.now.point.now k x)) c.as_slice-clauses.result.now c.loop-k.k
+    c.loop-k-test.false) c.loop-k.invariant

@@ -21,6 +21,8 @@ returns-in_ok-names-in-Some c =
     let names : c.in_ok-names-in-Some.names ≡ last_now s ++ s.locals ∷ [] =
     c.in_ok-names-in-Some.ensures ∙ ap (λ (z : Setting). last_now z ++ z.locals ∷ []) c.setting_before-s.ensures.seen in
     row_added c.add_path_clause.result c.args.out.now c.add_path_clause.new.out d k q (Some c.in-Some.there) some
-    (path_added c.add_path_clause.result c.args.out.now c.add_path_clause.new.out 4 None k q.w s (last_now s ++ s.locals ∷ []) c.in-Some.there
-    c.path_origin.result (seen own) c.in_ok-names-in-Some.names c.in-Some.there c.path_origin.ensures c.setting_before-s.ensures.seen names refl
+    (path_added c.add_path_clause.result c.args.out.now c.add_path_clause.new.out 4 None k q.w s (last_now s ++ s.locals ∷ [])
+    c.in-Some.there
+    c.path_origin.result (seen own) c.in_ok-names-in-Some.names c.in-Some.there c.path_origin.ensures c.setting_before-s.ensures.seen names
+    refl
     c.add_path_clause.ensures)

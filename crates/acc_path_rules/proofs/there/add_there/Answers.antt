@@ -21,7 +21,9 @@ loop-k-preserved c =
     let ps = c.as_slice.result.now in
     let k = c.loop-k.k in
     let all : map stop ps ≡ stops_of d = ap (map stop) c.as_slice.ensures.value ∙ c.in_ok-paths.ensures.value in
-    going_on _ _ _ (joined (at_stop (there_at d k)) (map stop ps)) (each_number (k + 1) (MOST_ACTIONS - (k + 1)) (λ k. each_path d (there_at d k))) _ _ (paths_number_next d ps all (there_at d) MOST_ACTIONS k c.loop-k-test.true) c.loop-k.invariant c.in_ok-add_rows.ensures
+    going_on _ _ _ (joined (at_stop (there_at d k)) (map stop ps))
+    (each_number (k + 1) (MOST_ACTIONS - (k + 1)) (λ k. each_path d (there_at d k))) _ _
+    (paths_number_next d ps all (there_at d) MOST_ACTIONS k c.loop-k-test.true) c.loop-k.invariant c.in_ok-add_rows.ensures
 
 pub returns-in_err-add_rows : goal.returns-in_err-add_rows
 returns-in_err-add_rows c =
@@ -29,7 +31,8 @@ returns-in_err-add_rows c =
     let ps = c.as_slice.result.now in
     let k = c.loop-k.k in
     let all : map stop ps ≡ stops_of d = ap (map stop) c.as_slice.ensures.value ∙ c.in_ok-paths.ensures.value in
-    going_off _ _ _ (joined (at_stop (there_at d k)) (map stop ps)) (each_number (k + 1) (MOST_ACTIONS - (k + 1)) (λ k. each_path d (there_at d k))) _ _ _ _ _ c.from_residual-in_err-add_rows.ensures.1
+    going_off _ _ _ (joined (at_stop (there_at d k)) (map stop ps))
+    (each_number (k + 1) (MOST_ACTIONS - (k + 1)) (λ k. each_path d (there_at d k))) _ _ _ _ _ c.from_residual-in_err-add_rows.ensures.1
     (paths_number_next d ps all (there_at d) MOST_ACTIONS k c.loop-k-test.true) c.loop-k.invariant c.in_err-add_rows.ensures
 
 pub returns : goal.returns

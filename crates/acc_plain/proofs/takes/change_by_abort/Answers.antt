@@ -6,4 +6,5 @@ returns-in_ok-forward_change-in_default g c =
     let d = c.args.d.now in
     let rows = g.S.Store.rows c.args.s.now in
     let free = stop_free d rows c.args.f.now c.args.cause c.in_default.not-Victim c.in_default.not-Crash in
-    rw c.if_abort.ensures (abort_only d rows c.args.f.now c.args.cause c.in_ok-forward_change-in_default.field-0 free c.in_ok-forward_change-in_default.ensures)
+    rw c.if_abort.ensures (abort_only d rows c.args.f.now c.args.cause c.in_ok-forward_change-in_default.field-0 free
+    c.in_ok-forward_change-in_default.ensures)

@@ -38,4 +38,5 @@ returns c =
     let none : left ≡ length (numbers_of acts []) + left = omega arith in
     sym (none_stands (numbers_of acts acts) c.args.place left
     (c.loop-a.invariant (Behind left)
-    (subst (λ (bs : List Action). left ≡ length (numbers_of acts bs) + left) (sym (drop_all c.loop-a.a-index acts c.loop-a-test.false)) none)))
+    (subst (λ (bs : List Action). left ≡ length (numbers_of acts bs) + left) (sym (drop_all c.loop-a.a-index acts c.loop-a-test.false))
+    none)))

@@ -10,11 +10,13 @@ use Rattle.acc_point_rules.proofs.begins.add_first_begins.Goals as goal
 pub loop-k-init : goal.loop-k-init
 loop-k-init c =
     let make = λ (k : ℕ). each (begin_at c.args.d.now k) c.args.d.now.types in
-    subst (λ (z : List Draft). Going c.args.out.now c.args.out.now z (each_number 0 c.args.count make)) (number_all make c.args.count) (going_all _ _)
+    subst (λ (z : List Draft). Going c.args.out.now c.args.out.now z (each_number 0 c.args.count make)) (number_all make c.args.count)
+    (going_all _ _)
 
 pub loop-k-preserved : goal.loop-k-preserved
 loop-k-preserved c =
-    going_on _ _ _ _ _ _ _ (number_next (λ k. each (begin_at c.args.d.now k) c.args.d.now.types) c.args.count c.loop-k.k c.loop-k-test.true) c.loop-k.invariant
+    going_on _ _ _ _ _ _ _ (number_next (λ k. each (begin_at c.args.d.now k) c.args.d.now.types) c.args.count c.loop-k.k c.loop-k-test.true)
+    c.loop-k.invariant
     c.in_ok-add_number_begins.ensures
 
 pub returns-in_err-add_number_begins : goal.returns-in_err-add_number_begins
@@ -24,4 +26,5 @@ returns-in_err-add_number_begins c =
     c.in_err-add_number_begins.ensures
 
 pub returns : goal.returns
-returns c = going_past _ _ _ _ (number_past (λ k. each (begin_at c.args.d.now k) c.args.d.now.types) c.args.count c.loop-k.k c.loop-k-test.false) c.loop-k.invariant
+returns c = going_past _ _ _ _ (number_past (λ k. each (begin_at c.args.d.now k) c.args.d.now.types) c.args.count c.loop-k.k
+    c.loop-k-test.false) c.loop-k.invariant

@@ -16,7 +16,8 @@ pub loop-t-init : goal.loop-t-init
 loop-t-init c =
     let d = c.args.d.now in
     let make = λ (t : ℕ) (table : Table). each_path d (clear_at d t table) in
-    subst (λ (ts : List Table). Going c.args.out.now c.args.out.now (each_from 0 make ts) (each make d.tables)) (sym c.as_slice-tables.ensures)
+    subst (λ (ts : List Table). Going c.args.out.now c.args.out.now (each_from 0 make ts) (each make d.tables))
+    (sym c.as_slice-tables.ensures)
     (going_all _ _)
 
 pub loop-t-preserved : goal.loop-t-preserved

@@ -10,15 +10,18 @@ loop-q-init c = going_all _ _
 pub loop-q-preserved : goal.loop-q-preserved
 loop-q-preserved c =
     going_on _ _ _ _ _ _ _
-    (joined_next stop (at_stop (clear_at c.args.d.now c.args.t c.args.table.now)) c.args.paths.now c.loop-q.q-index c.q-item.result c.loop-q-test.true c.q-item.is)
+    (joined_next stop (at_stop (clear_at c.args.d.now c.args.t c.args.table.now)) c.args.paths.now c.loop-q.q-index c.q-item.result
+    c.loop-q-test.true c.q-item.is)
     c.loop-q.invariant c.in_ok-add_path_clear.ensures
 
 pub returns-in_err-add_path_clear : goal.returns-in_err-add_path_clear
 returns-in_err-add_path_clear c =
     going_off _ _ _ _ _ _ _ _ _ _ c.from_residual.ensures.1
-    (joined_next stop (at_stop (clear_at c.args.d.now c.args.t c.args.table.now)) c.args.paths.now c.loop-q.q-index c.q-item.result c.loop-q-test.true c.q-item.is)
+    (joined_next stop (at_stop (clear_at c.args.d.now c.args.t c.args.table.now)) c.args.paths.now c.loop-q.q-index c.q-item.result
+    c.loop-q-test.true c.q-item.is)
     c.loop-q.invariant c.in_err-add_path_clear.ensures
 
 pub returns : goal.returns
 returns c =
-    going_past _ _ _ _ (joined_past stop (at_stop (clear_at c.args.d.now c.args.t c.args.table.now)) c.args.paths.now c.loop-q.q-index c.loop-q-test.false) c.loop-q.invariant
+    going_past _ _ _ _ (joined_past stop (at_stop (clear_at c.args.d.now c.args.t c.args.table.now)) c.args.paths.now c.loop-q.q-index
+    c.loop-q-test.false) c.loop-q.invariant

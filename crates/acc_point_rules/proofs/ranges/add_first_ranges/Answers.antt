@@ -16,12 +16,14 @@ add_number_ranges-requires-clause-design c = design_small c.args.d.now c.require
 pub loop-k-init : goal.loop-k-init
 loop-k-init c =
     let make = λ (k : ℕ). each_point c.args.d.now (range_at c.args.d.now k) in
-    subst (λ (z : List Draft). Going c.args.out.now c.args.out.now z (each_number 0 c.args.count make)) (number_all make c.args.count) (going_all _ _)
+    subst (λ (z : List Draft). Going c.args.out.now c.args.out.now z (each_number 0 c.args.count make)) (number_all make c.args.count)
+    (going_all _ _)
 
 pub loop-k-preserved : goal.loop-k-preserved
 loop-k-preserved c =
     let all = ap (map rest) c.as_slice.ensures.value ∙ c.in_ok-points.ensures.value in
-    going_on _ _ _ _ _ _ _ (number_next (λ k. each_point c.args.d.now (range_at c.args.d.now k)) c.args.count c.loop-k.k c.loop-k-test.true) c.loop-k.invariant
+    going_on _ _ _ _ _ _ _ (number_next (λ k. each_point c.args.d.now (range_at c.args.d.now k)) c.args.count c.loop-k.k c.loop-k-test.true)
+    c.loop-k.invariant
     (points_added (Ok tt) c.loop-k.out c.add_number_ranges.new.out c.args.d.now (range_at c.args.d.now c.loop-k.k) c.as_slice.result.now all
     c.in_ok-add_number_ranges.ensures)
 
@@ -34,4 +36,5 @@ returns-in_err-add_number_ranges c =
     (range_at c.args.d.now c.loop-k.k) c.as_slice.result.now all c.in_err-add_number_ranges.ensures)
 
 pub returns : goal.returns
-returns c = going_past _ _ _ _ (number_past (λ k. each_point c.args.d.now (range_at c.args.d.now k)) c.args.count c.loop-k.k c.loop-k-test.false) c.loop-k.invariant
+returns c = going_past _ _ _ _ (number_past (λ k. each_point c.args.d.now (range_at c.args.d.now k)) c.args.count c.loop-k.k
+    c.loop-k-test.false) c.loop-k.invariant

@@ -6,4 +6,5 @@ use Rattle.acc_obligations.proofs.Going.{Going}
 use Rattle.acc_point_rules.proofs.ranges.add_first_ranges.Given as goal
 
 abbrev pub invariant-loop-k : goal.invariant-loop-k
-invariant-loop-k l = Going l.fn.out l.out (each_number l.k (l.count - l.k) (λ k. each_point l.d (range_at l.d k))) (each_number 0 l.count (λ k. each_point l.d (range_at l.d k)))
+invariant-loop-k l = Going l.fn.out l.out (each_number l.k (l.count - l.k) (λ k. each_point l.d (range_at l.d k)))
+    (each_number 0 l.count (λ k. each_point l.d (range_at l.d k)))

@@ -9,5 +9,6 @@ use Rattle.acc_point_rules.proofs.ranges.add_path_ranges.Given as goal
 
 abbrev pub invariant-loop-j : goal.invariant-loop-j
 invariant-loop-j l =
-    let make = λ (j : ℕ) (path : Path). path_range l.d l.k l.place (record { at = l.q.at; side = Undo; path = j }) l.q.ty.now l.q.point.now l.q.point.now.undo path in
+    let make = λ (j : ℕ) (path : Path). path_range l.d l.k l.place (record { at = l.q.at; side = Undo; path = j }) l.q.ty.now l.q.point.now
+    l.q.point.now.undo path in
     Going l.fn.out l.out (each_from l.j make (drop l.j l.paths)) (undo_ranges l.d l.k l.place (rest l.q))

@@ -14,7 +14,8 @@ returns-in-Number c =
     let s = seen c.reads_setting-s.result in
     let stands : slice_get (setting_numbers s (step_vars s)) c.args.k ≡ Some (seen_read c.in-Number.m) =
     first_of (search rules, grind (c.in_ok-m.ensures.value, c.in-Number.is)) in
-    read_added c.args.d.now c.args.k q.at q.x q.p c.add_read_range.result c.args.out.now c.add_read_range.new.out s c.reads_setting-s.ensures.seen
+    read_added c.args.d.now c.args.k q.at q.x q.p c.add_read_range.result c.args.out.now c.add_read_range.new.out s
+    c.reads_setting-s.ensures.seen
     (seen_read c.in-Number.m) stands c.add_read_range.ensures
 
 pub returns-in-Behind : goal.returns-in-Behind

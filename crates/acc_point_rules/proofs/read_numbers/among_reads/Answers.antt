@@ -53,7 +53,8 @@ loop-i-preserved c =
           (subst (λ (z : List definitions.ReadNumber). StandsAt seen_read z left f)
           (reads_next s.locals vars now x i s.reads.now r c.loop-i-test.true c.r-item.is)
           (stands_behind seen_read (one_read_numbers n x i r) rest left behind f place
-          (subst (λ (ns : List ℕ). StandsAt seen_read (read_numbers s.locals vars ns (x + 1) (i + 1) (drop (i + 1) s.reads.now)) behind f) names h)));
+          (subst (λ (ns : List ℕ). StandsAt seen_read (read_numbers s.locals vars ns (x + 1) (i + 1) (drop (i + 1) s.reads.now)) behind f)
+          names h)));
     }
 
 pub returns-clause-value : goal.returns-clause-value

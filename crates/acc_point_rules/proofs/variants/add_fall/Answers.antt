@@ -12,7 +12,8 @@ pub returns : goal.returns
 returns c =
     let q = stop c.args.q.now in
     let s : Setting = setting_of c.args.d.now q.x q.p q.step q.w.path q.path in
-    fall_added c.add_goal.result c.args.out.now c.add_goal.new.out (seen c.path_setting-s.result) s q.w q.p.variant c.args.target.now.variant
+    fall_added c.add_goal.result c.args.out.now c.add_goal.new.out (seen c.path_setting-s.result) s q.w q.p.variant
+    c.args.target.now.variant
     c.path_origin-origin.result c.step_vars-vars.result c.in_ok-step_hyps.field-0 c.in_ok-path_rels.field-0 c.in_ok-goal.goal
     c.path_origin-origin.ensures c.path_setting-s.ensures.seen c.step_vars-vars.ensures c.in_ok-step_hyps.ensures c.in_ok-path_rels.ensures
     c.in_ok-goal.ensures.goal c.in_ok-goal.ensures.wide c.add_goal.ensures

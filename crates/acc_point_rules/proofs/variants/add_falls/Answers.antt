@@ -21,4 +21,5 @@ returns-in_err-add_path_fall c =
 
 pub returns : goal.returns
 returns c =
-    going_past _ _ _ _ (joined_past stop (at_stop (fall_at c.args.d.now)) c.args.paths.now c.loop-q.q-index c.loop-q-test.false) c.loop-q.invariant
+    going_past _ _ _ _ (joined_past stop (at_stop (fall_at c.args.d.now)) c.args.paths.now c.loop-q.q-index c.loop-q-test.false)
+    c.loop-q.invariant

@@ -16,7 +16,8 @@ returns c =
     let s = seen c.resting-s.result in
     let l = q.point.now.variant in
     let vars = c.step_vars-vars.result in
-    bound_added c.add_goal.result c.args.out.now c.add_goal.new.out b q.at.ty q.at.point s (resting c.args.d.now q.ty.now q.point.now.clauses) l
+    bound_added c.add_goal.result c.args.out.now c.add_goal.new.out b q.at.ty q.at.point s
+    (resting c.args.d.now q.ty.now q.point.now.clauses) l
     c.rest_origin.result vars c.in_ok-step_hyps.field-0 c.in_ok-path_rels.field-0 c.in_ok-goal.goal
     (c.rest_origin.ensures ∙ ap (λ k. rest_origin k q.at.ty q.at.point 1) c.clause.ensures)
     (c.resting-s.ensures.seen ∙ ap (resting c.args.d.now q.ty.now) c.as_slice.ensures) c.step_vars-vars.ensures c.in_ok-step_hyps.ensures

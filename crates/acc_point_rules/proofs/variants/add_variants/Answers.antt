@@ -27,7 +27,8 @@ returns-in_err-add_both_bounds c =
     let points = ap (map rest) c.as_slice.ensures.value ∙ c.in_ok-points.ensures.value in
     going_off old old c.add_both_bounds.new.out (low ++ high) falls (low ++ (high ++ falls)) (low ++ (high ++ falls)) _ _ _
     c.from_residual-in_err-add_both_bounds.ensures.1 (sym (append_assoc low high falls)) (going_all old (low ++ (high ++ falls)))
-    (both_points_added (Err c.in_err-add_both_bounds.field-0.0) old c.add_both_bounds.new.out d (bound_drafts d Lowest) (bound_drafts d Highest)
+    (both_points_added (Err c.in_err-add_both_bounds.field-0.0) old c.add_both_bounds.new.out d (bound_drafts d Lowest)
+    (bound_drafts d Highest)
     c.as_slice.result.now points c.in_err-add_both_bounds.ensures)
 
 pub returns : goal.returns
@@ -43,5 +44,6 @@ returns c =
     going_then c.add_falls.result old mid c.add_falls.new.out falls (low ++ (high ++ falls))
     (going_on old old mid (low ++ high) falls (low ++ (high ++ falls)) (low ++ (high ++ falls)) (sym (append_assoc low high falls))
     (going_all old (low ++ (high ++ falls)))
-    (both_points_added (Ok tt) old mid d (bound_drafts d Lowest) (bound_drafts d Highest) c.as_slice.result.now points c.in_ok-add_both_bounds.ensures))
+    (both_points_added (Ok tt) old mid d (bound_drafts d Lowest) (bound_drafts d Highest) c.as_slice.result.now points
+    c.in_ok-add_both_bounds.ensures))
     (paths_added c.add_falls.result mid c.add_falls.new.out d (fall_at d) c.as_slice-all.result.now paths c.add_falls.ensures)

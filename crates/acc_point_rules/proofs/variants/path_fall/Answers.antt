@@ -14,7 +14,8 @@ use Rattle.acc_point_rules.proofs.variants.path_fall.Goals as goal
 
 -- a variant from the values that it was computed from
 variant_is :
-    (s : Setting) (l now_named : Lin) (ns now : List ℕ) (vars : ℕ) → now_named ≡ named_lin (step_naming s ns vars) l → ns ≡ now → vars ≡ step_vars s
+    (s : Setting) (l now_named : Lin) (ns now : List ℕ) (vars : ℕ) → now_named ≡ named_lin (step_naming s ns vars) l → ns ≡ now →
+    vars ≡ step_vars s
     → now_named ≡ named_lin (step_naming s now (step_vars s)) l
 variant_is s l now_named ns now vars e en ev =
     e ∙ (ap (λ (z : List ℕ). named_lin (step_naming s z vars) l) en ∙ ap (λ v. named_lin (step_naming s now v) l) ev)
@@ -22,9 +23,11 @@ variant_is s l now_named ns now vars e en ev =
 pub returns-clause-goal : goal.returns-clause-goal
 returns-clause-goal c =
     let s = seen c.args.s.now in
-    let first = variant_is s c.args.before.now c.in_ok-first.first c.in_ok-counted.field-0 (first_now s) c.step_vars-vars.result c.in_ok-first.ensures
+    let first = variant_is s c.args.before.now c.in_ok-first.first c.in_ok-counted.field-0 (first_now s) c.step_vars-vars.result
+    c.in_ok-first.ensures
     c.in_ok-counted.ensures c.step_vars-vars.ensures in
-    let last = variant_is s c.args.behind.now c.in_ok-last.last c.in_ok-last_names.field-0 (last_now s) c.step_vars-vars.result c.in_ok-last.ensures
+    let last = variant_is s c.args.behind.now c.in_ok-last.last c.in_ok-last_names.field-0 (last_now s) c.step_vars-vars.result
+    c.in_ok-last.ensures
     c.in_ok-last_names.ensures c.step_vars-vars.ensures in
     IfOk-weaker c.fall_goal.result
     (λ (f : Form). f ≡ plus_number (form_sum (lin_form c.in_ok-last.last) (negsuc 0) (lin_form c.in_ok-first.first)) (pos 1))
@@ -34,9 +37,11 @@ returns-clause-goal c =
 pub returns-clause-wide : goal.returns-clause-wide
 returns-clause-wide c =
     let s = seen c.args.s.now in
-    let first = variant_is s c.args.before.now c.in_ok-first.first c.in_ok-counted.field-0 (first_now s) c.step_vars-vars.result c.in_ok-first.ensures
+    let first = variant_is s c.args.before.now c.in_ok-first.first c.in_ok-counted.field-0 (first_now s) c.step_vars-vars.result
+    c.in_ok-first.ensures
     c.in_ok-counted.ensures c.step_vars-vars.ensures in
-    let last = variant_is s c.args.behind.now c.in_ok-last.last c.in_ok-last_names.field-0 (last_now s) c.step_vars-vars.result c.in_ok-last.ensures
+    let last = variant_is s c.args.behind.now c.in_ok-last.last c.in_ok-last_names.field-0 (last_now s) c.step_vars-vars.result
+    c.in_ok-last.ensures
     c.in_ok-last_names.ensures c.step_vars-vars.ensures in
     subst (TellsClause c.fall_goal.result c.args.origin.now)
     (λ i. is_sum_wide (lin_form (last i)) (negsuc 0) (lin_form (first i))) c.fall_goal.ensures.wide

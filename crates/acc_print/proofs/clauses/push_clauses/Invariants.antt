@@ -5,4 +5,5 @@ use Rattle.acc_print.specs.Clauses.{clause_line}
 use Rattle.acc_print.proofs.clauses.push_clauses.Given as goal
 
 abbrev pub invariant-loop-clause : goal.invariant-loop-clause
-invariant-loop-clause l = l.out.items ++ flat_map (clause_line l.surroundings l.word) (drop l.clause-index l.clauses) ≡ l.fn.out.items ++ flat_map (clause_line l.surroundings l.word) l.clauses
+invariant-loop-clause l = l.out.items ++ flat_map (clause_line l.surroundings l.word) (drop l.clause-index l.clauses) ≡ l.fn.out.items ++
+    flat_map (clause_line l.surroundings l.word) l.clauses

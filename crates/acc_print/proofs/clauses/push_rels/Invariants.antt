@@ -5,4 +5,5 @@ use Rattle.acc_print.specs.Clauses.{rel_text}
 use Rattle.acc_print.proofs.clauses.push_rels.Given as goal
 
 abbrev pub invariant-loop-rel : goal.invariant-loop-rel
-invariant-loop-rel l = l.out.items ++ listed (rel_text l.scope) l.before (drop l.rel-index l.rels) ≡ l.fn.out.items ++ listed (rel_text l.scope) [] l.rels
+invariant-loop-rel l = l.out.items ++ listed (rel_text l.scope) l.before (drop l.rel-index l.rels) ≡ l.fn.out.items ++ listed
+    (rel_text l.scope) [] l.rels

@@ -5,4 +5,5 @@ use Rattle.acc_print.specs.Clauses.{unknown_text}
 use Rattle.acc_print.proofs.clauses.push_unknowns.Given as goal
 
 abbrev pub invariant-loop-unknown : goal.invariant-loop-unknown
-invariant-loop-unknown l = l.out.items ++ terms (unknown_text l.scope) l.first (drop l.unknown-index l.sum) ≡ l.fn.out.items ++ terms (unknown_text l.scope) true l.sum
+invariant-loop-unknown l = l.out.items ++ terms (unknown_text l.scope) l.first (drop l.unknown-index l.sum) ≡ l.fn.out.items ++ terms
+    (unknown_text l.scope) true l.sum

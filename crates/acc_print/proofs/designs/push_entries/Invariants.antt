@@ -5,4 +5,5 @@ use Rattle.acc_print.specs.Designs.{entry_line}
 use Rattle.acc_print.proofs.designs.push_entries.Given as goal
 
 abbrev pub invariant-loop-entry : goal.invariant-loop-entry
-invariant-loop-entry l = l.out.items ++ flat_map (entry_line l.d) (drop l.entry-index l.entries) ≡ l.fn.out.items ++ flat_map (entry_line l.d) l.entries
+invariant-loop-entry l = l.out.items ++ flat_map (entry_line l.d) (drop l.entry-index l.entries) ≡ l.fn.out.items ++ flat_map
+    (entry_line l.d) l.entries

@@ -5,4 +5,5 @@ use Rattle.acc_print.specs.Designs.{hint_line}
 use Rattle.acc_print.proofs.designs.push_hints.Given as goal
 
 abbrev pub invariant-loop-hint : goal.invariant-loop-hint
-invariant-loop-hint l = l.out.items ++ flat_map (hint_line l.d) (drop l.hint-index l.hints) ≡ l.fn.out.items ++ flat_map (hint_line l.d) l.hints
+invariant-loop-hint l = l.out.items ++ flat_map (hint_line l.d) (drop l.hint-index l.hints) ≡ l.fn.out.items ++ flat_map (hint_line l.d)
+    l.hints

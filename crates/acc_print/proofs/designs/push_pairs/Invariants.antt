@@ -5,4 +5,5 @@ use Rattle.acc_print.specs.Designs.{pair_text}
 use Rattle.acc_print.proofs.designs.push_pairs.Given as goal
 
 abbrev pub invariant-loop-left : goal.invariant-loop-left
-invariant-loop-left l = l.out.items ++ listed (pair_text l.held.names l.step.names) l.before (drop l.left-index l.pairs) ≡ l.fn.out.items ++ listed (pair_text l.held.names l.step.names) (codes " : ") l.pairs
+invariant-loop-left l = l.out.items ++ listed (pair_text l.held.names l.step.names) l.before (drop l.left-index l.pairs) ≡ l.fn.out.items ++
+    listed (pair_text l.held.names l.step.names) (codes " : ") l.pairs

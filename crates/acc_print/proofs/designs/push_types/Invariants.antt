@@ -5,4 +5,5 @@ use Rattle.acc_print.specs.Types.{type_lines}
 use Rattle.acc_print.proofs.designs.push_types.Given as goal
 
 abbrev pub invariant-loop-ty : goal.invariant-loop-ty
-invariant-loop-ty l = l.out.items ++ flat_map (type_lines l.tables) (drop l.ty-index l.types) ≡ l.fn.out.items ++ flat_map (type_lines l.tables) l.types
+invariant-loop-ty l = l.out.items ++ flat_map (type_lines l.tables) (drop l.ty-index l.types) ≡ l.fn.out.items ++ flat_map
+    (type_lines l.tables) l.types

@@ -5,4 +5,5 @@ use Rattle.acc_print.specs.Steps.{action_line}
 use Rattle.acc_print.proofs.steps.push_actions.Given as goal
 
 abbrev pub invariant-loop-action : goal.invariant-loop-action
-invariant-loop-action l = l.out.items ++ flat_map (action_line l.scope) (drop l.action-index l.actions) ≡ l.fn.out.items ++ flat_map (action_line l.scope) (l.actions)
+invariant-loop-action l = l.out.items ++ flat_map (action_line l.scope) (drop l.action-index l.actions) ≡ l.fn.out.items ++ flat_map
+    (action_line l.scope) (l.actions)

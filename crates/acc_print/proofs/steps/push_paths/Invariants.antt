@@ -5,4 +5,5 @@ use Rattle.acc_print.specs.Steps.{path_lines}
 use Rattle.acc_print.proofs.steps.push_paths.Given as goal
 
 abbrev pub invariant-loop-path : goal.invariant-loop-path
-invariant-loop-path l = l.out.items ++ flat_map (path_lines l.scope l.points) (drop l.path-index l.paths) ≡ l.fn.out.items ++ flat_map (path_lines l.scope l.points) (l.paths)
+invariant-loop-path l = l.out.items ++ flat_map (path_lines l.scope l.points) (drop l.path-index l.paths) ≡ l.fn.out.items ++ flat_map
+    (path_lines l.scope l.points) (l.paths)

@@ -6,4 +6,5 @@ use Rattle.acc_print.specs.Names.{name_at}
 use Rattle.acc_print.proofs.types.push_numbered.Given as goal
 
 abbrev pub invariant-loop-place : goal.invariant-loop-place
-invariant-loop-place l = l.out.items ++ flat_map spaced (map (name_at l.names) (drop l.place-index l.places)) ≡ l.fn.out.items ++ flat_map spaced (map (name_at l.names) l.places)
+invariant-loop-place l = l.out.items ++ flat_map spaced (map (name_at l.names) (drop l.place-index l.places)) ≡ l.fn.out.items ++ flat_map
+    spaced (map (name_at l.names) l.places)

@@ -5,4 +5,5 @@ use Rattle.acc_print.specs.Types.{point_lines}
 use Rattle.acc_print.proofs.types.push_points.Given as goal
 
 abbrev pub invariant-loop-point : goal.invariant-loop-point
-invariant-loop-point l = l.out.items ++ flat_map (point_lines l.surroundings l.points) (drop l.point-index l.points) ≡ l.fn.out.items ++ flat_map (point_lines l.surroundings l.points) (l.points)
+invariant-loop-point l = l.out.items ++ flat_map (point_lines l.surroundings l.points) (drop l.point-index l.points) ≡ l.fn.out.items ++
+    flat_map (point_lines l.surroundings l.points) (l.points)

@@ -5,4 +5,5 @@ use Rattle.acc_print.specs.Values.{lin_rel_text}
 use Rattle.acc_print.proofs.values.push_guard.Given as goal
 
 abbrev pub invariant-loop-rel : goal.invariant-loop-rel
-invariant-loop-rel l = l.out.items ++ listed (lin_rel_text l.scope.names) l.before (drop l.rel-index l.rels) ≡ l.fn.out.items ++ listed (lin_rel_text l.scope.names) (codes " ") l.rels
+invariant-loop-rel l = l.out.items ++ listed (lin_rel_text l.scope.names) l.before (drop l.rel-index l.rels) ≡ l.fn.out.items ++ listed
+    (lin_rel_text l.scope.names) (codes " ") l.rels

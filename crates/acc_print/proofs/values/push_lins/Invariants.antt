@@ -5,4 +5,5 @@ use Rattle.acc_print.specs.Values.{lin_text}
 use Rattle.acc_print.proofs.values.push_lins.Given as goal
 
 abbrev pub invariant-loop-lin : goal.invariant-loop-lin
-invariant-loop-lin l = l.out.items ++ listed (lin_text l.scope.names) l.before (drop l.lin-index l.lins) ≡ l.fn.out.items ++ listed (lin_text l.scope.names) l.opening l.lins
+invariant-loop-lin l = l.out.items ++ listed (lin_text l.scope.names) l.before (drop l.lin-index l.lins) ≡ l.fn.out.items ++ listed
+    (lin_text l.scope.names) l.opening l.lins

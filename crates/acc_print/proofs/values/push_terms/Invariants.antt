@@ -5,4 +5,5 @@ use Rattle.acc_print.specs.Names.{name_at}
 use Rattle.acc_print.proofs.values.push_terms.Given as goal
 
 abbrev pub invariant-loop-variable : goal.invariant-loop-variable
-invariant-loop-variable l = l.out.items ++ terms (name_at l.scope.names) l.first (drop l.variable-index l.coeffs) ≡ l.fn.out.items ++ terms (name_at l.scope.names) true l.coeffs
+invariant-loop-variable l = l.out.items ++ terms (name_at l.scope.names) l.first (drop l.variable-index l.coeffs) ≡ l.fn.out.items ++ terms
+    (name_at l.scope.names) true l.coeffs

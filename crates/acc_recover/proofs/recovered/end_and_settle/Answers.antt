@@ -18,7 +18,8 @@ returns-in-Ok-settle-clause-moments g c file told only counts =
     let tail = c.end_all.ensures.tail in
     let same = ap g.D.Disk.told tail.disk in
     let alone = subst (λ x. Only file (g.D.Disk.may_leave x)) (sym tail.disk) only in
-    one_settling g.D.Disk.clock g.D.Disk.left_since was.design was.world.events now old mid c.requires.in_step c.requires.settled tail c.end_all.ensures.in_step
+    one_settling g.D.Disk.clock g.D.Disk.left_since was.design was.world.events now old mid c.requires.in_step c.requires.settled tail
+    c.end_all.ensures.in_step
     (recovered was.design was.world now c.requires.kept.good.lawful c.end_all.ensures.goes c.in-Ok.ensures.ok)
     c.settle.new.self.disk (c.settle.ensures.moments c.end_all.ensures.in_step.unspent file (same ∙ told) alone)
 
@@ -31,6 +32,7 @@ returns-in-Err-settle-clause-moments g c file told only counts =
     let tail = c.end_all.ensures.tail in
     let same = ap g.D.Disk.told tail.disk in
     let alone = subst (λ x. Only file (g.D.Disk.may_leave x)) (sym tail.disk) only in
-    one_settling g.D.Disk.clock g.D.Disk.left_since was.design was.world.events now old mid c.requires.in_step c.requires.settled tail c.end_all.ensures.in_step
+    one_settling g.D.Disk.clock g.D.Disk.left_since was.design was.world.events now old mid c.requires.in_step c.requires.settled tail
+    c.end_all.ensures.in_step
     (recovered was.design was.world now c.requires.kept.good.lawful c.end_all.ensures.goes c.in-Ok.ensures.ok)
     c.settle.new.self.disk (c.settle.ensures.moments c.end_all.ensures.in_step.unspent file (same ∙ told) alone)

@@ -1,4 +1,5 @@
-use Rattle.std.proofs.Common.{◌≡◌, ◌+◌, ◌-◌, ◌<◌, ◌≤◌, ◌⊎◌, inl, inr, ◌∙◌, ◌++◌, ◌∷◌, [], ℕ, List, length, sym, ap, subst, arith, add-one, None}
+use Rattle.std.proofs.Common.{◌≡◌, ◌+◌, ◌-◌, ◌<◌, ◌≤◌, ◌⊎◌, inl, inr, ◌∙◌, ◌++◌, ◌∷◌, [], ℕ, List, length, sym, ap, subst, arith, add-one}
+use Rattle.std.proofs.Common.{None}
 use Rattle.std.specs.Prelude.{◌≢◌}
 use Rattle.std.specs.List.{range_with_len}
 use Rattle.acc_base.specs.declared.bounds.TheConstants.{MOST_EVENTS}
@@ -35,7 +36,8 @@ loop-at-preserved c =
     record {
       stage = h.stage;
       ends = subst (λ (ps : List ℕ). EndsPlaces (with_locks d) calls (play_of was) ps (play_of new)) (sym range)
-          (places_more (with_locks d) calls (play_of was) (play_of old) (play_of new) (range_with_len 1 i) place c.loop-at.invariant.ends h.ends);
+          (places_more (with_locks d) calls (play_of was) (play_of old) (play_of new) (range_with_len 1 i) place c.loop-at.invariant.ends
+          h.ends);
       over = h.over;
       full = λ k less unbegun. full_at k less (number_cases k i) unbegun;
       text = c.end_place.ensures.text ∙ c.loop-at.invariant.text;

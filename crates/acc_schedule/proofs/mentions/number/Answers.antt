@@ -14,7 +14,8 @@ returns-clause-begun c =
     let number_at = slice_get_read s.numbers.items (length calls) (place - 1) None (sym c.requires.stage.numbers) within (search rules) in
     let call_at = slice_get_read calls (length calls) (place - 1) c.index-calls-at.result refl within (search rules) in
     let begun = rw c.requires.stage.design at c.in-Ok.ensures.answer in
-    begins_here c.args.d.now calls place (play_of s) _ c.index-calls-at.result c.in-Ok.t above number_at call_at begun.2 begun.1 begun.0 refl
+    begins_here c.args.d.now calls place (play_of s) _ c.index-calls-at.result c.in-Ok.t above number_at call_at begun.2 begun.1 begun.0
+    refl
     c.in_ok-push.ensures.items
 
 pub returns-clause-kept : goal.returns-clause-kept

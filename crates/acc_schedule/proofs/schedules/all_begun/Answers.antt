@@ -7,5 +7,6 @@ pub returns-clause-all : goal.returns-clause-all
 returns-clause-all c = λ t k d within.
     let numbers : List (Option ℕ) = c.args.numbers.now in
     let same : get_or numbers k None ≡ get_or numbers k d =
-    same_Some (get_or numbers k None) (get_or numbers k d) (sym (slice_get-get_or numbers k None within) ∙ slice_get-get_or numbers k d within) in
+    same_Some (get_or numbers k None) (get_or numbers k d)
+    (sym (slice_get-get_or numbers k None within) ∙ slice_get-get_or numbers k d within) in
     subst IsSome same (c.loop-number.invariant k (omega (arith, within)))

@@ -41,4 +41,5 @@ returns-clause-played c =
     let past : length order ≤ c.loop-place.place-index = omega arith in
     let over : drop c.loop-place.place-index order ≡ [] = drop_all c.loop-place.place-index order past in
     played d c.args.calls.now order s.text.items (play_of s)
-    (subst (λ (zs : List ℕ). IsPlayedSoFar (with_locks d) d c.args.calls.now order zs s.text.items (play_of s)) over c.loop-place.invariant.played)
+    (subst (λ (zs : List ℕ). IsPlayedSoFar (with_locks d) d c.args.calls.now order zs s.text.items (play_of s)) over
+    c.loop-place.invariant.played)

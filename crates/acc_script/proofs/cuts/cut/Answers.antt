@@ -13,8 +13,13 @@ empty (x ∷ xs) h = absurd (omega arith)
 
 pub returns-in-Some : goal.returns-in-Some
 returns-in-Some c =
-    cut_by c.args.at c.piece_len.result c.args.text.now c.split_at.result.0.now c.split_at.result.1.now c.piece_len.ensures c.split_at.ensures.front c.split_at.ensures.back ∙ ap (λ (back : List ℕ). c.split_at.result.0.now ∷ pieces_left c.args.at (behind back)) c.in-Some.ensures.cases.0
+    cut_by c.args.at c.piece_len.result c.args.text.now c.split_at.result.0.now c.split_at.result.1.now c.piece_len.ensures
+    c.split_at.ensures.front c.split_at.ensures.back ∙ ap
+    (λ (back : List ℕ). c.split_at.result.0.now ∷ pieces_left c.args.at (behind back)) c.in-Some.ensures.cases.0
 
 pub returns-in-None : goal.returns-in-None
 returns-in-None c =
-    cut_by c.args.at c.piece_len.result c.args.text.now c.split_at.result.0.now c.split_at.result.1.now c.piece_len.ensures c.split_at.ensures.front c.split_at.ensures.back ∙ ap (λ (back : List ℕ). c.split_at.result.0.now ∷ pieces_left c.args.at (behind back)) (empty c.split_at.result.1.now c.in-None.ensures.cases)
+    cut_by c.args.at c.piece_len.result c.args.text.now c.split_at.result.0.now c.split_at.result.1.now c.piece_len.ensures
+    c.split_at.ensures.front c.split_at.ensures.back ∙ ap
+    (λ (back : List ℕ). c.split_at.result.0.now ∷ pieces_left c.args.at (behind back))
+    (empty c.split_at.result.1.now c.in-None.ensures.cases)

@@ -15,5 +15,6 @@ returns-in-Some-clause-rows g c =
     let env = values_of c.args.variables.now in
     let a = c.args.action.now in
     let rows = written c.args.writes.now.items (g.S.Store.rows c.args.s.now) in
-    let change = test_of_some (list_all is_small (action_numbers env a)) (change_of env a) c.in-Some.change c.evaluated.result c.evaluated.ensures c.in-Some.is in
+    let change = test_of_some (list_all is_small (action_numbers env a)) (change_of env a) c.in-Some.change c.evaluated.result
+    c.evaluated.ensures c.in-Some.is in
     on_ok c.make_change.result (λ e. e ∙ ap (λ x. changed x rows) change.1 ∙ changed_is env a rows) c.make_change.ensures.rows

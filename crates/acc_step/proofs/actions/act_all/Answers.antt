@@ -20,7 +20,10 @@ loop-action-preserved g c =
     let small = first_so (list_all is_small (action_numbers env a)) (stores_small c.args.side env a rows) e.in_range in
     let within = action_within env (2 ^ 120 + i * 2 ^ 45) (omega arith) a rows small c.loop-action.invariant.within in
     record {
-      rest = ap (after_actions c.args.side env (drop (i + 1) c.args.actions.now)) e.rows ∙ sym (next_goes c.args.side env c.args.actions.now i a rows c.loop-action-test.true c.action-item.is e.in_range) ∙ c.loop-action.invariant.rest;
+      rest = ap (after_actions c.args.side env (drop (i + 1) c.args.actions.now)) e.rows ∙ sym
+          (next_goes c.args.side env c.args.actions.now i a rows c.loop-action-test.true c.action-item.is e.in_range) ∙
+          c.loop-action.invariant.rest;
       narrow = e.narrow;
-      within = subst (AreWithin (2 ^ 120 + (i + 1) * 2 ^ 45)) (sym e.rows) (within_weaker (2 ^ 120 + i * 2 ^ 45 + 2 ^ 45) (2 ^ 120 + (i + 1) * 2 ^ 45) (omega arith) (after_action env a rows) within);
+      within = subst (AreWithin (2 ^ 120 + (i + 1) * 2 ^ 45)) (sym e.rows)
+          (within_weaker (2 ^ 120 + i * 2 ^ 45 + 2 ^ 45) (2 ^ 120 + (i + 1) * 2 ^ 45) (omega arith) (after_action env a rows) within);
     }

@@ -10,4 +10,5 @@ pub returns-clause-value : goal.returns-clause-value
 returns-clause-value g c =
     let p : Place = (c.args.table, c.args.key.now) in
     let ws = c.args.writes.now in
-    ap (λ vs. columns_after p vs (option_copied c.loop-write.cols)) (sym (drop_all c.loop-write.write-index ws (omega arith))) ∙ c.loop-write.invariant.rest ∙ columns_are p ws (g.S.Store.rows c.args.s.now) c.requires.order
+    ap (λ vs. columns_after p vs (option_copied c.loop-write.cols)) (sym (drop_all c.loop-write.write-index ws (omega arith))) ∙
+    c.loop-write.invariant.rest ∙ columns_are p ws (g.S.Store.rows c.args.s.now) c.requires.order

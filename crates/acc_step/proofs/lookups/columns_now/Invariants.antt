@@ -7,6 +7,7 @@ use Rattle.acc_step.proofs.lookups.columns_now.Given as goal
 abbrev pub invariant-loop-write : goal.invariant-loop-write
 invariant-loop-write g l =
     record {
-      rest : columns_after (l.table, l.key) (drop l.write-index l.writes) (option_copied l.cols) ≡ columns_after (l.table, l.key) l.writes (columns_at (l.table, l.key) (g.S.Store.rows l.s));
+      rest : columns_after (l.table, l.key) (drop l.write-index l.writes) (option_copied l.cols) ≡ columns_after (l.table, l.key) l.writes
+          (columns_at (l.table, l.key) (g.S.Store.rows l.s));
       few : AreFew (option_copied l.cols);
     }

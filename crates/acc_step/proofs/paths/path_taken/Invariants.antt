@@ -8,4 +8,5 @@ use Rattle.acc_step.proofs.paths.path_taken.Given as goal
 -- the first of the paths that are left is the first of all
 abbrev pub invariant-loop-i : goal.invariant-loop-i
 invariant-loop-i l =
-    first_from (λ p. list_all (lin_rel_true (values_of l.variables)) p.guard) l.i (drop l.i l.paths) ≡ taken_path (values_of l.variables) l.paths
+    first_from (λ p. list_all (lin_rel_true (values_of l.variables)) p.guard) l.i (drop l.i l.paths) ≡ taken_path (values_of l.variables)
+    l.paths

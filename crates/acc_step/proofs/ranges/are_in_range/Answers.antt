@@ -24,7 +24,9 @@ returns-then-not-is_action_in_range g c =
     let a = c.index-actions-i.result in
     let inv = c.loop-i.invariant in
     let rows = rows_through env (take i acts) db in
-    let barred : may_act c.args.side env a rows ≡ false = sym (c.if-not-is_action_in_range.ensures ∙ follows_by env a c.args.side (λ p. columns_through env p (take i acts) (columns_at p db)) rows inv.columns) in
+    let barred : may_act c.args.side env a rows ≡ false =
+    sym (c.if-not-is_action_in_range.ensures ∙ follows_by env a c.args.side (λ p. columns_through env p (take i acts) (columns_at p db))
+    rows inv.columns) in
     sym (ap is_some (sym inv.rest ∙ next_fails c.args.side env acts i a rows c.loop-i-test.true c.index-actions-i.is barred))
 
 pub loop-i-preserved : goal.loop-i-preserved
@@ -36,12 +38,19 @@ loop-i-preserved g c =
     let a = c.index-actions-i.result in
     let inv = c.loop-i.invariant in
     let rows = rows_through env (take i acts) db in
-    let may : may_act c.args.side env a rows ≡ true = sym (c.if-not-is_action_in_range.ensures ∙ follows_by env a c.args.side (λ p. columns_through env p (take i acts) (columns_at p db)) rows inv.columns) in
+    let may : may_act c.args.side env a rows ≡ true =
+    sym (c.if-not-is_action_in_range.ensures ∙ follows_by env a c.args.side (λ p. columns_through env p (take i acts) (columns_at p db))
+    rows inv.columns) in
     let small = first_so (list_all is_small (action_numbers env a)) (stores_small c.args.side env a rows) may in
-    let more : take (i + 1) acts ≡ take i acts ++ a ∷ [] = take_more acts i a c.loop-i-test.true ∙ ap (λ x. take i acts ++ x ∷ []) (sym c.index-actions-i.is) in
-    let next : rows_through env (take (i + 1) acts) db ≡ after_action env a rows = ap (λ xs. rows_through env xs db) more ∙ rows_more env a (take i acts) db in
+    let more : take (i + 1) acts ≡ take i acts ++ a ∷ [] =
+    take_more acts i a c.loop-i-test.true ∙ ap (λ x. take i acts ++ x ∷ []) (sym c.index-actions-i.is) in
+    let next : rows_through env (take (i + 1) acts) db ≡ after_action env a rows =
+    ap (λ xs. rows_through env xs db) more ∙ rows_more env a (take i acts) db in
     record {
-      rest = ap (after_actions c.args.side env (drop (i + 1) acts)) next ∙ sym (next_goes c.args.side env acts i a rows c.loop-i-test.true c.index-actions-i.is may) ∙ inv.rest;
-      columns = λ p. ap (λ xs. columns_through env p xs (columns_at p db)) more ∙ columns_more env a p (take i acts) (columns_at p db) ∙ ap (columns_acted p (change_if_small env a)) (inv.columns p) ∙ acted_at env a p rows inv.order small ∙ ap (columns_at p) (sym next);
-      order = subst IsInOrder (sym next) (actions_in_order c.args.side env (a ∷ []) rows (after_action env a rows) (ap (λ b. if b then Some (after_action env a rows) else None) may) inv.order);
+      rest = ap (after_actions c.args.side env (drop (i + 1) acts)) next ∙ sym
+          (next_goes c.args.side env acts i a rows c.loop-i-test.true c.index-actions-i.is may) ∙ inv.rest;
+      columns = λ p. ap (λ xs. columns_through env p xs (columns_at p db)) more ∙ columns_more env a p (take i acts) (columns_at p db) ∙ ap
+          (columns_acted p (change_if_small env a)) (inv.columns p) ∙ acted_at env a p rows inv.order small ∙ ap (columns_at p) (sym next);
+      order = subst IsInOrder (sym next) (actions_in_order c.args.side env (a ∷ []) rows (after_action env a rows)
+          (ap (λ b. if b then Some (after_action env a rows) else None) may) inv.order);
     }

@@ -13,7 +13,9 @@ invariant-loop-i g l =
     let db = g.S.Store.rows l.s in
     let env = values_of l.variables in
     record {
-      rest : after_actions l.side env (drop l.i l.actions) (rows_through env (take l.i l.actions) db) ≡ after_actions l.side env l.actions db;
-      columns : (p : Place) → columns_through env p (take l.i l.actions) (columns_at p db) ≡ columns_at p (rows_through env (take l.i l.actions) db);
+      rest : after_actions l.side env (drop l.i l.actions) (rows_through env (take l.i l.actions) db) ≡ after_actions l.side env l.actions
+          db;
+      columns : (p : Place) → columns_through env p (take l.i l.actions) (columns_at p db) ≡ columns_at p
+          (rows_through env (take l.i l.actions) db);
       order : IsInOrder (rows_through env (take l.i l.actions) db);
     }

@@ -10,4 +10,5 @@ pub returns-in-Col : goal.returns-in-Col
 returns-in-Col g c =
     let env = values_of c.args.variables.now in
     let db = g.S.Store.rows c.args.s.now in
-    c.read_column.ensures ∙ ap (λ k. value_read (lin_values env k) (column_of db c.in-Col.table (lin_values env k) c.in-Col.col)) c.as_slice.ensures ∙ sym (ap (read_of db c.args.tape.now c.args.at env) c.in-Col.is)
+    c.read_column.ensures ∙ ap (λ k. value_read (lin_values env k) (column_of db c.in-Col.table (lin_values env k) c.in-Col.col))
+    c.as_slice.ensures ∙ sym (ap (read_of db c.args.tape.now c.args.at env) c.in-Col.is)

@@ -7,7 +7,8 @@ abbrev pub invariant-loop-read : goal.invariant-loop-read
 invariant-loop-read g l =
     let db = g.S.Store.rows l.s in
     record {
-      rest : after_reads db l.f (drop l.read-index l.reads) (record { locals = l.variables.locals; at = l.at }) ≡ after_reads db l.f l.reads (unread l.f);
+      rest : after_reads db l.f (drop l.read-index l.reads) (record { locals = l.variables.locals; at = l.at }) ≡ after_reads db l.f l.reads
+          (unread l.f);
       number : l.variables.number ≡ l.f.t;
       kept : length l.variables.locals ≡ length l.f.locals;
       tape : l.tape ≡ l.f.tape;

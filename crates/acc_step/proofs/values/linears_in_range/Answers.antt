@@ -11,5 +11,6 @@ returns-in-None g c =
     let env = values_of c.args.variables.now in
     let x = lin_value env c.l-item.result in
     let e : is_small x ≡ false = test_of_none (is_small x) x c.linear_in_range.result c.linear_in_range.ensures c.in-None.is in
-    let fails : list_all is_small (lin_values env c.args.ls.now) ≡ false = list_all-fails (lin_value env) is_small c.args.ls.now c.loop-l.l-index c.l-item.result c.loop-l-test.true c.l-item.is e in
+    let fails : list_all is_small (lin_values env c.args.ls.now) ≡ false =
+    list_all-fails (lin_value env) is_small c.args.ls.now c.loop-l.l-index c.l-item.result c.loop-l-test.true c.l-item.is e in
     sym (ap (λ b. if b then Some (lin_values env c.args.ls.now) else None) fails)

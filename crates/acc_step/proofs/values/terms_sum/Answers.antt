@@ -11,7 +11,8 @@ loop-term-preserved c =
     let i = c.loop-term.invariant in
     let h = c.with_term-sum.ensures in
     record {
-      whole = sum_step (term_value env) c.args.terms.now c.loop-term.term-index (0, pos 0) (amount c.loop-term.sum) (amount c.with_term-sum.result) _ c.loop-term-test.true i.whole h.amount;
+      whole = sum_step (term_value env) c.args.terms.now c.loop-term.term-index (0, pos 0) (amount c.loop-term.sum)
+          (amount c.with_term-sum.result) _ c.loop-term-test.true i.whole h.amount;
       carries = omega arith;
       rest = h.rest;
     }

@@ -10,7 +10,8 @@ use Rattle.acc_step.proofs.values.terms_sum.Given as goal
 abbrev pub invariant-loop-term : goal.invariant-loop-term
 invariant-loop-term l =
     record {
-      whole : amount l.sum +ℤ total (map (term_value (values_of l.variables)) (drop l.term-index l.terms)) ≡ total (map (term_value (values_of l.variables)) l.terms);
+      whole : amount l.sum +ℤ total (map (term_value (values_of l.variables)) (drop l.term-index l.terms)) ≡ total
+          (map (term_value (values_of l.variables)) l.terms);
       carries : unsigned_abs l.sum.carries ≤ l.term-index;
       rest : unsigned_abs l.sum.rest ≤ 2 ^ 120;
     }

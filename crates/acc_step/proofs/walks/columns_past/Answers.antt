@@ -31,6 +31,10 @@ loop-action-preserved g c =
     let m = 2 ^ 120 + i * 2 ^ 45 in
     let near = acted_near env m (omega arith) p a c.loop-action.cols inv.near in
     record {
-      so_far = ap (λ xs. columns_through env p xs old) (take_more acts i a c.loop-action-test.true ∙ ap (λ x. take i acts ++ x ∷ []) (sym c.action-item.is)) ∙ columns_more env a p (take i acts) old ∙ ap (columns_acted p (change_if_small env a)) inv.so_far ∙ e;
-      near = subst (AreNear (2 ^ 120 + (i + 1) * 2 ^ 45)) e (nearer (m + 2 ^ 45) (2 ^ 120 + (i + 1) * 2 ^ 45) (columns_acted p (change_if_small env a) c.loop-action.cols) (omega arith) near);
+      so_far = ap (λ xs. columns_through env p xs old)
+          (take_more acts i a c.loop-action-test.true ∙ ap (λ x. take i acts ++ x ∷ []) (sym c.action-item.is)) ∙ columns_more env a p
+          (take i acts) old ∙ ap (columns_acted p (change_if_small env a)) inv.so_far ∙ e;
+      near = subst (AreNear (2 ^ 120 + (i + 1) * 2 ^ 45)) e
+          (nearer (m + 2 ^ 45) (2 ^ 120 + (i + 1) * 2 ^ 45) (columns_acted p (change_if_small env a) c.loop-action.cols) (omega arith)
+          near);
     }

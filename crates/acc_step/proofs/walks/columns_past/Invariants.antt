@@ -8,6 +8,7 @@ use Rattle.acc_step.proofs.walks.columns_past.Given as goal
 abbrev pub invariant-loop-action : goal.invariant-loop-action
 invariant-loop-action g l =
     record {
-      so_far : columns_through (values_of l.variables) (l.table, l.key) (take l.action-index l.actions) (columns_at (l.table, l.key) (g.S.Store.rows l.s)) ≡ l.cols;
+      so_far : columns_through (values_of l.variables) (l.table, l.key) (take l.action-index l.actions)
+          (columns_at (l.table, l.key) (g.S.Store.rows l.s)) ≡ l.cols;
       near : AreNear (2 ^ 120 + l.action-index * 2 ^ 45) l.cols;
     }

@@ -14,5 +14,8 @@ returns-clause-rows g c =
     let db = g.S.Store.rows c.args.s.now in
     let ws = c.args.writes.now.items in
     let fits : FitsSigned w64 c.args.value = search rules in
-    let w : c.in_ok-write.write ≡ set_of p c.args.col c.args.value (columns_at p (written ws db)) = c.in_ok-write.ensures.value ∙ (λ i. set_of p c.args.col (to_z-of_z w64 c.args.value fits i) (columns_at p (written (c.as_slice.ensures.value i) db))) in
-    on_ok c.push_if.result (λ e. set_changed p ws c.push_if.new.writes.items db c.args.col c.args.value c.requires.order (e ∙ ap (with_write ws) w)) c.push_if.ensures.value
+    let w : c.in_ok-write.write ≡ set_of p c.args.col c.args.value (columns_at p (written ws db)) =
+    c.in_ok-write.ensures.value ∙ (λ i. set_of p c.args.col (to_z-of_z w64 c.args.value fits i)
+    (columns_at p (written (c.as_slice.ensures.value i) db))) in
+    on_ok c.push_if.result (λ e. set_changed p ws c.push_if.new.writes.items db c.args.col c.args.value c.requires.order
+    (e ∙ ap (with_write ws) w)) c.push_if.ensures.value

@@ -8,4 +8,5 @@ use Rattle.acc_store.proofs.maps.count_below.Goals as goal
 pub returns : goal.returns
 returns c =
     let es = c.args.entries.now.entries in
-    ap pos (c.count_live.ensures ∙ ap (λ x. length (live x)) c.entries_below.ensures.below ∙ ap length (live_below c.args.table c.args.prefix.now es) ∙ length-filter (is_under c.args.table c.args.prefix.now) (live es))
+    ap pos (c.count_live.ensures ∙ ap (λ x. length (live x)) c.entries_below.ensures.below ∙ ap length
+    (live_below c.args.table c.args.prefix.now es) ∙ length-filter (is_under c.args.table c.args.prefix.now) (live es))

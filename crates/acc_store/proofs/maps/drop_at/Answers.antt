@@ -13,14 +13,17 @@ pub returns-in-Some-clause-rows : goal.returns-in-Some-clause-rows
 returns-in-Some-clause-rows c =
     let old = c.args.entries.now.entries in
     let there : entry_at c.args.place.now old ≡ Some c.in-Some.slot.now = sym c.get_mut.ensures.value ∙ ap option_copied_mut c.in-Some.is in
-    ap live (c.get_mut.follows.holds c.clear.new.self).0 ∙ drop_there c.args.place.now c.in-Some.slot.now c.clear.new.self old c.requires.up there c.clear.ensures.cells
+    ap live (c.get_mut.follows.holds c.clear.new.self).0 ∙ drop_there c.args.place.now c.in-Some.slot.now c.clear.new.self old c.requires.up
+    there c.clear.ensures.cells
 
 pub returns-in-Some-clause-kept : goal.returns-in-Some-clause-kept
 returns-in-Some-clause-kept c =
     let old = c.args.entries.now.entries in
     let new = c.clear.new.self in
     let there : entry_at c.args.place.now old ≡ Some c.in-Some.slot.now = sym c.get_mut.ensures.value ∙ ap option_copied_mut c.in-Some.is in
-    kept_by old (c.get_mut.follows.lender new).entries c.args.place.now new (wide_there old c.args.place.now c.in-Some.slot.now new there c.clear.ensures.kept) ((c.get_mut.follows.holds new).3 (ap is_some there)).0
+    kept_by old (c.get_mut.follows.lender new).entries c.args.place.now new
+    (wide_there old c.args.place.now c.in-Some.slot.now new there c.clear.ensures.kept)
+    ((c.get_mut.follows.holds new).3 (ap is_some there)).0
 
 pub returns-in_default-clause-rows : goal.returns-in_default-clause-rows
 returns-in_default-clause-rows c =
@@ -33,7 +36,8 @@ returns-in-Some-clause-blanks c =
     let old = c.args.entries.now.entries in
     let new = c.clear.new.self in
     let there : entry_at c.args.place.now old ≡ Some c.in-Some.slot.now = sym c.get_mut.ensures.value ∙ ap option_copied_mut c.in-Some.is in
-    change_adds old (c.get_mut.follows.lender new).entries c.args.place.now (Some new) ((c.get_mut.follows.holds new).3 (ap is_some there)).0
+    change_adds old (c.get_mut.follows.lender new).entries c.args.place.now (Some new)
+    ((c.get_mut.follows.holds new).3 (ap is_some there)).0
 
 pub returns-in_default-clause-blanks : goal.returns-in_default-clause-blanks
 returns-in_default-clause-blanks c =

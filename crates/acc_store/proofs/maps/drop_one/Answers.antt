@@ -6,4 +6,5 @@ use Rattle.acc_store.proofs.maps.drop_one.Goals as goal
 pub returns-in_default-clause-rows : goal.returns-in_default-clause-rows
 returns-in_default-clause-rows c =
     let es = c.args.entries.now.entries in
-    live_absent (c.args.table, c.args.key.now) es c.requires.up (entry_long c.args.table c.args.key.now es c.in_default.ensures.none c.requires.are_fit)
+    live_absent (c.args.table, c.args.key.now) es c.requires.up
+    (entry_long c.args.table c.args.key.now es c.in_default.ensures.none c.requires.are_fit)

@@ -16,4 +16,6 @@ pub returns-clause-below : goal.returns-clause-below
 returns-clause-below c =
     let start = c.new.ensures.start ∙ c.new-start.ensures.place in
     let last = c.new.ensures.end ∙ c.last-last.ensures in
-    c.range.ensures.between c.new.ensures.exhausted ∙ (λ i. entries_between place_cmp (Included (start i)) (Included (last i)) c.args.entries.now.entries) ∙ span_is c.args.table c.args.prefix.now c.args.entries.now.entries c.requires.short c.requires.fit
+    c.range.ensures.between c.new.ensures.exhausted ∙
+    (λ i. entries_between place_cmp (Included (start i)) (Included (last i)) c.args.entries.now.entries) ∙ span_is c.args.table
+    c.args.prefix.now c.args.entries.now.entries c.requires.short c.requires.fit

@@ -11,9 +11,11 @@ loop-write-preserved c =
       rows = e.rows ∙ i.rows;
       up = e.up;
       fit = e.fit;
-      blanks = blanks_forgotten c.args.writes.now c.loop-write.write-index c.write-item.result c.loop-write-test.true c.write-item.is c.args.were_put c.loop-write.entries.entries c.forget_for.new.entries.entries e.blanks i.blanks;
+      blanks = blanks_forgotten c.args.writes.now c.loop-write.write-index c.write-item.result c.loop-write-test.true c.write-item.is
+          c.args.were_put c.loop-write.entries.entries c.forget_for.new.entries.entries e.blanks i.blanks;
     }
 
 pub returns-clause-blanks : goal.returns-clause-blanks
 returns-clause-blanks c =
-    all_forgotten (leaves_blank c.args.were_put) c.args.writes.now c.loop-write.write-index c.loop-write.entries.entries c.loop-write-test.false c.loop-write.invariant.blanks
+    all_forgotten (leaves_blank c.args.were_put) c.args.writes.now c.loop-write.write-index c.loop-write.entries.entries
+    c.loop-write-test.false c.loop-write.invariant.blanks

@@ -9,7 +9,8 @@ use Rattle.acc_store.proofs.maps.forget_at.Goals as goal
 
 pub returns-then-is_blank_at-clause-rows : goal.returns-then-is_blank_at-clause-rows
 returns-then-is_blank_at-clause-rows c =
-    ap live c.remove.ensures.entries ∙ live_forget c.args.place.now c.args.entries.now.entries (sym c.is_blank_at.ensures ∙ c.if-is_blank_at.true)
+    ap live c.remove.ensures.entries ∙ live_forget c.args.place.now c.args.entries.now.entries
+    (sym c.is_blank_at.ensures ∙ c.if-is_blank_at.true)
 
 pub returns-then-is_blank_at-clause-fit : goal.returns-then-is_blank_at-clause-fit
 returns-then-is_blank_at-clause-fit c =

@@ -12,5 +12,7 @@ returns-in-Some-part_at c =
     let x = c.in-Some-part_at.part in
     let rest = parts_at n (live c.next.new.self) in
     let fits : FitsSigned w64 x = search rules in
-    let parts : parts_at n (live c.args.entries) ≡ x ∷ rest = c.loop-place.invariant ∙ ap (λ es. parts_at n (live es)) c.in-Some.ensures.steps ∙ parts-with_row n c.in-Some.place.now c.in-Some.slot.now.cells (live c.next.new.self) ∙ ap (λ p. with_part p rest) (sym c.in-Some-part_at.ensures) in
+    let parts : parts_at n (live c.args.entries) ≡ x ∷ rest =
+    c.loop-place.invariant ∙ ap (λ es. parts_at n (live es)) c.in-Some.ensures.steps ∙ parts-with_row n c.in-Some.place.now
+    c.in-Some.slot.now.cells (live c.next.new.self) ∙ ap (λ p. with_part p rest) (sym c.in-Some-part_at.ensures) in
     to_z-of_z w64 x fits ∙ sym (ap (best int_min) parts ∙ best-first x rest (subst IsRising parts c.requires.rising))

@@ -26,4 +26,5 @@ pub returns : goal.returns
 returns c =
     let es = c.args.entries.now.entries in
     let fits : FitsSigned w128 c.sum_live.result = search rules in
-    to_z-of_z w128 c.sum_live.result fits ∙ c.sum_live.ensures ∙ ap (λ x. total (map (cell c.args.col) (live x))) c.entries_below.ensures.below ∙ ap (λ rows. total (map (cell c.args.col) rows)) (live_below c.args.table c.args.prefix.now es)
+    to_z-of_z w128 c.sum_live.result fits ∙ c.sum_live.ensures ∙ ap (λ x. total (map (cell c.args.col) (live x)))
+    c.entries_below.ensures.below ∙ ap (λ rows. total (map (cell c.args.col) rows)) (live_below c.args.table c.args.prefix.now es)

@@ -12,7 +12,8 @@ returns-in-Some-clause-rows c =
     let old = c.args.entries.now.entries in
     let place = c.args.place.now in
     let there : entry_at place old ≡ Some c.in-Some.slot.now = sym c.get_mut.ensures.value ∙ ap option_copied_mut c.in-Some.is in
-    ap live (c.get_mut.follows.holds c.make_room.new.self).0 ∙ same_there place c.in-Some.slot.now c.make_room.new.self old there c.make_room.ensures.cells
+    ap live (c.get_mut.follows.holds c.make_room.new.self).0 ∙ same_there place c.in-Some.slot.now c.make_room.new.self old there
+    c.make_room.ensures.cells
 
 pub returns-in-Some-clause-kept : goal.returns-in-Some-clause-kept
 returns-in-Some-clause-kept c =
@@ -20,7 +21,8 @@ returns-in-Some-clause-kept c =
     let new = c.make_room.new.self in
     let place = c.args.place.now in
     let there : entry_at place old ≡ Some c.in-Some.slot.now = sym c.get_mut.ensures.value ∙ ap option_copied_mut c.in-Some.is in
-    kept_by old (c.get_mut.follows.lender new).entries place new (wide_there old place c.in-Some.slot.now new there c.make_room.ensures.kept) ((c.get_mut.follows.holds new).3 (ap is_some there)).0
+    kept_by old (c.get_mut.follows.lender new).entries place new
+    (wide_there old place c.in-Some.slot.now new there c.make_room.ensures.kept) ((c.get_mut.follows.holds new).3 (ap is_some there)).0
 
 pub returns-in-Some-clause-enough : goal.returns-in-Some-clause-enough
 returns-in-Some-clause-enough c = λ room.

@@ -17,8 +17,10 @@ loop-unknown-preserved c =
     let added = c.in_ok-add_gains.ensures in
     record {
       items = before.items;
-      value = gains_step c.args.action.now terms c.loop-unknown.unknown-index term c.loop-unknown-test.true c.loop-unknown-item.is _ number g _ added.value ∙ before.value;
-      wide = gains_wide_step c.args.action.now terms c.loop-unknown.unknown-index term c.loop-unknown-test.true c.loop-unknown-item.is _ number g added.wide _ added.value ∙ before.wide;
+      value = gains_step c.args.action.now terms c.loop-unknown.unknown-index term c.loop-unknown-test.true c.loop-unknown-item.is _ number
+          g _ added.value ∙ before.value;
+      wide = gains_wide_step c.args.action.now terms c.loop-unknown.unknown-index term c.loop-unknown-test.true c.loop-unknown-item.is _
+          number g added.wide _ added.value ∙ before.wide;
     }
 
 pub returns-in_err-add_gains-clause-wide : goal.returns-in_err-add_gains-clause-wide
@@ -26,4 +28,7 @@ returns-in_err-add_gains-clause-wide c =
     let term = c.loop-unknown-item.result in
     let fits : FitsSigned w128 term.1 = search rules in
     let number = to_z-of_z w128 term.1 fits in
-    handed_on _ (Unit {0}) _ _ _ _ c.from_residual.ensures.1 (λ h. sym c.loop-unknown.invariant.wide ∙ gains_here c.args.action.now c.as_slice-unknown-items.result.now c.loop-unknown.unknown-index term c.loop-unknown-test.true c.loop-unknown-item.is _ number c.loop-unknown.gained h) c.in_err-add_gains.ensures.wide
+    handed_on _ (Unit {0}) _ _ _ _ c.from_residual.ensures.1
+    (λ h. sym c.loop-unknown.invariant.wide ∙ gains_here c.args.action.now c.as_slice-unknown-items.result.now
+    c.loop-unknown.unknown-index term c.loop-unknown-test.true c.loop-unknown-item.is _ number c.loop-unknown.gained h)
+    c.in_err-add_gains.ensures.wide

@@ -9,5 +9,6 @@ invariant-loop-unknown l =
     record {
       items : l.unknown-items ≡ l.form.terms;
       value : with_summands (summands l.action (drop l.unknown-index l.unknown-items)) l.gained ≡ gained l.action l.form;
-      wide : (list_any (is_term_long l.action) (drop l.unknown-index l.unknown-items) || are_summands_wide (summands l.action (drop l.unknown-index l.unknown-items)) l.gained) ≡ is_gained_wide l.action l.form;
+      wide : (list_any (is_term_long l.action) (drop l.unknown-index l.unknown-items) || are_summands_wide
+          (summands l.action (drop l.unknown-index l.unknown-items)) l.gained) ≡ is_gained_wide l.action l.form;
     }

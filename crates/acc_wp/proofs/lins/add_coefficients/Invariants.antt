@@ -8,5 +8,6 @@ abbrev pub invariant-loop-variable : goal.invariant-loop-variable
 invariant-loop-variable l =
     record {
       value : with_coefficients l.sums.items (drop l.variable-index l.coeffs) ≡ with_coefficients l.fn.sums.items l.coeffs;
-      wide : list_any is_long (all_enlarged l.sums.items (drop l.variable-index l.coeffs)) ≡ list_any is_long (all_enlarged l.fn.sums.items l.coeffs);
+      wide : list_any is_long (all_enlarged l.sums.items (drop l.variable-index l.coeffs)) ≡ list_any is_long
+          (all_enlarged l.fn.sums.items l.coeffs);
     }

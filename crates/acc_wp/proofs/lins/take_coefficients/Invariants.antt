@@ -7,6 +7,8 @@ use Rattle.acc_wp.proofs.lins.take_coefficients.Given as goal
 abbrev pub invariant-loop-variable : goal.invariant-loop-variable
 invariant-loop-variable l =
     record {
-      value : with_coefficients l.sums.items (map negated (drop l.variable-index l.coeffs)) ≡ with_coefficients l.fn.sums.items (map negated l.coeffs);
-      wide : list_any is_long (all_enlarged l.sums.items (map negated (drop l.variable-index l.coeffs))) ≡ list_any is_long (all_enlarged l.fn.sums.items (map negated l.coeffs));
+      value : with_coefficients l.sums.items (map negated (drop l.variable-index l.coeffs)) ≡ with_coefficients l.fn.sums.items
+          (map negated l.coeffs);
+      wide : list_any is_long (all_enlarged l.sums.items (map negated (drop l.variable-index l.coeffs))) ≡ list_any is_long
+          (all_enlarged l.fn.sums.items (map negated l.coeffs));
     }

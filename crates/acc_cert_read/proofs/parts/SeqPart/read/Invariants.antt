@@ -6,4 +6,5 @@ use Rattle.acc_cert_read.proofs.parts.SeqPart.read.Given as goal
 
 abbrev pub invariant-loop-place : goal.invariant-loop-place
 invariant-loop-place g l =
-    items_from g.A.Part.shape 0 (items_view l.item-items) ≡ gives (λ xs. l.list ++ xs) (items_from g.A.Part.shape l.place (items_view (drop l.place l.item-items)))
+    items_from g.A.Part.shape 0 (items_view l.item-items) ≡ gives (λ xs. l.list ++ xs)
+    (items_from g.A.Part.shape l.place (items_view (drop l.place l.item-items)))

@@ -13,11 +13,13 @@ invariant_of-self-2 c =
     let old = c.args.self.now in
     let last : Recorded = record { number = c.args.number; change = Cut c.args.to } in
     let stands = stands_after old.start.items old.past.items c.push.new.self.items last c.in_ok-push.ensures.items in
-    let fits : c.args.to ≤ length (after_all old.past.items (settled old.start.items)).bytes = omega (arith, c.requires, ap length old.kept) in
+    let fits : c.args.to ≤ length (after_all old.past.items (settled old.start.items)).bytes =
+    omega (arith, c.requires, ap length old.kept) in
     record {
       short = omega (arith, old.short, ap length c.truncate.ensures.items, length-take c.args.to old.bytes.items);
       kept = ap (λ standing. standing.bytes) stands ∙ ap (take c.args.to) old.kept ∙ sym c.truncate.ensures.items;
-      in_order = subst IsInOrder (sym stands) (cut_in_order (after_all old.past.items (settled old.start.items)) c.args.to old.in_order fits);
+      in_order = subst IsInOrder (sym stands) (cut_in_order (after_all old.past.items (settled old.start.items)) c.args.to old.in_order
+          fits);
     }
 
 pub returns-clause-ok : goal.returns-clause-ok

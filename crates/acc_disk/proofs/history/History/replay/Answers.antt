@@ -10,7 +10,8 @@ loop-recorded-preserved c =
     let place = c.loop-recorded.recorded-index in
     let item = c.recorded-item.result in
     let within : place < length past = omega (arith, ap length c.deref-recorded-items.ensures.value) in
-    let item_is : item ≡ get_or past place item = c.recorded-item.is ∙ ap (λ (changes : List Recorded). get_or changes place item) c.deref-recorded-items.ensures.value in
+    let item_is : item ≡ get_or past place item =
+    c.recorded-item.is ∙ ap (λ (changes : List Recorded). get_or changes place item) c.deref-recorded-items.ensures.value in
     let counts : item.number ≤ c.args.calls = omega arith in
     ap (λ standing. after_by c.args.calls standing (drop (place + 1) past)) c.in_ok-apply.ensures
     ∙ sym (after_by-next c.args.calls c.loop-recorded.replay item (drop (place + 1) past) counts)

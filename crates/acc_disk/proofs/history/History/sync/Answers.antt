@@ -9,8 +9,10 @@ pub invariant_of-self : goal.invariant_of-self
 invariant_of-self c =
     let old = c.args.self.now in record {
       short = old.short;
-      kept = kept_by_sync old.start.items old.bytes.items old.past.items c.push.new.self.items c.args.number (is_ok c.push.result) c.push.ensures.items old.kept;
-      in_order = in_order_by_sync old.start.items old.bytes.items old.past.items c.push.new.self.items c.args.number (is_ok c.push.result) c.push.ensures.items old.in_order;
+      kept = kept_by_sync old.start.items old.bytes.items old.past.items c.push.new.self.items c.args.number (is_ok c.push.result)
+          c.push.ensures.items old.kept;
+      in_order = in_order_by_sync old.start.items old.bytes.items old.past.items c.push.new.self.items c.args.number (is_ok c.push.result)
+          c.push.ensures.items old.in_order;
     }
 
 pub returns-clause-ok : goal.returns-clause-ok

@@ -19,7 +19,8 @@ invariant_of-self-2 c =
     let fits : c.args.at ≤ length before.bytes = omega (arith, c.requires, ap length old.kept) in
     record {
       short = c.put.ensures.short;
-      kept = ap (λ standing. standing.bytes) stands ∙ ap (overwritten c.args.at c.args.piece.now) (old.kept ∙ sym c.in_ok-reserve.ensures.items) ∙ sym c.put.ensures.whole;
+      kept = ap (λ standing. standing.bytes) stands ∙ ap (overwritten c.args.at c.args.piece.now)
+          (old.kept ∙ sym c.in_ok-reserve.ensures.items) ∙ sym c.put.ensures.whole;
       in_order = subst IsInOrder (sym stands) (write_in_order before c.args.at c.args.piece.now old.in_order fits);
     }
 

@@ -6,7 +6,8 @@ use Rattle.acc_disk.proofs.MadeCalls.{made_nothing, made_change}
 use Rattle.acc_disk.proofs.mem_disk.MemDiskDisk.cut.Goals as goal
 
 pub returns-in_err-begin-clause-made : goal.returns-in_err-begin-clause-made
-returns-in_err-begin-clause-made c = made_nothing _ c.args.self.now c.begin.new.self _ c.in_err-begin.ensures.err.1 refl refl refl (unchanged _)
+returns-in_err-begin-clause-made c = made_nothing _ c.args.self.now c.begin.new.self _ c.in_err-begin.ensures.err.1 refl refl refl
+    (unchanged _)
 
 pub returns-in_err-grown-clause-made : goal.returns-in_err-grown-clause-made
 returns-in_err-grown-clause-made c =
@@ -18,7 +19,8 @@ returns-clause-crash c =
     let advances : Advances c.begin.new.self.calls (after_cut c.args.to) c.begin.new.self.history c.cut-outcome.new.self = search rules in
     let begun = c.in_ok-begin.ensures.ok.1 in
     left_by_cut c.begin.new.self.calls c.args.to c.args.self.now.history c.cut-outcome.new.self
-    (subst (λ history. Advances c.begin.new.self.calls (after_cut c.args.to) history c.cut-outcome.new.self) begun.history advances) (c.requires _ refl)
+    (subst (λ history. Advances c.begin.new.self.calls (after_cut c.args.to) history c.cut-outcome.new.self) begun.history advances)
+    (c.requires _ refl)
 
 pub returns-clause-time : goal.returns-clause-time
 returns-clause-time c =

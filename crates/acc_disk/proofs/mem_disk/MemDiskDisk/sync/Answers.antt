@@ -6,7 +6,8 @@ use Rattle.acc_disk.proofs.MadeCalls.{made_nothing, made_change}
 use Rattle.acc_disk.proofs.mem_disk.MemDiskDisk.sync.Goals as goal
 
 pub returns-in_err-begin-clause-made : goal.returns-in_err-begin-clause-made
-returns-in_err-begin-clause-made c = made_nothing _ c.args.self.now c.begin.new.self _ c.in_err-begin.ensures.err.1 refl refl refl (unchanged _)
+returns-in_err-begin-clause-made c = made_nothing _ c.args.self.now c.begin.new.self _ c.in_err-begin.ensures.err.1 refl refl refl
+    (unchanged _)
 
 pub returns-in_err-grown-clause-made : goal.returns-in_err-grown-clause-made
 returns-in_err-grown-clause-made c =

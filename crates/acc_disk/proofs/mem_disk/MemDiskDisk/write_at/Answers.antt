@@ -6,7 +6,8 @@ use Rattle.acc_disk.proofs.MadeCalls.{made_nothing, made_change}
 use Rattle.acc_disk.proofs.mem_disk.MemDiskDisk.write_at.Goals as goal
 
 pub returns-in_err-begin-clause-made : goal.returns-in_err-begin-clause-made
-returns-in_err-begin-clause-made c = made_nothing _ c.args.self.now c.begin.new.self _ c.in_err-begin.ensures.err.1 refl refl refl (unchanged _)
+returns-in_err-begin-clause-made c = made_nothing _ c.args.self.now c.begin.new.self _ c.in_err-begin.ensures.err.1 refl refl refl
+    (unchanged _)
 
 pub returns-in_err-grown-clause-made : goal.returns-in_err-grown-clause-made
 returns-in_err-grown-clause-made c =
@@ -15,19 +16,25 @@ returns-in_err-grown-clause-made c =
 
 pub returns-clause-crash : goal.returns-clause-crash
 returns-clause-crash c =
-    let advances : Advances c.begin.new.self.calls (after_write c.args.at c.args.bytes.now) c.begin.new.self.history c.write-outcome.new.self = search rules in
+    let advances : Advances c.begin.new.self.calls (after_write c.args.at c.args.bytes.now) c.begin.new.self.history
+    c.write-outcome.new.self = search rules in
     let begun = c.in_ok-begin.ensures.ok.1 in
     left_by_write c.begin.new.self.calls c.args.at c.args.bytes.now c.args.self.now.history c.write-outcome.new.self
-    (subst (λ history. Advances c.begin.new.self.calls (after_write c.args.at c.args.bytes.now) history c.write-outcome.new.self) begun.history advances) (c.requires _ refl)
+    (subst (λ history. Advances c.begin.new.self.calls (after_write c.args.at c.args.bytes.now) history c.write-outcome.new.self)
+    begun.history advances) (c.requires _ refl)
 
 pub returns-clause-time : goal.returns-clause-time
 returns-clause-time c =
-    let advances : Advances c.begin.new.self.calls (after_write c.args.at c.args.bytes.now) c.begin.new.self.history c.write-outcome.new.self = search rules in
+    let advances : Advances c.begin.new.self.calls (after_write c.args.at c.args.bytes.now) c.begin.new.self.history
+    c.write-outcome.new.self = search rules in
     let begun = c.in_ok-begin.ensures.ok.1 in
     goes_on c.begin.new.self.calls (after_write c.args.at c.args.bytes.now) c.args.self.now.history c.write-outcome.new.self
-    (subst (λ history. Advances c.begin.new.self.calls (after_write c.args.at c.args.bytes.now) history c.write-outcome.new.self) begun.history advances)
+    (subst (λ history. Advances c.begin.new.self.calls (after_write c.args.at c.args.bytes.now) history c.write-outcome.new.self)
+    begun.history advances)
 
 pub returns-clause-made : goal.returns-clause-made
 returns-clause-made c =
-    let advances : Advances c.begin.new.self.calls (after_write c.args.at c.args.bytes.now) c.begin.new.self.history c.write-outcome.new.self = search rules in
-    made_change _ c.args.self.now c.begin.new.self _ (after_write c.args.at c.args.bytes.now) c.in_ok-begin.ensures.ok.1 refl refl refl advances
+    let advances : Advances c.begin.new.self.calls (after_write c.args.at c.args.bytes.now) c.begin.new.self.history
+    c.write-outcome.new.self = search rules in
+    made_change _ c.args.self.now c.begin.new.self _ (after_write c.args.at c.args.bytes.now) c.in_ok-begin.ensures.ok.1 refl refl refl
+    advances

@@ -31,10 +31,21 @@ put-requires-clause-short g c =
     let calls : inside.calls ≡ c.args.self.now.calls = ap (λ (j : Journalled g.row.D.Denot). j.calls) c.self.view_is in
     let found = c.in-Ok.ensures.event in
     let is : slice_get inside.calls p ≡ Some found.call = ap (λ (l : List Call). slice_get l p) (sym c.as_slice.ensures) ∙ found.is_call in
-    let lt : p < length marks = omega (arith, c.in-Ok.ensures.long, ap length c.as_slice.ensures, ap length calls, c.requires.high, c.requires.low) in
-    let fresh : get_or marks p false ≡ false = c.prepare.ensures.marks p ∙ ap (λ (l : List Bool). get_or l p false) begun ∙ c.requires.fresh in
-    let wide = in_step_widened inside.state.design inside.state.world inside.wal c.prepare.new.wal inside.found inside.calls inside.begun.items marks inside.lowest c.self.invariant c.prepare.ensures.lists.lists (c.prepare.ensures.same inside.calls) c.prepare.ensures.marks in
-    let short = begin_short inside.state.design inside.state.design inside.state.world inside.state.world c.prepare.new.wal c.prepare.new.wal inside.found inside.calls marks inside.lowest p found.call wide lt fresh is in
+    let lt : p < length marks = omega (
+      arith,
+      c.in-Ok.ensures.long,
+      ap length c.as_slice.ensures,
+      ap length calls,
+      c.requires.high,
+      c.requires.low,
+    ) in
+    let fresh : get_or marks p false ≡ false = c.prepare.ensures.marks p ∙ ap (λ (l : List Bool). get_or l p false) begun ∙
+    c.requires.fresh in
+    let wide = in_step_widened inside.state.design inside.state.world inside.wal c.prepare.new.wal inside.found inside.calls
+    inside.begun.items marks inside.lowest c.self.invariant c.prepare.ensures.lists.lists (c.prepare.ensures.same inside.calls)
+    c.prepare.ensures.marks in
+    let short = begin_short inside.state.design inside.state.design inside.state.world inside.state.world c.prepare.new.wal
+    c.prepare.new.wal inside.found inside.calls marks inside.lowest p found.call wide lt fresh is in
     subst (λ (e : Event). length (body c.prepare.new.wal.tail) + length (event_bytes e) < 2 ^ 32) (sym found.event_is) short
 
 pub invariant_of-self-in-Ok-begin : goal.invariant_of-self-in-Ok-begin
@@ -46,17 +57,32 @@ invariant_of-self-in-Ok-begin g c =
     let calls : inside.calls ≡ c.args.self.now.calls = ap (λ (j : Journalled g.row.D.Denot). j.calls) c.self.view_is in
     let found = c.in-Ok.ensures.event in
     let is : slice_get inside.calls p ≡ Some found.call = ap (λ (l : List Call). slice_get l p) (sym c.as_slice.ensures) ∙ found.is_call in
-    let lt : p < length marks = omega (arith, c.in-Ok.ensures.long, ap length c.as_slice.ensures, ap length calls, c.requires.high, c.requires.low) in
-    let inner : p < length c.as_slice-2.result.now = omega (arith, ap length c.as_slice-2.ensures, ap length calls, c.requires.high, c.requires.low) in
-    let fresh : get_or marks p false ≡ false = c.prepare.ensures.marks p ∙ ap (λ (l : List Bool). get_or l p false) begun ∙ c.requires.fresh in
-    let wide = in_step_widened inside.state.design inside.state.world inside.wal c.prepare.new.wal inside.found inside.calls inside.begun.items marks inside.lowest c.self.invariant c.prepare.ensures.lists.lists (c.prepare.ensures.same inside.calls) c.prepare.ensures.marks in
+    let lt : p < length marks = omega (
+      arith,
+      c.in-Ok.ensures.long,
+      ap length c.as_slice.ensures,
+      ap length calls,
+      c.requires.high,
+      c.requires.low,
+    ) in
+    let inner : p < length c.as_slice-2.result.now =
+    omega (arith, ap length c.as_slice-2.ensures, ap length calls, c.requires.high, c.requires.low) in
+    let fresh : get_or marks p false ≡ false = c.prepare.ensures.marks p ∙ ap (λ (l : List Bool). get_or l p false) begun ∙
+    c.requires.fresh in
+    let wide = in_step_widened inside.state.design inside.state.world inside.wal c.prepare.new.wal inside.found inside.calls
+    inside.begun.items marks inside.lowest c.self.invariant c.prepare.ensures.lists.lists (c.prepare.ensures.same inside.calls)
+    c.prepare.ensures.marks in
     let call = c.index-as_slice-index.result in
-    let again : slice_get inside.calls p ≡ Some call = ap (λ (l : List Call). slice_get l p) (sym c.as_slice-2.ensures) ∙ got c.as_slice-2.result.now p call inner c.index-as_slice-index.is in
+    let again : slice_get inside.calls p ≡ Some call =
+    ap (λ (l : List Call). slice_get l p) (sym c.as_slice-2.ensures) ∙ got c.as_slice-2.result.now p call inner
+    c.index-as_slice-index.is in
     let same : found.call ≡ call = same_Some found.call call (sym is ∙ again) in
     let event : c.in-Ok.event ≡ Begin call = found.event_is ∙ ap (λ (x : Call). Begin x) same in
     let answer = c.in-Ok-begin.ensures.answer in
-    in_step_begun inside.state.design c.begin.new.self.design inside.state.world c.begin.new.self.world c.prepare.new.wal c.put.new.wal inside.found inside.calls marks inside.lowest p call wide lt fresh again
-    (record { leave = answer.2; event = answer.1 }) c.begin.ensures.design (subst (λ (e : Event). Pushes e c.prepare.new.wal c.put.new.wal) event c.put.ensures)
+    in_step_begun inside.state.design c.begin.new.self.design inside.state.world c.begin.new.self.world c.prepare.new.wal c.put.new.wal
+    inside.found inside.calls marks inside.lowest p call wide lt fresh again
+    (record { leave = answer.2; event = answer.1 }) c.begin.ensures.design
+    (subst (λ (e : Event). Pushes e c.prepare.new.wal c.put.new.wal) event c.put.ensures)
 
 pub returns-in-Ok-begin-clause-ok : goal.returns-in-Ok-begin-clause-ok
 returns-in-Ok-begin-clause-ok g c =
@@ -67,10 +93,20 @@ returns-in-Ok-begin-clause-ok g c =
     let calls : inside.calls ≡ c.args.self.now.calls = ap (λ (j : Journalled g.row.D.Denot). j.calls) c.self.view_is in
     let design : inside.state.design ≡ c.args.self.now.design = ap (λ (j : Journalled g.row.D.Denot). j.design) c.self.view_is in
     let state : inside.state.world ≡ c.args.self.now.state = ap (λ (j : Journalled g.row.D.Denot). j.state) c.self.view_is in
-    let lt : p < length marks = omega (arith, c.in-Ok.ensures.long, ap length c.as_slice.ensures, ap length calls, c.requires.high, c.requires.low) in
-    let inner : p < length c.as_slice-2.result.now = omega (arith, ap length c.as_slice-2.ensures, ap length calls, c.requires.high, c.requires.low) in
+    let lt : p < length marks = omega (
+      arith,
+      c.in-Ok.ensures.long,
+      ap length c.as_slice.ensures,
+      ap length calls,
+      c.requires.high,
+      c.requires.low,
+    ) in
+    let inner : p < length c.as_slice-2.result.now =
+    omega (arith, ap length c.as_slice-2.ensures, ap length calls, c.requires.high, c.requires.low) in
     let call = c.index-as_slice-index.result in
-    let again : slice_get inside.calls p ≡ Some call = ap (λ (l : List Call). slice_get l p) (sym c.as_slice-2.ensures) ∙ got c.as_slice-2.result.now p call inner c.index-as_slice-index.is in
+    let again : slice_get inside.calls p ≡ Some call =
+    ap (λ (l : List Call). slice_get l p) (sym c.as_slice-2.ensures) ∙ got c.as_slice-2.result.now p call inner
+    c.index-as_slice-index.is in
     let answer = c.in-Ok-begin.ensures.answer in
     let after = c.begin.new.self.world in (
       record {
@@ -81,7 +117,8 @@ returns-in-Ok-begin-clause-ok g c =
             (subst (λ (w : World). after_event inside.state.design w (Begin call) ≡ Some after) state answer.1);
         number = answer.0 ∙ ap next_number state;
         here = get_or-set_same marks p true false lt;
-        others = λ q other. get_or-set_other marks p q true false other ∙ c.prepare.ensures.marks q ∙ ap (λ (l : List Bool). get_or l q false) begun;
+        others = λ q other. get_or-set_other marks p q true false other ∙ c.prepare.ensures.marks q ∙ ap
+            (λ (l : List Bool). get_or l q false) begun;
       },
       subst (λ (w : World). length w.events < MOST_EVENTS) state answer.2.0,
       subst (λ (w : World). length (unfinished w) < MOST_UNFINISHED) state answer.2.1,
@@ -97,5 +134,6 @@ invariant_of-self-in-Err-begin g c =
     let wide =
     in_step_widened old.design old.world inside.wal wal inside.found inside.calls inside.begun.items marks inside.lowest c.self.invariant
     c.prepare.ensures.lists.lists (c.prepare.ensures.same inside.calls) c.prepare.ensures.marks in
-    in_step_same old.design now.design old.world now.world wal.durable wal.tail inside.found inside.calls marks inside.lowest wide c.begin.ensures.design
+    in_step_same old.design now.design old.world now.world wal.durable wal.tail inside.found inside.calls marks inside.lowest wide
+    c.begin.ensures.design
     (same_world old.design old.world now.world c.index-as_slice-index.result c.in-Err-begin.error c.in-Err-begin.ensures.answer)

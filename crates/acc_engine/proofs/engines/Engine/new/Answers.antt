@@ -4,5 +4,7 @@ use Rattle.acc_engine.proofs.engines.Engine.new.Goals as goal
 
 pub invariant_of-result : goal.invariant_of-result
 invariant_of-result g c =
-    in_step_new c.args.state.design c.args.state.world c.args.wal.durable c.args.wal.tail _ c.args.calls _ (record { accepted = c.events.ensures.accepted; good = c.events.ensures.good })
-    c.requires.same c.requires.settled c.requires.fits c.requires.few c.new.ensures.items (c.len-found.ensures ∙ ap length c.events.ensures.events)
+    in_step_new c.args.state.design c.args.state.world c.args.wal.durable c.args.wal.tail _ c.args.calls _
+    (record { accepted = c.events.ensures.accepted; good = c.events.ensures.good })
+    c.requires.same c.requires.settled c.requires.fits c.requires.few c.new.ensures.items
+    (c.len-found.ensures ∙ ap length c.events.ensures.events)

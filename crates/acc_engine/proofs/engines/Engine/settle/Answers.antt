@@ -14,17 +14,21 @@ use Rattle.acc_engine.proofs.engines.Engine.settle.Goals.{in-Ok, in-Err-Spent, i
 pub invariant_of-self : goal.invariant_of-self
 invariant_of-self g c =
     let old = c.self.inside in
-    in_step_settled old.state.design old.state.world old.wal c.settle.new.self old.found old.calls old.begun.items old.lowest c.self.invariant c.settle.result c.settle.ensures.ok c.settle.ensures.err
+    in_step_settled old.state.design old.state.world old.wal c.settle.new.self old.found old.calls old.begun.items old.lowest
+    c.self.invariant c.settle.result c.settle.ensures.ok c.settle.ensures.err
 
 pub returns-clause-moments : goal.returns-clause-moments
 returns-clause-moments g c unfailed =
     let wal = c.self.inside.wal in
     let unspent : wal.spent ≡ false = ap (λ (j : Journalled g.row.D.Denot). j.failed) c.self.view_is ∙ unfailed in
-    let P : Journalled g.row.D.Denot → Type 0 = λ j. (file : List ℕ) → g.D.Disk.told j.disk ≡ Some file → Only file (g.D.Disk.may_leave j.disk) → AtAnyMoment g.D.Disk.clock g.D.Disk.left_since j.disk c.settle.new.self.disk (CountsFront j.base j.state.events j.settled) in
+    let P : Journalled g.row.D.Denot → Type 0 = λ j. (file : List ℕ) → g.D.Disk.told j.disk ≡ Some file →
+    Only file (g.D.Disk.may_leave j.disk) → AtAnyMoment g.D.Disk.clock g.D.Disk.left_since j.disk c.settle.new.self.disk
+    (CountsFront j.base j.state.events j.settled) in
     subst P c.self.view_is
     (λ file told only.
     weaker g.D.Disk.clock g.D.Disk.left_since _ _ _ _
-    (λ image either. subst (λ (h : List Event). CountsFront wal.base h (length wal.durable) image) c.self.invariant.same (front_of_either wal.base image wal.durable wal.tail either))
+    (λ image either. subst (λ (h : List Event). CountsFront wal.base h (length wal.durable) image) c.self.invariant.same
+    (front_of_either wal.base image wal.durable wal.tail either))
     (c.settle.ensures.moments unspent file told only))
 
 pub returns-clause-ready : goal.returns-clause-ready
@@ -32,7 +36,8 @@ returns-clause-ready g c ready =
     let inside = c.self.inside in
     let new = c.settle.new.self in
     let was = subst (IsReady g.D.Disk.told g.D.Disk.may_leave) (sym c.self.view_is) ready in
-    let kept = in_step_settled inside.state.design inside.state.world inside.wal new inside.found inside.calls inside.begun.items inside.lowest c.self.invariant c.settle.result c.settle.ensures.ok c.settle.ensures.err in
+    let kept = in_step_settled inside.state.design inside.state.world inside.wal new inside.found inside.calls inside.begun.items
+    inside.lowest c.self.invariant c.settle.result c.settle.ensures.ok c.settle.ensures.err in
     elim c.match-settle.branch [
       | in-Ok w ↦
           rw w.result-is

@@ -8,5 +8,7 @@ use Rattle.acc_engine.proofs.engines.Engine.settled.Goals as goal
 pub returns-clause-counts : goal.returns-clause-counts
 returns-clause-counts g c =
     let wal = c.self.inside.wal in
-    let P : Journalled g.row.D.Denot → Type 0 = λ j. j.failed ≡ false → (file : List ℕ) → g.D.Disk.told j.disk ≡ Some file → CountsFront j.base j.state.events j.settled file in
-    subst P c.self.view_is (λ unfailed file told. subst (λ (h : List Event). CountsFront wal.base h (length wal.durable) file) c.self.invariant.same (front_of_either wal.base file wal.durable wal.tail (inl (c.durable.ensures.counts unfailed file told))))
+    let P : Journalled g.row.D.Denot → Type 0 = λ j. j.failed ≡ false → (file : List ℕ) → g.D.Disk.told j.disk ≡ Some file →
+    CountsFront j.base j.state.events j.settled file in
+    subst P c.self.view_is (λ unfailed file told. subst (λ (h : List Event). CountsFront wal.base h (length wal.durable) file)
+    c.self.invariant.same (front_of_either wal.base file wal.durable wal.tail (inl (c.durable.ensures.counts unfailed file told))))

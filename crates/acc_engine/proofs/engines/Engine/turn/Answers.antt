@@ -9,11 +9,14 @@ pub note-requires-clause-number : goal.note-requires-clause-number
 note-requires-clause-number g c =
     let old = c.self.inside.state in
     small_number old.design old.world c.args.t c.self.invariant.state
-    (subst (λ (w : World). IsUnfinished c.args.t w) (sym (ap (λ (j : Journalled g.row.D.Denot). j.state) c.self.view_is)) c.requires.unfinished)
+    (subst (λ (w : World). IsUnfinished c.args.t w) (sym (ap (λ (j : Journalled g.row.D.Denot). j.state) c.self.view_is))
+    c.requires.unfinished)
 
 pub invariant_of-self-in-Ok-turn : goal.invariant_of-self-in-Ok-turn
 invariant_of-self-in-Ok-turn g c =
     let old = c.self.inside in
     let now = c.turn.new.self in
-    in_step_turned old.state.design now.design old.state.world now.world old.wal c.reserve.new.self c.note.new.wal old.found old.calls old.begun.items old.lowest c.self.invariant c.reserve.ensures.same.lists
-    c.args.t (adds_or c.args.t c.in-Ok-turn.turn old.state.world now.world c.in-Ok-turn.ensures.adds) c.turn.ensures.design c.note.ensures.kept c.note.ensures.up
+    in_step_turned old.state.design now.design old.state.world now.world old.wal c.reserve.new.self c.note.new.wal old.found old.calls
+    old.begun.items old.lowest c.self.invariant c.reserve.ensures.same.lists
+    c.args.t (adds_or c.args.t c.in-Ok-turn.turn old.state.world now.world c.in-Ok-turn.ensures.adds) c.turn.ensures.design
+    c.note.ensures.kept c.note.ensures.up

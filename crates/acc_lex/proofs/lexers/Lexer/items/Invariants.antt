@@ -7,7 +7,8 @@ use Rattle.acc_lex.specs.Readings.{is_inside, item_at}
 use Rattle.acc_lex.proofs.lexers.Lexer.items.Given as goal
 
 abbrev pub invariant-loop-self : goal.invariant-loop-self
-invariant-loop-self l = with_items item_parts l.self.parts (many (next_is is_inside) item_at l.self.rest.now) ≡ with_items item_parts l.fn.self.parts (many (next_is is_inside) item_at l.fn.self.rest.now)
+invariant-loop-self l = with_items item_parts l.self.parts (many (next_is is_inside) item_at l.self.rest.now) ≡ with_items item_parts
+    l.fn.self.parts (many (next_is is_inside) item_at l.fn.self.rest.now)
 
 abbrev pub decreases-loop-self : goal.decreases-loop-self
 decreases-loop-self l = length l.self.rest.now

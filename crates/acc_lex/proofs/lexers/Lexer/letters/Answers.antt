@@ -8,4 +8,5 @@ pub front-requires : goal.front-requires
 front-requires c = omega (arith, prefix_len-le-length is_inner c.args.self.now.rest.now, c.inner_len-len.ensures)
 
 pub returns-clause-given : goal.returns-clause-given
-returns-clause-given c = run_read is_inner c.args.self.now.rest.now c.front.result.now c.front.new.self.rest.now c.inner_len-len.result c.inner_len-len.ensures c.front.ensures.taken c.front.ensures.rest is_letter c.requires
+returns-clause-given c = run_read is_inner c.args.self.now.rest.now c.front.result.now c.front.new.self.rest.now c.inner_len-len.result
+    c.inner_len-len.ensures c.front.ensures.taken c.front.ensures.rest is_letter c.requires

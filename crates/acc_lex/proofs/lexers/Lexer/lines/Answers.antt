@@ -13,5 +13,9 @@ pub returns : goal.returns
 unfolding lines_at
 returns c =
     let l = c.in_ok-line.ensures in
-    let ls = c.in_ok-next_lines.ensures in
-    ((l.0, ls.0), rw (l.1, ls.1, c.in_ok-end.ensures) (λ i. Ok ((l.0, ls.0), sym c.in_ok-add.ensures.rest i)), c.in_ok-add.ensures.added ∙ (λ i. ls.2 i ++ part shape.Last 0) ∙ (λ i. (l.2 i ++ joined next_line_parts ls.0) ++ part shape.Last 0) ∙ regroup c.args.self.now.parts (line_parts l.0) (joined next_line_parts ls.0) (part shape.Last 0))
+    let ls = c.in_ok-next_lines.ensures in (
+      (l.0, ls.0),
+      rw (l.1, ls.1, c.in_ok-end.ensures) (λ i. Ok ((l.0, ls.0), sym c.in_ok-add.ensures.rest i)),
+      c.in_ok-add.ensures.added ∙ (λ i. ls.2 i ++ part shape.Last 0) ∙ (λ i. (l.2 i ++ joined next_line_parts ls.0) ++ part shape.Last 0)
+          ∙ regroup c.args.self.now.parts (line_parts l.0) (joined next_line_parts ls.0) (part shape.Last 0),
+    )

@@ -8,7 +8,8 @@ use Rattle.acc_lex.specs.Readings.{next_line_at}
 use Rattle.acc_lex.proofs.lexers.Lexer.next_lines.Given as goal
 
 abbrev pub invariant-loop-self : goal.invariant-loop-self
-invariant-loop-self l = with_items next_line_parts l.self.parts (many (next_is (is_byte 10)) next_line_at l.self.rest.now) ≡ with_items next_line_parts l.fn.self.parts (many (next_is (is_byte 10)) next_line_at l.fn.self.rest.now)
+invariant-loop-self l = with_items next_line_parts l.self.parts (many (next_is (is_byte 10)) next_line_at l.self.rest.now) ≡ with_items
+    next_line_parts l.fn.self.parts (many (next_is (is_byte 10)) next_line_at l.fn.self.rest.now)
 
 abbrev pub decreases-loop-self : goal.decreases-loop-self
 decreases-loop-self l = length l.self.rest.now

@@ -5,4 +5,10 @@ use Rattle.acc_lex.proofs.lexers.Lexer.remark.Goals as goal
 
 pub returns : goal.returns
 unfolding remark_at
-returns c = (Remark c.comment-comment.result.now, rw (c.in_ok-byte.ensures.given, c.comment-comment.ensures.given) (λ i. Ok (Remark c.comment-comment.result.now, sym c.in_ok-add_gap.ensures.rest i)), c.in_ok-add_gap.ensures.added ∙ (λ i. (c.comment-comment.ensures.parts ∙ c.in_ok-byte.ensures.parts) i ++ gap (1 + length c.comment-comment.result.now)))
+returns c = (
+  Remark c.comment-comment.result.now,
+  rw (c.in_ok-byte.ensures.given, c.comment-comment.ensures.given)
+      (λ i. Ok (Remark c.comment-comment.result.now, sym c.in_ok-add_gap.ensures.rest i)),
+  c.in_ok-add_gap.ensures.added ∙ (λ i. (c.comment-comment.ensures.parts ∙ c.in_ok-byte.ensures.parts) i ++ gap
+      (1 + length c.comment-comment.result.now)),
+)

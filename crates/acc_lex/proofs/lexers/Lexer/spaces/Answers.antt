@@ -11,5 +11,7 @@ front-requires c = omega (arith, prefix_len-le-length is_space c.args.self.now.r
 pub returns-clause-given : goal.returns-clause-given
 unfolding spaces_at
 returns-clause-given c =
-    let len = cut_len is_space c.args.self.now.rest.now c.front.result.now c.front.new.self.rest.now c.spaces_len-len.result c.spaces_len-len.ensures c.front.ensures.taken c.front.ensures.rest in
-    rw (front_read is_space c.args.self.now.rest.now c.front.result.now c.front.new.self.rest.now c.spaces_len-len.result c.spaces_len-len.ensures c.front.ensures.taken c.front.ensures.rest) (λ i. Ok (len i, c.front.new.self.rest.now))
+    let len = cut_len is_space c.args.self.now.rest.now c.front.result.now c.front.new.self.rest.now c.spaces_len-len.result
+    c.spaces_len-len.ensures c.front.ensures.taken c.front.ensures.rest in
+    rw (front_read is_space c.args.self.now.rest.now c.front.result.now c.front.new.self.rest.now c.spaces_len-len.result
+    c.spaces_len-len.ensures c.front.ensures.taken c.front.ensures.rest) (λ i. Ok (len i, c.front.new.self.rest.now))

@@ -11,14 +11,17 @@ loop-name-preserved c =
     let i = c.loop-name.name-index in
     let e = c.in_ok-again.ensures in
     record {
-      again = again_at c.loop-name.self c.add.new.self names i c.name-item.result c.loop-name.again c.in_ok-again.field-0 c.loop-name-test.true c.name-item.is e.again e.names ∙ c.loop-name.invariant.again;
-      names = gathered_at c.args.self.now c.loop-name.self c.add.new.self names i c.name-item.result c.loop-name-test.true c.name-item.is c.loop-name.invariant.names e.names;
+      again = again_at c.loop-name.self c.add.new.self names i c.name-item.result c.loop-name.again c.in_ok-again.field-0
+          c.loop-name-test.true c.name-item.is e.again e.names ∙ c.loop-name.invariant.again;
+      names = gathered_at c.args.self.now c.loop-name.self c.add.new.self names i c.name-item.result c.loop-name-test.true c.name-item.is
+          c.loop-name.invariant.names e.names;
     }
 
 pub returns-clause-again : goal.returns-clause-again
 returns-clause-again c =
     let end : drop c.loop-name.name-index c.args.names.now ≡ _ = drop_all _ c.args.names.now c.loop-name-test.false in
-    sym (or_false c.loop-name.again) ∙ ap (λ z. c.loop-name.again || defines_again c.loop-name.self z) (sym end) ∙ c.loop-name.invariant.again
+    sym (or_false c.loop-name.again) ∙ ap (λ z. c.loop-name.again || defines_again c.loop-name.self z) (sym end) ∙
+    c.loop-name.invariant.again
 
 pub returns-clause-names : goal.returns-clause-names
 returns-clause-names c =

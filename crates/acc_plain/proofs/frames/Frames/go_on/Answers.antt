@@ -8,5 +8,7 @@ pub returns : goal.returns
 returns c f got =
     let slots = c.self.inside.slots.items in
     let gone = c.self.inside.gone in
-    let read = read_at slots gone c.args.self.now c.self.view_is c.args.at f c.index_mut-frame.result.now got c.index_mut-frame.ensures.value in
-    set_at slots gone c.args.self.now c.self.view_is c.args.at (standing_at c.args.standing c.index_mut-frame.result.now) ∙ ap (λ (g : Frame). set c.args.self.now c.args.at (standing_at c.args.standing g)) read
+    let read = read_at slots gone c.args.self.now c.self.view_is c.args.at f c.index_mut-frame.result.now got
+    c.index_mut-frame.ensures.value in
+    set_at slots gone c.args.self.now c.self.view_is c.args.at (standing_at c.args.standing c.index_mut-frame.result.now) ∙ ap
+    (λ (g : Frame). set c.args.self.now c.args.at (standing_at c.args.standing g)) read

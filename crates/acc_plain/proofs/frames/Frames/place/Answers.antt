@@ -11,5 +11,7 @@ returns c =
     let same : fs ≡ c.args.self.now = c.as_slice.ensures in
     let up = subst IsRising (sym same) c.requires.rising in
     let held = subst (λ (zs : List Frame). Holds zs c.args.t) (sym same) c.requires.held in
-    let point = IsPartitionPoint-from_clause (λ f. nat_lt f.t c.args.t) fs c.partition_point.result c.partition_point.ensures.partitioned (below_first fs c.args.t up) (λ a r g called. search rules) in
-    subst (λ (zs : List Frame). IsAt zs c.args.t c.partition_point.result) same (first_not_below fs c.args.t c.partition_point.result up held point)
+    let point = IsPartitionPoint-from_clause (λ f. nat_lt f.t c.args.t) fs c.partition_point.result c.partition_point.ensures.partitioned
+    (below_first fs c.args.t up) (λ a r g called. search rules) in
+    subst (λ (zs : List Frame). IsAt zs c.args.t c.partition_point.result) same
+    (first_not_below fs c.args.t c.partition_point.result up held point)

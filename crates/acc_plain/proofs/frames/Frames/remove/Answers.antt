@@ -12,7 +12,8 @@ returns-then-at-gt0 c =
 
 pub returns-then-self-len : goal.returns-then-self-len
 returns-then-self-len c =
-    c.compact.ensures ∙ first_removed c.self.inside.slots.items c.self.inside.gone c.args.self.now c.self.view_is c.args.at (omega (arith, c.if-at-gt0.false))
+    c.compact.ensures ∙ first_removed c.self.inside.slots.items c.self.inside.gone c.args.self.now c.self.view_is c.args.at
+    (omega (arith, c.if-at-gt0.false))
 
 pub returns-else-self-len : goal.returns-else-self-len
 returns-else-self-len c =

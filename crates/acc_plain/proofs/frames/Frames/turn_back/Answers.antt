@@ -9,4 +9,5 @@ returns c f got =
     let slots = c.self.inside.slots.items in
     let gone = c.self.inside.gone in
     let read = read_at slots gone c.args.self.now c.self.view_is c.args.at f c.index_mut.result.now got c.index_mut.ensures.value in
-    set_at slots gone c.args.self.now c.self.view_is c.args.at (turned_back c.index_mut.result.now) ∙ ap (λ (g : Frame). set c.args.self.now c.args.at (turned_back g)) read
+    set_at slots gone c.args.self.now c.self.view_is c.args.at (turned_back c.index_mut.result.now) ∙ ap
+    (λ (g : Frame). set c.args.self.now c.args.at (turned_back g)) read

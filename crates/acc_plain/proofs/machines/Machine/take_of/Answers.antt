@@ -9,7 +9,12 @@ use Rattle.acc_plain.proofs.machines.Machine.take_of.Goals as goal
 
 pub change_by-requires-clause-of : goal.change_by-requires-clause-of
 change_by-requires-clause-of g c =
-    let w : World = record { rows = g.S.Store.rows c.self.inside.store; transactions = c.self.inside.transactions; events = c.self.inside.events } in
+    let w : World = record {
+      rows = g.S.Store.rows c.self.inside.store;
+      transactions = c.self.inside.transactions;
+      events =
+          c.self.inside.events;
+    } in
     let d = c.self.inside.design.now in
     let x = transaction_of c.in-Some.x in
     let at : transaction_at c.args.t w.transactions ≡ Some x = sym c.in-Some.ensures in
@@ -18,7 +23,12 @@ change_by-requires-clause-of g c =
 
 pub change_by-requires-clause-fits : goal.change_by-requires-clause-fits
 change_by-requires-clause-fits g c =
-    let w : World = record { rows = g.S.Store.rows c.self.inside.store; transactions = c.self.inside.transactions; events = c.self.inside.events } in
+    let w : World = record {
+      rows = g.S.Store.rows c.self.inside.store;
+      transactions = c.self.inside.transactions;
+      events =
+          c.self.inside.events;
+    } in
     let d = c.self.inside.design.now in
     let x = transaction_of c.in-Some.x in
     let at : transaction_at c.args.t w.transactions ≡ Some x = sym c.in-Some.ensures in
@@ -27,7 +37,12 @@ change_by-requires-clause-fits g c =
 
 pub change_by-requires-clause-order : goal.change_by-requires-clause-order
 change_by-requires-clause-order g c =
-    let w : World = record { rows = g.S.Store.rows c.self.inside.store; transactions = c.self.inside.transactions; events = c.self.inside.events } in
+    let w : World = record {
+      rows = g.S.Store.rows c.self.inside.store;
+      transactions = c.self.inside.transactions;
+      events =
+          c.self.inside.events;
+    } in
     let d = c.self.inside.design.now in
     let x = transaction_of c.in-Some.x in
     let at : transaction_at c.args.t w.transactions ≡ Some x = sym c.in-Some.ensures in
@@ -36,7 +51,12 @@ change_by-requires-clause-order g c =
 
 pub change_by-requires-clause-within : goal.change_by-requires-clause-within
 change_by-requires-clause-within g c =
-    let w : World = record { rows = g.S.Store.rows c.self.inside.store; transactions = c.self.inside.transactions; events = c.self.inside.events } in
+    let w : World = record {
+      rows = g.S.Store.rows c.self.inside.store;
+      transactions = c.self.inside.transactions;
+      events =
+          c.self.inside.events;
+    } in
     let d = c.self.inside.design.now in
     let x = transaction_of c.in-Some.x in
     let at : transaction_at c.args.t w.transactions ≡ Some x = sym c.in-Some.ensures in
@@ -45,21 +65,34 @@ change_by-requires-clause-within g c =
 
 pub log_writes-requires-clause-sums : goal.log_writes-requires-clause-sums
 log_writes-requires-clause-sums g c =
-    let w : World = record { rows = g.S.Store.rows c.self.inside.store; transactions = c.self.inside.transactions; events = c.self.inside.events } in
+    let w : World = record {
+      rows = g.S.Store.rows c.self.inside.store;
+      transactions = c.self.inside.transactions;
+      events =
+          c.self.inside.events;
+    } in
     let d = c.self.inside.design.now in
     let x = transaction_of c.in-Some.x in
     let at : transaction_at c.args.t w.transactions ≡ Some x = sym c.in-Some.ensures in
     let made = c.in-Some-2.change in
     let change : IsChangeBy d w.rows x c.args.event.now made = rw c.in-Some-2.is at c.in_ok-change.ensures in
-    rw c.as_slice.ensures (sums_given d w c.args.t x c.args.event.now made c.requires.of at change c.self.invariant (rw (← c.self.view_is) at c.requires.room))
+    rw c.as_slice.ensures (sums_given d w c.args.t x c.args.event.now made c.requires.of at change c.self.invariant
+    (rw (← c.self.view_is) at c.requires.room))
 
 pub invariant_of-self-2 : goal.invariant_of-self-2
 invariant_of-self-2 g c =
-    let w : World = record { rows = g.S.Store.rows c.self.inside.store; transactions = c.self.inside.transactions; events = c.self.inside.events } in
+    let w : World = record {
+      rows = g.S.Store.rows c.self.inside.store;
+      transactions = c.self.inside.transactions;
+      events =
+          c.self.inside.events;
+    } in
     let d = c.self.inside.design.now in
     let x = transaction_of c.in-Some.x in
     let at : transaction_at c.args.t w.transactions ≡ Some x = sym c.in-Some.ensures in
     let made = c.in-Some-2.change in
     let change : IsChangeBy d w.rows x c.args.event.now made = rw c.in-Some-2.is at c.in_ok-change.ensures in
-    let rows_left : g.S.Store.rows c.log_writes.new.store ≡ written made.writes w.rows = c.in_ok-log_writes.ensures.rows ∙ ap (λ (ws : List Write). written ws w.rows) c.as_slice.ensures in
-    given_reached d w c.args.t x c.args.event.now made c.requires.of at change (g.S.Store.rows c.log_writes.new.store) c.change.new.self c.log_writes.new.events rows_left (c.change.ensures x at) c.in_ok-log_writes.ensures.events c.self.invariant
+    let rows_left : g.S.Store.rows c.log_writes.new.store ≡ written made.writes w.rows =
+    c.in_ok-log_writes.ensures.rows ∙ ap (λ (ws : List Write). written ws w.rows) c.as_slice.ensures in
+    given_reached d w c.args.t x c.args.event.now made c.requires.of at change (g.S.Store.rows c.log_writes.new.store) c.change.new.self
+    c.log_writes.new.events rows_left (c.change.ensures x at) c.in_ok-log_writes.ensures.events c.self.invariant

@@ -22,5 +22,6 @@ returns c =
     let kept = c.self.invariant in
     let o = opened ps fs c.args.t kept (rw (← c.self.view_is) at c.requires) in
     let f = c.index-as_slice-place.result in
-    let read : f ≡ get_or fs c.place.result f = c.index-as_slice-place.is ∙ ap (λ (gs : List Frame). get_or gs c.place.result f) c.as_slice.ensures in
+    let read : f ≡ get_or fs c.place.result f = c.index-as_slice-place.is ∙ ap (λ (gs : List Frame). get_or gs c.place.result f)
+    c.as_slice.ensures in
     rw (← c.self.view_is) (frame_read ps fs c.args.t kept o c.place.result f c.place.ensures read)

@@ -5,7 +5,8 @@ use Rattle.acc_syntax.specs.StatementReaders.{starts_action, action_at}
 use Rattle.acc_syntax.proofs.parsers.Parser.actions.Given as goal
 
 abbrev pub invariant-loop-self : goal.invariant-loop-self
-invariant-loop-self l = with_front l.actions (many starts_action action_at l.self.words.now) ≡ many starts_action action_at l.fn.self.words.now
+invariant-loop-self l = with_front l.actions (many starts_action action_at l.self.words.now) ≡ many starts_action action_at
+    l.fn.self.words.now
 
 abbrev pub decreases-loop-self : goal.decreases-loop-self
 decreases-loop-self l = length l.self.words.now

@@ -12,14 +12,19 @@ use Rattle.acc_syntax.proofs.parsers.Parser.entries.Goals as goal
 pub returns-in_err-entry : goal.returns-in_err-entry
 returns-in_err-entry c =
     let p = err_from_is_err_and c.from_residual.result c.from_residual.ensures.1 in
-    rw (p.1, p.2) (ends_so (comes sign.Entry) entry_at refl c.in_err-entry.field-0.0 c.loop-self.entries c.loop-self.self.words.now c.entry.new.self.words.now (many (comes sign.Entry) entry_at c.args.self.now.words.now) (sym c.comes.ensures ∙ c.loop-self-test.true) c.in_err-entry.ensures c.loop-self.invariant)
+    rw (p.1, p.2) (ends_so (comes sign.Entry) entry_at refl c.in_err-entry.field-0.0 c.loop-self.entries c.loop-self.self.words.now
+    c.entry.new.self.words.now (many (comes sign.Entry) entry_at c.args.self.now.words.now)
+    (sym c.comes.ensures ∙ c.loop-self-test.true) c.in_err-entry.ensures c.loop-self.invariant)
 
 pub loop-self-smaller : goal.loop-self-smaller
 loop-self-smaller c = entry_shrinks c.loop-self.self.words.now c.in_ok-entry.entry c.entry.new.self.words.now c.in_ok-entry.ensures
 
 pub loop-self-preserved : goal.loop-self-preserved
 loop-self-preserved c =
-    rw c.in_ok-push.ensures.ok (goes_on (comes sign.Entry) entry_at entry_shrinks refl c.loop-self.entries c.loop-self.self.words.now c.in_ok-entry.entry c.entry.new.self.words.now (many (comes sign.Entry) entry_at c.args.self.now.words.now) (sym c.comes.ensures ∙ c.loop-self-test.true) c.in_ok-entry.ensures c.loop-self.invariant)
+    rw c.in_ok-push.ensures.ok (goes_on (comes sign.Entry) entry_at entry_shrinks refl c.loop-self.entries c.loop-self.self.words.now
+    c.in_ok-entry.entry c.entry.new.self.words.now (many (comes sign.Entry) entry_at c.args.self.now.words.now)
+    (sym c.comes.ensures ∙ c.loop-self-test.true) c.in_ok-entry.ensures c.loop-self.invariant)
 
 pub returns : goal.returns
-returns c = is_done (comes sign.Entry) entry_at c.loop-self.entries c.loop-self.self.words.now (many (comes sign.Entry) entry_at c.args.self.now.words.now) (sym c.comes.ensures ∙ c.loop-self-test.false) c.loop-self.invariant
+returns c = is_done (comes sign.Entry) entry_at c.loop-self.entries c.loop-self.self.words.now
+    (many (comes sign.Entry) entry_at c.args.self.now.words.now) (sym c.comes.ensures ∙ c.loop-self-test.false) c.loop-self.invariant

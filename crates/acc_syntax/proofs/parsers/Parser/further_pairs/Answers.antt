@@ -12,14 +12,22 @@ use Rattle.acc_syntax.proofs.parsers.Parser.further_pairs.Goals as goal
 pub returns-in_err-pair : goal.returns-in_err-pair
 returns-in_err-pair c =
     let p = err_from_is_err_and c.from_residual.result c.from_residual.ensures.1 in
-    rw (p.1, p.2) (ends_so (comes sign.Comma) (further_at pair_at) refl c.in_err-pair.field-0.0 c.loop-self.pairs c.loop-self.self.words.now c.further_pair.new.self.words.now (many (comes sign.Comma) (further_at pair_at) c.args.self.now.words.now) (sym c.comes.ensures ∙ c.loop-self-test.true) c.in_err-pair.ensures c.loop-self.invariant)
+    rw (p.1, p.2) (ends_so (comes sign.Comma) (further_at pair_at) refl c.in_err-pair.field-0.0 c.loop-self.pairs c.loop-self.self.words.now
+    c.further_pair.new.self.words.now (many (comes sign.Comma) (further_at pair_at) c.args.self.now.words.now)
+    (sym c.comes.ensures ∙ c.loop-self-test.true) c.in_err-pair.ensures c.loop-self.invariant)
 
 pub loop-self-smaller : goal.loop-self-smaller
-loop-self-smaller c = further_pair_shrinks c.loop-self.self.words.now c.in_ok-pair.pair c.further_pair.new.self.words.now c.in_ok-pair.ensures
+loop-self-smaller c = further_pair_shrinks c.loop-self.self.words.now c.in_ok-pair.pair c.further_pair.new.self.words.now
+    c.in_ok-pair.ensures
 
 pub loop-self-preserved : goal.loop-self-preserved
 loop-self-preserved c =
-    rw c.in_ok-push.ensures.ok (goes_on (comes sign.Comma) (further_at pair_at) further_pair_shrinks refl c.loop-self.pairs c.loop-self.self.words.now c.in_ok-pair.pair c.further_pair.new.self.words.now (many (comes sign.Comma) (further_at pair_at) c.args.self.now.words.now) (sym c.comes.ensures ∙ c.loop-self-test.true) c.in_ok-pair.ensures c.loop-self.invariant)
+    rw c.in_ok-push.ensures.ok (goes_on (comes sign.Comma) (further_at pair_at) further_pair_shrinks refl c.loop-self.pairs
+    c.loop-self.self.words.now c.in_ok-pair.pair c.further_pair.new.self.words.now
+    (many (comes sign.Comma) (further_at pair_at) c.args.self.now.words.now) (sym c.comes.ensures ∙ c.loop-self-test.true)
+    c.in_ok-pair.ensures c.loop-self.invariant)
 
 pub returns : goal.returns
-returns c = is_done (comes sign.Comma) (further_at pair_at) c.loop-self.pairs c.loop-self.self.words.now (many (comes sign.Comma) (further_at pair_at) c.args.self.now.words.now) (sym c.comes.ensures ∙ c.loop-self-test.false) c.loop-self.invariant
+returns c = is_done (comes sign.Comma) (further_at pair_at) c.loop-self.pairs c.loop-self.self.words.now
+    (many (comes sign.Comma) (further_at pair_at) c.args.self.now.words.now) (sym c.comes.ensures ∙ c.loop-self-test.false)
+    c.loop-self.invariant

@@ -7,7 +7,8 @@ use Rattle.acc_syntax.specs.EntryReaders.{pair_at}
 use Rattle.acc_syntax.proofs.parsers.Parser.further_pairs.Given as goal
 
 abbrev pub invariant-loop-self : goal.invariant-loop-self
-invariant-loop-self l = with_front l.pairs (many (comes sign.Comma) (further_at pair_at) l.self.words.now) ≡ many (comes sign.Comma) (further_at pair_at) l.fn.self.words.now
+invariant-loop-self l = with_front l.pairs (many (comes sign.Comma) (further_at pair_at) l.self.words.now) ≡ many (comes sign.Comma)
+    (further_at pair_at) l.fn.self.words.now
 
 abbrev pub decreases-loop-self : goal.decreases-loop-self
 decreases-loop-self l = length l.self.words.now

@@ -12,14 +12,21 @@ use Rattle.acc_syntax.proofs.parsers.Parser.further_sums.Goals as goal
 pub returns-in_err-sum : goal.returns-in_err-sum
 returns-in_err-sum c =
     let p = err_from_is_err_and c.from_residual.result c.from_residual.ensures.1 in
-    rw (p.1, p.2) (ends_so (comes sign.Comma) (further_at sum_at) refl c.in_err-sum.field-0.0 c.loop-self.sums c.loop-self.self.words.now c.further_sum.new.self.words.now (many (comes sign.Comma) (further_at sum_at) c.args.self.now.words.now) (sym c.comes.ensures ∙ c.loop-self-test.true) c.in_err-sum.ensures c.loop-self.invariant)
+    rw (p.1, p.2) (ends_so (comes sign.Comma) (further_at sum_at) refl c.in_err-sum.field-0.0 c.loop-self.sums c.loop-self.self.words.now
+    c.further_sum.new.self.words.now (many (comes sign.Comma) (further_at sum_at) c.args.self.now.words.now)
+    (sym c.comes.ensures ∙ c.loop-self-test.true) c.in_err-sum.ensures c.loop-self.invariant)
 
 pub loop-self-smaller : goal.loop-self-smaller
 loop-self-smaller c = further_sum_shrinks c.loop-self.self.words.now c.in_ok-sum.sum c.further_sum.new.self.words.now c.in_ok-sum.ensures
 
 pub loop-self-preserved : goal.loop-self-preserved
 loop-self-preserved c =
-    rw c.in_ok-push.ensures.ok (goes_on (comes sign.Comma) (further_at sum_at) further_sum_shrinks refl c.loop-self.sums c.loop-self.self.words.now c.in_ok-sum.sum c.further_sum.new.self.words.now (many (comes sign.Comma) (further_at sum_at) c.args.self.now.words.now) (sym c.comes.ensures ∙ c.loop-self-test.true) c.in_ok-sum.ensures c.loop-self.invariant)
+    rw c.in_ok-push.ensures.ok (goes_on (comes sign.Comma) (further_at sum_at) further_sum_shrinks refl c.loop-self.sums
+    c.loop-self.self.words.now c.in_ok-sum.sum c.further_sum.new.self.words.now
+    (many (comes sign.Comma) (further_at sum_at) c.args.self.now.words.now) (sym c.comes.ensures ∙ c.loop-self-test.true)
+    c.in_ok-sum.ensures c.loop-self.invariant)
 
 pub returns : goal.returns
-returns c = is_done (comes sign.Comma) (further_at sum_at) c.loop-self.sums c.loop-self.self.words.now (many (comes sign.Comma) (further_at sum_at) c.args.self.now.words.now) (sym c.comes.ensures ∙ c.loop-self-test.false) c.loop-self.invariant
+returns c = is_done (comes sign.Comma) (further_at sum_at) c.loop-self.sums c.loop-self.self.words.now
+    (many (comes sign.Comma) (further_at sum_at) c.args.self.now.words.now) (sym c.comes.ensures ∙ c.loop-self-test.false)
+    c.loop-self.invariant

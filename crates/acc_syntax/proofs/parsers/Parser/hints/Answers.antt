@@ -12,14 +12,19 @@ use Rattle.acc_syntax.proofs.parsers.Parser.hints.Goals as goal
 pub returns-in_err-hint : goal.returns-in_err-hint
 returns-in_err-hint c =
     let p = err_from_is_err_and c.from_residual.result c.from_residual.ensures.1 in
-    rw (p.1, p.2) (ends_so (comes sign.Hint) hint_at refl c.in_err-hint.field-0.0 c.loop-self.hints c.loop-self.self.words.now c.hint.new.self.words.now (many (comes sign.Hint) hint_at c.args.self.now.words.now) (sym c.comes.ensures ∙ c.loop-self-test.true) c.in_err-hint.ensures c.loop-self.invariant)
+    rw (p.1, p.2) (ends_so (comes sign.Hint) hint_at refl c.in_err-hint.field-0.0 c.loop-self.hints c.loop-self.self.words.now
+    c.hint.new.self.words.now (many (comes sign.Hint) hint_at c.args.self.now.words.now) (sym c.comes.ensures ∙ c.loop-self-test.true)
+    c.in_err-hint.ensures c.loop-self.invariant)
 
 pub loop-self-smaller : goal.loop-self-smaller
 loop-self-smaller c = hint_shrinks c.loop-self.self.words.now c.in_ok-hint.hint c.hint.new.self.words.now c.in_ok-hint.ensures
 
 pub loop-self-preserved : goal.loop-self-preserved
 loop-self-preserved c =
-    rw c.in_ok-push.ensures.ok (goes_on (comes sign.Hint) hint_at hint_shrinks refl c.loop-self.hints c.loop-self.self.words.now c.in_ok-hint.hint c.hint.new.self.words.now (many (comes sign.Hint) hint_at c.args.self.now.words.now) (sym c.comes.ensures ∙ c.loop-self-test.true) c.in_ok-hint.ensures c.loop-self.invariant)
+    rw c.in_ok-push.ensures.ok (goes_on (comes sign.Hint) hint_at hint_shrinks refl c.loop-self.hints c.loop-self.self.words.now
+    c.in_ok-hint.hint c.hint.new.self.words.now (many (comes sign.Hint) hint_at c.args.self.now.words.now)
+    (sym c.comes.ensures ∙ c.loop-self-test.true) c.in_ok-hint.ensures c.loop-self.invariant)
 
 pub returns : goal.returns
-returns c = is_done (comes sign.Hint) hint_at c.loop-self.hints c.loop-self.self.words.now (many (comes sign.Hint) hint_at c.args.self.now.words.now) (sym c.comes.ensures ∙ c.loop-self-test.false) c.loop-self.invariant
+returns c = is_done (comes sign.Hint) hint_at c.loop-self.hints c.loop-self.self.words.now
+    (many (comes sign.Hint) hint_at c.args.self.now.words.now) (sym c.comes.ensures ∙ c.loop-self-test.false) c.loop-self.invariant

@@ -12,14 +12,19 @@ use Rattle.acc_syntax.proofs.parsers.Parser.paths.Goals as goal
 pub returns-in_err-path : goal.returns-in_err-path
 returns-in_err-path c =
     let p = err_from_is_err_and c.from_residual.result c.from_residual.ensures.1 in
-    rw (p.1, p.2) (ends_so (comes sign.Path) path_at refl c.in_err-path.field-0.0 c.loop-self.paths c.loop-self.self.words.now c.path.new.self.words.now (many (comes sign.Path) path_at c.args.self.now.words.now) (sym c.comes.ensures ∙ c.loop-self-test.true) c.in_err-path.ensures c.loop-self.invariant)
+    rw (p.1, p.2) (ends_so (comes sign.Path) path_at refl c.in_err-path.field-0.0 c.loop-self.paths c.loop-self.self.words.now
+    c.path.new.self.words.now (many (comes sign.Path) path_at c.args.self.now.words.now) (sym c.comes.ensures ∙ c.loop-self-test.true)
+    c.in_err-path.ensures c.loop-self.invariant)
 
 pub loop-self-smaller : goal.loop-self-smaller
 loop-self-smaller c = path_shrinks c.loop-self.self.words.now c.in_ok-path.path c.path.new.self.words.now c.in_ok-path.ensures
 
 pub loop-self-preserved : goal.loop-self-preserved
 loop-self-preserved c =
-    rw c.in_ok-push.ensures.ok (goes_on (comes sign.Path) path_at path_shrinks refl c.loop-self.paths c.loop-self.self.words.now c.in_ok-path.path c.path.new.self.words.now (many (comes sign.Path) path_at c.args.self.now.words.now) (sym c.comes.ensures ∙ c.loop-self-test.true) c.in_ok-path.ensures c.loop-self.invariant)
+    rw c.in_ok-push.ensures.ok (goes_on (comes sign.Path) path_at path_shrinks refl c.loop-self.paths c.loop-self.self.words.now
+    c.in_ok-path.path c.path.new.self.words.now (many (comes sign.Path) path_at c.args.self.now.words.now)
+    (sym c.comes.ensures ∙ c.loop-self-test.true) c.in_ok-path.ensures c.loop-self.invariant)
 
 pub returns : goal.returns
-returns c = is_done (comes sign.Path) path_at c.loop-self.paths c.loop-self.self.words.now (many (comes sign.Path) path_at c.args.self.now.words.now) (sym c.comes.ensures ∙ c.loop-self-test.false) c.loop-self.invariant
+returns c = is_done (comes sign.Path) path_at c.loop-self.paths c.loop-self.self.words.now
+    (many (comes sign.Path) path_at c.args.self.now.words.now) (sym c.comes.ensures ∙ c.loop-self-test.false) c.loop-self.invariant

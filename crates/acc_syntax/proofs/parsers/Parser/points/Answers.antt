@@ -12,14 +12,19 @@ use Rattle.acc_syntax.proofs.parsers.Parser.points.Goals as goal
 pub returns-in_err-point : goal.returns-in_err-point
 returns-in_err-point c =
     let p = err_from_is_err_and c.from_residual.result c.from_residual.ensures.1 in
-    rw (p.1, p.2) (ends_so (comes sign.Point) point_at refl c.in_err-point.field-0.0 c.loop-self.points c.loop-self.self.words.now c.point.new.self.words.now (many (comes sign.Point) point_at c.args.self.now.words.now) (sym c.comes.ensures ∙ c.loop-self-test.true) c.in_err-point.ensures c.loop-self.invariant)
+    rw (p.1, p.2) (ends_so (comes sign.Point) point_at refl c.in_err-point.field-0.0 c.loop-self.points c.loop-self.self.words.now
+    c.point.new.self.words.now (many (comes sign.Point) point_at c.args.self.now.words.now)
+    (sym c.comes.ensures ∙ c.loop-self-test.true) c.in_err-point.ensures c.loop-self.invariant)
 
 pub loop-self-smaller : goal.loop-self-smaller
 loop-self-smaller c = point_shrinks c.loop-self.self.words.now c.in_ok-point.point c.point.new.self.words.now c.in_ok-point.ensures
 
 pub loop-self-preserved : goal.loop-self-preserved
 loop-self-preserved c =
-    rw c.in_ok-push.ensures.ok (goes_on (comes sign.Point) point_at point_shrinks refl c.loop-self.points c.loop-self.self.words.now c.in_ok-point.point c.point.new.self.words.now (many (comes sign.Point) point_at c.args.self.now.words.now) (sym c.comes.ensures ∙ c.loop-self-test.true) c.in_ok-point.ensures c.loop-self.invariant)
+    rw c.in_ok-push.ensures.ok (goes_on (comes sign.Point) point_at point_shrinks refl c.loop-self.points c.loop-self.self.words.now
+    c.in_ok-point.point c.point.new.self.words.now (many (comes sign.Point) point_at c.args.self.now.words.now)
+    (sym c.comes.ensures ∙ c.loop-self-test.true) c.in_ok-point.ensures c.loop-self.invariant)
 
 pub returns : goal.returns
-returns c = is_done (comes sign.Point) point_at c.loop-self.points c.loop-self.self.words.now (many (comes sign.Point) point_at c.args.self.now.words.now) (sym c.comes.ensures ∙ c.loop-self-test.false) c.loop-self.invariant
+returns c = is_done (comes sign.Point) point_at c.loop-self.points c.loop-self.self.words.now
+    (many (comes sign.Point) point_at c.args.self.now.words.now) (sym c.comes.ensures ∙ c.loop-self-test.false) c.loop-self.invariant

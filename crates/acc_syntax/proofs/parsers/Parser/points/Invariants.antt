@@ -7,7 +7,8 @@ use Rattle.acc_syntax.specs.DesignReaders.{point_at}
 use Rattle.acc_syntax.proofs.parsers.Parser.points.Given as goal
 
 abbrev pub invariant-loop-self : goal.invariant-loop-self
-invariant-loop-self l = with_front l.points (many (comes sign.Point) point_at l.self.words.now) ≡ many (comes sign.Point) point_at l.fn.self.words.now
+invariant-loop-self l = with_front l.points (many (comes sign.Point) point_at l.self.words.now) ≡ many (comes sign.Point) point_at
+    l.fn.self.words.now
 
 abbrev pub decreases-loop-self : goal.decreases-loop-self
 decreases-loop-self l = length l.self.words.now
