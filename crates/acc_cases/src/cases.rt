@@ -1,6 +1,6 @@
 //! The cases by their verbs.
 use crate::texts::{Change, first_word};
-use crate::{designs, memory, texts};
+use crate::{designs, journals, memory, texts};
 use acc_cli::acc;
 use acc_io::{FolderShelf, MemShelf, MemSink, StdSink};
 use std::alloc::{AllocError, Global};
@@ -12,8 +12,9 @@ fn run<R: Files + Print + AllocGlobal>(rt: &R, line: &str) -> io::Result<()> {
     let words = memory::words(rt.alloc(), line)?;
     let mut shelf = FolderShelf::new(rt);
     let mut out = StdSink::new(rt);
-    let played = acc(rt.alloc(), &words, &mut shelf, &mut out);
-    println!(rt; "status {}", played.status)
+    let disk = memory::disk(rt.alloc(), &[], &[], None)?;
+    let done = acc(rt.alloc(), &words, &mut shelf, &mut out, disk);
+    println!(rt; "status {}", done.status)
 }
 
 /// Answers a command line over a shelf in memory, printed at once, and tells the status and how many events there were.
@@ -125,7 +126,7 @@ fn check<R: Print + AllocGlobal>(rt: &R, text: &str) -> io::Result<()> {
 }
 
 /// The numbers with commas between them; a `-` is none.
-fn numbers(alloc: Global, text: &str) -> Result<Vec<u64>, AllocError> {
+pub fn numbers(alloc: Global, text: &str) -> Result<Vec<u64>, AllocError> {
     let mut numbers = Vec::new(alloc);
     for word in text.split(',') {
         if let Ok(number) = word.parse() {
@@ -142,7 +143,7 @@ fn shelf(alloc: Global, reads: &str) -> Result<MemShelf, AllocError> {
 }
 
 /// A sink; the writes of the first list fail, and the others take no more than the second says.
-fn sink(alloc: Global, writes: &str, takes: &str) -> Result<MemSink, AllocError> {
+pub fn sink(alloc: Global, writes: &str, takes: &str) -> Result<MemSink, AllocError> {
     let writes = numbers(alloc, writes)?;
     let takes = numbers(alloc, takes)?;
     memory::sink(alloc, &writes, &takes)
@@ -161,7 +162,7 @@ fn hold_file<R: Files + AllocGlobal>(
 }
 
 /// Puts the folder's files that the words name on the shelf, but for one.
-fn hold_files<R: Files + AllocGlobal>(
+pub fn hold_files<R: Files + AllocGlobal>(
     rt: &R,
     shelf: &mut MemShelf,
     words: &str,
@@ -266,6 +267,8 @@ fn answer_plain<R: Files + Print + AllocGlobal>(rt: &R, line: &str) -> io::Resul
         "print" => print(rt, rest),
         "check" => check(rt, rest),
         "fails" => fails(rt, rest),
+        "disk" => journals::over_disk(rt, rest),
+        "twice" => journals::twice(rt, rest),
         _ => show(rt, verb, rest),
     }
 }

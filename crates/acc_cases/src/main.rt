@@ -3,6 +3,7 @@
 
 mod cases;
 mod designs;
+mod journals;
 mod memory;
 mod texts;
 

@@ -1,5 +1,6 @@
-//! Command lines over a shelf in memory.
-use acc_cli::acc;
+//! Command lines over a shelf and a disk in memory.
+use acc_cli::{Done, acc};
+use acc_disk::MemDisk;
 use acc_io::{MemShelf, MemSink, Sink};
 use std::alloc::{AllocError, Global};
 
@@ -49,16 +50,38 @@ pub fn hold_run(shelf: &mut MemShelf, script: &str, order: &str) -> Result<(), A
     hold(shelf, "order", order.as_bytes())
 }
 
-/// Answers a command line, and tells the status and how many events there were.
+/// Answers a command line over an empty disk, and tells the status and how many events there were.
 pub fn answer<K: Sink>(
     alloc: Global,
     line: &str,
     shelf: &mut MemShelf,
     out: &mut K,
 ) -> Result<(u8, usize), AllocError> {
+    let disk = disk(alloc, &[], &[], None)?;
+    let done = answer_over(alloc, line, shelf, out, disk)?;
+    Ok((done.status, done.history.len()))
+}
+
+/// A disk that holds these bytes; the calls of the list fail, and all from that number on.
+pub fn disk(
+    alloc: Global,
+    bytes: &[u8],
+    fails: &[u64],
+    from: Option<u64>,
+) -> Result<MemDisk, AllocError> {
+    MemDisk::new(alloc, bytes, fails, from).map_err(|_| AllocError)
+}
+
+/// Answers a command line over a disk.
+pub fn answer_over<K: Sink>(
+    alloc: Global,
+    line: &str,
+    shelf: &mut MemShelf,
+    out: &mut K,
+    disk: MemDisk,
+) -> Result<Done<MemDisk>, AllocError> {
     let words = words(alloc, line)?;
-    let played = acc(alloc, &words, shelf, out);
-    Ok((played.status, played.history.len()))
+    Ok(acc(alloc, &words, shelf, out, disk))
 }
 
 /// A sink; the writes of the first list fail, and the others take no more than the second says.

@@ -1,121 +1,142 @@
 -- The causes of the statuses, from the one clause on the answer.
 use Rattle.std.proofs.Common.{◌≡◌, ℕ, List, Option, None, Some, refl, sym, ◌∙◌, inl, inr}
 use Rattle.acc_base.specs.declared.machines.Event.{Event}
+use Rattle.acc_io.specs.Causes.{Rose}
 use Rattle.acc_io.specs.Shelves.{Told}
 use Rattle.acc_io.specs.declared.counts.Counts.{Counts}
-use Rattle.acc_cli.specs.declared.words.Command.{Command}
-use Rattle.acc_cli.specs.declared.status.Ending.{Ending}
-use Rattle.acc_cli.specs.declared.status.Ending.TheVariants.{Done, Unbegun}
+use Rattle.acc_commands.specs.declared.words.Command.{Command}
+use Rattle.acc_commands.specs.declared.endings.Ending.{Ending}
+use Rattle.acc_commands.specs.declared.endings.Ending.TheVariants.{Done, JournalRefused, DiskFailed, Unbegun}
 use Rattle.acc_cli.specs.declared.status.Status.{Status}
 use Rattle.acc_cli.specs.declared.status.Status.TheVariants.{Usage, File, Sink, Memory, Ran}
-use Rattle.acc_cli.specs.Text.{Reply}
-use Rattle.acc_cli.specs.Words.{command_of, files_of}
+use Rattle.acc_cli.specs.Replies.{Reply}
+use Rattle.acc_commands.specs.Disks.{Seen}
+use Rattle.acc_commands.specs.Words.{command_of, files_of}
 use Rattle.acc_cli.specs.Meant.{Runs, MeansForm, Meant}
 use Rattle.acc_cli.specs.Answered.{Answered}
-use Rattle.acc_cli.specs.Causes.{EndsSo, LeavesUnbegun, HasCauses}
-use Rattle.acc_cli.proofs.UnbegunLemmas.{leaves_unbegun}
+use Rattle.acc_cli.specs.Causes.{EndsSo, LeavesUnbegun, RefusesJournal, HasCauses}
+use Rattle.acc_commands.proofs.WhichCommands.{leaves_unbegun, refuses_journal, fails_by_disk}
 
--- the files were given, and the command ended so
-ends_so : (held : List ℕ → Told) (counts counts' : Counts) (words : List (List ℕ)) (command : Command) (reply : Reply) (ending : Ending)
-    → command_of words ≡ Some command → (runs : Runs held counts counts' command (files_of command words) reply) → runs.1 ≡ ending →
-    EndsSo held counts counts' words ending
-ends_so held counts counts' words command reply ending is runs same = record {
-  command = command;
-  form = is;
-  files = runs.0;
-  given = runs.2;
-  counted = runs.3;
-  said = record { ending = runs.1; text = reply.text; history = reply.history };
-  ending_is = same;
-  meant = runs.5;
-}
-
--- the schedule left a place unbegun
-left_unbegun : (held : List ℕ → Told) (counts counts' : Counts) (words : List (List ℕ)) → EndsSo held counts counts' words Unbegun
-    → LeavesUnbegun held counts counts' words
-left_unbegun held counts counts' words ends =
-    let left = leaves_unbegun ends.command ends.files ends.said ends.ending_is ends.meant in
-    record { ends = ends; is_sched = left.0; d = left.1; calls = left.2; order = left.3; tells = left.4 }
-
-same_ending : (a b : Ending) (status : Status) → status ≡ Ran a → status ≡ Ran b → a ≡ b
-same_ending a b status h k = let e : Ran a ≡ Ran b = sym h ∙ k in cc
-
--- the causes where the status is the one that is meant
-meant_causes : (held : List ℕ → Told) (counts counts' : Counts) (sink_fault : Type 0) (words : List (List ℕ)) (form : Option Command)
-    (reply : Reply)
-    → command_of words ≡ form → MeansForm held counts counts' words form reply → HasCauses held counts counts' words sink_fault reply.status
-meant_causes held counts counts' sink_fault words None reply is meant = record {
-  usage = λ _. (is, meant.1);
-  usage_only = λ _. inl meant.0;
-  file = λ h. let e : Usage ≡ File = sym meant.0 ∙ h in cc;
-  sink = λ h. let e : Usage ≡ Sink = sym meant.0 ∙ h in absurd cc;
-  unbegun = λ h. let e : Usage ≡ Ran Unbegun = sym meant.0 ∙ h in absurd cc;
-  ran = λ ending h. let e : Usage ≡ Ran ending = sym meant.0 ∙ h in cc;
-}
-meant_causes held counts counts' sink_fault words (Some command) reply is (inl refuses) = record {
-  usage = λ h. let e : File ≡ Usage = sym refuses.0 ∙ h in absurd cc;
-  usage_only = λ h. let e : Some command ≡ None = sym is ∙ h in cc;
-  file = λ _. record {
+module _ (held : List ℕ → Told) (counts counts' : Counts) (disk disk' : Seen) (words : List (List ℕ)) where
+  -- the files were given, and the command ended so
+  ends_so : (command : Command) (reply : Reply) (ending : Ending) → command_of words ≡ Some command
+      → (runs : Runs held counts counts' disk disk' command (files_of command words) reply) → runs.3.0 ≡ ending
+      → EndsSo held counts counts' disk disk' words ending
+  ends_so command reply ending is runs same = record {
     command = command;
     form = is;
-    name = refuses.2.0;
-    error = refuses.2.1;
-    first = refuses.2.2;
-    text = reply.text;
-    printed = refuses.2.3;
-  };
-  sink = λ h. let e : File ≡ Sink = sym refuses.0 ∙ h in absurd cc;
-  unbegun = λ h. let e : File ≡ Ran Unbegun = sym refuses.0 ∙ h in absurd cc;
-  ran = λ ending h. let e : File ≡ Ran ending = sym refuses.0 ∙ h in cc;
-}
-meant_causes held counts counts' sink_fault words (Some command) reply is (inr runs) = record {
-  usage = λ h. let e : Ran runs.1 ≡ Usage = sym runs.4 ∙ h in absurd cc;
-  usage_only = λ h. let e : Some command ≡ None = sym is ∙ h in cc;
-  file = λ h. let e : Ran runs.1 ≡ File = sym runs.4 ∙ h in cc;
-  sink = λ h. let e : Ran runs.1 ≡ Sink = sym runs.4 ∙ h in absurd cc;
-  unbegun = λ h. left_unbegun held counts counts' words
-      (ends_so held counts counts' words command reply Unbegun is runs (same_ending runs.1 Unbegun reply.status runs.4 h));
-  ran = λ ending h. ends_so held counts counts' words command reply ending is runs (same_ending runs.1 ending reply.status runs.4 h);
-}
+    files = runs.0;
+    given = runs.1;
+    counted = runs.2;
+    said = record { ending = runs.3.0; text = reply.text; history = reply.history; settled = reply.settled };
+    ending_is = same;
+    meant = runs.3.2;
+  }
 
--- the sink's fault behind a command that was done
-done_before : (held : List ℕ → Told) (counts counts' : Counts) (words : List (List ℕ)) (form : Option Command) (reply : Reply)
-    → command_of words ≡ form → MeansForm held counts counts' words form reply → reply.status ≡ Ran Done →
-    EndsSo held counts counts' words Done
-done_before held counts counts' words None reply is meant done = (let e : Ran Done ≡ Usage = sym done ∙ meant.0 in absurd cc)
-done_before held counts counts' words (Some command) reply is (inl refuses) done =
-    (let e : Ran Done ≡ File = sym done ∙ refuses.0 in absurd cc)
-done_before held counts counts' words (Some command) reply is (inr runs) done =
-    ends_so held counts counts' words command reply Done is runs (same_ending runs.1 Done reply.status runs.4 done)
+  -- the schedule left a place unbegun
+  left_unbegun : EndsSo held counts counts' disk disk' words Unbegun → LeavesUnbegun held counts counts' disk disk' words
+  left_unbegun ends =
+      let left = leaves_unbegun ends.command ends.files disk disk' ends.said ends.ending_is ends.meant in
+      record { ends = ends; is_sched = left.0; d = left.1; calls = left.2; order = left.3; tells = left.4 }
 
-sink_causes : (held : List ℕ → Told) (counts counts' : Counts) (sink_fault : Type 0) (words : List (List ℕ)) (form : Option Command)
-    (reply : Reply)
-    → command_of words ≡ form → MeansForm held counts counts' words form reply → reply.status ≡ Ran Done → sink_fault →
-    HasCauses held counts counts' words sink_fault Sink
-sink_causes held counts counts' sink_fault words form reply is meant done rose =
-    let before : EndsSo held counts counts' words Done = done_before held counts counts' words form reply is meant done in
-    record {
-      usage = λ h. absurd cc;
-      usage_only = λ h. let e : Some before.command ≡ None = sym before.form ∙ h in absurd cc;
-      file = λ h. cc;
-      sink = λ _. (rose, before);
-      unbegun = λ h. absurd cc;
-      ran = λ ending h. cc;
-    }
+  -- the journal was there
+  refused_journal : EndsSo held counts counts' disk disk' words JournalRefused → RefusesJournal held counts counts' disk disk' words
+  refused_journal ends =
+      let found = refuses_journal ends.command ends.files disk disk' ends.said ends.ending_is ends.meant in
+      record { ends = ends; is_init = found.0; there = found.1.there; same = found.1.same }
 
-pub causes_of : (held : List ℕ → Told) (counts counts' : Counts) (sink_fault : Type 0) (words : List (List ℕ)) (old new : Option (List ℕ))
-    (status : Status) (history : List Event)
-    → Answered (Meant held counts counts' words) old new sink_fault status history → HasCauses held counts counts' words sink_fault status
-causes_of held counts counts' sink_fault words old new status history (inl none) = record {
-  usage = λ h. let e : Memory ≡ Usage = sym none.0 ∙ h in absurd cc;
-  usage_only = λ _. inr none.0;
-  file = λ h. let e : Memory ≡ File = sym none.0 ∙ h in cc;
-  sink = λ h. let e : Memory ≡ Sink = sym none.0 ∙ h in absurd cc;
-  unbegun = λ h. let e : Memory ≡ Ran Unbegun = sym none.0 ∙ h in absurd cc;
-  ran = λ ending h. let e : Memory ≡ Ran ending = sym none.0 ∙ h in cc;
-}
-causes_of held counts counts' sink_fault words old new status history (inr (meant, means, ends)) =
-    elim ends.given_is [
-      | inl same ↦ rw same (meant_causes held counts counts' sink_fault words (command_of words) meant refl means)
-      | inr sunk ↦ rw sunk.1 (sink_causes held counts counts' sink_fault words (command_of words) meant refl means sunk.0 sunk.2)
-    ]
+  failed_disk : EndsSo held counts counts' disk disk' words DiskFailed → Rose disk.faults disk'.faults
+  failed_disk ends = fails_by_disk ends.command ends.files disk disk' ends.said ends.ending_is ends.meant
+
+  same_ending : (a b : Ending) (status : Status) → status ≡ Ran a → status ≡ Ran b → a ≡ b
+  same_ending a b status h k = let e : Ran a ≡ Ran b = sym h ∙ k in cc
+
+  -- the causes where the status is the one that is meant
+  meant_causes : (sink_fault : Type 0) (form : Option Command) (reply : Reply)
+      → command_of words ≡ form → MeansForm held counts counts' disk disk' words form reply
+      → HasCauses held counts counts' disk disk' words sink_fault reply.status
+  meant_causes sink_fault None reply is meant = record {
+    usage = λ _. (is, meant.1);
+    usage_only = λ _. inl meant.0;
+    file = λ h. let e : Usage ≡ File = sym meant.0 ∙ h in cc;
+    sink = λ h. let e : Usage ≡ Sink = sym meant.0 ∙ h in absurd cc;
+    unbegun = λ h. let e : Usage ≡ Ran Unbegun = sym meant.0 ∙ h in absurd cc;
+    journal = λ h. let e : Usage ≡ Ran JournalRefused = sym meant.0 ∙ h in absurd cc;
+    disk_fault = λ h. let e : Usage ≡ Ran DiskFailed = sym meant.0 ∙ h in absurd cc;
+    ran = λ ending h. let e : Usage ≡ Ran ending = sym meant.0 ∙ h in cc;
+  }
+  meant_causes sink_fault (Some command) reply is (inl refuses) = record {
+    usage = λ h. let e : File ≡ Usage = sym refuses.0 ∙ h in absurd cc;
+    usage_only = λ h. let e : Some command ≡ None = sym is ∙ h in cc;
+    file = λ _. record {
+      command = command;
+      form = is;
+      name = refuses.2.0;
+      error = refuses.2.1;
+      first = refuses.2.2;
+      text = reply.text;
+      printed = refuses.2.3;
+    };
+    sink = λ h. let e : File ≡ Sink = sym refuses.0 ∙ h in absurd cc;
+    unbegun = λ h. let e : File ≡ Ran Unbegun = sym refuses.0 ∙ h in absurd cc;
+    journal = λ h. let e : File ≡ Ran JournalRefused = sym refuses.0 ∙ h in absurd cc;
+    disk_fault = λ h. let e : File ≡ Ran DiskFailed = sym refuses.0 ∙ h in absurd cc;
+    ran = λ ending h. let e : File ≡ Ran ending = sym refuses.0 ∙ h in cc;
+  }
+  meant_causes sink_fault (Some command) reply is (inr runs) = record {
+    usage = λ h. let e : Ran runs.3.0 ≡ Usage = sym runs.3.1 ∙ h in absurd cc;
+    usage_only = λ h. let e : Some command ≡ None = sym is ∙ h in cc;
+    file = λ h. let e : Ran runs.3.0 ≡ File = sym runs.3.1 ∙ h in cc;
+    sink = λ h. let e : Ran runs.3.0 ≡ Sink = sym runs.3.1 ∙ h in absurd cc;
+    unbegun = λ h. left_unbegun (by Unbegun h);
+    journal = λ h. refused_journal (by JournalRefused h);
+    disk_fault = λ h. failed_disk (by DiskFailed h);
+    ran = by;
+  }
+    where
+      by : (ending : Ending) → reply.status ≡ Ran ending → EndsSo held counts counts' disk disk' words ending
+      by ending h = ends_so command reply ending is runs (same_ending runs.3.0 ending reply.status runs.3.1 h)
+
+  -- the sink's fault behind a command that was done
+  done_before : (form : Option Command) (reply : Reply)
+      → command_of words ≡ form → MeansForm held counts counts' disk disk' words form reply → reply.status ≡ Ran Done
+      → EndsSo held counts counts' disk disk' words Done
+  done_before None reply is meant done = (let e : Ran Done ≡ Usage = sym done ∙ meant.0 in absurd cc)
+  done_before (Some command) reply is (inl refuses) done = (let e : Ran Done ≡ File = sym done ∙ refuses.0 in absurd cc)
+  done_before (Some command) reply is (inr runs) done =
+      ends_so command reply Done is runs (same_ending runs.3.0 Done reply.status runs.3.1 done)
+
+  sink_causes : (sink_fault : Type 0) (form : Option Command) (reply : Reply)
+      → command_of words ≡ form → MeansForm held counts counts' disk disk' words form reply → reply.status ≡ Ran Done → sink_fault
+      → HasCauses held counts counts' disk disk' words sink_fault Sink
+  sink_causes sink_fault form reply is meant done rose =
+      let before : EndsSo held counts counts' disk disk' words Done = done_before form reply is meant done in
+      record {
+        usage = λ h. absurd cc;
+        usage_only = λ h. let e : Some before.command ≡ None = sym before.form ∙ h in absurd cc;
+        file = λ h. cc;
+        sink = λ _. (rose, before);
+        unbegun = λ h. absurd cc;
+        journal = λ h. absurd cc;
+        disk_fault = λ h. absurd cc;
+        ran = λ ending h. cc;
+      }
+
+  pub causes_of : (sink_fault : Type 0) (old new : Option (List ℕ)) (status : Status) (history : List Event) (settled : ℕ)
+      → Answered (Meant held counts counts' disk disk' words) old new sink_fault status history settled
+      → HasCauses held counts counts' disk disk' words sink_fault status
+  causes_of sink_fault old new status history settled (inl none) = record {
+    usage = λ h. let e : Memory ≡ Usage = sym none.0 ∙ h in absurd cc;
+    usage_only = λ _. inr none.0;
+    file = λ h. let e : Memory ≡ File = sym none.0 ∙ h in cc;
+    sink = λ h. let e : Memory ≡ Sink = sym none.0 ∙ h in absurd cc;
+    unbegun = λ h. let e : Memory ≡ Ran Unbegun = sym none.0 ∙ h in absurd cc;
+    journal = λ h. let e : Memory ≡ Ran JournalRefused = sym none.0 ∙ h in absurd cc;
+    disk_fault = λ h. let e : Memory ≡ Ran DiskFailed = sym none.0 ∙ h in absurd cc;
+    ran = λ ending h. let e : Memory ≡ Ran ending = sym none.0 ∙ h in cc;
+  }
+  causes_of sink_fault old new status history settled (inr (meant, means, ends)) =
+      elim ends.given_is [
+        | inl same ↦ rw same (meant_causes sink_fault (command_of words) meant refl means)
+        | inr sunk ↦ rw sunk.1 (sink_causes sink_fault (command_of words) meant refl means sunk.0 sunk.2)
+      ]

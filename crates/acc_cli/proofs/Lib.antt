@@ -1,10 +1,6 @@
-pub mod FilesLemmas
-pub mod UnbegunLemmas
 pub mod CauseLemmas
 pub mod PromiseLemmas
-pub mod SaidLemmas
 pub mod StatusLemmas
-pub mod OneDesign
-pub mod OneRun
-pub mod OneMeaning
 pub mod OneAnswer
+pub mod DiskLemmas
+pub mod CreationLemmas

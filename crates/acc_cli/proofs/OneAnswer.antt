@@ -1,5 +1,5 @@
 -- A command line means one answer, on a shelf that tells what stands at each name, where no read fails.
-use Rattle.std.proofs.Common.{◌≡◌, ℕ, zero, suc, List, [], ◌∷◌, ◌++◌, length, Option, None, Some, refl, sym, ap, subst, ◌∙◌, inl, inr}
+use Rattle.std.proofs.Common.{◌≡◌, ℕ, zero, suc, true, List, [], ◌∷◌, ◌++◌, length, Option, None, Some, refl, sym, ap, subst, ◌∙◌, inl, inr}
 use Rattle.std.proofs.Common.{arith}
 use Rattle.std.specs.Prelude.{◌≢◌}
 use Rattle.acc_io.specs.Causes.{one_more, Rose}
@@ -8,13 +8,16 @@ use Rattle.acc_io.specs.Shelves.{Told, IsFile, IsRefused}
 use Rattle.acc_io.specs.declared.counts.Counts.{Counts}
 use Rattle.acc_io.specs.declared.shelf.ShelfError.{ShelfError}
 use Rattle.acc_io.specs.declared.shelf.ShelfError.TheVariants.{Failed, Absent, Long, Memory}
-use Rattle.acc_cli.specs.declared.words.Command.{Command}
+use Rattle.acc_commands.specs.declared.words.Command.{Command}
 use Rattle.acc_cli.specs.declared.status.Status.TheVariants.{Ran}
-use Rattle.acc_cli.specs.Text.{Said, Reply}
-use Rattle.acc_cli.specs.Words.{command_of, files_of}
-use Rattle.acc_cli.specs.Files.{AreFiles, SaysRefused}
-use Rattle.acc_cli.specs.Meant.{Means, RefusesFile, Runs, MeansForm, Meant}
-use Rattle.acc_cli.proofs.OneMeaning.{one_meaning}
+use Rattle.acc_commands.specs.Text.{Telling}
+use Rattle.acc_commands.specs.Disks.{Seen, TellsAll}
+use Rattle.acc_cli.specs.Replies.{Reply}
+use Rattle.acc_commands.specs.Words.{command_of, files_of}
+use Rattle.acc_commands.specs.Files.{AreFiles, SaysRefused}
+use Rattle.acc_commands.specs.Means.{is_journalled, Means}
+use Rattle.acc_cli.specs.Meant.{RefusesFile, Runs, MeansForm, Meant, is_over_journal}
+use Rattle.acc_commands.proofs.OneMeaning.{one_meaning}
 
 -- ---- what stands at a name is told in one way
 
@@ -126,43 +129,60 @@ one_text name label (Long n) f t u same is s h k =
 -- ---- answers
 
 module _ (held : List ℕ → Told) (tells : (name : List ℕ) → held name ≢ None) (counts one other : Counts)
-    (first : ¬ Rose counts.faults one.faults) (second : ¬ Rose counts.faults other.faults) where
-  both_refuse : (names : List (List ℕ)) (a b : Reply) → RefusesFile held counts one names a → RefusesFile held counts other names b → a ≡ b
-  both_refuse names a b (status, history, (name, e, h, said)) (status', history', (label, f, k, told)) =
+    (first : ¬ Rose counts.faults one.faults) (second : ¬ Rose counts.faults other.faults) (disk disk_one disk_other : Seen) where
+  both_refuse : (names : List (List ℕ)) (a b : Reply) → RefusesFile held counts one disk disk_one names a
+      → RefusesFile held counts other disk disk_other names b → a ≡ b
+  both_refuse names a b (status, none, (name, e, h, said)) (status', none', (label, f, k, told)) =
       let s = must_speak (length h.before) counts one e a.text name first h.counted said in
       let t = must_speak (length k.before) counts other f b.text label second k.counted told in
       let same = one_first held tells h.before k.before h.after k.after h.files k.files name label e f s t (sym h.place ∙ k.place) h.read
       k.read h.refused k.refused in
       let text = one_text name label e f a.text b.text same.0 same.1 s said told in
-      λ i. record { status = (status ∙ sym status') i; text = text i; history = (history ∙ sym history') i }
+      λ i. record {
+        status = (status ∙ sym status') i;
+        text = text i;
+        history = (none.0 ∙ sym none'.0) i;
+        settled = (none.1 ∙ sym none'.1) i;
+      }
 
-  given_and_refused : (names files : List (List ℕ)) (now : Counts) (b : Reply) → ¬ Rose counts.faults now.faults →
-      AreFiles held names files → RefusesFile held counts now names b → ⊥
-  given_and_refused names files now b none given (status, history, (label, f, k, told)) =
+  given_and_refused : (names files : List (List ℕ)) (now : Counts) (disk_now : Seen) (b : Reply) → ¬ Rose counts.faults now.faults →
+      AreFiles held names files → RefusesFile held counts now disk disk_now names b → ⊥
+  given_and_refused names files now disk_now b none given (status, history, (label, f, k, told)) =
       let t = must_speak (length k.before) counts now f b.text label none k.counted told in
       given_or_refused held tells k.before k.after files k.files label f t (subst (λ ns. AreFiles held ns files) k.place given) k.read
       k.refused
 
-  both_run : (command : Command) (names : List (List ℕ)) (a b : Reply) → Runs held counts one command names a →
-      Runs held counts other command names b → a ≡ b
-  both_run command names a b (files, ending, given, counted, status, means) (files', ending', given', counted', status', means') =
+  both_run : (command : Command) (names : List (List ℕ)) (a b : Reply) → (is_journalled command ≡ true → TellsAll disk disk_one disk_other)
+      → Runs held counts one disk disk_one command names a → Runs held counts other disk disk_other command names b → a ≡ b
+  both_run command names a b all (files, given, counted, (ending, status, means)) (files', given', counted', (ending', status', means')) =
       let same : files' ≡ files = one_files held tells names files' files given' given in
-      let said = one_meaning command files (record { ending = ending; text = a.text; history = a.history })
-      (record { ending = ending'; text = b.text; history = b.history })
-      means (subst (λ fs. Means command fs (record { ending = ending'; text = b.text; history = b.history })) same means') in
-      let ended : a.status ≡ b.status = status ∙ ap (λ (s : Said). Ran s.ending) said ∙ sym status' in
-      λ i. record { status = ended i; text = (said i).text; history = (said i).history }
+      let said = one_meaning command files disk disk_one disk_other
+      (record { ending = ending; text = a.text; history = a.history; settled = a.settled })
+      (record { ending = ending'; text = b.text; history = b.history; settled = b.settled }) all means
+      (subst (λ fs. Means command fs disk disk_other
+      (record { ending = ending'; text = b.text; history = b.history; settled = b.settled })) same means') in
+      let ended : a.status ≡ b.status = status ∙ ap (λ (s : Telling). Ran s.ending) said ∙ sym status' in
+      λ i. record { status = ended i; text = (said i).text; history = (said i).history; settled = (said i).settled }
 
-  pub of_form : (form : Option Command) (words : List (List ℕ)) (a b : Reply) → MeansForm held counts one words form a →
-      MeansForm held counts other words form b → a ≡ b
-  of_form None words a b h k = λ i. record { status = (h.0 ∙ sym k.0) i; text = (h.2 ∙ sym k.2) i; history = (h.3 ∙ sym k.3) i }
-  of_form (Some command) words a b (inl h) (inl k) = both_refuse (files_of command words) a b h k
-  of_form (Some command) words a b (inl h) (inr k) = absurd (given_and_refused (files_of command words) k.0 one a first k.2 h)
-  of_form (Some command) words a b (inr h) (inl k) = absurd (given_and_refused (files_of command words) h.0 other b second h.2 k)
-  of_form (Some command) words a b (inr h) (inr k) = both_run command (files_of command words) a b h k
+  pub of_form : (form : Option Command) (words : List (List ℕ)) (a b : Reply)
+      → (is_over_journal form ≡ true → TellsAll disk disk_one disk_other) → MeansForm held counts one disk disk_one words form a
+      → MeansForm held counts other disk disk_other words form b → a ≡ b
+  of_form None words a b all h k = λ i. record {
+    status = (h.0 ∙ sym k.0) i;
+    text = (h.2 ∙ sym k.2) i;
+    history = (h.3.0 ∙ sym k.3.0) i;
+    settled = (h.3.1 ∙ sym k.3.1) i;
+  }
+  of_form (Some command) words a b all (inl h) (inl k) = both_refuse (files_of command words) a b h k
+  of_form (Some command) words a b all (inl h) (inr k) =
+      absurd (given_and_refused (files_of command words) k.0 one disk_one a first k.1 h)
+  of_form (Some command) words a b all (inr h) (inl k) =
+      absurd (given_and_refused (files_of command words) h.0 other disk_other b second h.1 k)
+  of_form (Some command) words a b all (inr h) (inr k) = both_run command (files_of command words) a b all h k
 
-pub one_answer : (held : List ℕ → Told) (counts one other : Counts) (words : List (List ℕ)) (a b : Reply)
+pub one_answer : (held : List ℕ → Told) (counts one other : Counts) (disk disk_one disk_other : Seen) (words : List (List ℕ)) (a b : Reply)
     → ((name : List ℕ) → held name ≢ None) → ¬ Rose counts.faults one.faults → ¬ Rose counts.faults other.faults
-    → Meant held counts one words a → Meant held counts other words b → a ≡ b
-one_answer held counts one other words a b tells first second h k =
-    of_form held tells counts one other first second (command_of words) words a b h k
+    → (is_over_journal (command_of words) ≡ true → TellsAll disk disk_one disk_other)
+    → Meant held counts one disk disk_one words a → Meant held counts other disk disk_other words b → a ≡ b
+one_answer held counts one other disk disk_one disk_other words a b tells first second all h k =
+    of_form held tells counts one other first second disk disk_one disk_other (command_of words) words a b all h k

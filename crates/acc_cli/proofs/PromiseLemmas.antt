@@ -10,16 +10,19 @@ use Rattle.acc_io.specs.declared.counts.Counts.{Counts}
 use Rattle.acc_parse.specs.declared.errors.ParseError.{ParseError}
 use Rattle.acc_parse.specs.declared.errors.ParseError.TheVariants as errors
 use Rattle.acc_schedule.specs.Schedules.{EndsWell}
-use Rattle.acc_cli.specs.declared.words.Command.{Command}
-use Rattle.acc_cli.specs.declared.words.Command.TheVariants as command
+use Rattle.acc_commands.specs.declared.words.Command.{Command}
+use Rattle.acc_commands.specs.declared.words.Command.TheVariants as command
 use Rattle.acc_cli.specs.declared.status.Status.{Status}
-use Rattle.acc_cli.specs.Text.{Said, Reply}
-use Rattle.acc_cli.specs.Words.{command_of, files_of}
-use Rattle.acc_cli.specs.Files.{AreFiles}
-use Rattle.acc_cli.specs.Refusals.{SaysError, RefusesDesign}
-use Rattle.acc_cli.specs.Scripts.{SaysOfScript, SaysOfOrder}
-use Rattle.acc_cli.specs.ScheduleFiles.{SaysSchedule, SchedulesAccepted, SaysOfCertificate, SchedulesFiles}
-use Rattle.acc_cli.specs.Meant.{Means, MeansForm, Meant}
+use Rattle.acc_commands.specs.Text.{Said}
+use Rattle.acc_cli.specs.Replies.{Reply}
+use Rattle.acc_commands.specs.Words.{command_of, files_of}
+use Rattle.acc_commands.specs.Files.{AreFiles}
+use Rattle.acc_commands.specs.Refusals.{SaysError, RefusesDesign}
+use Rattle.acc_commands.specs.Scripts.{SaysOfScript, SaysOfOrder}
+use Rattle.acc_commands.specs.ScheduleFiles.{SaysSchedule, SchedulesAccepted, SaysOfCertificate, SchedulesFiles}
+use Rattle.acc_commands.specs.Disks.{Seen}
+use Rattle.acc_commands.specs.Means.{MeansOfFiles}
+use Rattle.acc_cli.specs.Meant.{MeansForm, Meant}
 use Rattle.acc_cli.specs.Answered.{Answered}
 use Rattle.acc_cli.specs.Promises.{KeepsPromise}
 
@@ -79,9 +82,9 @@ module _ (held : List ℕ → Told) (words : List (List ℕ)) where
       by (inr a) = of_accepted a (of_script h.d script order said a.says)
 
   of_means :
-      (files : List (List ℕ)) (said : Said) → AreFiles held (files_of command.Sched words) files → Means command.Sched files said
+      (files : List (List ℕ)) (said : Said) → AreFiles held (files_of command.Sched words) files → MeansOfFiles command.Sched files said
       → KeepsPromise held words said.history
-  unfolding Means
+  unfolding MeansOfFiles
   of_means [] said given h = absurd h
   of_means (design ∷ []) said given h = absurd h
   of_means (design ∷ certificate ∷ []) said given h = absurd h
@@ -90,17 +93,19 @@ module _ (held : List ℕ → Told) (words : List (List ℕ)) where
   of_means (design ∷ certificate ∷ script ∷ order ∷ more ∷ rest) said given h = absurd h
 
   of_form :
-      (counts counts' : Counts) (reply : Reply) → MeansForm held counts counts' words (Some command.Sched) reply
-      → KeepsPromise held words reply.history
-  of_form counts counts' reply (inl refused) = inl refused.1
-  of_form counts counts' reply (inr runs) =
-      of_means runs.0 (record { ending = runs.1; text = reply.text; history = reply.history }) runs.2 runs.5
+      (counts counts' : Counts) (disk disk' : Seen) (reply : Reply)
+      → MeansForm held counts counts' disk disk' words (Some command.Sched) reply → KeepsPromise held words reply.history
+  of_form counts counts' disk disk' reply (inl refused) = inl refused.1.0
+  of_form counts counts' disk disk' reply (inr (files, given, counted, (ending, status, means))) =
+      of_means files (record { ending = ending; text = reply.text; history = reply.history }) given means.2
 
   pub promise_kept :
-      (counts counts' : Counts) (old new : Option (List ℕ)) (fault : Type 0) (status : Status) (history : List Event)
-      → command_of words ≡ Some command.Sched → Answered (Meant held counts counts' words) old new fault status history
+      (counts counts' : Counts) (disk disk' : Seen) (old new : Option (List ℕ)) (fault : Type 0) (status : Status) (history : List Event)
+      (settled : ℕ) → command_of words ≡ Some command.Sched
+      → Answered (Meant held counts counts' disk disk' words) old new fault status history settled
       → KeepsPromise held words history
-  promise_kept counts counts' old new fault status history is (inl none) = inl none.2
-  promise_kept counts counts' old new fault status history is (inr (meant, means, ends)) =
+  promise_kept counts counts' disk disk' old new fault status history settled is (inl none) = inl none.2
+  promise_kept counts counts' disk disk' old new fault status history settled is (inr (meant, means, ends)) =
       subst (KeepsPromise held words) (sym ends.history_is)
-      (of_form counts counts' meant (subst (λ (o : Option Command). MeansForm held counts counts' words o meant) is means))
+      (of_form counts counts' disk disk' meant
+      (subst (λ (o : Option Command). MeansForm held counts counts' disk disk' words o meant) is means))

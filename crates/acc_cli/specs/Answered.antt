@@ -3,20 +3,23 @@ use Rattle.std.specs.Prelude.{◌≡◌, ◌⊎◌, ℕ, List, [], Option}
 use Rattle.std.specs.Io.KnownBytes.{Appends, Keeps}
 use Rattle.acc_base.specs.declared.machines.Event.{Event}
 use Rattle.acc_io.specs.Sinks.{WritesFront}
-use Rattle.acc_cli.specs.Text.{Reply}
-use Rattle.acc_cli.specs.declared.status.Ending.TheVariants.{Done}
+use Rattle.acc_cli.specs.Replies.{Reply}
+use Rattle.acc_commands.specs.declared.endings.Ending.TheVariants.{Done}
 use Rattle.acc_cli.specs.declared.status.Status.{Status}
 use Rattle.acc_cli.specs.declared.status.Status.TheVariants.{Sink, Memory, Ran}
 
 -- A sink's fault makes Sink of Done, and leaves a front of the text.
-pub record Ends (meant : Reply) (old new : Option (List ℕ)) (fault : Type 0) (given : Status) (history : List Event) : Type 0 where
+pub record Ends (meant : Reply) (old new : Option (List ℕ)) (fault : Type 0) (given : Status) (history : List Event) (settled : ℕ)
+    : Type 0 where
   pub given_is : (given ≡ meant.status) ⊎ ((meant.status ≡ Ran Done) × (given ≡ Sink) × fault)
   pub history_is : history ≡ meant.history
+  pub settled_is : settled ≡ meant.settled
   pub front : WritesFront old new meant.text
   pub whole : Appends old new meant.text ⊎ fault
   pub done : given ≡ Ran Done → Appends old new meant.text
 
 -- Want of memory prints nothing, and tells no event; else the answer is the meant one.
-abbrev pub Answered : (Reply → Type 0) → Option (List ℕ) → Option (List ℕ) → Type 0 → Status → List Event → Type 0
-Answered Meant old new fault given history =
-    ((given ≡ Memory) × Keeps old new × (history ≡ [])) ⊎ ((meant : Reply) × Meant meant × Ends meant old new fault given history)
+abbrev pub Answered : (Reply → Type 0) → Option (List ℕ) → Option (List ℕ) → Type 0 → Status → List Event → ℕ → Type 0
+Answered Meant old new fault given history settled =
+    ((given ≡ Memory) × Keeps old new × (history ≡ []) × (settled ≡ 0))
+    ⊎ ((meant : Reply) × Meant meant × Ends meant old new fault given history settled)

@@ -1,10 +1,5 @@
 //! What the definitions of the answers say by themselves.
-ghost use Rattle.acc_cli.specs.Meant.{CommandsMeanOne, LinesMeanOne};
-
-/// Whatever its files hold, a command means one ending, one text and one history.
-pub fn commands_mean_one()
-    ensures { CommandsMeanOne }
-{}
+ghost use Rattle.acc_cli.specs.Meant.{LinesMeanOne};
 
 /// On a shelf that tells what stands at each name, a command line means one status, one text and one history, where no read
 /// fails. So each status but that of want of memory comes exactly where its row says.

@@ -1,18 +1,8 @@
-//! How a command ends, and how the program does.
+//! How the program ends.
 ghost use Rattle.std.specs.Prelude.{◌≡◌};
 ghost use Rattle.acc_cli.specs.Status.{code_of};
 
-/// How a command ends whose files were given.
-#[derive(Clone, Copy, Debug, PartialEq, Eq)]
-pub enum Ending {
-    Done,
-    /// The design or its certificate is refused.
-    DesignRefused,
-    /// The script or the order is refused.
-    ScriptRefused,
-    /// A place of the script couldn't begin, since the history is full.
-    Unbegun,
-}
+use acc_commands::Ending;
 
 /// How the program ends.
 #[derive(Clone, Copy, Debug, PartialEq, Eq)]
@@ -39,6 +29,8 @@ impl Status {
             Status::Usage => 1,
             Status::Ran(Ending::DesignRefused) => 2,
             Status::Ran(Ending::ScriptRefused) => 3,
+            Status::Ran(Ending::JournalRefused) => 4,
+            Status::Ran(Ending::DiskFailed) => 5,
             Status::File => 6,
             Status::Sink => 7,
             Status::Ran(Ending::Unbegun) => 8,

@@ -1,8 +1,6 @@
 //! What is told of a command line that ended with another status than 0.
 ghost use Rattle.acc_form.specs.WellFormed.{IsWellFormed};
 
-use crate::certificates::{Judged, judge};
-use crate::designs::{Diagnosed, diagnose};
 use crate::obligations::{File, push_fault};
 use acc_base::designs::Design;
 use acc_base::sequences::Seq;
@@ -10,6 +8,7 @@ use acc_explain::{
     absent_text, failed_text, line_at, long_text, memory_text, push_note, push_report, push_text,
     sink_text,
 };
+use acc_faults::{Diagnosed, Judged, diagnose, judge};
 use acc_io::{Shelf, ShelfError};
 use acc_script::{ScriptError, calls, order};
 use acc_spot::{order_spot, script_spot};

@@ -1,8 +1,6 @@
 //! What is told of a certificate that is refused with its design.
 ghost use Rattle.acc_form.specs.WellFormed.{IsWellFormed};
 
-use crate::certificates::CertFault;
-use crate::tokens::tokens_of;
 use acc_accept::{Refusal, obligations};
 use acc_base::designs::Design;
 use acc_base::sequents::Origin;
@@ -10,6 +8,7 @@ use acc_cert_spot::{
     Marked, asserted_mark, obligation_hint, off_mark, path_mark, proof_mark, proofs_in,
 };
 use acc_explain::{push_note, push_number, push_report, push_text};
+use acc_faults::{CertFault, tokens_of};
 use acc_obligations::ObligError;
 use std::alloc::{AllocError, Global};
 

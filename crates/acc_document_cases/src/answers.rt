@@ -1,5 +1,6 @@
 //! What the program answers.
-use acc_cli::acc;
+use acc_cli::{acc, asks_journal};
+use acc_disk::MemDisk;
 use acc_io::{FolderShelf, MemShelf, MemSink, Shelf};
 use std::alloc::{AllocError, Global};
 use std::rt::Files;
@@ -13,11 +14,15 @@ fn words_of(alloc: Global, line: &str) -> Result<Vec<String>, AllocError> {
     Ok(words)
 }
 
-/// What is printed of a command line over a shelf.
+/// What is printed of a command line over a shelf; the journal that it names is an empty file in memory.
 fn answer_over<H: Shelf>(alloc: Global, line: &str, shelf: &mut H) -> Result<String, AllocError> {
-    let words = words_of(alloc, line)?;
+    let mut words = words_of(alloc, line)?;
+    if asks_journal(&words) {
+        words.pop();
+    }
     let mut out = MemSink::new(alloc, &[], &[]).map_err(|_| AllocError)?;
-    let _ = acc(alloc, &words, shelf, &mut out);
+    let disk = MemDisk::new(alloc, &[], &[], None).map_err(|_| AllocError)?;
+    let _ = acc(alloc, &words, shelf, &mut out, disk);
     String::from_utf8_lossy(alloc, out.bytes())
 }
 

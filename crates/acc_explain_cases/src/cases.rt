@@ -2,6 +2,7 @@
 use crate::texts::{changed, with_feeds};
 use acc_cli::{acc, help_text};
 use acc_diagnose::{explain, system_reason};
+use acc_disk::MemDisk;
 use acc_io::{MemShelf, MemSink};
 use std::alloc::{AllocError, Global};
 use std::io;
@@ -56,7 +57,8 @@ fn answered(
     out: &mut MemSink,
 ) -> Result<String, AllocError> {
     let words = words_of(alloc, line)?;
-    let status = acc(alloc, &words, shelf, out).status;
+    let disk = MemDisk::new(alloc, &[], &[], None).map_err(|_| AllocError)?;
+    let status = acc(alloc, &words, shelf, out, disk).status;
     let usage = help_text(alloc)?;
     let told = explain(alloc, status, &words, shelf, &usage);
     let printed = String::from_utf8_lossy(alloc, out.bytes())?;

@@ -1,3 +1,2 @@
-pub mod Chains
-pub mod Lengths
+pub mod OfHypotheses
 pub mod Made

@@ -6,13 +6,13 @@ use Rattle.acc_base.specs.declared.forms.Lin.{Lin}
 use Rattle.acc_base.specs.declared.forms.Form.{Form}
 use Rattle.acc_base.specs.declared.sequents.Sequent.{Sequent}
 use Rattle.acc_inst.specs.declared.listing.Listed.{Listed}
-use Rattle.acc_inst.specs.declared.listing.InstError.{InstError}
-use Rattle.acc_inst.specs.declared.listing.InstError.TheVariants.{Crowded, Wide}
+use Rattle.acc_choices.specs.declared.listing.InstError.{InstError}
+use Rattle.acc_choices.specs.declared.listing.InstError.TheVariants.{Crowded, Wide}
 use Rattle.acc_inst.specs.declared.lists.Made.{Made}
 use Rattle.acc_inst.specs.Making.{Chosen, instance_of, is_instance_wide, IsOf}
 use Rattle.acc_inst.specs.Instances.{instances_of}
 use Rattle.acc_inst.specs.Lists.{splits_of, listed}
-use Rattle.acc_inst.proofs.Lengths.{listed_are_of}
+use Rattle.acc_inst.proofs.OfHypotheses.{listed_are_of}
 
 module _ (q : Sequent) (hints : List Lin) (insts : List Chosen) where
   -- the instances of the lists are those that are listed

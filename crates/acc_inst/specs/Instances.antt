@@ -5,13 +5,13 @@ use Rattle.acc_base.specs.declared.forms.Lin.{Lin}
 use Rattle.acc_base.specs.declared.forms.Rel.{Rel}
 use Rattle.acc_base.specs.declared.forms.Clause.{Clause}
 use Rattle.acc_base.specs.declared.sequents.Sequent.{Sequent}
-use Rattle.acc_inst.specs.declared.targets.Target.{Target}
-use Rattle.acc_inst.specs.declared.choices.Pattern.{Pattern}
-use Rattle.acc_inst.specs.declared.listing.InstError.TheVariants.{Crowded}
+use Rattle.acc_choices.specs.declared.targets.Target.{Target}
+use Rattle.acc_choices.specs.declared.patterns.Pattern.{Pattern}
+use Rattle.acc_choices.specs.declared.listing.InstError.TheVariants.{Crowded}
 use Rattle.acc_inst.specs.Making.{Chosen}
-use Rattle.acc_inst.specs.Parts.{Listing, chain, steps, with_few}
-use Rattle.acc_inst.specs.Targets.{same_lins, targets_of}
-use Rattle.acc_inst.specs.Choices.{Text, with_term, by_patterns}
+use Rattle.acc_choices.specs.Parts.{Listing, chain, steps, with_few}
+use Rattle.acc_choices.specs.Targets.{same_lins, targets_of}
+use Rattle.acc_choices.specs.Choices.{Text, with_term, by_patterns}
 
 -- the patterns of a hypothesis, guards first
 abbrev pub with_rel : ℕ → List Text → List Pattern → Rel → List Pattern

@@ -1,7 +1,3 @@
-pub mod Parts
-pub mod Atoms
-pub mod Targets
-pub mod Choices
 pub mod Making
 pub mod Instances
 pub mod Lists

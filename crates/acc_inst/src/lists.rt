@@ -1,7 +1,7 @@
 //! The lists of a sequent.
 ghost use Rattle.std.specs.Prelude.{◌≡◌, Ok, map, IsFalse, All, IfOk, IfErr};
 ghost use Rattle.std.specs.List.{list_any};
-ghost use Rattle.acc_inst.specs.Parts.{Answers, StoppedBy};
+ghost use Rattle.acc_choices.specs.Parts.{Answers, StoppedBy};
 ghost use Rattle.acc_inst.specs.Making.{instance_of, is_instance_wide, IsOf};
 ghost use Rattle.acc_inst.specs.Lists.{few, listed, lists_of};
 

@@ -4,11 +4,11 @@ ghost use Rattle.std.specs.List.{list_any};
 ghost use Rattle.acc_base.specs.Sums.{TellsWide};
 ghost use Rattle.acc_inst.specs.Making.{rel_at, is_rel_wide, clause_at, is_clause_wide, nowhere, instance_of, is_instance_wide};
 
-use crate::targets::copied_lins;
 use acc_base::forms::{Clause, Form, Lin, Rel};
 use acc_base::sequences::Seq;
 use acc_base::sequents::Sequent;
 use acc_base::sums::FormSum;
+use acc_choices::targets::copied_lins;
 use acc_instances::instances::relation_at;
 use std::alloc::{AllocError, Global};
 

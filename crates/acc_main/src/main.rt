@@ -1,8 +1,9 @@
-//! The program: makes the real shelf and sink, answers the command line, and tells on standard error why one is refused.
+//! The program: makes the real shelf, sink and disk, answers the command line, and tells on standard error why one is refused.
 #![tactic(auto)]
 
-use acc_cli::{acc, help_text};
+use acc_cli::{acc, asks_journal, help_text};
 use acc_diagnose::{explain, system_reason};
+use acc_disk::{Disk, FileDisk, MemDisk};
 use acc_io::{FolderShelf, StdSink};
 use std::io::{ErrorKind, Write};
 use std::process::ExitCode;
@@ -46,16 +47,42 @@ fn tell_reason(rt: &HostRuntime, words: &[String]) {
     }
 }
 
+/// The name of the journal's file, where the words ask for a command over one: the last word behind the verb, which is taken away.
+fn take_journal(words: &mut Vec<String>) -> Option<String> {
+    if asks_journal(words) && words.len() > 1 {
+        words.pop()
+    } else {
+        None
+    }
+}
+
+/// Answers a command line over a disk.
+fn answer<D: Disk + Drop>(rt: &HostRuntime, words: &[String], disk: D) -> u8 {
+    let mut shelf = FolderShelf::new(rt);
+    let mut out = StdSink::new(rt);
+    acc(rt.alloc(), words, &mut shelf, &mut out, disk).status
+}
+
+/// Answers a command line over the journal's file, or over an empty disk where there is none.
+fn answer_over(rt: &HostRuntime, words: &[String], journal: Option<String>) -> u8 {
+    match journal {
+        Some(path) => answer(rt, words, FileDisk::new(rt, path)),
+        None => match MemDisk::new(rt.alloc(), &[], &[], None) {
+            Ok(disk) => answer(rt, words, disk),
+            Err(_) => MEMORY,
+        },
+    }
+}
+
 fn main(rt: HostRuntime) -> ExitCode {
-    let words = match words(&rt) {
+    let mut words = match words(&rt) {
         Ok(words) => words,
         Err(error) if error.kind() == ErrorKind::OutOfMemory => return ExitCode::from(MEMORY),
         // A word that is no text is no form of words.
         Err(_) => Vec::new(rt.alloc()),
     };
-    let mut shelf = FolderShelf::new(&rt);
-    let mut out = StdSink::new(&rt);
-    let status = acc(rt.alloc(), &words, &mut shelf, &mut out).status;
+    let journal = take_journal(&mut words);
+    let status = answer_over(&rt, &words, journal);
     if status != 0 {
         tell(&rt, status, &words);
     }

@@ -123,7 +123,7 @@ mention_is d calls p q place t x begun goes = by (number_of p place) begun
 -- ---- the whole
 
 pub tells_play : (d : Design) (calls : List Call) (order : List ℕ) (s after : Stage) (text : List ℕ) (history : List Event) →
-    IsPlayedSoFar (plain d) d calls order [] s.text.items (play_of s) → length s.numbers.items ≡ length calls →
+    IsPlayedSoFar (plain d) d calls (opening calls) order [] s.text.items (play_of s) → length s.numbers.items ≡ length calls →
     after.text.items ≡ s.text.items ++ flat_map (reply_line (play_of s)) (range_with_len 1 (length s.numbers.items)) →
     play_of after ≡ play_of s → world d after.machine.world.events ≡ Some after.machine.world → history ≡ after.machine.world.events →
     text ≡ after.text.items ++ line (codes "events " ++ decimal (length history)) → Tells d calls order text history

@@ -11,7 +11,7 @@ use Rattle.acc_base.specs.declared.machines.Call.{Call}
 use Rattle.acc_base.specs.declared.machines.Reply.{Reply}
 use Rattle.acc_base.specs.Items.{item_at, with_item}
 use Rattle.acc_base.specs.Machine.{reply_at}
-use Rattle.acc_base.specs.Plays.{Rules, Play, Told, IsOver, opening, number_of, Goes, Mentions, PlaysOn, Plays, play_after}
+use Rattle.acc_base.specs.Plays.{Rules, Play, Told, IsOver, number_of, Goes, Mentions, PlaysOn, play_after}
 use Rattle.acc_base.specs.Lines.{mention_line, reply_line}
 
 pub on_ok : {T E P Q : Type 0} (r : Result T E) → (P → Q) → OnOk r P → OnOk r Q
@@ -35,16 +35,16 @@ set_is {T} k x items h = ap (λ (b : Bool). if b then items else slice_set items
 -- ---- the order, place by place
 
 -- what is done so far, and then a play of the places that are left, is a play of the whole
-pub record IsPlayedSoFar (m : Rules) (d : Design) (calls : List Call) (order left text : List ℕ) (p : Play) : Type 0 where
+pub record IsPlayedSoFar (m : Rules) (d : Design) (calls : List Call) (first : Play) (order left text : List ℕ) (p : Play) : Type 0 where
   pub mentions : List (Told × Play)
   pub text_is : text ≡ flat_map (mention_line d) mentions
-  pub now : play_after (opening calls) mentions ≡ p
-  pub whole : (later : List (Told × Play)) → PlaysOn m calls p left later → Plays m calls order (mentions ++ later)
+  pub now : play_after first mentions ≡ p
+  pub whole : (later : List (Told × Play)) → PlaysOn m calls p left later → PlaysOn m calls first order (mentions ++ later)
 
 -- nothing is done, where the play opens
-pub opens_play : (m : Rules) (d : Design) (calls : List Call) (order text : List ℕ) (p : Play) → text ≡ [] → p ≡ opening calls →
-    IsPlayedSoFar m d calls order order text p
-opens_play m d calls order text p empty opens = record {
+pub opens_play : (m : Rules) (d : Design) (calls : List Call) (first : Play) (order text : List ℕ) (p : Play) → text ≡ [] → p ≡ first
+    → IsPlayedSoFar m d calls first order order text p
+opens_play m d calls first order text p empty opens = record {
   mentions = [];
   text_is = empty;
   now = sym opens;
@@ -55,17 +55,17 @@ after_last : (p : Play) (xs : List (Told × Play)) (x : Told × Play) → play_a
 after_last p [] x = refl
 after_last p (y ∷ ys) x = after_last y.1 ys x
 
-pub played_more : (m : Rules) (d : Design) (calls : List Call) (order left old new : List ℕ) (place : ℕ) (p : Play) (x : Told × Play) →
-    IsPlayedSoFar m d calls order (place ∷ left) old p → Mentions m calls place p (number_of p place) x → new ≡ old ++ mention_line d x →
-    IsPlayedSoFar m d calls order left new x.1
-played_more m d calls order left old new place p x so_far mention text =
+pub played_more : (m : Rules) (d : Design) (calls : List Call) (first : Play) (order left old new : List ℕ) (place : ℕ) (p : Play)
+    (x : Told × Play) → IsPlayedSoFar m d calls first order (place ∷ left) old p → Mentions m calls place p (number_of p place) x
+    → new ≡ old ++ mention_line d x → IsPlayedSoFar m d calls first order left new x.1
+played_more m d calls first order left old new place p x so_far mention text =
     record {
       mentions = so_far.mentions ++ x ∷ [];
       text_is = text ∙ ap (λ (z : List ℕ). z ++ mention_line d x) so_far.text_is ∙ sym
           (flat_map-append (mention_line d) so_far.mentions (x ∷ []) ∙ ap (λ (z : List ℕ). flat_map (mention_line d) so_far.mentions ++ z)
           (append-nil (mention_line d x)));
-      now = after_last (opening calls) so_far.mentions x;
-      whole = λ later h. subst (Plays m calls order) (sym (append_assoc so_far.mentions (x ∷ []) later))
+      now = after_last first so_far.mentions x;
+      whole = λ later h. subst (PlaysOn m calls first order) (sym (append_assoc so_far.mentions (x ∷ []) later))
           (so_far.whole (x ∷ later) (mention, h));
     }
 
@@ -83,7 +83,8 @@ replies_more p q first text new n so_far same more =
     let f = reply_line p in
     let place : n + 1 ≡ 1 + n = omega arith in
     let whole : flat_map f (range_with_len 1 (n + 1)) ≡ flat_map f (range_with_len 1 n) ++ f (n + 1) =
-    ap (λ (k : ℕ). flat_map f (range_with_len 1 k)) (add-one n) ∙ ap (flat_map f) (range_more 1 n) ∙ flat_map-append f (range_with_len 1 n)
+    ap (λ (k : ℕ). flat_map f (range_with_len 1 k)) (add-one n) ∙ ap (flat_map f) (range_more 1 n) ∙ flat_map-append f
+    (range_with_len 1 n)
     ((1 + n) ∷ []) ∙ ap (λ (z : List ℕ). flat_map f (range_with_len 1 n) ++ z) (append-nil (f (1 + n)) ∙ ap f (sym place)) in
     more ∙ (λ i. so_far i ++ reply_line (same i) (n + 1)) ∙ append_assoc first (flat_map f (range_with_len 1 n)) (f (n + 1)) ∙ ap
     (λ (z : List ℕ). first ++ z) (sym whole)

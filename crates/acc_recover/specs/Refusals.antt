@@ -13,11 +13,12 @@ use Rattle.acc_recover.specs.Recoveries.{AreRowsWithin, AreRowsOfRecovery}
 use Rattle.acc_recover.specs.declared.errors.RecoverError.{RecoverError}
 use Rattle.acc_recover.specs.declared.errors.RecoverError.TheVariants.{Journal, OtherDesign, Unlawful, Disk, Memory}
 
-abbrev pub RefusesJournal : WalError → List ℕ → Type 0
-RefusesJournal NotJournal file = IsNoJournal file
-RefusesJournal (OtherVersion version) file = IsOtherVersion file version
-RefusesJournal (Damaged place) file = IsDamaged file place
-RefusesJournal _ file = ⊥
+-- the bytes aren't a journal's, as far as they are told; no other reason is given
+abbrev pub RefusesJournal : WalError → Option (List ℕ) → Type 0
+RefusesJournal NotJournal told = IfSome told IsNoJournal
+RefusesJournal (OtherVersion version) told = IfSome told (λ file. IsOtherVersion file version)
+RefusesJournal (Damaged place) told = IfSome told (λ file. IsDamaged file place)
+RefusesJournal _ told = ⊥
 
 -- the file is a journal of another base text
 pub record IsOfOther (file text : List ℕ) : Type 0 where
@@ -34,7 +35,7 @@ pub record IsUnlawfulAt (d : Design) (file : List ℕ) (at : ℕ) : Type 0 where
   pub first : IsFirstUnlawful d start events at here
 
 abbrev pub RefusesRecovery : Design → RecoverError → Option (List ℕ) → Type 0 → Type 0
-RefusesRecovery d (Journal error) told fault = IfSome told (RefusesJournal error)
+RefusesRecovery d (Journal error) told fault = RefusesJournal error told
 RefusesRecovery d OtherDesign told fault = IfSome told (λ file. IsOfOther file (printed d))
 RefusesRecovery d (Unlawful at) told fault = IfSome told (λ file. IsUnlawfulAt d file at)
 RefusesRecovery d Disk told fault = fault

@@ -148,6 +148,7 @@ pub fn recover<'a, S: Store, D: Disk>(
     ensures calm { IsCalm (D.told disk) (D.may_leave disk)
         → IfOk result (λ r. IsCalm (D.told r.wal.disk) (D.may_leave r.wal.disk)) }
     ensures faults { IfOk result (λ r. D.faults disk ≤ D.faults r.wal.disk) }
+    ensures faults_refused { IfErr result (λ refusal. D.faults disk ≤ D.faults refusal.2) }
 {
     let mut wal = match Wal::attach(alloc, disk) {
         Ok(wal) => wal,

@@ -17,21 +17,21 @@ use Rattle.acc_schedule.specs.Laws.{SchedulesOnce}
 use Rattle.acc_schedule.proofs.OneTurn.{locks_are_determined}
 use Rattle.acc_schedule.proofs.OnePlay.{one_play, one_end, one_ending}
 
-module _ (d : Design) (calls : List Call) (order : List ℕ) where
-  one_schedule :
-      (xs ys : List (Told × Play)) (p q : Play) → Schedules d calls order xs p → Schedules d calls order ys q → (xs ≡ ys) × (p ≡ q)
+module _ (d : Design) (calls : List Call) (first : Play) (order : List ℕ) where
+  pub one_schedule :
+      (xs ys : List (Told × Play)) (p q : Play) → Schedules d calls first order xs p → Schedules d calls first order ys q
+      → (xs ≡ ys) × (p ≡ q)
   one_schedule xs ys p q h k =
       let m = with_locks d in
       let one = locks_are_determined d in
-      let played : xs ≡ ys = one_play m one calls (opening calls) order xs ys h.is_played k.is_played in
-      let after : play_after (opening calls) xs ≡ play_after (opening calls) ys = ap (play_after (opening calls)) played in
+      let played : xs ≡ ys = one_play m one calls first order xs ys h.is_played k.is_played in
+      let after : play_after first xs ≡ play_after first ys = ap (play_after first) played in
       let rest : h.rest ≡ k.rest =
-      one_end m one (play_after (opening calls) ys).world h.rest (subst (λ (z : Play). EndsAll m z.world h.rest) after h.ends)
-      k.rest k.ends in
+      one_end m one (play_after first ys).world h.rest (subst (λ (z : Play). EndsAll m z.world h.rest) after h.ends) k.rest k.ends in
       let places =
-      subst (λ (w : World). EndsPlaces m calls (in_state (play_after (opening calls) ys) w) (range_with_len 1 (length calls)) p) rest
+      subst (λ (w : World). EndsPlaces m calls (in_state (play_after first ys) w) (range_with_len 1 (length calls)) p) rest
       (subst (λ (z : Play). EndsPlaces m calls (in_state z h.rest) (range_with_len 1 (length calls)) p) after h.places) in
-      let last = in_state (play_after (opening calls) ys) k.rest in
+      let last = in_state (play_after first ys) k.rest in
       (played, one_ending m one calls (range_with_len 1 (length calls)) last p q places k.places)
 
 none_is_some : (o : Option ℕ) → o ≡ None → IsSome o → ⊥
@@ -56,10 +56,11 @@ one_answer numbers history false false h k = refl
 
 pub schedules_once : SchedulesOnce
 schedules_once d calls order t u h k a b x y =
-    let same = one_schedule d calls order x.mentions y.mentions x.ended y.ended x.schedules y.schedules in
+    let same = one_schedule d calls (opening calls) order x.mentions y.mentions x.ended y.ended x.schedules y.schedules in
     let text : t ≡ u =
     x.text_is ∙ (λ i. flat_map (mention_line d) (same.0 i) ++ ending_text calls (same.1 i)) ∙ sym y.text_is in
     let history : h ≡ k = x.history_is ∙ ap (λ (p : Play). p.world.events) same.1 ∙ sym y.history_is in
     let begun : TellsBegun a y.ended.numbers k =
-    subst (λ (p : Play). TellsBegun a p.numbers k) same.1 (subst (λ (es : List Event). TellsBegun a x.ended.numbers es) history x.begun) in
+    subst (λ (p : Play). TellsBegun a p.numbers k) same.1
+    (subst (λ (es : List Event). TellsBegun a x.ended.numbers es) history x.begun) in
     (text, history, one_answer y.ended.numbers k a b begun y.begun)

@@ -55,7 +55,8 @@ same_forward : (f g : Frame) → Some (Forward f) ≡ Some (Forward g) → f ≡
 same_forward f g e = cc
 
 -- where all are stuck a forward transaction isn't free
-not_free : (d : Design) (w : World) (t : ℕ) (f : Frame) → transaction_at t w.transactions ≡ Some (Forward f) → IsStuck d w → ¬ IsFree d w t
+not_free : (d : Design) (w : World) (t : ℕ) (f : Frame) → transaction_at t w.transactions ≡ Some (Forward f) → IsStuck d w →
+    ¬ IsFree d w t
 not_free d w t f at stuck free =
     let up : IsHeldUp d w (Forward f) = stuck.each t (Forward f) at in
     free f at up.0 up.1.0 up.1.1 up.1.2
@@ -65,7 +66,8 @@ waits_not_free : (d : Design) (w : World) (t h n : ℕ) → Waits d w t h n → 
 waits_not_free d w t h n waits free = free waits.frame waits.forward waits.free h n waits.lowest.blocked
 
 -- the lowest holder is one, and so is its lowest entry
-one_blocker : (d : Design) (w : World) (f : Frame) (h n u m : ℕ) → IsLowestBlocker d w f h n → IsLowestBlocker d w f u m → (h ≡ u) × (n ≡ m)
+one_blocker : (d : Design) (w : World) (f : Frame) (h n u m : ℕ) → IsLowestBlocker d w f h n → IsLowestBlocker d w f u m → (h ≡ u) ×
+    (n ≡ m)
 one_blocker d w f h n u m a b =
     let not_lower : ¬ (h < u) = λ lt. b.holder h n lt a.blocked in
     let not_higher : ¬ (u < h) = λ lt. a.holder u m lt b.blocked in

@@ -9,7 +9,7 @@ use Rattle.acc_base.specs.declared.machines.Event.{Event}
 use Rattle.acc_base.specs.Annotated.{IsAnnotated, IsIdle}
 use Rattle.acc_base.specs.Invariant.{IsGood}
 use Rattle.acc_base.specs.Machine.{World, world, unfinished}
-use Rattle.acc_base.specs.Plays.{Play, Told, opening, Plays, play_after}
+use Rattle.acc_base.specs.Plays.{Play, Told, opening, PlaysOn, play_after}
 use Rattle.acc_base.specs.Lines.{mention_line, ending_text, line}
 use Rattle.acc_schedule.specs.declared.stages.Stage.{Stage}
 use Rattle.acc_schedule.specs.declared.schedules.Scheduled.{Scheduled}
@@ -20,13 +20,14 @@ use Rattle.acc_schedule.specs.Endings.{EndsAll, EndsPlaces}
 abbrev pub in_state : Play → World → Play
 in_state p w = record p { world = w }
 
--- The calls take their turns in the order; then what is unfinished is ended, and each place that hasn't begun.
-pub record Schedules (d : Design) (calls : List Call) (order : List ℕ) (mentions : List (Told × Play)) (ended : Play) : Type 0 where
-  pub is_played : Plays (with_locks d) calls order mentions
-  pub rest : World
-  pub ends : EndsAll (with_locks d) (play_after (opening calls) mentions).world rest
-  pub places :
-      EndsPlaces (with_locks d) calls (in_state (play_after (opening calls) mentions) rest) (range_with_len 1 (length calls)) ended
+-- From the first play on the calls take their turns in the order; then what is unfinished is ended, and each place that hasn't begun.
+pub record Schedules (d : Design) (calls : List Call) (first : Play) (order : List ℕ) (mentions : List (Told × Play)) (ended : Play) :
+    Type 0
+  where
+    pub is_played : PlaysOn (with_locks d) calls first order mentions
+    pub rest : World
+    pub ends : EndsAll (with_locks d) (play_after first mentions).world rest
+    pub places : EndsPlaces (with_locks d) calls (in_state (play_after first mentions) rest) (range_with_len 1 (length calls)) ended
 
 -- whenever nothing is unfinished, what is asserted for all times is true of the rows, and none of them is private
 abbrev pub IsIdleBetween : Design → List Event → Type 0
@@ -47,25 +48,31 @@ abbrev pub TellsBegun : Bool → List (Option ℕ) → List Event → Type 0
 TellsBegun true numbers history = All IsSome numbers
 TellsBegun false numbers history = ((at : ℕ) × (slice_get numbers at ≡ Some None)) × (MOST_EVENTS ≤ length history)
 
--- The text is that of a schedule: a line each mention of the order, a reply line each place, and the number of events. The history is the
--- events of its machine, and it ends well.
-pub record TellsSchedule (d : Design) (calls : List Call) (order text : List ℕ) (history : List Event) (all_begun : Bool) : Type 0 where
+-- The text is that of a schedule from this play on: a line each mention of the order, a reply line each place, and the number of events.
+-- The history is the events of its machine, and it ends well.
+pub record TellsScheduleFrom (d : Design) (calls : List Call) (first : Play) (order text : List ℕ) (history : List Event)
+    (all_begun : Bool)
+    : Type 0 where
   pub mentions : List (Told × Play)
   pub ended : Play
-  pub schedules : Schedules d calls order mentions ended
+  pub schedules : Schedules d calls first order mentions ended
   pub text_is : text ≡ flat_map (mention_line d) mentions ++ ending_text calls ended
   pub history_is : history ≡ ended.world.events
   pub ends_well : EndsWell d history ended.world
   pub begun : TellsBegun all_begun ended.numbers history
 
+-- from the start on, where no event has come
+abbrev pub TellsSchedule : Design → List Call → List ℕ → List ℕ → List Event → Bool → Type 0
+TellsSchedule d calls order text history all_begun = TellsScheduleFrom d calls (opening calls) order text history all_begun
+
 -- ---- parts of it
 
 -- the play after the mentions of an order, and their lines
-pub record IsPlayed (d : Design) (calls : List Call) (order text : List ℕ) (p : Play) : Type 0 where
+pub record IsPlayed (d : Design) (calls : List Call) (first : Play) (order text : List ℕ) (p : Play) : Type 0 where
   pub mentions : List (Told × Play)
-  pub is_played : Plays (with_locks d) calls order mentions
+  pub is_played : PlaysOn (with_locks d) calls first order mentions
   pub text_is : text ≡ flat_map (mention_line d) mentions
-  pub now : play_after (opening calls) mentions ≡ p
+  pub now : play_after first mentions ≡ p
 
 -- what is told of a stage on which nothing is unfinished
 pub record IsClosed (stage : Stage) (s : Scheduled) : Type 0 where

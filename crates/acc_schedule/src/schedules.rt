@@ -60,7 +60,7 @@ fn mention_all(
     requires text { stage.old.text.items ≡ [] }
     requires fit { AllFit d.now calls.now }
     requires places { All (IsPlace (length calls.now)) order.now }
-    ensures played { OnOk result (IsPlayed d.now calls.now order.now stage.new.text.items (play_of stage.new)) }
+    ensures played { OnOk result (IsPlayed d.now calls.now (opening calls.now) order.now stage.new.text.items (play_of stage.new)) }
     ensures stage { IsStage d.now calls.now stage.new }
 {
     for place in order {

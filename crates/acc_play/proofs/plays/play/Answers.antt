@@ -1,6 +1,6 @@
 use Rattle.std.proofs.Common.{◌≡◌, ℕ, ◌+◌, ◌∷◌, ◌<◌, ◌≤◌, [], List, length, drop, get_or, subst, arith, add-one, drop-cons}
 use Rattle.std.proofs.lemmas.List.{drop_all}
-use Rattle.acc_base.specs.Plays.{plain}
+use Rattle.acc_base.specs.Plays.{plain, opening}
 use Rattle.acc_play.specs.Stages.{play_of}
 use Rattle.acc_play.proofs.Orders.{IsPlayedSoFar, played_more}
 use Rattle.acc_play.proofs.Mentioning.{tells_play}
@@ -18,9 +18,10 @@ loop-place-preserved c =
     record {
       stage = c.mention.ensures.stage;
       few = omega (arith, c.mention.ensures.count, c.loop-place.invariant.few);
-      played = played_more (plain d) d calls order (drop (i + 1) order) old.text.items c.mention.new.stage.text.items (get_or order i 0)
+      played = played_more (plain d) d calls (opening calls) order (drop (i + 1) order) old.text.items c.mention.new.stage.text.items
+          (get_or order i 0)
           (play_of old) (c.in_ok-mention.ensures.mention.told, play_of c.mention.new.stage)
-          (subst (λ (zs : List ℕ). IsPlayedSoFar (plain d) d calls order zs old.text.items (play_of old)) split
+          (subst (λ (zs : List ℕ). IsPlayedSoFar (plain d) d calls (opening calls) order zs old.text.items (play_of old)) split
           c.loop-place.invariant.played) c.in_ok-mention.ensures.mention.is_mention c.in_ok-mention.ensures.mention.text;
     }
 
@@ -33,7 +34,8 @@ returns c =
     let past : length order ≤ c.loop-place.place-index = omega arith in
     let over : drop c.loop-place.place-index order ≡ [] = drop_all c.loop-place.place-index order past in
     tells_play d calls order s c.push_replies.new.stage c.push_events.new.out.items c.into_parts-history.result.1
-    (subst (λ (zs : List ℕ). IsPlayedSoFar (plain d) d calls order zs s.text.items (play_of s)) over c.loop-place.invariant.played)
+    (subst (λ (zs : List ℕ). IsPlayedSoFar (plain d) d calls (opening calls) order zs s.text.items (play_of s)) over
+    c.loop-place.invariant.played)
     c.loop-place.invariant.stage.numbers c.in_ok-push_replies.ensures.text c.push_replies.ensures.play
     (rw (c.push_replies.ensures.design, c.loop-place.invariant.stage.design) at c.into_parts-history.ensures.run.run)
     c.into_parts-history.ensures.events (rw c.len.ensures at c.in_ok-push_events.ensures.ok)

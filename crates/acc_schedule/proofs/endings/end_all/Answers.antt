@@ -16,7 +16,8 @@ loop-alloc-preserved c =
     record {
       design = c.pass.ensures.design ∙ c.loop-alloc.invariant.design;
       so_far = ends_more (with_locks was.design) was.world old.world new.world c.loop-alloc.invariant.so_far some
-          (subst (λ (d : Design). TurnsEach (with_locks d) old.world (unfinished_numbers old.world) new.world) c.loop-alloc.invariant.design
+          (subst (λ (d : Design). TurnsEach (with_locks d) old.world (unfinished_numbers old.world) new.world)
+          c.loop-alloc.invariant.design
           c.in_ok-pass.ensures.turns);
       grows = omega (arith, c.loop-alloc.invariant.grows, c.in_ok-pass.ensures.more);
     }

@@ -51,7 +51,8 @@ returns-clause-turns c =
     let over : drop c.loop-i.i numbers ≡ [] = drop_all c.loop-i.i numbers past in
     subst (λ (ts : List ℕ). TurnsEach (with_locks was.design) was.world ts c.loop-i.state.world) listed
     (all_turned (with_locks was.design) was.world c.loop-i.state.world numbers
-    (subst (λ (ts : List ℕ). TurnsSoFar (with_locks was.design) was.world numbers c.loop-i.state.world ts) over c.loop-i.invariant.turned))
+    (subst (λ (ts : List ℕ). TurnsSoFar (with_locks was.design) was.world numbers c.loop-i.state.world ts) over
+    c.loop-i.invariant.turned))
 
 pub returns-clause-more : goal.returns-clause-more
 returns-clause-more c =

@@ -1,0 +1,5 @@
+pub mod Courses
+pub mod Schemas
+pub mod Candidates
+pub mod Known
+pub mod AxiomPasses

@@ -1,0 +1,163 @@
+//! What a branch knows, and what elimination shows there.
+ghost use Rattle.std.specs.Prelude.{◌≡◌, ◌++◌, ◌∷◌, [], Some, None, if◌then◌else◌, IfOk, OnOk};
+ghost use Rattle.acc_branch.specs.Courses.{Answers, LeavesIf};
+ghost use Rattle.acc_branch.specs.Known.{below, above, verdict, refuting, with_next, excludes, shows_at_most, shows_at_least, shows};
+ghost use Rattle.acc_branch.specs.Known.{shows_all};
+
+use crate::halts::Halt;
+use acc_axioms::nodes::Schema;
+use acc_base::forms::{Form, Rel};
+use acc_base::sums::FormSum;
+use acc_elim::deciding::decide;
+use acc_elim::verdicts::{ElimError, Verdict};
+use acc_farkas::refuting::Mults;
+use acc_proof::facts;
+use std::alloc::{AllocError, Global};
+
+/// The relations that are known, in order, and which instances, by their places, and axioms were added to them.
+#[derive(Drop)]
+pub struct Branch {
+    pub rels: Vec<Rel>,
+    pub insts: Vec<usize>,
+    pub axioms: Vec<Schema>,
+}
+
+/// Whether relations hold at some point.
+pub fn verdict(alloc: Global, rels: &[Rel]) -> Result<Verdict, Halt>
+    ensures { Answers result (verdict rels.now) }
+{
+    match decide(alloc, rels) {
+        Ok(verdict) => Ok(verdict),
+        Err(ElimError::Wide) => Err(Halt::Wide),
+        Err(ElimError::Many) => Err(Halt::Many),
+        Err(ElimError::Memory) => Err(Halt::Memory),
+    }
+}
+
+/// Multipliers that refute relations, if they have no solution.
+pub fn refuting(alloc: Global, rels: &[Rel]) -> Result<Option<Mults>, Halt>
+    ensures { Answers result (refuting rels.now) }
+{
+    match verdict(alloc, rels)? {
+        Verdict::Refuted(multipliers) => Ok(Some(multipliers)),
+        Verdict::Solved(_) => Ok(None),
+    }
+}
+
+/// That a form is below 0.
+pub fn below(alloc: Global, form: &Form) -> Result<Rel, Halt>
+    ensures { Answers result (below form.now) }
+{
+    match facts::below(alloc, form) {
+        Ok(rel) => Ok(rel),
+        Err(FormSum::Wide) => Err(Halt::Wide),
+        Err(FormSum::Memory) => Err(Halt::Memory),
+    }
+}
+
+/// That a form is above 0.
+pub fn above(alloc: Global, form: &Form) -> Result<Rel, Halt>
+    ensures { Answers result (above form.now) }
+{
+    match facts::above(alloc, form) {
+        Ok(rel) => Ok(rel),
+        Err(FormSum::Wide) => Err(Halt::Wide),
+        Err(FormSum::Memory) => Err(Halt::Memory),
+    }
+}
+
+/// Notes multipliers behind the others, if there are some, and answers whether there are.
+fn note(found: &mut Vec<Mults>, multipliers: Option<Mults>) -> Result<bool, AllocError>
+    ensures { IfOk result (λ yes. with_next found.old.items multipliers ≡ (if yes then Some found.new.items else None)) }
+{
+    match multipliers {
+        None => Ok(false),
+        Some(multipliers) => {
+            found.push(multipliers)?;
+            Ok(true)
+        }
+    }
+}
+
+/// Whether what is known refutes a relation; the multipliers come behind the others.
+fn excludes(
+    alloc: Global,
+    rels: &mut Vec<Rel>,
+    found: &mut Vec<Mults>,
+    contrary: Rel,
+) -> Result<bool, Halt>
+    ensures kind { LeavesIf result found.new.items (excludes rels.old.items found.old.items contrary) }
+    ensures same { OnOk result (rels.new.items ≡ rels.old.items) }
+{
+    rels.push(contrary)?;
+    let multipliers = refuting(alloc, rels.as_slice())?;
+    rels.pop();
+    let shown = note(found, multipliers)?;
+    Ok(shown)
+}
+
+/// Whether what is known shows that a form is at most 0.
+fn shows_at_most(
+    alloc: Global,
+    rels: &mut Vec<Rel>,
+    found: &mut Vec<Mults>,
+    form: &Form,
+) -> Result<bool, Halt>
+    ensures kind { LeavesIf result found.new.items (shows_at_most rels.old.items found.old.items form.now) }
+    ensures same { OnOk result (rels.new.items ≡ rels.old.items) }
+{
+    let contrary = above(alloc, form)?;
+    excludes(alloc, rels, found, contrary)
+}
+
+/// Whether what is known shows that a form is at least 0.
+fn shows_at_least(
+    alloc: Global,
+    rels: &mut Vec<Rel>,
+    found: &mut Vec<Mults>,
+    form: &Form,
+) -> Result<bool, Halt>
+    ensures kind { LeavesIf result found.new.items (shows_at_least rels.old.items found.old.items form.now) }
+    ensures same { OnOk result (rels.new.items ≡ rels.old.items) }
+{
+    let contrary = below(alloc, form)?;
+    excludes(alloc, rels, found, contrary)
+}
+
+/// Whether what is known shows a relation.
+fn shows(
+    alloc: Global,
+    rels: &mut Vec<Rel>,
+    found: &mut Vec<Mults>,
+    rel: &Rel,
+) -> Result<bool, Halt>
+    ensures kind { LeavesIf result found.new.items (shows rels.old.items found.old.items rel.now) }
+    ensures same { OnOk result (rels.new.items ≡ rels.old.items) }
+{
+    if !shows_at_most(alloc, rels, found, &rel.form)? {
+        return Ok(false);
+    }
+    if rel.equal {
+        return shows_at_least(alloc, rels, found, &rel.form);
+    }
+    Ok(true)
+}
+
+/// Whether what is known shows each of these relations; the multipliers that show them come behind the others, one list for an
+/// inequality and two for an equation. The cost is that of so many eliminations.
+pub fn shows_all(
+    alloc: Global,
+    rels: &mut Vec<Rel>,
+    found: &mut Vec<Mults>,
+    facts: &[Rel],
+) -> Result<bool, Halt>
+    ensures kind { LeavesIf result found.new.items (shows_all rels.old.items found.old.items facts.now) }
+    ensures same { OnOk result (rels.new.items ≡ rels.old.items) }
+{
+    for fact in facts {
+        if !shows(alloc, rels, found, fact)? {
+            return Ok(false);
+        }
+    }
+    Ok(true)
+}

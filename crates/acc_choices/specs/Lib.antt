@@ -1,0 +1,4 @@
+pub mod Parts
+pub mod Atoms
+pub mod Targets
+pub mod Choices

@@ -1,0 +1,88 @@
+-- Where `init` ended as done, the journal was made.
+use Rattle.std.proofs.Common.{◌≡◌, ℕ, List, [], ◌∷◌, Option, Some, inl, inr, sym, ap, subst, ◌∙◌}
+use Rattle.std.specs.Prelude.{◌⊎◌, codes}
+use Rattle.std.specs.Io.KnownBytes.{Appends}
+use Rattle.acc_base.specs.declared.machines.Event.{Event}
+use Rattle.acc_base.specs.Lines.{line}
+use Rattle.acc_io.specs.Shelves.{Told}
+use Rattle.acc_io.specs.declared.counts.Counts.{Counts}
+use Rattle.acc_parse.specs.declared.errors.ParseError.{ParseError}
+use Rattle.acc_parse.specs.declared.errors.ParseError.TheVariants as errors
+use Rattle.acc_commands.specs.declared.words.Command.{Command}
+use Rattle.acc_commands.specs.declared.words.Command.TheVariants as command
+use Rattle.acc_commands.specs.declared.endings.Ending.{Ending}
+use Rattle.acc_commands.specs.declared.endings.Ending.TheVariants.{Done, DesignRefused, JournalRefused, DiskFailed}
+use Rattle.acc_commands.specs.Text.{Said, Telling, said_in}
+use Rattle.acc_commands.specs.Disks.{Seen}
+use Rattle.acc_commands.specs.Words.{command_of, files_of}
+use Rattle.acc_commands.specs.Files.{AreFiles}
+use Rattle.acc_commands.specs.Refusals.{SaysError, RefusesDesign}
+use Rattle.acc_commands.specs.InitFiles.{InitsJournal, InitsFile}
+use Rattle.acc_commands.specs.Means.{MeansOverDisk}
+use Rattle.acc_cli.specs.declared.status.Status.{Status}
+use Rattle.acc_cli.specs.declared.status.Status.TheVariants.{File, Sink, Memory, Ran}
+use Rattle.acc_cli.specs.Replies.{Reply}
+use Rattle.acc_cli.specs.Meant.{MeansForm, Meant}
+use Rattle.acc_cli.specs.Answered.{Answered, Ends}
+use Rattle.acc_cli.specs.Creations.{IsCreated}
+
+error_ends : (e : ParseError) (said : Said) → SaysError e said → said.ending ≡ DesignRefused
+error_ends (errors.Syntax at) said says = says.0
+error_ends (errors.Name at) said says = says.0
+error_ends (errors.Limit at which) said says = says.0
+error_ends errors.Memory said says = absurd says
+
+refusal_ends : (design : List ℕ) (said : Said) → RefusesDesign design said → said.ending ≡ DesignRefused
+refusal_ends design said (inl h) = error_ends h.error said h.says
+refusal_ends design said (inr h) = h.says.0
+
+module _ (held : List ℕ → Told) (words : List (List ℕ)) (disk disk' : Seen) (old new : Option (List ℕ)) where
+  of_file : (design : List ℕ) (t : Telling) → t.ending ≡ Done → AreFiles held (files_of command.Init words) (design ∷ [])
+      → Appends old new t.text → InitsFile design disk disk' t → IsCreated held words disk.told disk'.told old new
+  of_file design t done given appends (inl h) =
+      (let e : Done ≡ DesignRefused = sym done ∙ refusal_ends design (said_in t) h.2 in absurd cc)
+  of_file design t done given appends (inr h) = by h.ends
+    where
+      by : InitsJournal h.d disk disk' t → IsCreated held words disk.told disk'.told old new
+      by (inl k) = record {
+        design = design;
+        given = given;
+        d = h.d;
+        is_text = h.is_text;
+        formed = h.formed;
+        fresh = k.fresh;
+        made = k.made;
+        counts = k.counts;
+        says = subst (Appends old new) k.says.0.1 appends;
+      }
+      by (inr (inl k)) = (let e : Done ≡ JournalRefused = sym done ∙ k.says.0.0 in absurd cc)
+      by (inr (inr k)) = (let e : Done ≡ DiskFailed = sym done ∙ k.says.0.0 in absurd cc)
+
+  of_files : (files : List (List ℕ)) (t : Telling) → t.ending ≡ Done → AreFiles held (files_of command.Init words) files
+      → Appends old new t.text → MeansOverDisk command.Init files disk disk' t → IsCreated held words disk.told disk'.told old new
+  unfolding MeansOverDisk
+  of_files [] t done given appends h = absurd h
+  of_files (design ∷ []) t done given appends h = of_file design t done given appends h
+  of_files (design ∷ more ∷ rest) t done given appends h = absurd h
+
+  of_form : (counts counts' : Counts) (reply : Reply) → MeansForm held counts counts' disk disk' words (Some command.Init) reply
+      → reply.status ≡ Ran Done → Appends old new reply.text → IsCreated held words disk.told disk'.told old new
+  of_form counts counts' reply (inl refused) done appends = (let e : Ran Done ≡ File = sym done ∙ refused.0 in absurd cc)
+  of_form counts counts' reply (inr (files, given, counted, (ending, status, means))) done appends =
+      let same : ending ≡ Done = (let e : Ran ending ≡ Ran Done = sym status ∙ done in cc) in
+      of_files files (record { ending = ending; text = reply.text; history = reply.history; settled = reply.settled }) same given appends
+      means
+
+  pub is_created : (counts counts' : Counts) (fault : Type 0) (status : Status) (history : List Event) (settled : ℕ)
+      → command_of words ≡ Some command.Init → status ≡ Ran Done
+      → Answered (Meant held counts counts' disk disk' words) old new fault status history settled
+      → IsCreated held words disk.told disk'.told old new
+  is_created counts counts' fault status history settled is done (inl none) =
+      (let e : Ran Done ≡ Memory = sym done ∙ none.0 in absurd cc)
+  is_created counts counts' fault status history settled is done (inr (meant, means, ends)) =
+      of_form counts counts' meant (subst (λ (o : Option Command). MeansForm held counts counts' disk disk' words o meant) is means)
+      (by ends.given_is) (ends.done done)
+    where
+      by : (status ≡ meant.status) ⊎ ((meant.status ≡ Ran Done) × (status ≡ Sink) × fault) → meant.status ≡ Ran Done
+      by (inl same) = sym same ∙ done
+      by (inr sunk) = sunk.0

@@ -1,0 +1,38 @@
+-- What the files that are given, and the endings of commands, say of the disk.
+use Rattle.std.proofs.Common.{◌≡◌, ◌≤◌, ◌^◌, ℕ, List, [], ◌∷◌, length, map, Vec, Global, Some, refl, sym, inl, inr, arith}
+use Rattle.std.specs.Prelude.{◌≢◌, All}
+use Rattle.std.proofs.lemmas.List.Elements.{All-nil, All-cons}
+use Rattle.acc_io.specs.Shelves.{Told}
+use Rattle.acc_commands.specs.declared.words.Command.{Command}
+use Rattle.acc_commands.specs.declared.endings.Ending.{Ending}
+use Rattle.acc_commands.specs.declared.endings.Ending.TheVariants.{Done, DesignRefused, ScriptRefused, JournalRefused, DiskFailed, Unbegun}
+use Rattle.acc_commands.specs.Text.{IsEarly}
+use Rattle.acc_commands.specs.Files.{AreFiles}
+use Rattle.acc_cli.specs.declared.status.Status.TheVariants.{Ran}
+use Rattle.acc_cli.specs.Status.{code_of, IsBeforeJournal}
+
+-- files that are given have at most 2^26 bytes each
+pub short_files : (held : List ℕ → Told) (names : List (List ℕ)) (files : List (Vec ℕ Global)) →
+    AreFiles held names (map (λ v. v.items) files)
+    → All (λ (v : Vec ℕ Global). length v.items ≤ 2 ^ 26) files
+short_files held names [] h = All-nil (λ (v : Vec ℕ Global). length v.items ≤ 2 ^ 26)
+short_files held [] (file ∷ files) h = absurd h
+short_files held (name ∷ names) (file ∷ files) h =
+    All-cons (λ (v : Vec ℕ Global). length v.items ≤ 2 ^ 26) file files h.0.0 (short_files held names files h.1)
+
+-- the statuses before the journal are those of the endings before it
+pub early : (ending : Ending) → IsBeforeJournal (code_of (Ran ending)) → IsEarly ending
+early Done h = absurd (omega (arith, h))
+early DesignRefused h = inl refl
+early ScriptRefused h = inr refl
+early JournalRefused h = absurd (omega (arith, h))
+early DiskFailed h = absurd (omega (arith, h))
+early Unbegun h = absurd (omega (arith, h))
+
+pub not_failed : (ending : Ending) → code_of (Ran ending) ≢ 5 → ending ≢ DiskFailed
+not_failed DiskFailed h = absurd (h refl)
+not_failed Done h = λ e. cc
+not_failed DesignRefused h = λ e. cc
+not_failed ScriptRefused h = λ e. cc
+not_failed JournalRefused h = λ e. cc
+not_failed Unbegun h = λ e. cc

@@ -1,5 +1,0 @@
-use Rattle.acc_cli.proofs.OneMeaning.{one_meaning}
-use Rattle.acc_cli.proofs.laws.commands_mean_one.Goals as goal
-
-pub returns : goal.returns
-returns c = one_meaning

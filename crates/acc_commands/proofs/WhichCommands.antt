@@ -1,0 +1,236 @@
+-- Which command ends so.
+use Rattle.std.proofs.Common.{◌≡◌, ℕ, Bool, true, false, List, [], ◌∷◌, inl, inr, refl, sym, subst, ◌∙◌}
+use Rattle.std.specs.Prelude.{◌≢◌}
+use Rattle.acc_io.specs.Causes.{Rose}
+use Rattle.acc_base.specs.declared.designs.Design.{Design}
+use Rattle.acc_base.specs.declared.machines.Call.{Call}
+use Rattle.acc_parse.specs.declared.errors.ParseError.{ParseError}
+use Rattle.acc_parse.specs.declared.errors.ParseError.TheVariants as errors
+use Rattle.acc_schedule.specs.Schedules.{TellsSchedule}
+use Rattle.acc_commands.specs.declared.words.Command.{Command}
+use Rattle.acc_commands.specs.declared.words.Command.TheVariants as command
+use Rattle.acc_commands.specs.declared.endings.Ending.{Ending}
+use Rattle.acc_commands.specs.declared.endings.Ending.TheVariants.{Done, DesignRefused, ScriptRefused, JournalRefused, DiskFailed, Unbegun}
+use Rattle.acc_commands.specs.Text.{Said, Telling, said_in}
+use Rattle.acc_commands.specs.Disks.{Seen}
+use Rattle.acc_commands.specs.Refusals.{SaysError, RefusesDesign}
+use Rattle.acc_commands.specs.Scripts.{SaysOfOrder, SaysOfScript}
+use Rattle.acc_commands.specs.PlayFiles.{SaysPlay, PlaysFiles}
+use Rattle.acc_commands.specs.ScheduleFiles.{SaysSchedule, SaysOfCertificate, SchedulesFiles, ending_at}
+use Rattle.acc_commands.specs.PrintFiles.{PrintsFile}
+use Rattle.acc_commands.specs.CheckFiles.{ChecksFiles, ending_by}
+use Rattle.acc_commands.specs.InitFiles.{FindsJournal, InitsJournal, InitsFile}
+use Rattle.acc_commands.specs.Means.{is_journalled, MeansOfFiles, MeansOverDisk, MeansBy, Means}
+
+-- ---- commands without a journal
+
+done_unbegun : Done ≢ Unbegun
+done_unbegun e = cc
+
+-- it is said of a schedule
+abbrev pub Scheduled : Command → Said → Type 0
+Scheduled c said = (c ≡ command.Sched) × (d : Design) × (calls : List Call) × (order : List ℕ) × SaysSchedule d calls order said
+
+-- An ending that is neither that all is done nor a refusal of the design or the script. A command without a journal that ends so is
+-- `sched`.
+module _ (other : Ending) (done_other : Done ≢ other) (design_other : DesignRefused ≢ other) (script_other : ScriptRefused ≢ other) where
+  -- what ends otherwise doesn't end so
+  not_so : (ending : Ending) (said : Said) → ending ≢ other → said.ending ≡ ending → said.ending ≡ other → ⊥
+  not_so ending said differs is so = differs (sym is ∙ so)
+
+  judged_other : (accepted : Bool) → ending_by accepted ≢ other
+  judged_other true e = done_other e
+  judged_other false e = design_other e
+
+  error_other : (e : ParseError) (said : Said) → SaysError e said → said.ending ≡ other → ⊥
+  error_other (errors.Syntax at) said says = not_so DesignRefused said design_other says.0
+  error_other (errors.Name at) said says = not_so DesignRefused said design_other says.0
+  error_other (errors.Limit at which) said says = not_so DesignRefused said design_other says.0
+  error_other errors.Memory said says = absurd says
+
+  pub refusal_other : (design : List ℕ) (said : Said) → RefusesDesign design said → said.ending ≡ other → ⊥
+  refusal_other design said (inl h) = error_other h.error said h.says
+  refusal_other design said (inr h) = not_so DesignRefused said design_other h.says.0
+
+  -- so ends a run of some calls in some order
+  pub record Ran (SaysRun : List Call → List ℕ → Said → Type 0) (said : Said) : Type 0 where
+    calls : List Call
+    order : List ℕ
+    says : SaysRun calls order said
+
+  module _ (SaysRun : List Call → List ℕ → Said → Type 0) where
+    ran_in_order :
+        (calls : List Call) (order : List ℕ) (said : Said) → said.ending ≡ other → SaysOfOrder SaysRun calls order said
+        → Ran SaysRun said
+    ran_in_order calls order said so (inl h) = absurd (not_so ScriptRefused said script_other h.says.0 so)
+    ran_in_order calls order said so (inr h) = record { calls = calls; order = h.numbers; says = h.says }
+
+    ran :
+        (d : Design) (script order : List ℕ) (said : Said) → said.ending ≡ other → SaysOfScript SaysRun d script order said
+        → Ran SaysRun said
+    ran d script order said so (inl h) = absurd (not_so ScriptRefused said script_other h.says.0 so)
+    ran d script order said so (inr h) = ran_in_order h.calls order said so h.says
+
+  play_other : (design script order : List ℕ) (said : Said) → said.ending ≡ other → PlaysFiles design script order said → ⊥
+  play_other design script order said so (inl h) = refusal_other design said h so
+  play_other design script order said so (inr h) =
+      not_so Done said done_other (ran (SaysPlay h.d) h.d script order said so h.says).says.0 so
+
+  print_other : (design : List ℕ) (said : Said) → said.ending ≡ other → PrintsFile design said → ⊥
+  print_other design said so (inl h) = refusal_other design said h so
+  print_other design said so (inr h) = not_so Done said done_other h.says.0 so
+
+  check_other : (design certificate : List ℕ) (said : Said) → said.ending ≡ other → ChecksFiles design certificate said → ⊥
+  check_other design certificate said so (inl h) = refusal_other design said h so
+  check_other design certificate said so (inr h) = not_so (ending_by h.accepted) said (judged_other h.accepted) h.ending so
+
+  certified_so :
+      (d : Design) (certificate script order : List ℕ) (said : Said) → said.ending ≡ other
+      → SaysOfCertificate d certificate script order said → Scheduled command.Sched said
+  certified_so d certificate script order said so (inl h) = absurd (not_so DesignRefused said design_other h.ending so)
+  certified_so d certificate script order said so (inr h) =
+      let r = ran (SaysSchedule d) d script order said so h.says in
+      (refl, d, r.calls, r.order, r.says)
+
+  sched_so :
+      (design certificate script order : List ℕ) (said : Said) → said.ending ≡ other
+      → SchedulesFiles design certificate script order said → Scheduled command.Sched said
+  sched_so design certificate script order said so (inl h) = absurd (refusal_other design said h so)
+  sched_so design certificate script order said so (inr h) = certified_so h.d certificate script order said so h.says
+
+  pub ends_scheduled :
+      (c : Command) (files : List (List ℕ)) (said : Said) → said.ending ≡ other → MeansOfFiles c files said → Scheduled c said
+  unfolding MeansOfFiles
+  ends_scheduled command.Play [] said e h = absurd h
+  ends_scheduled command.Play (design ∷ []) said e h = absurd h
+  ends_scheduled command.Play (design ∷ script ∷ []) said e h = absurd h
+  ends_scheduled command.Play (design ∷ script ∷ order ∷ []) said e h = absurd (play_other design script order said e h)
+  ends_scheduled command.Play (design ∷ script ∷ order ∷ more ∷ rest) said e h = absurd h
+  ends_scheduled command.Sched [] said e h = absurd h
+  ends_scheduled command.Sched (design ∷ []) said e h = absurd h
+  ends_scheduled command.Sched (design ∷ certificate ∷ []) said e h = absurd h
+  ends_scheduled command.Sched (design ∷ certificate ∷ script ∷ []) said e h = absurd h
+  ends_scheduled command.Sched (design ∷ certificate ∷ script ∷ order ∷ []) said e h = sched_so design certificate script order said e h
+  ends_scheduled command.Sched (design ∷ certificate ∷ script ∷ order ∷ more ∷ rest) said e h = absurd h
+  ends_scheduled command.Print [] said e h = absurd h
+  ends_scheduled command.Print (design ∷ []) said e h = absurd (print_other design said e h)
+  ends_scheduled command.Print (design ∷ more ∷ rest) said e h = absurd h
+  ends_scheduled command.Check [] said e h = absurd h
+  ends_scheduled command.Check (design ∷ []) said e h = absurd h
+  ends_scheduled command.Check (design ∷ certificate ∷ []) said e h = absurd (check_other design certificate said e h)
+  ends_scheduled command.Check (design ∷ certificate ∷ more ∷ rest) said e h = absurd h
+  ends_scheduled command.Init files said e h = absurd h
+  ends_scheduled command.Help [] said e h = absurd (not_so Done said done_other h.0 e)
+  ends_scheduled command.Help (more ∷ rest) said e h = absurd h
+  ends_scheduled command.Version [] said e h = absurd (not_so Done said done_other h.0 e)
+  ends_scheduled command.Version (more ∷ rest) said e h = absurd h
+
+-- ---- commands over a journal
+
+-- it is `init`
+pub inits :
+    (c : Command) (files : List (List ℕ)) (old new : Seen) (t : Telling) → MeansOverDisk c files old new t
+    → (c ≡ command.Init) × (design : List ℕ) × InitsFile design old new t
+unfolding MeansOverDisk
+inits command.Init [] old new t h = absurd h
+inits command.Init (design ∷ []) old new t h = (refl, design, h)
+inits command.Init (design ∷ more ∷ rest) old new t h = absurd h
+inits command.Play files old new t h = absurd h
+inits command.Sched files old new t h = absurd h
+inits command.Print files old new t h = absurd h
+inits command.Check files old new t h = absurd h
+inits command.Help files old new t h = absurd h
+inits command.Version files old new t h = absurd h
+
+other_end : (a b : Ending) (t : Telling) → a ≢ b → t.ending ≡ a → t.ending ≡ b → ⊥
+other_end a b t differs is so = differs (sym is ∙ so)
+
+init_unbegun : (design : List ℕ) (old new : Seen) (t : Telling) → InitsFile design old new t → t.ending ≡ Unbegun → ⊥
+init_unbegun design old new t (inl h) e =
+    refusal_other Unbegun done_unbegun (λ e. cc) (λ e. cc) design (said_in t) h.2 e
+init_unbegun design old new t (inr h) e = by h.ends
+  where
+    by : InitsJournal h.d old new t → ⊥
+    by (inl k) = other_end Done Unbegun t done_unbegun k.says.0.0 e
+    by (inr (inl k)) = other_end JournalRefused Unbegun t (λ e. cc) k.says.0.0 e
+    by (inr (inr k)) = other_end DiskFailed Unbegun t (λ e. cc) k.says.0.0 e
+
+init_refused :
+    (design : List ℕ) (old new : Seen) (t : Telling) → InitsFile design old new t → t.ending ≡ JournalRefused → FindsJournal old new t
+init_refused design old new t (inl h) e =
+    absurd (refusal_other JournalRefused (λ e. cc) (λ e. cc) (λ e. cc) design (said_in t) h.2 e)
+init_refused design old new t (inr h) e = by h.ends
+  where
+    by : InitsJournal h.d old new t → FindsJournal old new t
+    by (inl k) = absurd (other_end Done JournalRefused t (λ e. cc) k.says.0.0 e)
+    by (inr (inl k)) = k
+    by (inr (inr k)) = absurd (other_end DiskFailed JournalRefused t (λ e. cc) k.says.0.0 e)
+
+init_failed : (design : List ℕ) (old new : Seen) (t : Telling) → InitsFile design old new t → t.ending ≡ DiskFailed →
+    Rose old.faults new.faults
+init_failed design old new t (inl h) e =
+    absurd (refusal_other DiskFailed (λ e. cc) (λ e. cc) (λ e. cc) design (said_in t) h.2 e)
+init_failed design old new t (inr h) e = by h.ends
+  where
+    by : InitsJournal h.d old new t → Rose old.faults new.faults
+    by (inl k) = absurd (other_end Done DiskFailed t (λ e. cc) k.says.0.0 e)
+    by (inr (inl k)) = absurd (other_end JournalRefused DiskFailed t (λ e. cc) k.says.0.0 e)
+    by (inr (inr k)) = k.rose
+
+-- ---- what ends so
+
+-- a schedule of which a place is left unbegun
+abbrev pub Left : Command → Telling → Type 0
+Left c t =
+    (c ≡ command.Sched) × (d : Design) × (calls : List Call) × (order : List ℕ)
+    × TellsSchedule d calls order t.text t.history false
+
+ending_unbegun : (all_begun : Bool) → ending_at all_begun ≡ Unbegun → all_begun ≡ false
+ending_unbegun true e = absurd (done_unbegun e)
+ending_unbegun false e = refl
+
+-- a schedule ends as done, or with a place unbegun
+ending_else : (other : Ending) (all_begun : Bool) → Done ≢ other → Unbegun ≢ other → ending_at all_begun ≡ other → ⊥
+ending_else other true done unbegun e = done e
+ending_else other false done unbegun e = unbegun e
+
+left_of : (c : Command) (t : Telling) → t.ending ≡ Unbegun → Scheduled c (said_in t) → Left c t
+left_of c t e (is, d, calls, order, says) =
+    let begun : says.all_begun ≡ false = ending_unbegun says.all_begun (sym says.ending ∙ e) in
+    (is, d, calls, order, subst (TellsSchedule d calls order t.text t.history) begun says.tells)
+
+pub leaves_unbegun :
+    (c : Command) (files : List (List ℕ)) (old new : Seen) (t : Telling) → t.ending ≡ Unbegun → Means c files old new t → Left c t
+leaves_unbegun c files old new t e = by (is_journalled c)
+  where
+    by : (over : Bool) → MeansBy over c files old new t → Left c t
+    by true h = let i = inits c files old new t h in absurd (init_unbegun i.1 old new t i.2 e)
+    by false h =
+        left_of c t e (ends_scheduled Unbegun done_unbegun (λ e. cc) (λ e. cc) c files (said_in t) e h.2)
+
+not_scheduled :
+    (other : Ending) → Done ≢ other → Unbegun ≢ other → (c : Command) (t : Telling) → t.ending ≡ other → Scheduled c (said_in t) → ⊥
+not_scheduled other done unbegun c t e (is, d, calls, order, says) =
+    ending_else other says.all_begun done unbegun (sym says.ending ∙ e)
+
+pub refuses_journal :
+    (c : Command) (files : List (List ℕ)) (old new : Seen) (t : Telling) → t.ending ≡ JournalRefused → Means c files old new t
+    → (c ≡ command.Init) × FindsJournal old new t
+refuses_journal c files old new t e = by (is_journalled c)
+  where
+    by : (over : Bool) → MeansBy over c files old new t → (c ≡ command.Init) × FindsJournal old new t
+    by true h = let i = inits c files old new t h in (i.0, init_refused i.1 old new t i.2 e)
+    by false h =
+        absurd (not_scheduled JournalRefused (λ e. cc) (λ e. cc) c t e
+        (ends_scheduled JournalRefused (λ e. cc) (λ e. cc) (λ e. cc) c files (said_in t) e h.2))
+
+pub fails_by_disk :
+    (c : Command) (files : List (List ℕ)) (old new : Seen) (t : Telling) → t.ending ≡ DiskFailed → Means c files old new t
+    → Rose old.faults new.faults
+fails_by_disk c files old new t e = by (is_journalled c)
+  where
+    by : (over : Bool) → MeansBy over c files old new t → Rose old.faults new.faults
+    by true h = let i = inits c files old new t h in init_failed i.1 old new t i.2 e
+    by false h =
+        absurd (not_scheduled DiskFailed (λ e. cc) (λ e. cc) c t e
+        (ends_scheduled DiskFailed (λ e. cc) (λ e. cc) (λ e. cc) c files (said_in t) e h.2))

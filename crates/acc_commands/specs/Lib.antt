@@ -1,0 +1,16 @@
+pub mod Words
+pub mod Files
+pub mod Text
+pub mod Disks
+pub mod Refusals
+pub mod ReadDesigns
+pub mod Notes
+pub mod Scripts
+pub mod PlayFiles
+pub mod ScheduleFiles
+pub mod PrintFiles
+pub mod InitFiles
+pub mod CheckFiles
+pub mod Responses
+pub mod ReadScripts
+pub mod Means

@@ -1,0 +1,52 @@
+-- What a command makes of its files, and of its disk.
+use Rattle.std.specs.Prelude.{◌≡◌, ℕ, Bool, true, false, List, [], ◌∷◌}
+use Rattle.acc_commands.specs.declared.words.Command.{Command}
+use Rattle.acc_commands.specs.declared.words.Command.TheVariants as command
+use Rattle.acc_commands.specs.declared.endings.Ending.TheVariants.{Done}
+use Rattle.acc_commands.specs.Text.{Said, Says, Telling}
+use Rattle.acc_commands.specs.Disks.{Seen, WithoutDisk, TellsAll}
+use Rattle.acc_commands.specs.Notes.{help_text, version_text}
+use Rattle.acc_commands.specs.PlayFiles.{PlaysFiles}
+use Rattle.acc_commands.specs.ScheduleFiles.{SchedulesFiles}
+use Rattle.acc_commands.specs.PrintFiles.{PrintsFile}
+use Rattle.acc_commands.specs.CheckFiles.{ChecksFiles}
+use Rattle.acc_commands.specs.InitFiles.{InitsFile, InitLeaves}
+
+-- whether a command goes over a journal
+abbrev pub is_journalled : Command → Bool
+is_journalled command.Init = true
+is_journalled _ = false
+
+-- what a command without a journal makes of its files
+unfoldable pub MeansOfFiles : Command → List (List ℕ) → Said → Type 0
+MeansOfFiles command.Play (design ∷ script ∷ order ∷ []) = PlaysFiles design script order
+MeansOfFiles command.Sched (design ∷ certificate ∷ script ∷ order ∷ []) = SchedulesFiles design certificate script order
+MeansOfFiles command.Print (design ∷ []) = PrintsFile design
+MeansOfFiles command.Check (design ∷ certificate ∷ []) = ChecksFiles design certificate
+MeansOfFiles command.Help [] = Says Done help_text
+MeansOfFiles command.Version [] = Says Done version_text
+MeansOfFiles _ _ = λ said. ⊥
+
+-- what one over a journal makes of its files and of the disk
+unfoldable pub MeansOverDisk : Command → List (List ℕ) → Seen → Seen → Telling → Type 0
+MeansOverDisk command.Init (design ∷ []) = InitsFile design
+MeansOverDisk _ _ = λ old new t. ⊥
+
+abbrev pub MeansBy : Bool → Command → List (List ℕ) → Seen → Seen → Telling → Type 0
+MeansBy true c files old new t = MeansOverDisk c files old new t
+MeansBy false c files old new t = WithoutDisk (MeansOfFiles c files) old new t
+
+-- what a command makes of its files and of the disk; one without a journal leaves that as it is
+abbrev pub Means : Command → List (List ℕ) → Seen → Seen → Telling → Type 0
+Means c = MeansBy (is_journalled c) c
+
+-- what a crash at any moment of a command leaves of the file that a calm disk held
+unfoldable pub LeavesOfFile : Command → List (List ℕ) → List ℕ → List ℕ → Type 0
+LeavesOfFile command.Init (design ∷ []) = InitLeaves design
+LeavesOfFile _ _ = λ file image. image ≡ file
+
+-- A command says one thing of its files. One over a journal says one thing of them and of what its disk tells, where no call of the disk
+-- failed.
+abbrev pub CommandsMeanOne : Type 0
+CommandsMeanOne = (c : Command) (files : List (List ℕ)) (old one other : Seen) (a b : Telling)
+    → (is_journalled c ≡ true → TellsAll old one other) → Means c files old one a → Means c files old other b → a ≡ b

@@ -1,0 +1,24 @@
+//! The commands: which one the words ask for, the files that they name, and what it makes of them.
+#![tactic(auto)]
+
+mod closings;
+mod commands;
+mod designs;
+mod endings;
+mod files;
+mod journals;
+pub mod laws;
+mod notes;
+mod responses;
+mod scripts;
+mod words;
+
+pub use closings::{Answer, Closed};
+pub use commands::run;
+pub use designs::{ReadDesign, read_design};
+pub use endings::Ending;
+pub use files::{Refusal, read_all};
+pub use notes::help_text;
+pub use responses::{Response, one_line};
+pub use scripts::{ReadOrder, ReadScript, read_order, read_script};
+pub use words::{Command, asks_journal, command_of, file_count};

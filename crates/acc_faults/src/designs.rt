@@ -1,0 +1,160 @@
+//! What is wrong with the text of a design: its line, the word on it, and how to mend it.
+ghost use Rattle.std.specs.Prelude.{◌≡◌, IfOk};
+ghost use Rattle.acc_form.specs.declared.rules.FormError.TheVariants.{Bad};
+ghost use Rattle.acc_form.specs.Judged.{IsFaultInPrint};
+ghost use Rattle.acc_parse.specs.Texts.{IsDesignText};
+ghost use Rattle.acc_parse.specs.Faults.{Refuses};
+ghost use Rattle.acc_faults.specs.Refusals.{IsRefused, IsDiagnosed};
+
+use crate::forms::source_line;
+use crate::tokens::tokens_of;
+use acc_base::designs::Design;
+use acc_expected::syntax_spot;
+use acc_explain::{Spot, push_number, push_text, rule_hint, rule_text};
+use acc_form::{FormError, well_formed};
+use acc_lex::texts::words;
+use acc_names::names_of;
+use acc_parse::{ParseError, parse};
+use acc_spot::{limit_spot, name_spot, statement_spot};
+use acc_syntax::syntax;
+use std::alloc::{AllocError, Global};
+
+/// Why a text is no design that can be played.
+#[derive(Clone, Copy, Debug, PartialEq, Eq)]
+pub enum Refusal {
+    /// It isn't of the grammar.
+    Syntax,
+    /// A name isn't defined, or is defined a second time.
+    Name,
+    /// It passes the limit with this number.
+    Limit(u32),
+    /// It breaks the form rule with this number, on this line of its print.
+    Form(u32, u64),
+}
+
+/// What is wrong with the text of a design.
+#[derive(Drop)]
+pub struct Diagnosis {
+    pub refusal: Refusal,
+    /// The line of the text, from 1.
+    pub line: u64,
+    /// The word on that line, what is wrong in words, and how to mend it.
+    pub spot: Spot,
+}
+
+/// A design that was read, or what is wrong with its text.
+#[derive(Drop)]
+pub enum Diagnosed {
+    Read(Design),
+    Refused(Diagnosis),
+}
+
+/// The number of a text's first statement with a fault of names, if there is one.
+fn name_fault(alloc: Global, text: &[u8]) -> Result<u64, AllocError> {
+    let Ok(words) = words(alloc, text) else {
+        return Err(AllocError);
+    };
+    let Ok(tree) = syntax(alloc, words.as_slice()) else {
+        return Err(AllocError);
+    };
+    let names = names_of(alloc, &tree)?;
+    Ok(names.first_fault.unwrap_or(0))
+}
+
+/// The spot of the name that is wrong.
+fn wrong_name(alloc: Global, text: &[u8]) -> Result<Spot, AllocError> {
+    let number = name_fault(alloc, text)?;
+    let tokens = tokens_of(alloc, text)?;
+    name_spot(alloc, text, tokens.as_slice(), number)
+}
+
+/// The spot that passes a limit.
+fn passed_limit(alloc: Global, text: &[u8], line: u64, which: u32) -> Result<Spot, AllocError> {
+    let tokens = tokens_of(alloc, text)?;
+    limit_spot(alloc, text, tokens.as_slice(), line, which)
+}
+
+/// What is wrong with a text that is refused with an error.
+fn text_diagnosis(alloc: Global, text: &[u8], error: ParseError) -> Result<Diagnosis, AllocError>
+    requires { Refuses text.now error }
+    ensures { IfOk result (λ d. IsRefused text.now d.refusal d.line) }
+{
+    match error {
+        ParseError::Syntax(line) => Ok(Diagnosis {
+            refusal: Refusal::Syntax,
+            line,
+            spot: syntax_spot(alloc, text, line)?,
+        }),
+        ParseError::Name(line) => Ok(Diagnosis {
+            refusal: Refusal::Name,
+            line,
+            spot: wrong_name(alloc, text)?,
+        }),
+        ParseError::Limit(line, which) => Ok(Diagnosis {
+            refusal: Refusal::Limit(which),
+            line,
+            spot: passed_limit(alloc, text, line, which)?,
+        }),
+        ParseError::Memory => Err(AllocError),
+    }
+}
+
+/// The form rule with this number, in words.
+fn rule_words(alloc: Global, rule: u32) -> Result<Vec<u8>, AllocError> {
+    let mut what = Vec::new(alloc);
+    push_text(&mut what, rule_text(rule))?;
+    push_text(&mut what, b" (form rule ")?;
+    push_number(&mut what, u64::from(rule))?;
+    push_text(&mut what, b")")?;
+    Ok(what)
+}
+
+/// What is wrong with a text whose design breaks a form rule.
+fn form_diagnosis(
+    alloc: Global,
+    text: &[u8],
+    design: &Design,
+    rule: u32,
+    printed: u64,
+) -> Result<Diagnosis, AllocError>
+    requires stands { IsDesignText text.now design.now }
+    requires broken { IsFaultInPrint design.now (Bad rule printed) }
+    ensures { IfOk result (λ d. IsRefused text.now d.refusal d.line) }
+{
+    let source = source_line(alloc, text, design, rule, printed)?;
+    let tokens = tokens_of(alloc, text)?;
+    let what = rule_words(alloc, rule)?;
+    let spot = statement_spot(
+        alloc,
+        text,
+        tokens.as_slice(),
+        source.statement,
+        &what,
+        rule_hint(rule),
+    )?;
+    Ok(Diagnosis {
+        refusal: Refusal::Form(rule, printed),
+        line: source.line,
+        spot,
+    })
+}
+
+/// Reads a design as the program does: its text, and then the form rules; or tells what is wrong with the text, on the line that is
+/// refused. A text that is refused is gone over a few times more, and one that isn't of the grammar once for each word of the
+/// language.
+pub fn diagnose(alloc: Global, text: &[u8]) -> Result<Diagnosed, AllocError>
+    ensures { IfOk result (IsDiagnosed text.now) }
+{
+    let design = match parse(alloc, text) {
+        Ok(design) => design,
+        Err(error) => return Ok(Diagnosed::Refused(text_diagnosis(alloc, text, error)?)),
+    };
+    match well_formed(&design) {
+        Ok(()) => Ok(Diagnosed::Read(design)),
+        Err(FormError::Bad(rule, printed)) => {
+            let diagnosis = form_diagnosis(alloc, text, &design, rule, printed)?;
+            Ok(Diagnosed::Refused(diagnosis))
+        }
+        Err(FormError::Memory) => Err(AllocError),
+    }
+}

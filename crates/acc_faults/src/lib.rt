@@ -1,0 +1,11 @@
+//! Which line of a design's text is refused, and which part of its certificate, and why.
+#![tactic(auto)]
+
+mod certificates;
+mod designs;
+mod forms;
+mod tokens;
+
+pub use certificates::{CertFault, Judged, judge};
+pub use designs::{Diagnosed, Diagnosis, Refusal, diagnose};
+pub use tokens::tokens_of;

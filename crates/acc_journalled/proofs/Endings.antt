@@ -1,0 +1,84 @@
+-- What a command's parts come to.
+use Rattle.std.proofs.Common.{◌≡◌, inl, inr, ℕ, List, Option, Some, None, refl, subst}
+use Rattle.std.specs.Prelude.{IfSome}
+use Rattle.acc_base.specs.declared.designs.Design.{Design}
+use Rattle.acc_base.specs.declared.machines.Event.{Event}
+use Rattle.acc_base.specs.Annotated.{IsIdle}
+use Rattle.acc_base.specs.Machine.{World}
+use Rattle.acc_print.specs.Designs.{printed}
+use Rattle.acc_wal.specs.Journals.{Counts}
+use Rattle.acc_wal.specs.Wals.{Journal, IsOpened}
+use Rattle.acc_wal.specs.Creating.{RefusesNew}
+use Rattle.acc_wal.specs.Attaching.{IsOfBytes}
+use Rattle.acc_wal.specs.declared.errors.WalError.{WalError}
+use Rattle.acc_wal.specs.declared.errors.WalError.TheVariants.{Exists, NotJournal, OtherVersion, Damaged, Disk, Spent, Memory}
+use Rattle.acc_recover.specs.Answers.{RecoversFile}
+use Rattle.acc_recover.specs.Refusals.{RefusesRecovery}
+use Rattle.acc_recover.specs.declared.errors.RecoverError.{RecoverError}
+use Rattle.acc_recover.specs.declared.errors.RecoverError.TheVariants as recovery
+use Rattle.acc_journalled.specs.Tellings.{Telling, SaysOf}
+use Rattle.acc_journalled.specs.Making.{IsMakingError, SaysNotMade, MakesJournal}
+use Rattle.acc_journalled.specs.Recovering.{IsRecoverError, RecoversJournal}
+
+-- the disk of a journal that isn't spent holds its base text and its durable events
+pub holds : {D : Type 0} (wal : Journal D) (base : List ℕ) (events : List Event) (told : Option (List ℕ)) → IsOpened base events wal
+    → ((file : List ℕ) → told ≡ Some file → Counts file wal.base wal.durable) → IfSome told (λ file. Counts file base events)
+holds wal base events None opened counts = tt
+holds wal base events (Some file) opened counts =
+    subst (λ (b : List ℕ). Counts file b events) opened.base_is
+    (subst (λ (es : List Event). Counts file wal.base es) opened.durable_is (counts file refl))
+
+-- ---- making
+
+pub making : (error : WalError) (told : Option (List ℕ)) (fault : Type 0) → RefusesNew error told fault → IsMakingError error
+making Exists told fault why = tt
+making NotJournal told fault why = absurd why
+making (OtherVersion version) told fault why = absurd why
+making (Damaged place) told fault why = absurd why
+making Disk told fault why = tt
+making Spent told fault why = absurd why
+making Memory told fault why = tt
+
+pub not_made_so : (error : WalError) (d : Design) (told told' : Option (List ℕ)) (fault : Type 0) (t : Telling)
+    → RefusesNew error told fault → (IsOfBytes error → told' ≡ told) → SaysNotMade error t → MakesJournal d told told' fault t
+not_made_so Exists d told told' fault t why same says = inr (inl (record { there = why; same = same tt; says = says }))
+not_made_so NotJournal d told told' fault t why same says = absurd says
+not_made_so (OtherVersion version) d told told' fault t why same says = absurd says
+not_made_so (Damaged place) d told told' fault t why same says = absurd says
+not_made_so Disk d told told' fault t why same says = inr (inr (record { failed = why; says = says }))
+not_made_so Spent d told told' fault t why same says = absurd says
+not_made_so Memory d told told' fault t why same says = absurd says
+
+-- ---- recovering
+
+pub recovering : (error : RecoverError) (d : Design) (told : Option (List ℕ)) (fault : Type 0) → RefusesRecovery d error told fault
+    → IsRecoverError error
+recovering (recovery.Journal Exists) d told fault why = absurd why
+recovering (recovery.Journal NotJournal) d told fault why = tt
+recovering (recovery.Journal (OtherVersion version)) d told fault why = tt
+recovering (recovery.Journal (Damaged place)) d told fault why = tt
+recovering (recovery.Journal Disk) d told fault why = absurd why
+recovering (recovery.Journal Spent) d told fault why = absurd why
+recovering (recovery.Journal Memory) d told fault why = absurd why
+recovering recovery.OtherDesign d told fault why = tt
+recovering (recovery.Unlawful at) d told fault why = tt
+recovering recovery.Disk d told fault why = tt
+recovering recovery.Memory d told fault why = tt
+
+pub recovered_so : {D : Type 0} (text : World → ℕ → List ℕ) (d : Design) (told told' : Option (List ℕ)) (fault : Type 0) (w : World)
+    (wal : Journal D) (compensated : ℕ) (t : Telling)
+    → RecoversFile d told w wal compensated → IsIdle d w.rows → ((file : List ℕ) → told' ≡ Some file → Counts file wal.base wal.durable)
+    → SaysOf (text w compensated) w t → RecoversJournal text d told told' fault t
+recovered_so text d told told' fault w wal compensated t file idle counts says =
+    inl
+    (record {
+      found = file.found;
+      counts = file.counts;
+      last = w;
+      recovery = file.recovery;
+      idle = idle;
+      compensated = compensated;
+      unfinished_were = file.unfinished_were;
+      holds = holds wal (printed d) w.events told' file.settled counts;
+      says = says;
+    })

@@ -1,0 +1,164 @@
+-- One thing is said of a disk that tells its bytes.
+use Rattle.std.proofs.Common.{◌≡◌, inl, inr, ℕ, List, length, Option, Some, Result, Ok, Err, refl, sym, ap, subst, ◌∙◌}
+use Rattle.acc_base.specs.declared.designs.Design.{Design}
+use Rattle.acc_base.specs.declared.machines.Event.{Event}
+use Rattle.acc_base.specs.Lawful.{LeadLawfully}
+use Rattle.acc_base.specs.Machine.{World, start, unfinished}
+use Rattle.acc_machine.specs.Replays.{IsFirstUnlawful}
+use Rattle.acc_print.specs.Designs.{printed}
+use Rattle.acc_wal.specs.Attaching.{CountedAs}
+use Rattle.acc_wal.specs.Journals.{Counts}
+use Rattle.acc_wal.proofs.Apart.{one_answer}
+use Rattle.acc_wal.proofs.Once.{one_reading}
+use Rattle.acc_wal.specs.declared.errors.WalError.{WalError}
+use Rattle.acc_wal.specs.declared.errors.WalError.TheVariants as wal
+use Rattle.acc_recover.specs.Recoveries.{IsRecovery, LeavesUnfinished}
+use Rattle.acc_recover.specs.Refusals.{IsOfOther, IsUnlawfulAt, RefusesJournal, RefusesRecovery}
+use Rattle.acc_recover.proofs.Single.{one_recovery}
+use Rattle.acc_recover.specs.declared.errors.RecoverError.{RecoverError}
+use Rattle.acc_recover.specs.declared.errors.RecoverError.TheVariants.{Journal, OtherDesign, Unlawful, Disk, Memory}
+use Rattle.acc_journalled.specs.declared.answers.Ending.{Ending}
+use Rattle.acc_journalled.specs.declared.answers.Ending.TheVariants.{Done, JournalRefused, DiskFailed}
+use Rattle.acc_journalled.specs.Tellings.{Telling, Says}
+use Rattle.acc_journalled.specs.Making.{MakesJournal}
+use Rattle.acc_journalled.specs.Recovering.{SaysNotRead, SaysNotRecovered, Recovers, RefusesSo, RecoversJournal}
+use Rattle.acc_journalled.proofs.Lawfuls.{lead_once, lawful_or, first_once}
+
+-- ---- tellings
+
+telling_same : (a b : Telling) → a.ending ≡ b.ending → a.text ≡ b.text → a.history ≡ b.history → a.settled ≡ b.settled → a ≡ b
+telling_same a b ending text history settled =
+    λ i. record { ending = ending i; text = text i; history = history i; settled = settled i }
+
+says_same : (ending : Ending) (t u : List ℕ) (a b : Telling) → t ≡ u → Says ending t a → Says ending u b → a ≡ b
+says_same ending t u a b same h k = telling_same a b (h.0 ∙ sym k.0) (h.1 ∙ same ∙ sym k.1) (h.2 ∙ sym k.2) (h.3 ∙ sym k.3)
+
+not_read_once : (e : WalError) (a b : Telling) → SaysNotRead e a → SaysNotRead e b → a ≡ b
+not_read_once wal.NotJournal a b h k = says_same JournalRefused _ _ a b refl h k
+not_read_once (wal.OtherVersion version) a b h k = says_same JournalRefused _ _ a b refl h k
+not_read_once (wal.Damaged place) a b h k = says_same JournalRefused _ _ a b refl h k
+not_read_once wal.Exists a b h k = absurd h
+not_read_once wal.Disk a b h k = absurd h
+not_read_once wal.Spent a b h k = absurd h
+not_read_once wal.Memory a b h k = absurd h
+
+not_recovered_once : (e : RecoverError) (a b : Telling) → SaysNotRecovered e a → SaysNotRecovered e b → a ≡ b
+not_recovered_once (Journal e) a b h k = not_read_once e a b h k
+not_recovered_once OtherDesign a b h k = says_same JournalRefused _ _ a b refl h k
+not_recovered_once (Unlawful at) a b h k = says_same JournalRefused _ _ a b refl h k
+not_recovered_once Disk a b h k = says_same DiskFailed _ _ a b refl h k
+not_recovered_once Memory a b h k = absurd h
+
+-- ---- making
+
+pub making_once : (d : Design) (file : List ℕ) (one other : Option (List ℕ)) (f g : Type 0) (a b : Telling) → ¬ f → ¬ g
+    → MakesJournal d (Some file) one f a → MakesJournal d (Some file) other g b → a ≡ b
+making_once d file one other f g a b calm sound (inl h) (inl k) = says_same Done _ _ a b refl h.says k.says
+making_once d file one other f g a b calm sound (inl h) (inr (inl k)) = absurd (h.fresh k.there)
+making_once d file one other f g a b calm sound (inr (inl h)) (inl k) = absurd (k.fresh h.there)
+making_once d file one other f g a b calm sound (inr (inl h)) (inr (inl k)) = says_same JournalRefused _ _ a b refl h.says k.says
+making_once d file one other f g a b calm sound (inr (inr h)) k = absurd (calm h.failed)
+making_once d file one other f g a b calm sound h (inr (inr k)) = absurd (sound k.failed)
+
+-- ---- what a file is
+
+counted_so : (e : WalError) (file : List ℕ) → RefusesJournal e (Some file) → CountedAs file (Err e)
+counted_so wal.NotJournal file why = why
+counted_so (wal.OtherVersion version) file why = why
+counted_so (wal.Damaged place) file why = why
+counted_so wal.Exists file why = absurd why
+counted_so wal.Disk file why = absurd why
+counted_so wal.Spent file why = absurd why
+counted_so wal.Memory file why = absurd why
+
+abbrev Found : Type 0
+Found = Result (List ℕ × List Event) WalError
+
+ok_or_err : (p : List ℕ × List Event) (q : WalError) → (let a : Found = Ok p in let b : Found = Err q in a ≡ b) → ⊥
+ok_or_err p q same = cc
+
+err_same : (p q : WalError) → (let a : Found = Err p in let b : Found = Err q in a ≡ b) → p ≡ q
+err_same p q same = cc
+
+module _ (d : Design) (file : List ℕ) where
+  -- a journal is read
+  read_or : (e : WalError) (base : List ℕ) (events : List Event) → Counts file base events → RefusesJournal e (Some file) → ⊥
+  read_or e base events c why =
+      ok_or_err (base, events) e (one_answer file (Ok (base, events)) (Err e) c (counted_so e file why))
+
+  one_reason : (p q : WalError) → RefusesJournal p (Some file) → RefusesJournal q (Some file) → p ≡ q
+  one_reason p q h k = err_same p q (one_answer file (Err p) (Err q) (counted_so p file h) (counted_so q file k))
+
+  -- a journal of the design's text isn't one of another text
+  text_or : (events : List Event) → Counts file (printed d) events → IsOfOther file (printed d) → ⊥
+  text_or events c other = other.other (one_reading file other.base (printed d) other.events events other.counts c).0
+
+  same_events : (a b : List Event) → Counts file (printed d) a → Counts file (printed d) b → a ≡ b
+  same_events a b h k = (one_reading file (printed d) (printed d) a b h k).1
+
+  one_place : (p q : ℕ) → IsUnlawfulAt d file p → IsUnlawfulAt d file q → p ≡ q
+  one_place p q h k =
+      first_once d k.events start h.here k.here p q
+      (subst (λ (es : List Event). IsFirstUnlawful d start es p h.here) (same_events h.events k.events h.counts k.counts) h.first) k.first
+
+  -- ---- a refusal has one cause
+
+  refused_once : (e f : RecoverError) (x y : Type 0) (a b : Telling) → ¬ x → ¬ y → RefusesRecovery d e (Some file) x
+      → RefusesRecovery d f (Some file) y → SaysNotRecovered e a → SaysNotRecovered f b → e ≡ f
+  refused_once (Journal p) (Journal q) x y a b calm sound h k s r = ap (λ z. Journal z) (one_reason p q h k)
+  refused_once (Journal p) OtherDesign x y a b calm sound h k s r = absurd (read_or p k.base k.events k.counts h)
+  refused_once (Journal p) (Unlawful at) x y a b calm sound h k s r = absurd (read_or p (printed d) k.events k.counts h)
+  refused_once OtherDesign (Journal q) x y a b calm sound h k s r = absurd (read_or q h.base h.events h.counts k)
+  refused_once OtherDesign OtherDesign x y a b calm sound h k s r = refl
+  refused_once OtherDesign (Unlawful at) x y a b calm sound h k s r = absurd (text_or k.events k.counts h)
+  refused_once (Unlawful at) (Journal q) x y a b calm sound h k s r = absurd (read_or q (printed d) h.events h.counts k)
+  refused_once (Unlawful at) OtherDesign x y a b calm sound h k s r = absurd (text_or h.events h.counts k)
+  refused_once (Unlawful at) (Unlawful to) x y a b calm sound h k s r = ap (λ n. Unlawful n) (one_place at to h k)
+  refused_once Disk f x y a b calm sound h k s r = absurd (calm h)
+  refused_once Memory f x y a b calm sound h k s r = absurd s
+  refused_once (Journal p) Disk x y a b calm sound h k s r = absurd (sound k)
+  refused_once (Journal p) Memory x y a b calm sound h k s r = absurd r
+  refused_once OtherDesign Disk x y a b calm sound h k s r = absurd (sound k)
+  refused_once OtherDesign Memory x y a b calm sound h k s r = absurd r
+  refused_once (Unlawful at) Disk x y a b calm sound h k s r = absurd (sound k)
+  refused_once (Unlawful at) Memory x y a b calm sound h k s r = absurd r
+
+  -- what is recovered isn't refused
+  recovered_or : (found : List Event) (last : World) (e : RecoverError) (x : Type 0) (b : Telling) → ¬ x → Counts file (printed d) found
+      → IsRecovery d found last → RefusesRecovery d e (Some file) x → SaysNotRecovered e b → ⊥
+  recovered_or found last (Journal q) x b calm c r k s = read_or q (printed d) found c k
+  recovered_or found last OtherDesign x b calm c r k s = text_or found c k
+  recovered_or found last (Unlawful at) x b calm c r k s =
+      lawful_or d k.events start r.first k.here at
+      (subst (λ (es : List Event). LeadLawfully d start es r.first) (same_events found k.events c k.counts) r.comes) k.first
+  recovered_or found last Disk x b calm c r k s = calm k
+  recovered_or found last Memory x b calm c r k s = s
+
+  module _ (text : World → ℕ → List ℕ) (one other : Option (List ℕ)) (a b : Telling) where
+    recovers_once : Recovers text d (Some file) one a → Recovers text d (Some file) other b → a ≡ b
+    recovers_once h k =
+        let found = same_events h.found k.found h.counts k.counts in
+        let last : h.last ≡ k.last = one_recovery d k.found h.last k.last
+        (subst (λ (es : List Event). IsRecovery d es h.last) found h.recovery) k.recovery in
+        let were = subst (λ (es : List Event). LeavesUnfinished d es h.compensated) found h.unfinished_were in
+        let first = lead_once d k.found start were.first k.unfinished_were.first were.comes k.unfinished_were.comes in
+        let count : h.compensated ≡ k.compensated = were.count_is ∙ ap (λ (w : World). length (unfinished w)) first
+        ∙ sym k.unfinished_were.count_is in
+        let said : text h.last h.compensated ≡ text k.last k.compensated = λ i. text (last i) (count i) in
+        telling_same a b (h.says.0 ∙ sym k.says.0) (h.says.1 ∙ said ∙ sym k.says.1)
+        (h.says.2 ∙ ap (λ (w : World). w.events) last ∙ sym k.says.2)
+        (h.says.3 ∙ ap (λ (w : World). length w.events) last ∙ sym k.says.3)
+
+    refuses_once : (x y : Type 0) → ¬ x → ¬ y → RefusesSo d (Some file) x a → RefusesSo d (Some file) y b → a ≡ b
+    refuses_once x y calm sound h k =
+        let same = refused_once h.error k.error x y a b calm sound h.cause k.cause h.says k.says in
+        not_recovered_once k.error a b (subst (λ (e : RecoverError). SaysNotRecovered e a) same h.says) k.says
+
+    pub recovering_once : (x y : Type 0) → ¬ x → ¬ y → RecoversJournal text d (Some file) one x a
+        → RecoversJournal text d (Some file) other y b → a ≡ b
+    recovering_once x y calm sound (inl h) (inl k) = recovers_once h k
+    recovering_once x y calm sound (inl h) (inr k) =
+        absurd (recovered_or h.found h.last k.error y b sound h.counts h.recovery k.cause k.says)
+    recovering_once x y calm sound (inr h) (inl k) =
+        absurd (recovered_or k.found k.last h.error x a calm k.counts k.recovery h.cause h.says)
+    recovering_once x y calm sound (inr h) (inr k) = refuses_once x y calm sound h k

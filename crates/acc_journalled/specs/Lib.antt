@@ -1,0 +1,4 @@
+pub mod Tellings
+pub mod Making
+pub mod Recovering
+pub mod Laws

@@ -1,0 +1,84 @@
+-- Recovering a design's journal, and what is said of it.
+use Rattle.std.specs.Prelude.{◌⊎◌, ⊤, ◌++◌, ℕ, List, length, Option, IfSome, codes}
+use Rattle.std.specs.Fmt.{decimal}
+use Rattle.acc_base.specs.Annotated.{IsIdle}
+use Rattle.acc_base.specs.Lines.{line}
+use Rattle.acc_base.specs.Machine.{World}
+use Rattle.acc_base.specs.declared.designs.Design.{Design}
+use Rattle.acc_base.specs.declared.machines.Event.{Event}
+use Rattle.acc_dump.specs.Dumps.{dump_text}
+use Rattle.acc_print.specs.Designs.{printed}
+use Rattle.acc_wal.specs.Journals.{Counts}
+use Rattle.acc_wal.specs.declared.errors.WalError.{WalError}
+use Rattle.acc_wal.specs.declared.errors.WalError.TheVariants.{NotJournal, OtherVersion, Damaged}
+use Rattle.acc_recover.specs.Recoveries.{IsRecovery, LeavesUnfinished}
+use Rattle.acc_recover.specs.Refusals.{RefusesRecovery}
+use Rattle.acc_recover.specs.declared.errors.RecoverError.{RecoverError}
+use Rattle.acc_recover.specs.declared.errors.RecoverError.TheVariants.{Journal, OtherDesign, Unlawful, Disk, Memory}
+use Rattle.acc_journalled.specs.declared.answers.Ending.TheVariants.{JournalRefused, DiskFailed}
+use Rattle.acc_journalled.specs.Tellings.{Telling, Says, SaysOf}
+
+-- ---- what is said of a recovered state
+
+-- how many events it has, and how many transactions were compensated
+abbrev pub counts_text : World → ℕ → List ℕ
+counts_text w compensated = line (codes "events " ++ (decimal (length w.events) ++ (codes " compensated " ++ decimal compensated)))
+
+-- its rows, a line each
+abbrev pub rows_text : Design → World → ℕ → List ℕ
+rows_text d w compensated = dump_text d w.rows
+
+-- ---- what is said where nothing is recovered
+
+-- the reasons why bytes are no journal's
+abbrev pub IsReadingError : WalError → Type 0
+IsReadingError NotJournal = ⊤
+IsReadingError (OtherVersion version) = ⊤
+IsReadingError (Damaged place) = ⊤
+IsReadingError _ = ⊥
+
+abbrev pub SaysNotRead : WalError → Telling → Type 0
+SaysNotRead NotJournal t = Says JournalRefused (line (codes "refused journal none")) t
+SaysNotRead (OtherVersion version) t = Says JournalRefused (line (codes "refused journal version " ++ decimal version)) t
+SaysNotRead (Damaged place) t = Says JournalRefused (line (codes "refused journal damaged " ++ decimal place)) t
+SaysNotRead _ t = ⊥
+
+abbrev pub SaysUnlawful : ℕ → Telling → Type 0
+SaysUnlawful at t = Says JournalRefused (line (codes "refused journal unlawful " ++ decimal at)) t
+
+abbrev pub IsRecoverError : RecoverError → Type 0
+IsRecoverError (Journal error) = IsReadingError error
+IsRecoverError _ = ⊤
+
+-- want of memory says nothing
+abbrev pub SaysNotRecovered : RecoverError → Telling → Type 0
+SaysNotRecovered (Journal error) t = SaysNotRead error t
+SaysNotRecovered OtherDesign t = Says JournalRefused (line (codes "refused journal design")) t
+SaysNotRecovered (Unlawful at) t = SaysUnlawful at t
+SaysNotRecovered Disk t = Says DiskFailed (line (codes "fault disk")) t
+SaysNotRecovered Memory t = ⊥
+
+-- ---- recovering
+
+-- The file was a journal of the design's printed text with these events, and so many transactions were unfinished after them. Now the
+-- disk holds a journal of the recovered history, all of it durable; the recovered state is idle, and this is said of it.
+pub record Recovers (text : World → ℕ → List ℕ) (d : Design) (told told' : Option (List ℕ)) (t : Telling) : Type 0 where
+  pub found : List Event
+  pub counts : IfSome told (λ file. Counts file (printed d) found)
+  pub last : World
+  pub recovery : IsRecovery d found last
+  pub idle : IsIdle d last.rows
+  pub compensated : ℕ
+  pub unfinished_were : LeavesUnfinished d found compensated
+  pub holds : IfSome told' (λ file. Counts file (printed d) last.events)
+  pub says : SaysOf (text last compensated) last t
+
+-- it isn't recovered, for this cause
+pub record RefusesSo (d : Design) (told : Option (List ℕ)) (fault : Type 0) (t : Telling) : Type 0 where
+  pub error : RecoverError
+  pub cause : RefusesRecovery d error told fault
+  pub says : SaysNotRecovered error t
+
+abbrev pub RecoversJournal :
+    (World → ℕ → List ℕ) → Design → Option (List ℕ) → Option (List ℕ) → Type 0 → Telling → Type 0
+RecoversJournal text d told told' fault t = Recovers text d told told' t ⊎ RefusesSo d told fault t

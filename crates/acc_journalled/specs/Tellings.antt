@@ -1,0 +1,26 @@
+-- What a command over a journal says.
+use Rattle.std.specs.Prelude.{◌≡◌, ℕ, List, [], length}
+use Rattle.acc_base.specs.declared.machines.Event.{Event}
+use Rattle.acc_journalled.specs.declared.answers.Answer.{Answer}
+use Rattle.acc_base.specs.Machine.{World}
+use Rattle.acc_journalled.specs.declared.answers.Ending.{Ending}
+use Rattle.acc_journalled.specs.declared.answers.Ending.TheVariants.{Done}
+
+-- how it ends, what is printed, the events of the recovered state, and how many of them are durable
+pub record Telling : Type 0 where
+  pub ending : Ending
+  pub text : List ℕ
+  pub history : List Event
+  pub settled : ℕ
+
+-- what the code's value says
+abbrev pub telling_of : Answer → Telling
+telling_of a = record { ending = a.ending; text = a.text.items; history = a.history; settled = a.settled }
+
+-- it ends so, prints this text, and nothing was recovered
+abbrev pub Says : Ending → List ℕ → Telling → Type 0
+Says ending text t = (t.ending ≡ ending) × (t.text ≡ text) × (t.history ≡ []) × (t.settled ≡ 0)
+
+-- all is done, with this text, and the state's history is durable
+abbrev pub SaysOf : List ℕ → World → Telling → Type 0
+SaysOf text w t = (t.ending ≡ Done) × (t.text ≡ text) × (t.history ≡ w.events) × (t.settled ≡ length w.events)

@@ -1,0 +1,10 @@
+//! Commands over a journal on a disk: making one for a design, recovering it, and printing the recovered rows.
+#![tactic(auto)]
+
+mod answers;
+mod commands;
+pub mod laws;
+mod lines;
+
+pub use answers::{Answer, Closed, Ending};
+pub use commands::{dump_journal, init_journal, recover_journal};

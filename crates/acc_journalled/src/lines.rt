@@ -1,0 +1,124 @@
+//! What is said of a journal.
+ghost use Rattle.std.specs.Prelude.{◌≡◌, ◌≢◌, IfOk};
+ghost use Rattle.acc_base.specs.Lines.{line};
+ghost use Rattle.acc_journalled.specs.declared.answers.Ending.TheVariants.{Done};
+ghost use Rattle.acc_journalled.specs.Tellings.{telling_of, Says, SaysOf};
+ghost use Rattle.acc_journalled.specs.Making.{IsMakingError, SaysNotMade};
+ghost use Rattle.acc_journalled.specs.Recovering.{IsReadingError, IsRecoverError, SaysNotRead, SaysUnlawful, SaysNotRecovered};
+ghost use Rattle.acc_journalled.specs.Recovering.{counts_text, rows_text};
+
+use crate::answers::{Answer, Ending};
+use acc_base::designs::Design;
+use acc_base::sequences::Seq;
+use acc_dump::dump;
+use acc_machine::State;
+use acc_recover::RecoverError;
+use acc_store::MapStore;
+use acc_wal::WalError;
+use std::alloc::{AllocError, Global};
+
+/// An answer of one line, without events.
+pub fn one_line(alloc: Global, ending: Ending, text: &str) -> Result<Answer, AllocError>
+    ensures { IfOk result (λ a. Says ending (line text.now) (telling_of a)) }
+{
+    let text = format!(in alloc; "{text}\n")?.into_bytes();
+    Ok(Answer {
+        ending,
+        text,
+        history: Seq::new(alloc),
+        settled: 0,
+    })
+}
+
+/// What is said where a journal isn't made.
+pub fn not_made(alloc: Global, error: WalError) -> Result<Answer, AllocError>
+    requires { IsMakingError error }
+    ensures says { IfOk result (λ a. SaysNotMade error (telling_of a)) }
+    ensures undone { IfOk result (λ a. a.ending ≢ Done) }
+{
+    match error {
+        WalError::Exists => one_line(alloc, Ending::JournalRefused, "refused journal exists"),
+        WalError::Disk => one_line(alloc, Ending::DiskFailed, "fault disk"),
+        WalError::Memory => Err(AllocError),
+        _ => unreachable!(),
+    }
+}
+
+/// What is said of bytes that are no journal's.
+fn not_read(alloc: Global, error: WalError) -> Result<Answer, AllocError>
+    requires { IsReadingError error }
+    ensures says { IfOk result (λ a. SaysNotRead error (telling_of a)) }
+    ensures undone { IfOk result (λ a. a.ending ≢ Done) }
+{
+    let text = match error {
+        WalError::NotJournal => format!(in alloc; "refused journal none")?,
+        WalError::OtherVersion(version) => format!(in alloc; "refused journal version {version}")?,
+        WalError::Damaged(place) => format!(in alloc; "refused journal damaged {place}")?,
+        _ => unreachable!(),
+    };
+    one_line(alloc, Ending::JournalRefused, text.as_str())
+}
+
+/// What is said of a journal with an event that isn't lawful.
+fn unlawful(alloc: Global, at: u64) -> Result<Answer, AllocError>
+    ensures { IfOk result (λ a. SaysUnlawful at (telling_of a)) }
+{
+    let text = format!(in alloc; "refused journal unlawful {at}")?;
+    one_line(alloc, Ending::JournalRefused, text.as_str())
+}
+
+/// What is said where nothing is recovered.
+pub fn not_recovered(alloc: Global, error: RecoverError) -> Result<Answer, AllocError>
+    requires { IsRecoverError error }
+    ensures says { IfOk result (λ a. SaysNotRecovered error (telling_of a)) }
+    ensures undone { IfOk result (λ a. a.ending ≢ Done) }
+{
+    match error {
+        RecoverError::Journal(error) => not_read(alloc, error),
+        RecoverError::OtherDesign => {
+            one_line(alloc, Ending::JournalRefused, "refused journal design")
+        }
+        RecoverError::Unlawful(at) => unlawful(alloc, at),
+        RecoverError::Disk => one_line(alloc, Ending::DiskFailed, "fault disk"),
+        RecoverError::Memory => Err(AllocError),
+    }
+}
+
+/// The answer of a recovered state, with the text that is said of it.
+fn told(state: State<MapStore>, text: Vec<u8>) -> Answer
+    ensures { SaysOf text.items state.entry.world (telling_of result) }
+{
+    let (_, history) = state.into_parts();
+    Answer {
+        ending: Ending::Done,
+        text,
+        settled: history.len() as u64,
+        history,
+    }
+}
+
+/// Says how many events a recovered state has, and how many transactions were compensated.
+pub fn counted(
+    alloc: Global,
+    state: State<MapStore>,
+    compensated: u64,
+) -> Result<Answer, AllocError>
+    ensures { IfOk result (λ a. SaysOf (counts_text state.entry.world compensated) state.entry.world (telling_of a)) }
+{
+    let events = state.events().len();
+    let text = format!(in alloc; "events {events} compensated {compensated}\n")?.into_bytes();
+    Ok(told(state, text))
+}
+
+/// Says the rows of a recovered state, a line each.
+pub fn dumped(
+    alloc: Global,
+    d: &Design,
+    state: State<MapStore>,
+    compensated: u64,
+) -> Result<Answer, AllocError>
+    ensures { IfOk result (λ a. SaysOf (rows_text d.now state.entry.world compensated) state.entry.world (telling_of a)) }
+{
+    let text = dump(alloc, d, state.store())?;
+    Ok(told(state, text))
+}

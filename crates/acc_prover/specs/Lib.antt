@@ -1,0 +1,4 @@
+pub mod Passes
+pub mod Searches
+pub mod Tellings
+pub mod OpenLeaves

@@ -1,0 +1,8 @@
+pub mod Turned
+pub mod Acks
+pub mod Chains
+pub mod Settling
+pub mod Counts
+pub mod Marks
+pub mod Telling
+pub mod Lines

@@ -1,0 +1,37 @@
+use Rattle.std.proofs.Common.{◌≡◌, ◌∙◌, [], subst, arith, rules}
+use Rattle.std.specs.Prelude.{◌≢◌}
+use Rattle.acc_base.specs.declared.designs.Design.{Design}
+use Rattle.acc_base.specs.Machine.{unfinished}
+use Rattle.acc_schedule.specs.LockRules.{with_locks}
+use Rattle.acc_schedule.specs.Endings.{TurnsEach, unfinished_numbers}
+use Rattle.acc_schedule.proofs.Ends.{ends_more, all_ended}
+use Rattle.acc_settled.proofs.Chains.{runs_more, again_more}
+use Rattle.acc_settled.proofs.endings.end_all.Goals as goal
+
+pub loop-alloc-preserved : goal.loop-alloc-preserved
+loop-alloc-preserved g c =
+    let was = c.args.engine.now in
+    let old = c.loop-alloc.engine in
+    let new = c.pass.new.engine in
+    let inv = c.loop-alloc.invariant in
+    let some : unfinished old.state ≢ [] = search rules in
+    record {
+      so_far = ends_more (with_locks was.design) was.state old.state new.state inv.so_far some
+          (subst (λ (d : Design). TurnsEach (with_locks d) old.state (unfinished_numbers old.state) new.state) inv.runs.goes_on.design
+          c.in_ok-pass.ensures.turns);
+      grows = omega (arith, inv.grows, c.in_ok-pass.ensures.more);
+      begun = c.pass.ensures.begun ∙ inv.begun;
+      runs = runs_more g.D.Disk.told g.D.Disk.may_leave g.D.Disk.clock g.D.Disk.left_since g.D.Disk.faults g.met.D.Disk.only_now was old new
+          inv.runs inv.again c.pass.ensures.runs;
+      again = again_more g.D.Disk.told g.D.Disk.may_leave was old new inv.again c.in_ok-pass.ensures.again;
+    }
+
+pub returns-clause-ends : goal.returns-clause-ends
+returns-clause-ends g c =
+    let over : unfinished c.loop-alloc.engine.state ≡ [] = search rules in
+    all_ended (with_locks c.args.engine.now.design) c.args.engine.now.state c.loop-alloc.engine.state c.loop-alloc.invariant.so_far over
+
+pub returns-in_err-pass-clause-runs : goal.returns-in_err-pass-clause-runs
+returns-in_err-pass-clause-runs g c =
+    runs_more g.D.Disk.told g.D.Disk.may_leave g.D.Disk.clock g.D.Disk.left_since g.D.Disk.faults g.met.D.Disk.only_now c.args.engine.now
+    c.loop-alloc.engine c.pass.new.engine c.loop-alloc.invariant.runs c.loop-alloc.invariant.again c.pass.ensures.runs

@@ -1,0 +1,74 @@
+use Rattle.std.proofs.Common.{◌≡◌, ℕ, ◌+◌, ◌∷◌, ◌<◌, ◌≤◌, [], List, length, drop, get_or, sym, ap, subst, refl}
+use Rattle.std.proofs.Common.{◌∙◌, arith, add-one, drop-cons, Some, rules}
+use Rattle.std.specs.Prelude.{map, slice_get}
+use Rattle.std.proofs.lemmas.List.{drop_all}
+use Rattle.std.proofs.lemmas.Option.{slice_get-get_or, slice_get_read, same_Some}
+use Rattle.acc_base.specs.declared.designs.Design.{Design}
+use Rattle.acc_base.specs.declared.machines.Frame.{Frame}
+use Rattle.acc_base.specs.Machine.{unfinished}
+use Rattle.acc_schedule.specs.LockRules.{with_locks}
+use Rattle.acc_schedule.specs.Endings.{unfinished_numbers, TurnsEach}
+use Rattle.acc_schedule.specs.Passes.{Takes, Moves}
+use Rattle.acc_schedule.proofs.Ends.{TurnsSoFar, turns_more, all_turned}
+use Rattle.acc_schedule.proofs.Waiting.{passes_more, pass_goes_on, frame_of, as_many}
+use Rattle.acc_settled.proofs.Chains.{runs_more, again_more}
+use Rattle.acc_settled.proofs.endings.pass.Goals as goal
+
+pub loop-i-preserved : goal.loop-i-preserved
+loop-i-preserved g c =
+    let was = c.args.engine.now in
+    let old = c.loop-i.engine in
+    let new = c.take_any.new.engine in
+    let inv = c.loop-i.invariant in
+    let i = c.loop-i.i in
+    let numbers : List ℕ = c.in_ok-numbers.numbers.items in
+    let within : i < length numbers = omega arith in
+    let t : ℕ = c.index.result.now in
+    let here : slice_get numbers i ≡ Some t = slice_get_read numbers (length numbers) i t refl within (search rules) in
+    let is_t : get_or numbers i 0 ≡ t = same_Some (get_or numbers i 0) t (sym (slice_get-get_or numbers i 0 within) ∙ here) in
+    let first : drop i numbers ≡ get_or numbers i 0 ∷ drop (i + 1) numbers = rw (add-one, drop-cons numbers i 0) in
+    let split : drop i numbers ≡ t ∷ drop (i + 1) numbers = first ∙ ap (λ (n : ℕ). n ∷ drop (i + 1) numbers) is_t in
+    let frames = c.unfinished.ensures.frames ∙ ap unfinished c.state.ensures.state.0 in
+    let listed : numbers ≡ map (λ (f : Frame). f.t) (unfinished was.state) = c.in_ok-numbers.ensures ∙ ap (map (λ (f : Frame). f.t))
+    frames in
+    let frame = frame_of (unfinished was.state) i t (ap (λ (ts : List ℕ). slice_get ts i) (sym listed) ∙ here) in
+    record {
+      turned = turns_more was.design was.state old.state new.state numbers (drop (i + 1) numbers) t
+          (subst (λ (ts : List ℕ). TurnsSoFar (with_locks was.design) was.state numbers old.state ts) split inv.turned)
+          (subst (λ (d : Design). Takes d old.state t new.state) inv.runs.goes_on.design c.in_ok-take_any.ensures.takes);
+      passes = passes_more was.design was.state old.state new.state c.requires.good.steady i frame.0 frame.1 inv.passes
+          (subst (λ (n : ℕ). Moves was.design old.state n new.state) (sym frame.2)
+          (subst (λ (d : Design). Moves d old.state t new.state) inv.runs.goes_on.design c.in_ok-take_any.ensures.moves));
+      begun = c.take_any.ensures.begun ∙ inv.begun;
+      runs = runs_more g.D.Disk.told g.D.Disk.may_leave g.D.Disk.clock g.D.Disk.left_since g.D.Disk.faults g.met.D.Disk.only_now was old new
+          inv.runs inv.again c.take_any.ensures.runs;
+      again = again_more g.D.Disk.told g.D.Disk.may_leave was old new inv.again c.in_ok-take_any.ensures.again;
+    }
+
+pub returns-clause-turns : goal.returns-clause-turns
+returns-clause-turns g c =
+    let was = c.args.engine.now in
+    let numbers : List ℕ = c.in_ok-numbers.numbers.items in
+    let frames = c.unfinished.ensures.frames ∙ ap unfinished c.state.ensures.state.0 in
+    let listed : numbers ≡ unfinished_numbers was.state = c.in_ok-numbers.ensures ∙ ap (map (λ (f : Frame). f.t)) frames in
+    let past : length numbers ≤ c.loop-i.i = omega arith in
+    let over : drop c.loop-i.i numbers ≡ [] = drop_all c.loop-i.i numbers past in
+    subst (λ (ts : List ℕ). TurnsEach (with_locks was.design) was.state ts c.loop-i.engine.state) listed
+    (all_turned (with_locks was.design) was.state c.loop-i.engine.state numbers
+    (subst (λ (ts : List ℕ). TurnsSoFar (with_locks was.design) was.state numbers c.loop-i.engine.state ts) over c.loop-i.invariant.turned))
+
+pub returns-clause-more : goal.returns-clause-more
+returns-clause-more g c =
+    let was = c.args.engine.now in
+    let numbers : List ℕ = c.in_ok-numbers.numbers.items in
+    let frames = c.unfinished.ensures.frames ∙ ap unfinished c.state.ensures.state.0 in
+    let listed : numbers ≡ unfinished_numbers was.state = c.in_ok-numbers.ensures ∙ ap (map (λ (f : Frame). f.t)) frames in
+    let long : length numbers ≡ length (unfinished was.state) = ap length listed ∙ as_many (unfinished was.state) in
+    let past : length numbers ≤ c.loop-i.i = omega arith in
+    pass_goes_on was.design was.state c.loop-i.engine.state c.loop-i.i c.requires.good.steady c.requires.some (omega (arith, past, long))
+    c.loop-i.invariant.passes
+
+pub returns-in_err-take_any-clause-runs : goal.returns-in_err-take_any-clause-runs
+returns-in_err-take_any-clause-runs g c =
+    runs_more g.D.Disk.told g.D.Disk.may_leave g.D.Disk.clock g.D.Disk.left_since g.D.Disk.faults g.met.D.Disk.only_now c.args.engine.now
+    c.loop-i.engine c.take_any.new.engine c.loop-i.invariant.runs c.loop-i.invariant.again c.take_any.ensures.runs

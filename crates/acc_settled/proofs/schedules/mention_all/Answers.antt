@@ -1,0 +1,70 @@
+use Rattle.std.proofs.Common.{◌≡◌, ℕ, ◌+◌, ◌∷◌, ◌<◌, ◌≤◌, [], List, length, drop, get_or, refl, subst, arith, add-one, drop-cons}
+use Rattle.std.proofs.lemmas.List.{drop_all}
+use Rattle.acc_base.specs.declared.machines.Call.{Call}
+use Rattle.acc_play.proofs.Orders.{IsPlayedSoFar, opens_play, played_more}
+use Rattle.acc_schedule.specs.LockRules.{with_locks}
+use Rattle.acc_schedule.proofs.Closing.{played}
+use Rattle.acc_settled.specs.Boards.{play_of, IsMentioned}
+use Rattle.acc_settled.proofs.Chains.{runs_more, again_more, runs_none, again_none}
+use Rattle.acc_settled.proofs.schedules.mention_all.Goals as goal
+
+pub loop-place-init : goal.loop-place-init
+loop-place-init g c =
+    let d = c.args.d.now in
+    let e = c.args.engine.now in
+    let b = c.args.board.now in
+    record {
+      board = c.requires.board;
+      played = opens_play (with_locks d) d e.calls (play_of e.state b) c.args.order.now b.text.items (play_of e.state b) c.requires.text
+          refl;
+      runs = runs_none g.D.Disk.told g.D.Disk.may_leave g.D.Disk.clock g.D.Disk.left_since g.D.Disk.faults g.met.D.Disk.only_now e;
+      again = again_none g.D.Disk.told g.D.Disk.may_leave e c.requires.unfailed;
+    }
+
+pub loop-place-preserved : goal.loop-place-preserved
+loop-place-preserved g c =
+    let d = c.args.d.now in
+    let was = c.args.engine.now in
+    let first = play_of was.state c.args.board.now in
+    let order = c.args.order.now in
+    let i = c.loop-place.place-index in
+    let old = c.loop-place.engine in
+    let new = c.mention.new.engine in
+    let before = c.loop-place.board in
+    let after = c.mention.new.board in
+    let inv = c.loop-place.invariant in
+    let m =
+    subst (λ (cs : List Call). IsMentioned d cs (get_or order i 0) old.state new.state before after) inv.runs.goes_on.calls
+    c.in_ok-mention.ensures.mention in
+    let within : i < length order = omega arith in
+    let split : drop i order ≡ get_or order i 0 ∷ drop (i + 1) order = rw (add-one, drop-cons order i 0) in
+    record {
+      board = c.mention.ensures.board;
+      played = played_more (with_locks d) d was.calls first order (drop (i + 1) order) before.text.items after.text.items (get_or order i 0)
+          (play_of old.state before) (m.told, play_of new.state after)
+          (subst (λ (zs : List ℕ). IsPlayedSoFar (with_locks d) d was.calls first order zs before.text.items (play_of old.state before))
+          split
+          inv.played) m.is_mention m.text;
+      runs = runs_more g.D.Disk.told g.D.Disk.may_leave g.D.Disk.clock g.D.Disk.left_since g.D.Disk.faults g.met.D.Disk.only_now was old new
+          inv.runs inv.again c.mention.ensures.runs;
+      again = again_more g.D.Disk.told g.D.Disk.may_leave was old new inv.again c.in_ok-mention.ensures.again;
+    }
+
+pub returns-clause-played : goal.returns-clause-played
+returns-clause-played g c =
+    let d = c.args.d.now in
+    let was = c.args.engine.now in
+    let first = play_of was.state c.args.board.now in
+    let order = c.args.order.now in
+    let e = c.loop-place.engine in
+    let b = c.loop-place.board in
+    let past : length order ≤ c.loop-place.place-index = omega arith in
+    let over : drop c.loop-place.place-index order ≡ [] = drop_all c.loop-place.place-index order past in
+    played d was.calls first order b.text.items (play_of e.state b)
+    (subst (λ (zs : List ℕ). IsPlayedSoFar (with_locks d) d was.calls first order zs b.text.items (play_of e.state b)) over
+    c.loop-place.invariant.played)
+
+pub returns-in_err-mention-clause-runs : goal.returns-in_err-mention-clause-runs
+returns-in_err-mention-clause-runs g c =
+    runs_more g.D.Disk.told g.D.Disk.may_leave g.D.Disk.clock g.D.Disk.left_since g.D.Disk.faults g.met.D.Disk.only_now c.args.engine.now
+    c.loop-place.engine c.mention.new.engine c.loop-place.invariant.runs c.loop-place.invariant.again c.mention.ensures.runs

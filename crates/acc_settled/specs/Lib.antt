@@ -1,0 +1,6 @@
+pub mod Runs
+pub mod Boards
+pub mod Openings
+pub mod Stops
+pub mod Replies
+pub mod Schedules

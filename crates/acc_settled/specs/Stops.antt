@@ -1,0 +1,34 @@
+-- Why a schedule stops, and what is told then.
+use Rattle.std.specs.Prelude.{◌≡◌, ℕ, List, true, false, length, take, Option, Some, None, slice_get}
+use Rattle.std.specs.List.{flat_map, range_with_len}
+use Rattle.acc_io.specs.Causes.{Rose}
+use Rattle.acc_base.specs.Lines.{settled_line}
+use Rattle.acc_base.specs.Machine.{World, world}
+use Rattle.acc_base.specs.Plays.{Play}
+use Rattle.acc_engine.specs.Keeping.{Journalled, is_begun}
+use Rattle.acc_engine.specs.declared.errors.EngineError.{EngineError}
+use Rattle.acc_engine.specs.declared.errors.EngineError.TheVariants.{Disk as DiskFails, Failed as HasFailed, Memory as NoMemory}
+use Rattle.acc_settled.specs.declared.errors.Stop.{Stop}
+use Rattle.acc_settled.specs.declared.errors.Stop.TheVariants.{Disk, Memory}
+
+-- an engine has failed where its disk did
+abbrev pub stop_of : EngineError → Stop
+stop_of DiskFails = Disk
+stop_of HasFailed = Disk
+stop_of NoMemory = Memory
+
+-- why a call of an engine that hadn't failed isn't done: its disk's faults rose, and it has failed; or memory ran out
+abbrev pub Stops : {D : Type 0} → (D → ℕ) → Stop → Journalled D → Journalled D → Type 0
+Stops count Disk old new = (new.failed ≡ true) × Rose (count old.disk) (count new.disk)
+Stops count Memory old new = new.failed ≡ false
+
+-- a line each place: its reply after the durable events, or that it is unsettled
+pub record TellsSettled {D : Type 0} (e : Journalled D) (p : Play) (text : List ℕ) : Type 0 where
+  pub durable : World
+  pub run : world e.design (take e.settled e.state.events) ≡ Some durable
+  pub text_is : text ≡ flat_map (settled_line (record p { world = durable })) (range_with_len 1 (length e.calls))
+
+-- the numbers are those of the engine's places: there is one for each call, and the engine hasn't begun a place without a number
+pub record AreNumbersOf {D : Type 0} (e : Journalled D) (numbers : List (Option ℕ)) : Type 0 where
+  pub count : length numbers ≡ length e.calls
+  pub unbegun : (at : ℕ) → slice_get numbers at ≡ Some None → is_begun e.begun at ≡ false

@@ -1,0 +1,15 @@
+//! A schedule over a journal: the calls of an engine take their turns in a given order and then are ended, each end made durable before
+//! the next turn; and what is told of it.
+#![tactic(auto)]
+
+mod boards;
+mod endings;
+mod engines;
+mod errors;
+mod mentions;
+mod replies;
+mod schedules;
+mod turns;
+
+pub use engines::over_journal;
+pub use schedules::{Scheduled, Stopped, schedule};

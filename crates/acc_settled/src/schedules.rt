@@ -1,0 +1,185 @@
+//! An engine's calls that are scheduled in an order, and the lines of it.
+ghost use Rattle.std.specs.Prelude.{◌≡◌, ◌≤◌, ℕ, [], length, All, false, IfOk, IfErr, OnOk, IsTrue, IsFalse, IsSome, None, Some, slice_get};
+ghost use Rattle.acc_disk.specs.Moments.{AtAnyMoment};
+ghost use Rattle.acc_wal.specs.Fronts.{CountsFront};
+ghost use Rattle.acc_base.specs.declared.bounds.TheConstants.{MOST_EVENTS};
+ghost use Rattle.acc_base.specs.Machine.{unfinished};
+ghost use Rattle.acc_engine.specs.Ready.{IsReady};
+ghost use Rattle.acc_script.specs.OrderLines.{IsPlace};
+ghost use Rattle.acc_schedule.specs.Schedules.{TellsScheduleFrom, IsPlayed};
+ghost use Rattle.acc_settled.specs.Boards.{play_of, IsBoardOf, IsUnbegun};
+ghost use Rattle.acc_settled.specs.Openings.{opening_at, IsFresh};
+ghost use Rattle.acc_settled.specs.Runs.{GoesOn, RunsOn, IsReadyAgain, IsAckedButOne};
+ghost use Rattle.acc_settled.specs.Schedules.{IsClosed, StopsSo, TellsStop};
+ghost use Rattle.acc_settled.specs.Stops.{Stops};
+
+use crate::boards::{Board, open};
+use crate::endings::{end_all, end_places};
+use crate::errors::Stop;
+use crate::mentions::mention;
+use crate::replies::{durable_replies, push_replies};
+use crate::turns::settle;
+use acc_base::designs::Design;
+use acc_disk::Disk;
+use acc_engine::Engine;
+use acc_script::push_events;
+use acc_store::Store;
+use std::alloc::{AllocError, Global};
+
+/// What is told of a schedule: its lines, each with a line feed; and whether each call has begun. The events are the engine's.
+#[derive(Drop)]
+pub struct Scheduled {
+    pub text: Vec<u8>,
+    pub all_begun: bool,
+}
+
+/// Why a schedule stopped. The engine's history is as far as it came.
+#[derive(Drop)]
+pub enum Stopped {
+    /// The disk failed. There is a line for each call: its reply, where its end is durable, or that it is unsettled.
+    Disk(Vec<u8>),
+    /// Memory ran out.
+    Memory,
+}
+
+/// Mentions the places of an order, one after the other.
+fn mention_all<S: Store, D: Disk>(
+    engine: &mut Engine<S, D>,
+    board: &mut Board,
+    d: &Design,
+    order: &[u64],
+) -> Result<(), Stop>
+    requires design { engine.old.design ≡ d.now }
+    requires board { IsBoardOf engine.old board.old }
+    requires places { All (IsPlace (length engine.old.calls)) order.now }
+    requires text { board.old.text.items ≡ [] }
+    requires unfailed { engine.old.failed ≡ false }
+    ensures played { OnOk result (IsPlayed d.now engine.old.calls (play_of engine.old.state board.old) order.now board.new.text.items
+        (play_of engine.new.state board.new)) }
+    ensures board { IsBoardOf engine.new board.new }
+    ensures runs { RunsOn D.clock D.left_since D.told D.may_leave D.faults engine.old engine.new }
+    ensures again { OnOk result (IsReadyAgain D.told D.may_leave engine.old engine.new) }
+    ensures why { IfErr result (λ stop. Stops D.faults stop engine.old engine.new) }
+{
+    for place in order {
+        mention(engine, board, d, *place)?;
+    }
+    Ok(())
+}
+
+/// Whether each place has begun.
+fn all_begun(numbers: &[Option<u64>]) -> bool
+    ensures all { IsTrue result → All IsSome numbers.now }
+    ensures some { IsFalse result → (at : ℕ) × (slice_get numbers.now at ≡ Some None) }
+{
+    for number in numbers {
+        if number.is_none() {
+            return false;
+        }
+    }
+    true
+}
+
+/// Tells the replies and how many events there were, behind the lines of a board whose engine has nothing unfinished.
+fn close<S: Store, D: Disk>(engine: &Engine<S, D>, board: &mut Board) -> Result<bool, AllocError>
+    requires over { unfinished engine.now.state ≡ [] }
+    requires full { (at : ℕ) → IsUnbegun at board.old → MOST_EVENTS ≤ length engine.now.state.events }
+    ensures closed { IfOk result (IsClosed engine.now board.old board.new) }
+    ensures numbers { board.new.numbers.items ≡ board.old.numbers.items }
+{
+    let state = engine.state();
+    push_replies(state, board.numbers.as_slice(), &mut board.text)?;
+    push_events(&mut board.text, state.events().len() as u64)?;
+    Ok(all_begun(&board.numbers))
+}
+
+/// Lets the places of a board take their turns in the order, and ends them.
+fn run<S: Store, D: Disk>(
+    alloc: Global,
+    engine: &mut Engine<S, D>,
+    board: &mut Board,
+    d: &Design,
+    order: &[u64],
+) -> Result<bool, Stop>
+    requires design { engine.old.design ≡ d.now }
+    requires board { IsBoardOf engine.old board.old }
+    requires places { All (IsPlace (length engine.old.calls)) order.now }
+    requires text { board.old.text.items ≡ [] }
+    requires unfailed { engine.old.failed ≡ false }
+    ensures tells { IfOk result (λ begun. TellsScheduleFrom d.now engine.old.calls (play_of engine.old.state board.old) order.now
+        board.new.text.items engine.new.state.events begun) }
+    ensures settled { OnOk result (engine.new.settled ≡ length engine.new.state.events) }
+    ensures board { IsBoardOf engine.new board.new }
+    ensures runs { RunsOn D.clock D.left_since D.told D.may_leave D.faults engine.old engine.new }
+    ensures again { OnOk result (IsReadyAgain D.told D.may_leave engine.old engine.new) }
+    ensures why { IfErr result (λ stop. Stops D.faults stop engine.old engine.new) }
+{
+    mention_all(engine, board, d, order)?;
+    end_all(alloc, engine)?;
+    end_places(alloc, engine, board)?;
+    settle(engine)?;
+    Ok(close(engine, board)?)
+}
+
+/// What is told of a schedule that stopped.
+fn told_of<S: Store, D: Disk>(
+    alloc: Global,
+    engine: &Engine<S, D>,
+    board: &Board,
+    stop: Stop,
+) -> Stopped
+    requires board { IsBoardOf engine.now board.now }
+    ensures { StopsSo stop engine.now (play_of engine.now.state board.now) result }
+{
+    let _state = engine.state();
+    match stop {
+        Stop::Memory => Stopped::Memory,
+        Stop::Disk => match durable_replies(alloc, engine, board.numbers.as_slice()) {
+            Ok(text) => Stopped::Disk(text),
+            Err(_) => Stopped::Memory,
+        },
+    }
+}
+
+/// Schedules an engine's calls, none of which has begun, in the order: each number names a call by its place from 1, which begins at its
+/// first mention and takes a turn at each. Then what is unfinished is ended, in passes in which each takes a turn; and then each place
+/// that hasn't begun is begun and ended, in the order of the calls. Each end is made durable before the next turn.
+///
+/// It tells a line each mention, the reply of each place in the order of the calls, and how many events there were; and then all of
+/// them are durable. `Disk` comes only where the disk's count of faults rose in this call.
+///
+/// From a calm disk a crash at any moment of the call leaves a journal of some first of the events, of all that were durable before at
+/// least; and after Ok the disk is calm. However the call ends, each reply but one at most is durable.
+pub fn schedule<S: Store, D: Disk>(
+    alloc: Global,
+    engine: &mut Engine<S, D>,
+    d: &Design,
+    order: &[u64],
+) -> Result<Scheduled, Stopped>
+    requires design { engine.old.design ≡ d.now }
+    requires fresh { IsFresh engine.old }
+    requires places { All (IsPlace (length engine.old.calls)) order.now }
+    ensures tells { IfOk result (λ s. TellsScheduleFrom d.now engine.old.calls (opening_at engine.old.state engine.old.calls) order.now
+        s.text.items engine.new.state.events s.all_begun) }
+    ensures settled { OnOk result (engine.new.settled ≡ length engine.new.state.events) }
+    ensures ready { IsReady D.told D.may_leave engine.old → OnOk result (IsReady D.told D.may_leave engine.new) }
+    ensures stops { IfErr result (λ stop. TellsStop D.faults stop engine.old engine.new) }
+    ensures goes_on { GoesOn engine.old engine.new }
+    ensures kept { engine.old.settled ≤ engine.new.settled }
+    ensures one_end { IsAckedButOne engine.new }
+    ensures moments { IsReady D.told D.may_leave engine.old → AtAnyMoment D.clock D.left_since engine.old.disk engine.new.disk
+        (CountsFront engine.old.base engine.new.state.events engine.old.settled) }
+    ensures faults { D.faults engine.old.disk ≤ D.faults engine.new.disk }
+{
+    let mut board = match open(alloc, engine) {
+        Ok(board) => board,
+        Err(_) => return Err(Stopped::Memory),
+    };
+    match run(alloc, engine, &mut board, d, order) {
+        Ok(all_begun) => Ok(Scheduled {
+            text: board.text,
+            all_begun,
+        }),
+        Err(stop) => Err(told_of(alloc, engine, &board, stop)),
+    }
+}
