@@ -20,7 +20,7 @@ pub record Known : Type 0 where
   pub axioms : List Schema
 
 abbrev pub known_of : Branch → Known
-known_of b = record { rels = b.rels.items; insts = b.insts.items; axioms = b.axioms.items }
+known_of b = record { rels = b.rels; insts = b.insts.items; axioms = b.axioms.items }
 
 -- what a branch knows, and the nodes of the proof so far, in preorder
 abbrev pub State : Type 0

@@ -10,7 +10,6 @@ use crate::copies::copied_schema;
 use crate::halts::Halt;
 use crate::kinds::{Kind, all_kinds};
 use crate::known::{Branch, shows_all};
-use crate::names::unknowns_of;
 use crate::schemas::is_among;
 use acc_axioms::axioms::{Need, need_of};
 use acc_axioms::nodes::{Node, Schema};
@@ -18,12 +17,13 @@ use acc_base::designs::Design;
 use acc_base::forms::Rel;
 use acc_base::sequences::Seq;
 use acc_base::sequents::Sequent;
+use acc_elim::solver::Solver;
 use acc_farkas::refuting::Mults;
 use std::alloc::{AllocError, Global};
 
 /// Adds relations behind the others.
-fn add_rels(rels: &mut Vec<Rel>, added: Seq<Rel>) -> Result<(), AllocError>
-    ensures { OnOk result (rels.new.items ≡ rels.old.items ++ added) }
+fn add_rels(rels: &mut Solver, added: Seq<Rel>) -> Result<(), AllocError>
+    ensures { OnOk result (rels.new ≡ rels.old ++ added) }
 {
     for rel in added.into_vec() {
         rels.push(rel)?;
@@ -101,7 +101,7 @@ fn try_kind(
     ensures { Leaves result (known_of known.new, nodes.new.items)
         (try_kind design.now sequent.now (known_of known.old, nodes.old.items) kind) }
 {
-    let names = unknowns_of(alloc, known.rels.as_slice())?;
+    let names = known.rels.unknowns(alloc)?;
     let tried = candidates(alloc, names.as_slice(), kind)?;
     for schema in &tried {
         try_axiom(alloc, design, sequent, known, nodes, schema)?;

@@ -1,6 +1,6 @@
 //! What a branch knows, and what elimination shows there.
-ghost use Rattle.std.specs.Prelude.{◌≡◌, ◌++◌, ◌∷◌, [], Some, None, if◌then◌else◌, IfOk, OnOk};
-ghost use Rattle.acc_branch.specs.Courses.{Answers, LeavesIf};
+ghost use Rattle.std.specs.Prelude.{◌≡◌, ◌++◌, ◌∷◌, [], Some, None, if◌then◌else◌, IfOk};
+ghost use Rattle.acc_branch.specs.Courses.{halted, Answers, LeavesIf};
 ghost use Rattle.acc_branch.specs.Known.{below, above, verdict, refuting, with_next, excludes, shows_at_most, shows_at_least, shows};
 ghost use Rattle.acc_branch.specs.Known.{shows_all};
 
@@ -8,7 +8,7 @@ use crate::halts::Halt;
 use acc_axioms::nodes::Schema;
 use acc_base::forms::{Form, Rel};
 use acc_base::sums::FormSum;
-use acc_elim::deciding::decide;
+use acc_elim::solver::Solver;
 use acc_elim::verdicts::{ElimError, Verdict};
 use acc_farkas::refuting::Mults;
 use acc_proof::facts;
@@ -17,30 +17,42 @@ use std::alloc::{AllocError, Global};
 /// The relations that are known, in order, and which instances, by their places, and axioms were added to them.
 #[derive(Drop)]
 pub struct Branch {
-    pub rels: Vec<Rel>,
+    pub rels: Solver,
     pub insts: Vec<usize>,
     pub axioms: Vec<Schema>,
 }
 
-/// Whether relations hold at some point.
-pub fn verdict(alloc: Global, rels: &[Rel]) -> Result<Verdict, Halt>
-    ensures { Answers result (verdict rels.now) }
+/// How a search halts where an elimination does.
+fn halted(error: ElimError) -> Halt
+    ensures { result ≡ halted error }
 {
-    match decide(alloc, rels) {
-        Ok(verdict) => Ok(verdict),
-        Err(ElimError::Wide) => Err(Halt::Wide),
-        Err(ElimError::Many) => Err(Halt::Many),
-        Err(ElimError::Memory) => Err(Halt::Memory),
+    match error {
+        ElimError::Wide => Halt::Wide,
+        ElimError::Many => Halt::Many,
+        ElimError::Memory => Halt::Memory,
     }
 }
 
-/// Multipliers that refute relations, if they have no solution.
-pub fn refuting(alloc: Global, rels: &[Rel]) -> Result<Option<Mults>, Halt>
-    ensures { Answers result (refuting rels.now) }
+/// Whether relations hold at some point.
+pub fn verdict(alloc: Global, rels: &mut Solver) -> Result<Verdict, Halt>
+    ensures kind { Answers result (verdict rels.old) }
+    ensures same { rels.new ≡ rels.old }
 {
-    match verdict(alloc, rels)? {
-        Verdict::Refuted(multipliers) => Ok(Some(multipliers)),
-        Verdict::Solved(_) => Ok(None),
+    match rels.decide(alloc) {
+        Ok(verdict) => Ok(verdict),
+        Err(error) => Err(halted(error)),
+    }
+}
+
+/// Multipliers that refute relations and one more behind them, if they have no solution.
+fn refuting(alloc: Global, rels: &mut Solver, last: Rel) -> Result<Option<Mults>, Halt>
+    ensures kind { Answers result (refuting (rels.old ++ last ∷ [])) }
+    ensures same { rels.new ≡ rels.old }
+{
+    match rels.decide_with(alloc, last) {
+        Ok(Verdict::Refuted(multipliers)) => Ok(Some(multipliers)),
+        Ok(Verdict::Solved(_)) => Ok(None),
+        Err(error) => Err(halted(error)),
     }
 }
 
@@ -82,16 +94,14 @@ fn note(found: &mut Vec<Mults>, multipliers: Option<Mults>) -> Result<bool, Allo
 /// Whether what is known refutes a relation; the multipliers come behind the others.
 fn excludes(
     alloc: Global,
-    rels: &mut Vec<Rel>,
+    rels: &mut Solver,
     found: &mut Vec<Mults>,
     contrary: Rel,
 ) -> Result<bool, Halt>
-    ensures kind { LeavesIf result found.new.items (excludes rels.old.items found.old.items contrary) }
-    ensures same { OnOk result (rels.new.items ≡ rels.old.items) }
+    ensures kind { LeavesIf result found.new.items (excludes rels.old found.old.items contrary) }
+    ensures same { rels.new ≡ rels.old }
 {
-    rels.push(contrary)?;
-    let multipliers = refuting(alloc, rels.as_slice())?;
-    rels.pop();
+    let multipliers = refuting(alloc, rels, contrary)?;
     let shown = note(found, multipliers)?;
     Ok(shown)
 }
@@ -99,12 +109,12 @@ fn excludes(
 /// Whether what is known shows that a form is at most 0.
 fn shows_at_most(
     alloc: Global,
-    rels: &mut Vec<Rel>,
+    rels: &mut Solver,
     found: &mut Vec<Mults>,
     form: &Form,
 ) -> Result<bool, Halt>
-    ensures kind { LeavesIf result found.new.items (shows_at_most rels.old.items found.old.items form.now) }
-    ensures same { OnOk result (rels.new.items ≡ rels.old.items) }
+    ensures kind { LeavesIf result found.new.items (shows_at_most rels.old found.old.items form.now) }
+    ensures same { rels.new ≡ rels.old }
 {
     let contrary = above(alloc, form)?;
     excludes(alloc, rels, found, contrary)
@@ -113,26 +123,21 @@ fn shows_at_most(
 /// Whether what is known shows that a form is at least 0.
 fn shows_at_least(
     alloc: Global,
-    rels: &mut Vec<Rel>,
+    rels: &mut Solver,
     found: &mut Vec<Mults>,
     form: &Form,
 ) -> Result<bool, Halt>
-    ensures kind { LeavesIf result found.new.items (shows_at_least rels.old.items found.old.items form.now) }
-    ensures same { OnOk result (rels.new.items ≡ rels.old.items) }
+    ensures kind { LeavesIf result found.new.items (shows_at_least rels.old found.old.items form.now) }
+    ensures same { rels.new ≡ rels.old }
 {
     let contrary = below(alloc, form)?;
     excludes(alloc, rels, found, contrary)
 }
 
 /// Whether what is known shows a relation.
-fn shows(
-    alloc: Global,
-    rels: &mut Vec<Rel>,
-    found: &mut Vec<Mults>,
-    rel: &Rel,
-) -> Result<bool, Halt>
-    ensures kind { LeavesIf result found.new.items (shows rels.old.items found.old.items rel.now) }
-    ensures same { OnOk result (rels.new.items ≡ rels.old.items) }
+fn shows(alloc: Global, rels: &mut Solver, found: &mut Vec<Mults>, rel: &Rel) -> Result<bool, Halt>
+    ensures kind { LeavesIf result found.new.items (shows rels.old found.old.items rel.now) }
+    ensures same { rels.new ≡ rels.old }
 {
     if !shows_at_most(alloc, rels, found, &rel.form)? {
         return Ok(false);
@@ -147,12 +152,12 @@ fn shows(
 /// inequality and two for an equation. The cost is that of so many eliminations.
 pub fn shows_all(
     alloc: Global,
-    rels: &mut Vec<Rel>,
+    rels: &mut Solver,
     found: &mut Vec<Mults>,
     facts: &[Rel],
 ) -> Result<bool, Halt>
-    ensures kind { LeavesIf result found.new.items (shows_all rels.old.items found.old.items facts.now) }
-    ensures same { OnOk result (rels.new.items ≡ rels.old.items) }
+    ensures kind { LeavesIf result found.new.items (shows_all rels.old found.old.items facts.now) }
+    ensures same { rels.new ≡ rels.old }
 {
     for fact in facts {
         if !shows(alloc, rels, found, fact)? {

@@ -31,7 +31,7 @@ pub fn shelf(alloc: Global, design: &str) -> Result<MemShelf, AllocError> {
 }
 
 /// The command line of a schedule over the files that a shelf has.
-pub const SCHED: &str = "sched design certificate script order";
+pub const SCHED: &str = "rehearse design certificate script order";
 
 /// A shelf with a design and a certificate.
 pub fn certified_shelf(

@@ -3,6 +3,6 @@
 
 mod checks;
 pub mod laws;
-mod origins;
+pub mod origins;
 
 pub use checks::{Admission, Report, admit, check};

@@ -1,12 +1,13 @@
 -- The causes of the statuses, from the one clause on the answer.
 use Rattle.std.proofs.Common.{◌≡◌, ℕ, List, Option, None, Some, refl, sym, ◌∙◌, inl, inr}
+use Rattle.std.specs.Prelude.{◌⊎◌}
 use Rattle.acc_base.specs.declared.machines.Event.{Event}
 use Rattle.acc_io.specs.Causes.{Rose}
 use Rattle.acc_io.specs.Shelves.{Told}
 use Rattle.acc_io.specs.declared.counts.Counts.{Counts}
 use Rattle.acc_commands.specs.declared.words.Command.{Command}
-use Rattle.acc_commands.specs.declared.endings.Ending.{Ending}
-use Rattle.acc_commands.specs.declared.endings.Ending.TheVariants.{Done, JournalRefused, DiskFailed, Unbegun}
+use Rattle.acc_journalled.specs.declared.answers.Ending.{Ending}
+use Rattle.acc_journalled.specs.declared.answers.Ending.TheVariants.{Done, JournalRefused, DiskFailed, Unbegun}
 use Rattle.acc_cli.specs.declared.status.Status.{Status}
 use Rattle.acc_cli.specs.declared.status.Status.TheVariants.{Usage, File, Sink, Memory, Ran}
 use Rattle.acc_cli.specs.Replies.{Reply}
@@ -14,8 +15,10 @@ use Rattle.acc_commands.specs.Disks.{Seen}
 use Rattle.acc_commands.specs.Words.{command_of, files_of}
 use Rattle.acc_cli.specs.Meant.{Runs, MeansForm, Meant}
 use Rattle.acc_cli.specs.Answered.{Answered}
-use Rattle.acc_cli.specs.Causes.{EndsSo, LeavesUnbegun, RefusesJournal, HasCauses}
-use Rattle.acc_commands.proofs.WhichCommands.{leaves_unbegun, refuses_journal, fails_by_disk}
+use Rattle.acc_cli.specs.Causes.{EndsSo, LeavesInMemory, LeavesOverJournal, LeavesUnbegun, FindsJournal, RefusesRecovering, RefusesJournal, HasCauses}
+use Rattle.acc_journalled.proofs.Endings.{was_of_bytes}
+use Rattle.acc_commands.proofs.RefusedOvers.{RefusesOver}
+use Rattle.acc_commands.proofs.WhichCommands.{LeftAnyhow, leaves_unbegun, refuses_journal, fails_by_disk}
 
 module _ (held : List ℕ → Told) (counts counts' : Counts) (disk disk' : Seen) (words : List (List ℕ)) where
   -- the files were given, and the command ended so
@@ -36,14 +39,34 @@ module _ (held : List ℕ → Told) (counts counts' : Counts) (disk disk' : Seen
   -- the schedule left a place unbegun
   left_unbegun : EndsSo held counts counts' disk disk' words Unbegun → LeavesUnbegun held counts counts' disk disk' words
   left_unbegun ends =
-      let left = leaves_unbegun ends.command ends.files disk disk' ends.said ends.ending_is ends.meant in
-      record { ends = ends; is_sched = left.0; d = left.1; calls = left.2; order = left.3; tells = left.4 }
+      record { ends = ends; left = by (leaves_unbegun ends.command ends.files disk disk' ends.said ends.ending_is ends.meant) }
+    where
+      by : LeftAnyhow ends.command ends.said → LeavesInMemory ends.command ends.said ⊎ LeavesOverJournal ends.command ends.said
+      by (inl left) = inl (record { is_rehearse = left.0; d = left.1; calls = left.2; order = left.3; tells = left.4 })
+      by (inr left) =
+          inr (record { is_sched = left.0; d = left.1.0; calls = left.1.1; order = left.1.2; first = left.1.3; tells = left.1.4 })
 
-  -- the journal was there
+  -- a journal was there, or none is recovered
   refused_journal : EndsSo held counts counts' disk disk' words JournalRefused → RefusesJournal held counts counts' disk disk' words
   refused_journal ends =
-      let found = refuses_journal ends.command ends.files disk disk' ends.said ends.ending_is ends.meant in
-      record { ends = ends; is_init = found.0; there = found.1.there; same = found.1.same }
+      record { ends = ends; why = by (refuses_journal ends.command ends.files disk disk' ends.said ends.ending_is ends.meant) }
+    where
+      by : RefusesOver ends.command disk disk' ends.said
+          → FindsJournal ends.command disk disk' ⊎ RefusesRecovering ends.command disk disk'
+      by (inl found) = inl (record { is_init = found.0; there = found.1.there; same = found.1.same })
+      by (inr refused) =
+          let cause = refused.2 in
+          let of_bytes = was_of_bytes cause.error ends.said cause.says (λ e. let s : JournalRefused ≡ DiskFailed =
+          sym ends.ending_is ∙ e in absurd cc) in
+          inr (record {
+            is_over = refused.0;
+            d = refused.1;
+            error = cause.error;
+            of_bytes = of_bytes;
+            cause = cause.cause;
+            same = cause.same;
+            kept = cause.kept of_bytes;
+          })
 
   failed_disk : EndsSo held counts counts' disk disk' words DiskFailed → Rose disk.faults disk'.faults
   failed_disk ends = fails_by_disk ends.command ends.files disk disk' ends.said ends.ending_is ends.meant

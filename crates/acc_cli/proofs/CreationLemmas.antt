@@ -1,40 +1,27 @@
 -- Where `init` ended as done, the journal was made.
-use Rattle.std.proofs.Common.{◌≡◌, ℕ, List, [], ◌∷◌, Option, Some, inl, inr, sym, ap, subst, ◌∙◌}
-use Rattle.std.specs.Prelude.{◌⊎◌, codes}
+use Rattle.std.proofs.Common.{◌≡◌, ℕ, List, [], ◌∷◌, Option, Some, inl, inr, sym, subst, ◌∙◌}
+use Rattle.std.specs.Prelude.{◌⊎◌}
 use Rattle.std.specs.Io.KnownBytes.{Appends}
 use Rattle.acc_base.specs.declared.machines.Event.{Event}
-use Rattle.acc_base.specs.Lines.{line}
 use Rattle.acc_io.specs.Shelves.{Told}
 use Rattle.acc_io.specs.declared.counts.Counts.{Counts}
-use Rattle.acc_parse.specs.declared.errors.ParseError.{ParseError}
-use Rattle.acc_parse.specs.declared.errors.ParseError.TheVariants as errors
 use Rattle.acc_commands.specs.declared.words.Command.{Command}
 use Rattle.acc_commands.specs.declared.words.Command.TheVariants as command
-use Rattle.acc_commands.specs.declared.endings.Ending.{Ending}
-use Rattle.acc_commands.specs.declared.endings.Ending.TheVariants.{Done, DesignRefused, JournalRefused, DiskFailed}
-use Rattle.acc_commands.specs.Text.{Said, Telling, said_in}
+use Rattle.acc_journalled.specs.declared.answers.Ending.TheVariants.{Done, DesignRefused, JournalRefused, DiskFailed}
+use Rattle.acc_journalled.specs.Tellings.{Telling}
+use Rattle.acc_commands.specs.Text.{said_in}
 use Rattle.acc_commands.specs.Disks.{Seen}
 use Rattle.acc_commands.specs.Words.{command_of, files_of}
 use Rattle.acc_commands.specs.Files.{AreFiles}
-use Rattle.acc_commands.specs.Refusals.{SaysError, RefusesDesign}
 use Rattle.acc_commands.specs.InitFiles.{InitsJournal, InitsFile}
 use Rattle.acc_commands.specs.Means.{MeansOverDisk}
+use Rattle.acc_commands.proofs.JournalEndings.{refusal_ends}
 use Rattle.acc_cli.specs.declared.status.Status.{Status}
 use Rattle.acc_cli.specs.declared.status.Status.TheVariants.{File, Sink, Memory, Ran}
 use Rattle.acc_cli.specs.Replies.{Reply}
 use Rattle.acc_cli.specs.Meant.{MeansForm, Meant}
-use Rattle.acc_cli.specs.Answered.{Answered, Ends}
+use Rattle.acc_cli.specs.Answered.{Answered}
 use Rattle.acc_cli.specs.Creations.{IsCreated}
-
-error_ends : (e : ParseError) (said : Said) → SaysError e said → said.ending ≡ DesignRefused
-error_ends (errors.Syntax at) said says = says.0
-error_ends (errors.Name at) said says = says.0
-error_ends (errors.Limit at which) said says = says.0
-error_ends errors.Memory said says = absurd says
-
-refusal_ends : (design : List ℕ) (said : Said) → RefusesDesign design said → said.ending ≡ DesignRefused
-refusal_ends design said (inl h) = error_ends h.error said h.says
-refusal_ends design said (inr h) = h.says.0
 
 module _ (held : List ℕ → Told) (words : List (List ℕ)) (disk disk' : Seen) (old new : Option (List ℕ)) where
   of_file : (design : List ℕ) (t : Telling) → t.ending ≡ Done → AreFiles held (files_of command.Init words) (design ∷ [])
@@ -52,11 +39,11 @@ module _ (held : List ℕ → Told) (words : List (List ℕ)) (disk disk' : Seen
         formed = h.formed;
         fresh = k.fresh;
         made = k.made;
-        counts = k.counts;
-        says = subst (Appends old new) k.says.0.1 appends;
+        counts = k.holds;
+        says = subst (Appends old new) k.says.1 appends;
       }
-      by (inr (inl k)) = (let e : Done ≡ JournalRefused = sym done ∙ k.says.0.0 in absurd cc)
-      by (inr (inr k)) = (let e : Done ≡ DiskFailed = sym done ∙ k.says.0.0 in absurd cc)
+      by (inr (inl k)) = (let e : Done ≡ JournalRefused = sym done ∙ k.says.0 in absurd cc)
+      by (inr (inr k)) = (let e : Done ≡ DiskFailed = sym done ∙ k.says.0 in absurd cc)
 
   of_files : (files : List (List ℕ)) (t : Telling) → t.ending ≡ Done → AreFiles held (files_of command.Init words) files
       → Appends old new t.text → MeansOverDisk command.Init files disk disk' t → IsCreated held words disk.told disk'.told old new

@@ -1,11 +1,11 @@
 -- What the files that are given, and the endings of commands, say of the disk.
-use Rattle.std.proofs.Common.{◌≡◌, ◌≤◌, ◌^◌, ℕ, List, [], ◌∷◌, length, map, Vec, Global, Some, refl, sym, inl, inr, arith}
+use Rattle.std.proofs.Common.{◌≤◌, ◌^◌, ℕ, List, [], ◌∷◌, length, map, Vec, Global, refl, inl, inr, arith}
 use Rattle.std.specs.Prelude.{◌≢◌, All}
 use Rattle.std.proofs.lemmas.List.Elements.{All-nil, All-cons}
 use Rattle.acc_io.specs.Shelves.{Told}
-use Rattle.acc_commands.specs.declared.words.Command.{Command}
-use Rattle.acc_commands.specs.declared.endings.Ending.{Ending}
-use Rattle.acc_commands.specs.declared.endings.Ending.TheVariants.{Done, DesignRefused, ScriptRefused, JournalRefused, DiskFailed, Unbegun}
+use Rattle.acc_journalled.specs.declared.answers.Ending.{Ending}
+use Rattle.acc_journalled.specs.declared.answers.Ending.TheVariants.{Done, DesignRefused, ScriptRefused, JournalRefused}
+use Rattle.acc_journalled.specs.declared.answers.Ending.TheVariants.{DiskFailed, Unbegun}
 use Rattle.acc_commands.specs.Text.{IsEarly}
 use Rattle.acc_commands.specs.Files.{AreFiles}
 use Rattle.acc_cli.specs.declared.status.Status.TheVariants.{Ran}

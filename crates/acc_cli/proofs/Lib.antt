@@ -4,3 +4,5 @@ pub mod StatusLemmas
 pub mod OneAnswer
 pub mod DiskLemmas
 pub mod CreationLemmas
+pub mod RecoveryLemmas
+pub mod RunLemmas

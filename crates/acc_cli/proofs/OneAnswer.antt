@@ -10,7 +10,7 @@ use Rattle.acc_io.specs.declared.shelf.ShelfError.{ShelfError}
 use Rattle.acc_io.specs.declared.shelf.ShelfError.TheVariants.{Failed, Absent, Long, Memory}
 use Rattle.acc_commands.specs.declared.words.Command.{Command}
 use Rattle.acc_cli.specs.declared.status.Status.TheVariants.{Ran}
-use Rattle.acc_commands.specs.Text.{Telling}
+use Rattle.acc_journalled.specs.Tellings.{Telling}
 use Rattle.acc_commands.specs.Disks.{Seen, TellsAll}
 use Rattle.acc_cli.specs.Replies.{Reply}
 use Rattle.acc_commands.specs.Words.{command_of, files_of}

@@ -1,4 +1,4 @@
--- What sched tells is no event, or a run of an accepted design.
+-- What rehearse tells is no event, or a run of an accepted design.
 use Rattle.std.proofs.Common.{◌≡◌, ℕ, List, [], ◌∷◌, Option, Some, inl, inr, sym, subst}
 use Rattle.std.specs.Prelude.{◌⊎◌}
 use Rattle.acc_base.specs.declared.designs.Design.{Design}
@@ -57,7 +57,7 @@ of_script d script order said (inr h) = of_order d h.calls order said h.says
 module _ (held : List ℕ → Told) (words : List (List ℕ)) where
   of_files :
       (design certificate script order : List ℕ) (said : Said)
-      → AreFiles held (files_of command.Sched words) (design ∷ certificate ∷ script ∷ order ∷ [])
+      → AreFiles held (files_of command.Rehearse words) (design ∷ certificate ∷ script ∷ order ∷ [])
       → SchedulesFiles design certificate script order said → KeepsPromise held words said.history
   of_files design certificate script order said given (inl h) = inl (refusal_tells_none design said h)
   of_files design certificate script order said given (inr h) = by h.says
@@ -82,7 +82,7 @@ module _ (held : List ℕ → Told) (words : List (List ℕ)) where
       by (inr a) = of_accepted a (of_script h.d script order said a.says)
 
   of_means :
-      (files : List (List ℕ)) (said : Said) → AreFiles held (files_of command.Sched words) files → MeansOfFiles command.Sched files said
+      (files : List (List ℕ)) (said : Said) → AreFiles held (files_of command.Rehearse words) files → MeansOfFiles command.Rehearse files said
       → KeepsPromise held words said.history
   unfolding MeansOfFiles
   of_means [] said given h = absurd h
@@ -94,14 +94,14 @@ module _ (held : List ℕ → Told) (words : List (List ℕ)) where
 
   of_form :
       (counts counts' : Counts) (disk disk' : Seen) (reply : Reply)
-      → MeansForm held counts counts' disk disk' words (Some command.Sched) reply → KeepsPromise held words reply.history
+      → MeansForm held counts counts' disk disk' words (Some command.Rehearse) reply → KeepsPromise held words reply.history
   of_form counts counts' disk disk' reply (inl refused) = inl refused.1.0
   of_form counts counts' disk disk' reply (inr (files, given, counted, (ending, status, means))) =
       of_means files (record { ending = ending; text = reply.text; history = reply.history }) given means.2
 
   pub promise_kept :
       (counts counts' : Counts) (disk disk' : Seen) (old new : Option (List ℕ)) (fault : Type 0) (status : Status) (history : List Event)
-      (settled : ℕ) → command_of words ≡ Some command.Sched
+      (settled : ℕ) → command_of words ≡ Some command.Rehearse
       → Answered (Meant held counts counts' disk disk' words) old new fault status history settled
       → KeepsPromise held words history
   promise_kept counts counts' disk disk' old new fault status history settled is (inl none) = inl none.2

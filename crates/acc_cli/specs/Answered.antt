@@ -4,7 +4,7 @@ use Rattle.std.specs.Io.KnownBytes.{Appends, Keeps}
 use Rattle.acc_base.specs.declared.machines.Event.{Event}
 use Rattle.acc_io.specs.Sinks.{WritesFront}
 use Rattle.acc_cli.specs.Replies.{Reply}
-use Rattle.acc_commands.specs.declared.endings.Ending.TheVariants.{Done}
+use Rattle.acc_journalled.specs.declared.answers.Ending.TheVariants.{Done}
 use Rattle.acc_cli.specs.declared.status.Status.{Status}
 use Rattle.acc_cli.specs.declared.status.Status.TheVariants.{Sink, Memory, Ran}
 

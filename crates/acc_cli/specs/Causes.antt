@@ -7,18 +7,22 @@ use Rattle.acc_io.specs.Counted.{after_files}
 use Rattle.acc_io.specs.Shelves.{Told}
 use Rattle.acc_io.specs.declared.counts.Counts.{Counts}
 use Rattle.acc_io.specs.declared.shelf.ShelfError.{ShelfError}
-use Rattle.acc_schedule.specs.Schedules.{TellsSchedule}
+use Rattle.acc_schedule.specs.Schedules.{TellsSchedule, TellsScheduleFrom}
+use Rattle.acc_settled.specs.Openings.{opening_at}
+use Rattle.acc_base.specs.Machine.{World}
 use Rattle.acc_wal.specs.Creating.{IsThere}
+use Rattle.acc_recover.specs.Refusals.{RefusesRecovery, IsOfJournal, IsOfBytes, CountsSame}
+use Rattle.acc_recover.specs.declared.errors.RecoverError.{RecoverError}
 use Rattle.acc_commands.specs.declared.words.Command.{Command}
 use Rattle.acc_commands.specs.declared.words.Command.TheVariants as command
-use Rattle.acc_commands.specs.declared.endings.Ending.{Ending}
-use Rattle.acc_commands.specs.declared.endings.Ending.TheVariants.{Done, JournalRefused, DiskFailed, Unbegun}
+use Rattle.acc_journalled.specs.declared.answers.Ending.{Ending}
+use Rattle.acc_journalled.specs.declared.answers.Ending.TheVariants.{Done, JournalRefused, DiskFailed, Unbegun}
 use Rattle.acc_cli.specs.declared.status.Status.{Status}
 use Rattle.acc_cli.specs.declared.status.Status.TheVariants.{Usage, File, Sink, Memory, Ran}
 use Rattle.acc_commands.specs.Words.{command_of, files_of}
 use Rattle.acc_commands.specs.Files.{AreFiles, IsFirstRefused, SaysRefused}
 use Rattle.acc_commands.specs.Means.{Means}
-use Rattle.acc_commands.specs.Text.{Telling}
+use Rattle.acc_journalled.specs.Tellings.{Telling}
 use Rattle.acc_commands.specs.Disks.{Seen}
 
 -- the words are a form, one of whose files isn't given
@@ -44,21 +48,49 @@ pub record EndsSo (held : List ℕ → Told) (counts counts' : Counts) (disk dis
   pub ending_is : said.ending ≡ ending
   pub meant : Means command files disk disk' said
 
--- They are those of `sched`, and its schedule leaves a place that couldn't begin, since the history is full.
-pub record LeavesUnbegun (held : List ℕ → Told) (counts counts' : Counts) (disk disk' : Seen) (words : List (List ℕ)) : Type 0 where
-  pub ends : EndsSo held counts counts' disk disk' words Unbegun
-  pub is_sched : ends.command ≡ command.Sched
+-- it is `rehearse`, and its schedule leaves a place that couldn't begin, since the history is full
+pub record LeavesInMemory (c : Command) (said : Telling) : Type 0 where
+  pub is_rehearse : c ≡ command.Rehearse
   pub d : Design
   pub calls : List Call
   pub order : List ℕ
-  pub tells : TellsSchedule d calls order ends.said.text ends.said.history false
+  pub tells : TellsSchedule d calls order said.text said.history false
 
--- They are those of `init`, the first two bytes of the disk say that a journal is there, and it holds what it held.
-pub record RefusesJournal (held : List ℕ → Told) (counts counts' : Counts) (disk disk' : Seen) (words : List (List ℕ)) : Type 0 where
-  pub ends : EndsSo held counts counts' disk disk' words JournalRefused
-  pub is_init : ends.command ≡ command.Init
+-- it is `sched`, and so does its schedule behind the recovered history
+pub record LeavesOverJournal (c : Command) (said : Telling) : Type 0 where
+  pub is_sched : c ≡ command.Sched
+  pub d : Design
+  pub calls : List Call
+  pub order : List ℕ
+  pub first : World
+  pub tells : TellsScheduleFrom d calls (opening_at first calls) order said.text said.history false
+
+-- a schedule leaves a place that couldn't begin
+pub record LeavesUnbegun (held : List ℕ → Told) (counts counts' : Counts) (disk disk' : Seen) (words : List (List ℕ)) : Type 0 where
+  pub ends : EndsSo held counts counts' disk disk' words Unbegun
+  pub left : LeavesInMemory ends.command ends.said ⊎ LeavesOverJournal ends.command ends.said
+
+-- it is `init`, the first two bytes of the disk say that a journal is there, and it holds what it held
+pub record FindsJournal (c : Command) (disk disk' : Seen) : Type 0 where
+  pub is_init : c ≡ command.Init
   pub there : IfSome disk.told IsThere
   pub same : disk'.told ≡ disk.told
+
+-- It is `sched`, `recover` or `dump`, and the bytes of the disk give this cause why nothing is recovered. What is no journal is left as it is; a
+-- journal that is refused counts what it counted.
+pub record RefusesRecovering (c : Command) (disk disk' : Seen) : Type 0 where
+  pub is_over : (c ≡ command.Sched) ⊎ (c ≡ command.Recover) ⊎ (c ≡ command.Dump)
+  pub d : Design
+  pub error : RecoverError
+  pub of_bytes : IsOfBytes error
+  pub cause : RefusesRecovery d error disk.told (Rose disk.faults disk'.faults)
+  pub same : IsOfJournal error → disk'.told ≡ disk.told
+  pub kept : CountsSame disk.told disk'.told
+
+-- the journal is there already, or isn't one that is recovered
+pub record RefusesJournal (held : List ℕ → Told) (counts counts' : Counts) (disk disk' : Seen) (words : List (List ℕ)) : Type 0 where
+  pub ends : EndsSo held counts counts' disk disk' words JournalRefused
+  pub why : FindsJournal ends.command disk disk' ⊎ RefusesRecovering ends.command disk disk'
 
 -- Want of memory alone is free. No status but that of a file comes after a read that gave no file.
 pub record HasCauses (held : List ℕ → Told) (counts counts' : Counts) (disk disk' : Seen) (words : List (List ℕ)) (sink_fault : Type 0)

@@ -6,3 +6,6 @@ pub mod Answered
 pub mod Causes
 pub mod Promises
 pub mod Creations
+pub mod Recoveries
+pub mod Runs
+pub mod Fronts

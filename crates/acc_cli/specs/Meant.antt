@@ -6,7 +6,7 @@ use Rattle.acc_io.specs.Shelves.{Told}
 use Rattle.acc_io.specs.declared.counts.Counts.{Counts}
 use Rattle.acc_io.specs.declared.shelf.ShelfError.{ShelfError}
 use Rattle.acc_commands.specs.declared.words.Command.{Command}
-use Rattle.acc_commands.specs.declared.endings.Ending.{Ending}
+use Rattle.acc_journalled.specs.declared.answers.Ending.{Ending}
 use Rattle.acc_cli.specs.declared.status.Status.TheVariants.{Usage, File, Ran}
 use Rattle.acc_base.specs.Lines.{line}
 use Rattle.acc_cli.specs.Replies.{Reply}

@@ -1,4 +1,4 @@
--- What is promised of the events that sched tells, whatever the order of turns and however the program ends.
+-- What is promised of the events that rehearse tells, whatever the order of turns and however the program ends.
 use Rattle.std.specs.Prelude.{◌≡◌, ◌⊎◌, ℕ, List, [], ◌∷◌}
 use Rattle.acc_base.specs.declared.designs.Design.{Design}
 use Rattle.acc_base.specs.declared.machines.Event.{Event}
@@ -17,7 +17,7 @@ pub record RunsAccepted (held : List ℕ → Told) (words : List (List ℕ)) (hi
   pub design : List ℕ
   pub certificate : List ℕ
   pub others : List (List ℕ)
-  pub given : AreFiles held (files_of command.Sched words) (design ∷ certificate ∷ others)
+  pub given : AreFiles held (files_of command.Rehearse words) (design ∷ certificate ∷ others)
   pub d : Design
   pub is_text : IsDesignText design d
   pub accepted : IsAcceptedWith d certificate

@@ -6,7 +6,7 @@ ghost use Rattle.acc_io.specs.Sinks.{WritesFront};
 ghost use Rattle.acc_disk.specs.Crashes.{Only, IsCalm};
 ghost use Rattle.acc_disk.specs.Moments.{AtAnyMoment};
 ghost use Rattle.acc_commands.specs.Files.{AllGiven, SaysRefused};
-ghost use Rattle.acc_commands.specs.declared.endings.Ending.TheVariants as ending;
+ghost use Rattle.acc_journalled.specs.declared.answers.Ending.TheVariants as ending;
 ghost use Rattle.acc_cli.specs.declared.status.Status.TheVariants.{Ran, Usage, File, Sink};
 ghost use Rattle.acc_base.specs.Lines.{line};
 ghost use Rattle.acc_cli.specs.Responses.{reply_of};
@@ -15,11 +15,17 @@ ghost use Rattle.acc_cli.specs.Answered.{Answered};
 ghost use Rattle.acc_cli.specs.Causes.{HasCauses};
 ghost use Rattle.acc_cli.specs.Status.{IsCoded, IsBeforeJournal, code_of};
 ghost use Rattle.acc_cli.specs.Promises.{KeepsPromise};
+ghost use Rattle.acc_cli.specs.Runs.{KeepsRecord};
+ghost use Rattle.acc_cli.specs.Fronts.{LeavesFrontsOf, LeavesSettledOf};
 ghost use Rattle.acc_cli.specs.Creations.{IsCreated};
-ghost use Rattle.acc_commands.specs.Disks.{seen, Leaves};
+ghost use Rattle.acc_cli.specs.Recoveries.{wanted_by, TellsRecovery, LeavesRefused};
+ghost use Rattle.acc_journalled.specs.declared.answers.Wanted.{Wanted};
+ghost use Rattle.acc_commands.specs.declared.words.Command.{Command as TheCommand};
+ghost use Rattle.acc_commands.specs.Disks.{seen, Leaves, LeavesTold};
+ghost use Rattle.acc_commands.specs.RunFiles.{LeavesFronts, LeavesSettled};
 ghost use Rattle.acc_commands.specs.Words.{command_of, file_count};
 ghost use Rattle.acc_commands.specs.Means.{is_journalled, LeavesOfFile};
-ghost use Rattle.acc_commands.specs.declared.words.Command.TheVariants.{Sched, Init};
+ghost use Rattle.acc_commands.specs.declared.words.Command.TheVariants.{Rehearse, Sched, Init};
 
 use crate::status::Status;
 use acc_base::machines::Event;
@@ -144,6 +150,9 @@ fn decide_command<D: Disk>(
     ensures refused { IfOk result.answer (λ a. IsBeforeJournal (code_of a.status) → result.disk ≡ disk) }
     ensures leaves { Leaves D.clock D.left_since D.told D.may_leave D.faults disk result.disk
         (LeavesOfFile command (map (λ v. v.items) files.now)) }
+    ensures told { command ≡ Sched → IfOk result.answer (λ a. LeavesTold D.clock D.left_since D.told D.may_leave disk result.disk
+        (λ file image. LeavesFronts (map (λ v. v.items) files.now) file a.history image)
+        (λ file image. LeavesSettled (map (λ v. v.items) files.now) file a.history a.settled image)) }
     ensures calm { IfOk result.answer (λ a. code_of a.status ≢ 5 → IsCalm (D.told disk) (D.may_leave disk)
         → IsCalm (D.told result.disk) (D.may_leave result.disk)) }
 {
@@ -173,6 +182,9 @@ fn decide<H: Shelf, D: Disk>(alloc: Global, words: &[String], shelf: &mut H, dis
     ensures refused { IfOk result.answer (λ a. IsBeforeJournal (code_of a.status) → result.disk ≡ disk) }
     ensures leaves { Leaves D.clock D.left_since D.told D.may_leave D.faults disk result.disk
         (LeavesOfLine (H.held shelf.old) (map string_bytes words.now)) }
+    ensures told { command_of (map string_bytes words.now) ≡ Some Sched → IfOk result.answer (λ a. LeavesTold D.clock D.left_since D.told
+        D.may_leave disk result.disk (λ file image. LeavesFrontsOf (H.held shelf.old) (map string_bytes words.now) file a.history image)
+        (λ file image. LeavesSettledOf (H.held shelf.old) (map string_bytes words.now) file a.history a.settled image)) }
     ensures calm { IfOk result.answer (λ a. code_of a.status ≢ 5 → IsCalm (D.told disk) (D.may_leave disk)
         → IsCalm (D.told result.disk) (D.may_leave result.disk)) }
 {
@@ -231,6 +243,9 @@ fn answer_line<H: Shelf, K: Sink, D: Disk>(
     ensures refused { IsBeforeJournal (code_of result.status) → result.disk ≡ disk }
     ensures leaves { Leaves D.clock D.left_since D.told D.may_leave D.faults disk result.disk
         (LeavesOfLine (H.held shelf.old) (map string_bytes words.now)) }
+    ensures told { command_of (map string_bytes words.now) ≡ Some Sched → code_of result.status ≢ 9 → LeavesTold D.clock D.left_since D.told
+        D.may_leave disk result.disk (λ file image. LeavesFrontsOf (H.held shelf.old) (map string_bytes words.now) file result.history image)
+        (λ file image. LeavesSettledOf (H.held shelf.old) (map string_bytes words.now) file result.history result.settled image) }
     ensures calm { code_of result.status ≢ 5 → code_of result.status ≢ 9 → IsCalm (D.told disk) (D.may_leave disk)
         → IsCalm (D.told result.disk) (D.may_leave result.disk) }
 {
@@ -270,12 +285,22 @@ pub fn acc<H: Shelf, K: Sink, D: Disk>(
         (H.counts shelf.old) (H.counts shelf.new)
         (seen (D.told disk) (D.faults disk)) (seen (D.told result.disk) (D.faults result.disk))
         (map string_bytes words.now) (Rose (K.faults out.old) (K.faults out.new)) status) }
-    // What `sched` ran is a lawful and annotated run of an accepted design, whatever the order of turns.
-    ensures promise { command_of (map string_bytes words.now) ≡ Some Sched
+    // What `rehearse` ran is a lawful and annotated run of an accepted design, whatever the order of turns.
+    ensures promise { command_of (map string_bytes words.now) ≡ Some Rehearse
         → KeepsPromise (H.held shelf.old) (map string_bytes words.now) result.history }
+    // What `sched` ran behind the recovered history is so too, and of its ends all but one at most are durable.
+    ensures recorded { command_of (map string_bytes words.now) ≡ Some Sched
+        → KeepsRecord (H.held shelf.old) (map string_bytes words.now) (D.told disk) result.history result.settled }
     // Where `init` ended with status 0, the disk holds the journal of the printed design, without an event.
     ensures created { command_of (map string_bytes words.now) ≡ Some Init → result.status ≡ 0
         → IsCreated (H.held shelf.old) (map string_bytes words.now) (D.told disk) (D.told result.disk) (K.bytes out.old) (K.bytes out.new) }
+    // Where `recover` or `dump` ended with status 0 or 7, the history is the recovered one, all of it durable, and the disk holds a journal
+    // of just that; else none is told.
+    ensures recovered { (c : TheCommand) (w : Wanted) → command_of (map string_bytes words.now) ≡ Some c → wanted_by c ≡ Some w
+        → TellsRecovery (H.held shelf.old) (map string_bytes words.now) c w (D.told disk) (D.told result.disk) (K.bytes out.old)
+        (K.bytes out.new) result.status result.history result.settled }
+    // A journal that is refused tells the same bytes, or counts what it counted.
+    ensures unchanged { result.status ≡ 4 → LeavesRefused (D.told disk) (D.told result.disk) }
     // Status 0 comes only where each read gave its file and no write failed.
     ensures clean { result.status ≡ 0 → AllGiven (H.counts shelf.old) (H.counts shelf.new)
         × (K.faults out.new ≡ K.faults out.old) }
@@ -288,6 +313,15 @@ pub fn acc<H: Shelf, K: Sink, D: Disk>(
         → AtAnyMoment D.clock D.left_since disk result.disk (LeavesOfLine (H.held shelf.old) (map string_bytes words.now) file) }
     ensures left { (file : List ℕ) → D.told disk ≡ Some file → Only file (D.may_leave disk)
         → IfSome (D.told result.disk) (LeavesOfLine (H.held shelf.old) (map string_bytes words.now) file) }
+    // Behind `sched` with any status but 9, from a calm disk a crash at any moment of the call leaves its file, or a journal of what was
+    // found, of that with its compensation, or of a front of the history that is told, with all of that.
+    ensures fronts { command_of (map string_bytes words.now) ≡ Some Sched → result.status ≢ 9 → (file : List ℕ) → D.told disk ≡ Some file
+        → Only file (D.may_leave disk) → AtAnyMoment D.clock D.left_since disk result.disk
+        (LeavesFrontsOf (H.held shelf.old) (map string_bytes words.now) file result.history) }
+    // And a crash after the call leaves a front of it with all that is told as durable: so each reply that is told as settled is there.
+    ensures durable { command_of (map string_bytes words.now) ≡ Some Sched → result.status ≢ 9 → (file : List ℕ) → D.told disk ≡ Some file
+        → Only file (D.may_leave disk) → (image : List ℕ) → D.may_leave result.disk image
+        → LeavesSettledOf (H.held shelf.old) (map string_bytes words.now) file result.history result.settled image }
     // A calm disk is calm again, but where one of its calls failed or memory ran out.
     ensures calm { result.status ≢ 5 → result.status ≢ 9 → IsCalm (D.told disk) (D.may_leave disk)
         → IsCalm (D.told result.disk) (D.may_leave result.disk) }

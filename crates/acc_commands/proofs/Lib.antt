@@ -4,5 +4,9 @@ pub mod OneDesign
 pub mod OneRun
 pub mod OneMeaning
 pub mod Leaving
+pub mod FirstTwo
+pub mod JournalEndings
+pub mod RefusedOvers
+pub mod ToldAs
 pub mod WhichCommands
 pub mod Tables

@@ -22,8 +22,8 @@ use Rattle.acc_base.specs.Leasts.{IsLeast}
 use Rattle.acc_form.specs.WellFormed.{IsWellFormed}
 use Rattle.acc_form.proofs.Placed.{faulty_of_least}
 use Rattle.acc_accept.proofs.OneFault.{one_least}
-use Rattle.acc_commands.specs.declared.endings.Ending.{Ending}
-use Rattle.acc_commands.specs.declared.endings.Ending.TheVariants.{DesignRefused}
+use Rattle.acc_journalled.specs.declared.answers.Ending.{Ending}
+use Rattle.acc_journalled.specs.declared.answers.Ending.TheVariants.{DesignRefused}
 use Rattle.acc_commands.specs.Text.{Said, Says}
 use Rattle.acc_commands.specs.Refusals.{SaysError, RefusesForm, RefusesDesign}
 

@@ -1,16 +1,23 @@
 -- A command says one thing of its files.
-use Rattle.std.proofs.Common.{◌≡◌, ℕ, Bool, true, false, List, [], ◌∷◌, Option, None, Some, refl, sym, ap, subst, ◌∙◌, inl, inr}
+use Rattle.std.proofs.Common.{◌≡◌, ◌<◌, ◌^◌, length, arith, ℕ, Bool, true, false, List, [], ◌∷◌, Option, None, Some, refl, sym, ap, subst, ◌∙◌, inl, inr}
 use Rattle.std.specs.Prelude.{◌≢◌, IfSome}
 use Rattle.acc_base.specs.declared.designs.Design.{Design}
+use Rattle.acc_base.specs.declared.machines.Call.{Call}
 use Rattle.acc_print.specs.Designs.{printed}
 use Rattle.acc_check.proofs.OneReported.{reports_once}
 use Rattle.acc_check.specs.Reports.{Reports}
 use Rattle.acc_commands.specs.declared.words.Command.{Command}
 use Rattle.acc_commands.specs.declared.words.Command.TheVariants as command
-use Rattle.acc_wal.specs.Creating.{IsThere}
-use Rattle.acc_commands.specs.declared.endings.Ending.{Ending}
-use Rattle.acc_commands.specs.declared.endings.Ending.TheVariants.{Done, JournalRefused}
-use Rattle.acc_commands.specs.Text.{Said, Telling, said_in, Tells}
+use Rattle.acc_io.specs.Causes.{Rose}
+use Rattle.acc_journalled.specs.declared.answers.Ending.{Ending}
+use Rattle.acc_journalled.specs.declared.answers.Ending.TheVariants.{Done}
+use Rattle.acc_journalled.specs.declared.answers.Wanted.{Wanted}
+use Rattle.acc_journalled.specs.declared.answers.Wanted.TheVariants.{Counts, Rows}
+use Rattle.acc_journalled.specs.Making.{MakesJournal}
+use Rattle.acc_journalled.specs.Recovering.{RecoversJournal, text_of}
+use Rattle.acc_journalled.specs.Tellings.{Telling}
+use Rattle.acc_journalled.proofs.Once.{making_once, recovering_once}
+use Rattle.acc_commands.specs.Text.{Said, said_in}
 use Rattle.acc_commands.specs.Disks.{Seen, TellsAll}
 use Rattle.acc_commands.specs.Notes.{help_text, version_text}
 use Rattle.acc_commands.specs.Scripts.{SaysOfScript}
@@ -19,9 +26,14 @@ use Rattle.acc_commands.specs.ScheduleFiles.{SaysOfCertificate, SchedulesFiles}
 use Rattle.acc_commands.specs.PrintFiles.{PrintsFile}
 use Rattle.acc_commands.specs.CheckFiles.{ChecksFiles, ending_by}
 use Rattle.acc_commands.specs.InitFiles.{InitsJournal, InitsFile}
+use Rattle.acc_commands.specs.RecoverFiles.{RecoversSeen, RecoversCertified, RecoversFiles}
 use Rattle.acc_commands.specs.Means.{is_journalled, MeansOfFiles, MeansOverDisk, MeansBy, Means}
 use Rattle.acc_commands.proofs.OneDesign.{said_same, one_design, one_refusal, formed_or_refused}
-use Rattle.acc_commands.proofs.OneRun.{one_of_script, one_play, one_certified}
+use Rattle.acc_commands.proofs.OneRun.{one_of_script, one_play, one_certificate_refusal, accepted_or_refused, one_certified}
+use Rattle.acc_commands.proofs.OneRun.{one_order_refusal, one_numbers, one_script_refusal, one_calls}
+use Rattle.acc_commands.specs.RunFiles.{RunsSeen, RunsOfOrder, RunsOfScript, RunsCertified, RunsFiles}
+use Rattle.acc_running.specs.Running.{RunsJournal}
+use Rattle.acc_running.proofs.OneRun.{running_once}
 
 -- ---- plays
 
@@ -72,12 +84,12 @@ one_of_files command.Play (design ∷ []) a b h k = absurd h
 one_of_files command.Play (design ∷ script ∷ []) a b h k = absurd h
 one_of_files command.Play (design ∷ script ∷ order ∷ []) a b h k = one_play_of design script order a b h k
 one_of_files command.Play (design ∷ script ∷ order ∷ more ∷ rest) a b h k = absurd h
-one_of_files command.Sched [] a b h k = absurd h
-one_of_files command.Sched (design ∷ []) a b h k = absurd h
-one_of_files command.Sched (design ∷ certificate ∷ []) a b h k = absurd h
-one_of_files command.Sched (design ∷ certificate ∷ script ∷ []) a b h k = absurd h
-one_of_files command.Sched (design ∷ certificate ∷ script ∷ order ∷ []) a b h k = one_scheduled design certificate script order a b h k
-one_of_files command.Sched (design ∷ certificate ∷ script ∷ order ∷ more ∷ rest) a b h k = absurd h
+one_of_files command.Rehearse [] a b h k = absurd h
+one_of_files command.Rehearse (design ∷ []) a b h k = absurd h
+one_of_files command.Rehearse (design ∷ certificate ∷ []) a b h k = absurd h
+one_of_files command.Rehearse (design ∷ certificate ∷ script ∷ []) a b h k = absurd h
+one_of_files command.Rehearse (design ∷ certificate ∷ script ∷ order ∷ []) a b h k = one_scheduled design certificate script order a b h k
+one_of_files command.Rehearse (design ∷ certificate ∷ script ∷ order ∷ more ∷ rest) a b h k = absurd h
 one_of_files command.Print [] a b h k = absurd h
 one_of_files command.Print (design ∷ []) a b h k = one_print design a b h k
 one_of_files command.Print (design ∷ more ∷ rest) a b h k = absurd h
@@ -86,6 +98,9 @@ one_of_files command.Check (design ∷ []) a b h k = absurd h
 one_of_files command.Check (design ∷ certificate ∷ []) a b h k = one_check design certificate a b h k
 one_of_files command.Check (design ∷ certificate ∷ more ∷ rest) a b h k = absurd h
 one_of_files command.Init files a b h k = absurd h
+one_of_files command.Sched files a b h k = absurd h
+one_of_files command.Recover files a b h k = absurd h
+one_of_files command.Dump files a b h k = absurd h
 one_of_files command.Help [] a b h k = said_same Done help_text help_text a b refl h k
 one_of_files command.Help (more ∷ rest) a b h k = absurd h
 one_of_files command.Version [] a b h k = said_same Done version_text version_text a b refl h k
@@ -97,46 +112,134 @@ telling_same : (a b : Telling) → said_in a ≡ said_in b → a.settled ≡ b.s
 telling_same a b said settled =
     λ i. record { ending = (said i).ending; text = (said i).text; history = (said i).history; settled = settled i }
 
-tells_same : (ending : Ending) (text : List ℕ) (a b : Telling) → Tells ending text a → Tells ending text b → a ≡ b
-tells_same ending text a b h k =
-    telling_same a b (said_same ending text text (said_in a) (said_in b) refl h.0 k.0) (h.1 ∙ sym k.1)
+-- of a disk that tells its bytes, one thing is said
+module _ (old one other : Seen) (a b : Telling) (all : TellsAll old one other) where
+  one_journal : (told : Option (List ℕ)) (d : Design) → old.told ≡ told → InitsJournal d old one a → InitsJournal d old other b → a ≡ b
+  one_journal None d is h k = absurd (all.0 is)
+  one_journal (Some file) d is h k =
+      making_once d file one.told other.told (Rose old.faults one.faults) (Rose old.faults other.faults) a b all.1 all.2
+      (subst (λ t. MakesJournal d t one.told (Rose old.faults one.faults) a) is h)
+      (subst (λ t. MakesJournal d t other.told (Rose old.faults other.faults) b) is k)
 
--- a disk that tells its bytes doesn't both hold a journal and hold none
-there_or_not : (told : Option (List ℕ)) → told ≢ None → IfSome told (λ file. ¬ IsThere file) → IfSome told IsThere → ⊥
-there_or_not None tells none there = tells refl
-there_or_not (Some file) tells none there = none there
+  one_recovery_of : (told : Option (List ℕ)) (wanted : Wanted) (d : Design) → old.told ≡ told → RecoversSeen wanted d old one a
+      → RecoversSeen wanted d old other b → a ≡ b
+  one_recovery_of None wanted d is h k = absurd (all.0 is)
+  one_recovery_of (Some file) wanted d is h k =
+      recovering_once d file (text_of wanted d) one.told other.told a b (Rose old.faults one.faults) (Rose old.faults other.faults)
+      all.1 all.2 (subst (λ t. RecoversJournal (text_of wanted d) d t one.told (Rose old.faults one.faults) a) is h)
+      (subst (λ t. RecoversJournal (text_of wanted d) d t other.told (Rose old.faults other.faults) b) is k)
 
-one_journal :
-    (d : Design) (old one other : Seen) (a b : Telling) → TellsAll old one other → InitsJournal d old one a → InitsJournal d old other b
-    → a ≡ b
-one_journal d old one other a b all (inl h) (inl k) = tells_same Done _ a b h.says k.says
-one_journal d old one other a b all (inl h) (inr (inl k)) = absurd (there_or_not old.told all.0 h.fresh k.there)
-one_journal d old one other a b all (inl h) (inr (inr k)) = absurd (all.2 k.rose)
-one_journal d old one other a b all (inr (inl h)) (inl k) = absurd (there_or_not old.told all.0 k.fresh h.there)
-one_journal d old one other a b all (inr (inl h)) (inr (inl k)) = tells_same JournalRefused _ a b h.says k.says
-one_journal d old one other a b all (inr (inl h)) (inr (inr k)) = absurd (all.2 k.rose)
-one_journal d old one other a b all (inr (inr h)) k = absurd (all.1 h.rose)
+  one_init : (design : List ℕ) → InitsFile design old one a → InitsFile design old other b → a ≡ b
+  one_init design (inl h) (inl k) = telling_same a b (one_refusal design (said_in a) (said_in b) h.2 k.2) (h.0 ∙ sym k.0)
+  one_init design (inl h) (inr k) = absurd (formed_or_refused design k.d (said_in a) k.is_text k.formed h.2)
+  one_init design (inr h) (inl k) = absurd (formed_or_refused design h.d (said_in b) h.is_text h.formed k.2)
+  one_init design (inr h) (inr k) =
+      one_journal old.told k.d refl
+      (subst (λ (d : Design). InitsJournal d old one a) (one_design design h.d k.d h.is_text k.is_text) h.ends) k.ends
 
-one_init :
-    (design : List ℕ) (old one other : Seen) (a b : Telling) → TellsAll old one other → InitsFile design old one a
-    → InitsFile design old other b → a ≡ b
-one_init design old one other a b all (inl h) (inl k) =
-    telling_same a b (one_refusal design (said_in a) (said_in b) h.2 k.2) (h.0 ∙ sym k.0)
-one_init design old one other a b all (inl h) (inr k) = absurd (formed_or_refused design k.d (said_in a) k.is_text k.formed h.2)
-one_init design old one other a b all (inr h) (inl k) = absurd (formed_or_refused design h.d (said_in b) h.is_text h.formed k.2)
-one_init design old one other a b all (inr h) (inr k) =
-    one_journal k.d old one other a b all
-    (subst (λ (d : Design). InitsJournal d old one a) (one_design design h.d k.d h.is_text k.is_text) h.ends) k.ends
+  one_certified_recovery : (wanted : Wanted) (d : Design) (certificate : List ℕ) → RecoversCertified wanted d certificate old one a
+      → RecoversCertified wanted d certificate old other b → a ≡ b
+  one_certified_recovery wanted d certificate (inl h) (inl k) =
+      telling_same a b (one_certificate_refusal d certificate (said_in a) (said_in b) h.2 k.2) (h.0 ∙ sym k.0)
+  one_certified_recovery wanted d certificate (inl h) (inr k) =
+      absurd (accepted_or_refused d certificate (said_in a) k.accepted h.2)
+  one_certified_recovery wanted d certificate (inr h) (inl k) =
+      absurd (accepted_or_refused d certificate (said_in b) h.accepted k.2)
+  one_certified_recovery wanted d certificate (inr h) (inr k) = one_recovery_of old.told wanted d refl h.ends k.ends
+
+  one_recover : (wanted : Wanted) (design certificate : List ℕ) → RecoversFiles wanted design certificate old one a
+      → RecoversFiles wanted design certificate old other b → a ≡ b
+  one_recover wanted design certificate (inl h) (inl k) =
+      telling_same a b (one_refusal design (said_in a) (said_in b) h.2 k.2) (h.0 ∙ sym k.0)
+  one_recover wanted design certificate (inl h) (inr k) = absurd (formed_or_refused design k.d (said_in a) k.is_text k.formed h.2)
+  one_recover wanted design certificate (inr h) (inl k) = absurd (formed_or_refused design h.d (said_in b) h.is_text h.formed k.2)
+  one_recover wanted design certificate (inr h) (inr k) =
+      one_certified_recovery wanted k.d certificate
+      (subst (λ (d : Design). RecoversCertified wanted d certificate old one a) (one_design design h.d k.d h.is_text k.is_text) h.says)
+      k.says
+
+-- ---- runs over a journal
+
+module _ (old one other : Seen) (a b : Telling) (all : TellsAll old one other) where
+  one_running : (told : Option (List ℕ)) (d : Design) (calls : List Call) (order : List ℕ) → old.told ≡ told
+      → RunsSeen d calls order old one a → RunsSeen d calls order old other b → a ≡ b
+  one_running None d calls order is h k = absurd (all.0 is)
+  one_running (Some file) d calls order is h k =
+      running_once d calls order file one.told other.told a b (Rose old.faults one.faults) (Rose old.faults other.faults) all.1 all.2
+      (subst (λ t. RunsJournal d calls order t one.told (Rose old.faults one.faults) a) is h)
+      (subst (λ t. RunsJournal d calls order t other.told (Rose old.faults other.faults) b) is k)
+
+  one_run_order : (d : Design) (calls : List Call) (order : List ℕ) → length calls < 2 ^ 64 → RunsOfOrder d calls order old one a
+      → RunsOfOrder d calls order old other b → a ≡ b
+  one_run_order d calls order few (inl h) (inl k) =
+      telling_same a b (one_order_refusal calls order (said_in a) (said_in b) few h.2 k.2) (h.0 ∙ sym k.0)
+  one_run_order d calls order few (inl h) (inr k) = absurd (h.2.none k.numbers k.is_order)
+  one_run_order d calls order few (inr h) (inl k) = absurd (k.2.none h.numbers h.is_order)
+  one_run_order d calls order few (inr h) (inr k) =
+      one_running old.told d calls k.numbers refl
+      (subst (λ (ns : List ℕ). RunsSeen d calls ns old one a) (one_numbers calls order h.numbers k.numbers few h.is_order k.is_order) h.ends)
+      k.ends
+
+  one_run_script : (d : Design) (script order : List ℕ) → RunsOfScript d script order old one a → RunsOfScript d script order old other b
+      → a ≡ b
+  one_run_script d script order (inl h) (inl k) =
+      telling_same a b (one_script_refusal d script (said_in a) (said_in b) h.2 k.2) (h.0 ∙ sym k.0)
+  one_run_script d script order (inl h) (inr k) = absurd (h.2.none k.calls k.is_script)
+  one_run_script d script order (inr h) (inl k) = absurd (k.2.none h.calls h.is_script)
+  one_run_script d script order (inr h) (inr k) =
+      one_run_order d k.calls order (omega (arith, k.is_script.few))
+      (subst (λ (cs : List Call). RunsOfOrder d cs order old one a) (one_calls d script h.calls k.calls h.is_script k.is_script) h.says)
+      k.says
+
+  one_run_certified : (d : Design) (certificate script order : List ℕ) → RunsCertified d certificate script order old one a
+      → RunsCertified d certificate script order old other b → a ≡ b
+  one_run_certified d certificate script order (inl h) (inl k) =
+      telling_same a b (one_certificate_refusal d certificate (said_in a) (said_in b) h.2 k.2) (h.0 ∙ sym k.0)
+  one_run_certified d certificate script order (inl h) (inr k) =
+      absurd (accepted_or_refused d certificate (said_in a) k.accepted h.2)
+  one_run_certified d certificate script order (inr h) (inl k) =
+      absurd (accepted_or_refused d certificate (said_in b) h.accepted k.2)
+  one_run_certified d certificate script order (inr h) (inr k) = one_run_script d script order h.says k.says
+
+  one_run_of : (design certificate script order : List ℕ) → RunsFiles design certificate script order old one a
+      → RunsFiles design certificate script order old other b → a ≡ b
+  one_run_of design certificate script order (inl h) (inl k) =
+      telling_same a b (one_refusal design (said_in a) (said_in b) h.2 k.2) (h.0 ∙ sym k.0)
+  one_run_of design certificate script order (inl h) (inr k) =
+      absurd (formed_or_refused design k.d (said_in a) k.is_text k.formed h.2)
+  one_run_of design certificate script order (inr h) (inl k) =
+      absurd (formed_or_refused design h.d (said_in b) h.is_text h.formed k.2)
+  one_run_of design certificate script order (inr h) (inr k) =
+      one_run_certified k.d certificate script order
+      (subst (λ (d : Design). RunsCertified d certificate script order old one a) (one_design design h.d k.d h.is_text k.is_text) h.says)
+      k.says
 
 one_over_disk :
     (c : Command) (files : List (List ℕ)) (old one other : Seen) (a b : Telling) → TellsAll old one other
     → MeansOverDisk c files old one a → MeansOverDisk c files old other b → a ≡ b
 unfolding MeansOverDisk
 one_over_disk command.Init [] old one other a b all h k = absurd h
-one_over_disk command.Init (design ∷ []) old one other a b all h k = one_init design old one other a b all h k
+one_over_disk command.Init (design ∷ []) old one other a b all h k = one_init old one other a b all design h k
 one_over_disk command.Init (design ∷ more ∷ rest) old one other a b all h k = absurd h
+one_over_disk command.Recover [] old one other a b all h k = absurd h
+one_over_disk command.Recover (design ∷ []) old one other a b all h k = absurd h
+one_over_disk command.Recover (design ∷ certificate ∷ []) old one other a b all h k =
+    one_recover old one other a b all Counts design certificate h k
+one_over_disk command.Recover (design ∷ certificate ∷ more ∷ rest) old one other a b all h k = absurd h
+one_over_disk command.Dump [] old one other a b all h k = absurd h
+one_over_disk command.Dump (design ∷ []) old one other a b all h k = absurd h
+one_over_disk command.Dump (design ∷ certificate ∷ []) old one other a b all h k =
+    one_recover old one other a b all Rows design certificate h k
+one_over_disk command.Dump (design ∷ certificate ∷ more ∷ rest) old one other a b all h k = absurd h
 one_over_disk command.Play files old one other a b all h k = absurd h
-one_over_disk command.Sched files old one other a b all h k = absurd h
+one_over_disk command.Rehearse files old one other a b all h k = absurd h
+one_over_disk command.Sched [] old one other a b all h k = absurd h
+one_over_disk command.Sched (design ∷ []) old one other a b all h k = absurd h
+one_over_disk command.Sched (design ∷ certificate ∷ []) old one other a b all h k = absurd h
+one_over_disk command.Sched (design ∷ certificate ∷ script ∷ []) old one other a b all h k = absurd h
+one_over_disk command.Sched (design ∷ certificate ∷ script ∷ order ∷ []) old one other a b all h k =
+    one_run_of old one other a b all design certificate script order h k
+one_over_disk command.Sched (design ∷ certificate ∷ script ∷ order ∷ more ∷ rest) old one other a b all h k = absurd h
 one_over_disk command.Print files old one other a b all h k = absurd h
 one_over_disk command.Check files old one other a b all h k = absurd h
 one_over_disk command.Help files old one other a b all h k = absurd h

@@ -2,7 +2,8 @@
 use Rattle.std.proofs.Common.{◌≡◌, ℕ, true, false, List, refl, sym, subst}
 use Rattle.acc_commands.specs.declared.words.Command.{Command}
 use Rattle.acc_commands.specs.declared.words.Command.TheVariants as command
-use Rattle.acc_commands.specs.Text.{Telling, said_in}
+use Rattle.acc_journalled.specs.Tellings.{Telling}
+use Rattle.acc_commands.specs.Text.{said_in}
 use Rattle.acc_commands.specs.Disks.{Seen}
 use Rattle.acc_commands.specs.Means.{is_journalled, MeansOfFiles, MeansOverDisk, MeansBy, Means, LeavesOfFile}
 
@@ -18,8 +19,11 @@ means_without c files disk t is settled h = subst (λ over. MeansBy over c files
 pub leaves_file : (c : Command) (files : List (List ℕ)) (file : List ℕ) → is_journalled c ≡ false → LeavesOfFile c files file file
 unfolding LeavesOfFile
 leaves_file command.Init files file is = (let e : true ≡ false = is in absurd cc)
+leaves_file command.Recover files file is = (let e : true ≡ false = is in absurd cc)
+leaves_file command.Dump files file is = (let e : true ≡ false = is in absurd cc)
 leaves_file command.Play files file is = refl
-leaves_file command.Sched files file is = refl
+leaves_file command.Rehearse files file is = refl
+leaves_file command.Sched files file is = (let e : true ≡ false = is in absurd cc)
 leaves_file command.Print files file is = refl
 leaves_file command.Check files file is = refl
 leaves_file command.Help files file is = refl

@@ -1,6 +1,6 @@
 -- Which command ends so.
 use Rattle.std.proofs.Common.{◌≡◌, ℕ, Bool, true, false, List, [], ◌∷◌, inl, inr, refl, sym, subst, ◌∙◌}
-use Rattle.std.specs.Prelude.{◌≢◌}
+use Rattle.std.specs.Prelude.{◌≢◌, ◌⊎◌}
 use Rattle.acc_io.specs.Causes.{Rose}
 use Rattle.acc_base.specs.declared.designs.Design.{Design}
 use Rattle.acc_base.specs.declared.machines.Call.{Call}
@@ -9,9 +9,11 @@ use Rattle.acc_parse.specs.declared.errors.ParseError.TheVariants as errors
 use Rattle.acc_schedule.specs.Schedules.{TellsSchedule}
 use Rattle.acc_commands.specs.declared.words.Command.{Command}
 use Rattle.acc_commands.specs.declared.words.Command.TheVariants as command
-use Rattle.acc_commands.specs.declared.endings.Ending.{Ending}
-use Rattle.acc_commands.specs.declared.endings.Ending.TheVariants.{Done, DesignRefused, ScriptRefused, JournalRefused, DiskFailed, Unbegun}
-use Rattle.acc_commands.specs.Text.{Said, Telling, said_in}
+use Rattle.acc_journalled.specs.declared.answers.Ending.{Ending}
+use Rattle.acc_journalled.specs.declared.answers.Ending.TheVariants.{Done, DesignRefused, ScriptRefused, JournalRefused, DiskFailed}
+use Rattle.acc_journalled.specs.declared.answers.Ending.TheVariants.{Unbegun}
+use Rattle.acc_journalled.specs.Tellings.{Telling}
+use Rattle.acc_commands.specs.Text.{Said, said_in}
 use Rattle.acc_commands.specs.Disks.{Seen}
 use Rattle.acc_commands.specs.Refusals.{SaysError, RefusesDesign}
 use Rattle.acc_commands.specs.Scripts.{SaysOfOrder, SaysOfScript}
@@ -19,8 +21,9 @@ use Rattle.acc_commands.specs.PlayFiles.{SaysPlay, PlaysFiles}
 use Rattle.acc_commands.specs.ScheduleFiles.{SaysSchedule, SaysOfCertificate, SchedulesFiles, ending_at}
 use Rattle.acc_commands.specs.PrintFiles.{PrintsFile}
 use Rattle.acc_commands.specs.CheckFiles.{ChecksFiles, ending_by}
-use Rattle.acc_commands.specs.InitFiles.{FindsJournal, InitsJournal, InitsFile}
-use Rattle.acc_commands.specs.Means.{is_journalled, MeansOfFiles, MeansOverDisk, MeansBy, Means}
+use Rattle.acc_commands.specs.Means.{is_journalled, MeansOfFiles, MeansBy, Means}
+use Rattle.acc_commands.proofs.JournalEndings.{failed_by, ends_over_disk}
+use Rattle.acc_commands.proofs.RefusedOvers.{RefusesOver, LeavesOver, refused_over, unbegun_over}
 
 -- ---- commands without a journal
 
@@ -29,7 +32,7 @@ done_unbegun e = cc
 
 -- it is said of a schedule
 abbrev pub Scheduled : Command → Said → Type 0
-Scheduled c said = (c ≡ command.Sched) × (d : Design) × (calls : List Call) × (order : List ℕ) × SaysSchedule d calls order said
+Scheduled c said = (c ≡ command.Rehearse) × (d : Design) × (calls : List Call) × (order : List ℕ) × SaysSchedule d calls order said
 
 -- An ending that is neither that all is done nor a refusal of the design or the script. A command without a journal that ends so is
 -- `sched`.
@@ -86,7 +89,7 @@ module _ (other : Ending) (done_other : Done ≢ other) (design_other : DesignRe
 
   certified_so :
       (d : Design) (certificate script order : List ℕ) (said : Said) → said.ending ≡ other
-      → SaysOfCertificate d certificate script order said → Scheduled command.Sched said
+      → SaysOfCertificate d certificate script order said → Scheduled command.Rehearse said
   certified_so d certificate script order said so (inl h) = absurd (not_so DesignRefused said design_other h.ending so)
   certified_so d certificate script order said so (inr h) =
       let r = ran (SaysSchedule d) d script order said so h.says in
@@ -94,7 +97,7 @@ module _ (other : Ending) (done_other : Done ≢ other) (design_other : DesignRe
 
   sched_so :
       (design certificate script order : List ℕ) (said : Said) → said.ending ≡ other
-      → SchedulesFiles design certificate script order said → Scheduled command.Sched said
+      → SchedulesFiles design certificate script order said → Scheduled command.Rehearse said
   sched_so design certificate script order said so (inl h) = absurd (refusal_other design said h so)
   sched_so design certificate script order said so (inr h) = certified_so h.d certificate script order said so h.says
 
@@ -106,12 +109,12 @@ module _ (other : Ending) (done_other : Done ≢ other) (design_other : DesignRe
   ends_scheduled command.Play (design ∷ script ∷ []) said e h = absurd h
   ends_scheduled command.Play (design ∷ script ∷ order ∷ []) said e h = absurd (play_other design script order said e h)
   ends_scheduled command.Play (design ∷ script ∷ order ∷ more ∷ rest) said e h = absurd h
-  ends_scheduled command.Sched [] said e h = absurd h
-  ends_scheduled command.Sched (design ∷ []) said e h = absurd h
-  ends_scheduled command.Sched (design ∷ certificate ∷ []) said e h = absurd h
-  ends_scheduled command.Sched (design ∷ certificate ∷ script ∷ []) said e h = absurd h
-  ends_scheduled command.Sched (design ∷ certificate ∷ script ∷ order ∷ []) said e h = sched_so design certificate script order said e h
-  ends_scheduled command.Sched (design ∷ certificate ∷ script ∷ order ∷ more ∷ rest) said e h = absurd h
+  ends_scheduled command.Rehearse [] said e h = absurd h
+  ends_scheduled command.Rehearse (design ∷ []) said e h = absurd h
+  ends_scheduled command.Rehearse (design ∷ certificate ∷ []) said e h = absurd h
+  ends_scheduled command.Rehearse (design ∷ certificate ∷ script ∷ []) said e h = absurd h
+  ends_scheduled command.Rehearse (design ∷ certificate ∷ script ∷ order ∷ []) said e h = sched_so design certificate script order said e h
+  ends_scheduled command.Rehearse (design ∷ certificate ∷ script ∷ order ∷ more ∷ rest) said e h = absurd h
   ends_scheduled command.Print [] said e h = absurd h
   ends_scheduled command.Print (design ∷ []) said e h = absurd (print_other design said e h)
   ends_scheduled command.Print (design ∷ more ∷ rest) said e h = absurd h
@@ -120,70 +123,25 @@ module _ (other : Ending) (done_other : Done ≢ other) (design_other : DesignRe
   ends_scheduled command.Check (design ∷ certificate ∷ []) said e h = absurd (check_other design certificate said e h)
   ends_scheduled command.Check (design ∷ certificate ∷ more ∷ rest) said e h = absurd h
   ends_scheduled command.Init files said e h = absurd h
+  ends_scheduled command.Sched files said e h = absurd h
+  ends_scheduled command.Recover files said e h = absurd h
+  ends_scheduled command.Dump files said e h = absurd h
   ends_scheduled command.Help [] said e h = absurd (not_so Done said done_other h.0 e)
   ends_scheduled command.Help (more ∷ rest) said e h = absurd h
   ends_scheduled command.Version [] said e h = absurd (not_so Done said done_other h.0 e)
   ends_scheduled command.Version (more ∷ rest) said e h = absurd h
 
--- ---- commands over a journal
-
--- it is `init`
-pub inits :
-    (c : Command) (files : List (List ℕ)) (old new : Seen) (t : Telling) → MeansOverDisk c files old new t
-    → (c ≡ command.Init) × (design : List ℕ) × InitsFile design old new t
-unfolding MeansOverDisk
-inits command.Init [] old new t h = absurd h
-inits command.Init (design ∷ []) old new t h = (refl, design, h)
-inits command.Init (design ∷ more ∷ rest) old new t h = absurd h
-inits command.Play files old new t h = absurd h
-inits command.Sched files old new t h = absurd h
-inits command.Print files old new t h = absurd h
-inits command.Check files old new t h = absurd h
-inits command.Help files old new t h = absurd h
-inits command.Version files old new t h = absurd h
-
-other_end : (a b : Ending) (t : Telling) → a ≢ b → t.ending ≡ a → t.ending ≡ b → ⊥
-other_end a b t differs is so = differs (sym is ∙ so)
-
-init_unbegun : (design : List ℕ) (old new : Seen) (t : Telling) → InitsFile design old new t → t.ending ≡ Unbegun → ⊥
-init_unbegun design old new t (inl h) e =
-    refusal_other Unbegun done_unbegun (λ e. cc) (λ e. cc) design (said_in t) h.2 e
-init_unbegun design old new t (inr h) e = by h.ends
-  where
-    by : InitsJournal h.d old new t → ⊥
-    by (inl k) = other_end Done Unbegun t done_unbegun k.says.0.0 e
-    by (inr (inl k)) = other_end JournalRefused Unbegun t (λ e. cc) k.says.0.0 e
-    by (inr (inr k)) = other_end DiskFailed Unbegun t (λ e. cc) k.says.0.0 e
-
-init_refused :
-    (design : List ℕ) (old new : Seen) (t : Telling) → InitsFile design old new t → t.ending ≡ JournalRefused → FindsJournal old new t
-init_refused design old new t (inl h) e =
-    absurd (refusal_other JournalRefused (λ e. cc) (λ e. cc) (λ e. cc) design (said_in t) h.2 e)
-init_refused design old new t (inr h) e = by h.ends
-  where
-    by : InitsJournal h.d old new t → FindsJournal old new t
-    by (inl k) = absurd (other_end Done JournalRefused t (λ e. cc) k.says.0.0 e)
-    by (inr (inl k)) = k
-    by (inr (inr k)) = absurd (other_end DiskFailed JournalRefused t (λ e. cc) k.says.0.0 e)
-
-init_failed : (design : List ℕ) (old new : Seen) (t : Telling) → InitsFile design old new t → t.ending ≡ DiskFailed →
-    Rose old.faults new.faults
-init_failed design old new t (inl h) e =
-    absurd (refusal_other DiskFailed (λ e. cc) (λ e. cc) (λ e. cc) design (said_in t) h.2 e)
-init_failed design old new t (inr h) e = by h.ends
-  where
-    by : InitsJournal h.d old new t → Rose old.faults new.faults
-    by (inl k) = absurd (other_end Done DiskFailed t (λ e. cc) k.says.0.0 e)
-    by (inr (inl k)) = absurd (other_end JournalRefused DiskFailed t (λ e. cc) k.says.0.0 e)
-    by (inr (inr k)) = k.rose
-
 -- ---- what ends so
 
--- a schedule of which a place is left unbegun
+-- a schedule of which a place is left unbegun, in memory
 abbrev pub Left : Command → Telling → Type 0
 Left c t =
-    (c ≡ command.Sched) × (d : Design) × (calls : List Call) × (order : List ℕ)
+    (c ≡ command.Rehearse) × (d : Design) × (calls : List Call) × (order : List ℕ)
     × TellsSchedule d calls order t.text t.history false
+
+-- or over a journal
+abbrev pub LeftAnyhow : Command → Telling → Type 0
+LeftAnyhow c t = Left c t ⊎ ((c ≡ command.Sched) × LeavesOver t)
 
 ending_unbegun : (all_begun : Bool) → ending_at all_begun ≡ Unbegun → all_begun ≡ false
 ending_unbegun true e = absurd (done_unbegun e)
@@ -200,13 +158,14 @@ left_of c t e (is, d, calls, order, says) =
     (is, d, calls, order, subst (TellsSchedule d calls order t.text t.history) begun says.tells)
 
 pub leaves_unbegun :
-    (c : Command) (files : List (List ℕ)) (old new : Seen) (t : Telling) → t.ending ≡ Unbegun → Means c files old new t → Left c t
+    (c : Command) (files : List (List ℕ)) (old new : Seen) (t : Telling) → t.ending ≡ Unbegun → Means c files old new t
+    → LeftAnyhow c t
 leaves_unbegun c files old new t e = by (is_journalled c)
   where
-    by : (over : Bool) → MeansBy over c files old new t → Left c t
-    by true h = let i = inits c files old new t h in absurd (init_unbegun i.1 old new t i.2 e)
+    by : (over : Bool) → MeansBy over c files old new t → LeftAnyhow c t
+    by true h = inr (unbegun_over c files old new t e h)
     by false h =
-        left_of c t e (ends_scheduled Unbegun done_unbegun (λ e. cc) (λ e. cc) c files (said_in t) e h.2)
+        inl (left_of c t e (ends_scheduled Unbegun done_unbegun (λ e. cc) (λ e. cc) c files (said_in t) e h.2))
 
 not_scheduled :
     (other : Ending) → Done ≢ other → Unbegun ≢ other → (c : Command) (t : Telling) → t.ending ≡ other → Scheduled c (said_in t) → ⊥
@@ -215,11 +174,11 @@ not_scheduled other done unbegun c t e (is, d, calls, order, says) =
 
 pub refuses_journal :
     (c : Command) (files : List (List ℕ)) (old new : Seen) (t : Telling) → t.ending ≡ JournalRefused → Means c files old new t
-    → (c ≡ command.Init) × FindsJournal old new t
+    → RefusesOver c old new t
 refuses_journal c files old new t e = by (is_journalled c)
   where
-    by : (over : Bool) → MeansBy over c files old new t → (c ≡ command.Init) × FindsJournal old new t
-    by true h = let i = inits c files old new t h in (i.0, init_refused i.1 old new t i.2 e)
+    by : (over : Bool) → MeansBy over c files old new t → RefusesOver c old new t
+    by true h = refused_over c files old new t e h
     by false h =
         absurd (not_scheduled JournalRefused (λ e. cc) (λ e. cc) c t e
         (ends_scheduled JournalRefused (λ e. cc) (λ e. cc) (λ e. cc) c files (said_in t) e h.2))
@@ -230,7 +189,7 @@ pub fails_by_disk :
 fails_by_disk c files old new t e = by (is_journalled c)
   where
     by : (over : Bool) → MeansBy over c files old new t → Rose old.faults new.faults
-    by true h = let i = inits c files old new t h in init_failed i.1 old new t i.2 e
+    by true h = failed_by (Rose old.faults new.faults) t (ends_over_disk c files old new t h) e
     by false h =
         absurd (not_scheduled DiskFailed (λ e. cc) (λ e. cc) c t e
         (ends_scheduled DiskFailed (λ e. cc) (λ e. cc) (λ e. cc) c files (said_in t) e h.2))

@@ -4,8 +4,8 @@ use Rattle.acc_base.specs.declared.designs.Design.{Design}
 use Rattle.acc_form.specs.WellFormed.{IsWellFormed}
 use Rattle.acc_parse.specs.Texts.{IsDesignText}
 use Rattle.acc_check.specs.Reports.{Reports}
-use Rattle.acc_commands.specs.declared.endings.Ending.{Ending}
-use Rattle.acc_commands.specs.declared.endings.Ending.TheVariants.{Done, DesignRefused}
+use Rattle.acc_journalled.specs.declared.answers.Ending.{Ending}
+use Rattle.acc_journalled.specs.declared.answers.Ending.TheVariants.{Done, DesignRefused}
 use Rattle.acc_commands.specs.Text.{Said}
 use Rattle.acc_commands.specs.Refusals.{RefusesDesign}
 

@@ -3,7 +3,8 @@ use Rattle.std.specs.Prelude.{◌≡◌, ◌≢◌, ◌≤◌, ℕ, List, Option
 use Rattle.acc_io.specs.Causes.{Rose}
 use Rattle.acc_disk.specs.Crashes.{Only}
 use Rattle.acc_disk.specs.Moments.{AtAnyMoment}
-use Rattle.acc_commands.specs.Text.{Said, Telling, said_in}
+use Rattle.acc_journalled.specs.Tellings.{Telling}
+use Rattle.acc_commands.specs.Text.{Said, said_in}
 
 -- what a disk tells that it holds, where it tells that, and how many of its calls have failed
 pub record Seen : Type 0 where
@@ -29,3 +30,13 @@ pub record Leaves {D : Type 0} (clock : D → ℕ) (left_since : D → ℕ → L
   pub moments :
       (file : List ℕ) → told old ≡ Some file → Only file (may_leave old) → AtAnyMoment clock left_since old new (IsSo file)
   pub left : (file : List ℕ) → told old ≡ Some file → Only file (may_leave old) → IfSome (told new) (IsSo file)
+
+-- Where the disk was calm, a crash at any moment of the command leaves what is so to the file that it held, and a crash after it what is so
+-- then.
+pub record LeavesTold {D : Type 0} (clock : D → ℕ) (left_since : D → ℕ → List ℕ → Type 0) (told : D → Option (List ℕ))
+    (may_leave : D → List ℕ → Type 0) (old new : D) (IsSo IsSoThen : List ℕ → List ℕ → Type 0) : Type 0 where
+  pub during :
+      (file : List ℕ) → told old ≡ Some file → Only file (may_leave old) → AtAnyMoment clock left_since old new (IsSo file)
+  pub behind :
+      (file : List ℕ) → told old ≡ Some file → Only file (may_leave old) → (image : List ℕ) → may_leave new image
+      → IsSoThen file image

@@ -10,6 +10,8 @@ pub mod PlayFiles
 pub mod ScheduleFiles
 pub mod PrintFiles
 pub mod InitFiles
+pub mod RecoverFiles
+pub mod RunFiles
 pub mod CheckFiles
 pub mod Responses
 pub mod ReadScripts

@@ -2,8 +2,10 @@
 use Rattle.std.specs.Prelude.{◌≡◌, ℕ, Bool, true, false, List, [], ◌∷◌}
 use Rattle.acc_commands.specs.declared.words.Command.{Command}
 use Rattle.acc_commands.specs.declared.words.Command.TheVariants as command
-use Rattle.acc_commands.specs.declared.endings.Ending.TheVariants.{Done}
-use Rattle.acc_commands.specs.Text.{Said, Says, Telling}
+use Rattle.acc_journalled.specs.declared.answers.Ending.TheVariants.{Done}
+use Rattle.acc_journalled.specs.declared.answers.Wanted.TheVariants.{Counts, Rows}
+use Rattle.acc_journalled.specs.Tellings.{Telling}
+use Rattle.acc_commands.specs.Text.{Said, Says}
 use Rattle.acc_commands.specs.Disks.{Seen, WithoutDisk, TellsAll}
 use Rattle.acc_commands.specs.Notes.{help_text, version_text}
 use Rattle.acc_commands.specs.PlayFiles.{PlaysFiles}
@@ -11,16 +13,21 @@ use Rattle.acc_commands.specs.ScheduleFiles.{SchedulesFiles}
 use Rattle.acc_commands.specs.PrintFiles.{PrintsFile}
 use Rattle.acc_commands.specs.CheckFiles.{ChecksFiles}
 use Rattle.acc_commands.specs.InitFiles.{InitsFile, InitLeaves}
+use Rattle.acc_commands.specs.RecoverFiles.{RecoversFiles, RecoverLeaves}
+use Rattle.acc_commands.specs.RunFiles.{RunsFiles, RunLeaves}
 
 -- whether a command goes over a journal
 abbrev pub is_journalled : Command → Bool
 is_journalled command.Init = true
+is_journalled command.Sched = true
+is_journalled command.Recover = true
+is_journalled command.Dump = true
 is_journalled _ = false
 
 -- what a command without a journal makes of its files
 unfoldable pub MeansOfFiles : Command → List (List ℕ) → Said → Type 0
 MeansOfFiles command.Play (design ∷ script ∷ order ∷ []) = PlaysFiles design script order
-MeansOfFiles command.Sched (design ∷ certificate ∷ script ∷ order ∷ []) = SchedulesFiles design certificate script order
+MeansOfFiles command.Rehearse (design ∷ certificate ∷ script ∷ order ∷ []) = SchedulesFiles design certificate script order
 MeansOfFiles command.Print (design ∷ []) = PrintsFile design
 MeansOfFiles command.Check (design ∷ certificate ∷ []) = ChecksFiles design certificate
 MeansOfFiles command.Help [] = Says Done help_text
@@ -30,6 +37,9 @@ MeansOfFiles _ _ = λ said. ⊥
 -- what one over a journal makes of its files and of the disk
 unfoldable pub MeansOverDisk : Command → List (List ℕ) → Seen → Seen → Telling → Type 0
 MeansOverDisk command.Init (design ∷ []) = InitsFile design
+MeansOverDisk command.Sched (design ∷ certificate ∷ script ∷ order ∷ []) = RunsFiles design certificate script order
+MeansOverDisk command.Recover (design ∷ certificate ∷ []) = RecoversFiles Counts design certificate
+MeansOverDisk command.Dump (design ∷ certificate ∷ []) = RecoversFiles Rows design certificate
 MeansOverDisk _ _ = λ old new t. ⊥
 
 abbrev pub MeansBy : Bool → Command → List (List ℕ) → Seen → Seen → Telling → Type 0
@@ -43,6 +53,9 @@ Means c = MeansBy (is_journalled c) c
 -- what a crash at any moment of a command leaves of the file that a calm disk held
 unfoldable pub LeavesOfFile : Command → List (List ℕ) → List ℕ → List ℕ → Type 0
 LeavesOfFile command.Init (design ∷ []) = InitLeaves design
+LeavesOfFile command.Sched (design ∷ certificate ∷ script ∷ order ∷ []) = RunLeaves design certificate
+LeavesOfFile command.Recover (design ∷ certificate ∷ []) = RecoverLeaves design certificate
+LeavesOfFile command.Dump (design ∷ certificate ∷ []) = RecoverLeaves design certificate
 LeavesOfFile _ _ = λ file image. image ≡ file
 
 -- A command says one thing of its files. One over a journal says one thing of them and of what its disk tells, where no call of the disk

@@ -5,7 +5,7 @@ use Rattle.acc_base.specs.declared.machines.Call.{Call}
 use Rattle.acc_parse.specs.Texts.{IsDesignText}
 use Rattle.acc_form.specs.WellFormed.{IsWellFormed}
 use Rattle.acc_play.specs.Tells.{Tells}
-use Rattle.acc_commands.specs.declared.endings.Ending.TheVariants.{Done}
+use Rattle.acc_journalled.specs.declared.answers.Ending.TheVariants.{Done}
 use Rattle.acc_commands.specs.Refusals.{RefusesDesign}
 use Rattle.acc_commands.specs.Scripts.{SaysOfScript}
 use Rattle.acc_commands.specs.Text.{Said}

@@ -4,7 +4,7 @@ use Rattle.acc_base.specs.declared.designs.Design.{Design}
 use Rattle.acc_form.specs.WellFormed.{IsWellFormed}
 use Rattle.acc_parse.specs.Texts.{IsDesignText}
 use Rattle.acc_print.specs.Designs.{printed}
-use Rattle.acc_commands.specs.declared.endings.Ending.TheVariants.{Done}
+use Rattle.acc_journalled.specs.declared.answers.Ending.TheVariants.{Done}
 use Rattle.acc_commands.specs.Text.{Said, Says}
 use Rattle.acc_commands.specs.Refusals.{RefusesDesign}
 

@@ -12,7 +12,7 @@ use Rattle.acc_parse.specs.Faults.{Refuses}
 use Rattle.acc_form.specs.Faults.{form_faults, is_before}
 use Rattle.acc_base.specs.Leasts.{IsLeast}
 use Rattle.acc_form.specs.Judged.{IsJudgedOn}
-use Rattle.acc_commands.specs.declared.endings.Ending.TheVariants.{DesignRefused}
+use Rattle.acc_journalled.specs.declared.answers.Ending.TheVariants.{DesignRefused}
 use Rattle.acc_commands.specs.Text.{Said, Says}
 
 -- what is said of a text that is no design's

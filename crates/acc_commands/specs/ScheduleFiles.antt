@@ -8,8 +8,8 @@ use Rattle.acc_check.specs.Admissions.{IsAcceptedWith}
 use Rattle.acc_form.specs.WellFormed.{IsWellFormed}
 use Rattle.acc_parse.specs.Texts.{IsDesignText}
 use Rattle.acc_schedule.specs.Schedules.{TellsSchedule}
-use Rattle.acc_commands.specs.declared.endings.Ending.{Ending}
-use Rattle.acc_commands.specs.declared.endings.Ending.TheVariants.{Done, DesignRefused, Unbegun}
+use Rattle.acc_journalled.specs.declared.answers.Ending.{Ending}
+use Rattle.acc_journalled.specs.declared.answers.Ending.TheVariants.{Done, DesignRefused, Unbegun}
 use Rattle.acc_commands.specs.Refusals.{RefusesDesign}
 use Rattle.acc_commands.specs.Scripts.{SaysOfScript}
 use Rattle.acc_commands.specs.Text.{Said}

@@ -6,7 +6,7 @@ use Rattle.acc_base.specs.declared.machines.Call.{Call}
 use Rattle.acc_base.specs.Lines.{line}
 use Rattle.acc_script.specs.CallLines.{IsScript, RefusesLine}
 use Rattle.acc_script.specs.OrderLines.{IsOrder, RefusesOrderLine}
-use Rattle.acc_commands.specs.declared.endings.Ending.TheVariants.{ScriptRefused}
+use Rattle.acc_journalled.specs.declared.answers.Ending.TheVariants.{ScriptRefused}
 use Rattle.acc_commands.specs.Text.{Said, Says}
 
 -- the order is refused, and the first line by which it is none is said

@@ -3,11 +3,14 @@ ghost use Rattle.std.specs.Prelude.{◌≡◌, ◌≢◌, ◌⊎◌, ◌≤◌, 
 ghost use Rattle.acc_base.specs.Runnable.{IsRunnable};
 ghost use Rattle.acc_commands.specs.Words.{file_count};
 ghost use Rattle.acc_commands.specs.Means.{is_journalled, MeansOfFiles, MeansOverDisk, Means, LeavesOfFile};
-ghost use Rattle.acc_commands.specs.Disks.{seen, Leaves};
+ghost use Rattle.acc_commands.specs.Disks.{seen, Leaves, LeavesTold};
+ghost use Rattle.acc_commands.specs.RunFiles.{LeavesFronts, LeavesSettled};
+ghost use Rattle.acc_commands.specs.declared.words.Command.TheVariants.{Sched};
 ghost use Rattle.acc_disk.specs.Crashes.{IsCalm};
 ghost use Rattle.acc_commands.specs.Text.{Says, IsEarly, said_in};
-ghost use Rattle.acc_commands.specs.declared.endings.Ending.TheVariants.{Done, DiskFailed};
-ghost use Rattle.acc_commands.specs.Responses.{said_of, telling_of};
+ghost use Rattle.acc_journalled.specs.declared.answers.Ending.TheVariants.{Done, DiskFailed};
+ghost use Rattle.acc_commands.specs.Responses.{said_of};
+ghost use Rattle.acc_journalled.specs.Tellings.{telling_of};
 ghost use Rattle.acc_play.specs.Stages.{AllFit};
 ghost use Rattle.acc_commands.specs.Scripts.{SaysOfScript, SaysOfOrder};
 ghost use Rattle.acc_commands.specs.PlayFiles.{PlaysFiles, SaysPlay};
@@ -15,12 +18,13 @@ ghost use Rattle.acc_commands.specs.ScheduleFiles.{SchedulesFiles, SaysOfCertifi
 ghost use Rattle.acc_commands.specs.PrintFiles.{PrintsFile};
 ghost use Rattle.acc_commands.specs.CheckFiles.{ChecksFiles, ending_by};
 
-use crate::closings::{Answer, Closed, unsettled};
+use crate::closings::unsettled;
 use crate::designs::{ReadDesign, read_design};
-use crate::endings::Ending;
 use crate::journals::init_file;
 use crate::notes;
-use crate::responses::Response;
+use crate::recoveries::recover_files;
+use crate::responses::{Response, refused};
+use crate::runs::run_files;
 use crate::scripts::{ReadOrder, ReadScript, read_order, read_script};
 use crate::words::{Command, is_journalled};
 use acc_base::designs::Design;
@@ -28,6 +32,7 @@ use acc_base::machines::Call;
 use acc_base::sequences::Seq;
 use acc_check::{Admission, Report, admit, check};
 use acc_disk::Disk;
+use acc_journalled::{Answer, Closed, Ending, Wanted};
 use acc_lift::Accepted;
 use acc_play::{Transcript, play};
 use acc_print::{PrintError, print};
@@ -162,11 +167,7 @@ fn schedule_design(
 {
     match admit(alloc, d, certificate)? {
         Admission::Accepted(accepted) => schedule_script(alloc, &accepted, script, file),
-        Admission::Refused(text) => Ok(Response {
-            ending: Ending::DesignRefused,
-            text,
-            history: Seq::new(alloc),
-        }),
+        Admission::Refused(text) => Ok(refused(alloc, text)),
     }
 }
 
@@ -250,7 +251,7 @@ fn respond(alloc: Global, command: Command, files: &[Vec<u8>]) -> Result<Respons
 {
     match (command, files) {
         (Command::Play, [design, script, order]) => play_files(alloc, design, script, order),
-        (Command::Sched, [design, certificate, script, order]) => {
+        (Command::Rehearse, [design, certificate, script, order]) => {
             schedule_files(alloc, design, certificate, script, order)
         }
         (Command::Print, [design]) => print_file(alloc, design),
@@ -268,6 +269,30 @@ fn answer_files(alloc: Global, command: Command, files: &[Vec<u8>]) -> Result<An
     ensures { IfOk result (λ a. (a.settled ≡ 0) × MeansOfFiles command (map (λ v. v.items) files.now) (said_in (telling_of a))) }
 {
     Ok(unsettled(respond(alloc, command, files)?))
+}
+
+/// The answer of `sched` to its files and the disk.
+#[tactic(auto, unfolding(crate::specs::Means::MeansOverDisk, crate::specs::Means::LeavesOfFile))]
+fn answer_run<D: Disk>(alloc: Global, files: &[Vec<u8>], disk: D) -> Closed<D>
+    requires count { length files.now ≡ 4 }
+    requires short { All (λ v. length v.items ≤ 2 ^ 26) files.now }
+    ensures means { IfOk result.answer (λ a. MeansOverDisk Sched (map (λ v. v.items) files.now) (seen (D.told disk) (D.faults disk))
+        (seen (D.told result.disk) (D.faults result.disk)) (telling_of a)) }
+    ensures refused { IfOk result.answer (λ a. IsEarly a.ending → result.disk ≡ disk) }
+    ensures leaves { Leaves D.clock D.left_since D.told D.may_leave D.faults disk result.disk
+        (LeavesOfFile Sched (map (λ v. v.items) files.now)) }
+    ensures told { IfOk result.answer (λ a. LeavesTold D.clock D.left_since D.told D.may_leave disk result.disk
+        (λ file image. LeavesFronts (map (λ v. v.items) files.now) file a.history image)
+        (λ file image. LeavesSettled (map (λ v. v.items) files.now) file a.history a.settled image)) }
+    ensures calm { IfOk result.answer (λ a. a.ending ≢ DiskFailed → IsCalm (D.told disk) (D.may_leave disk)
+        → IsCalm (D.told result.disk) (D.may_leave result.disk)) }
+{
+    match files {
+        [design, certificate, script, order] => {
+            run_files(alloc, design, certificate, script, order, disk)
+        }
+        _ => unreachable!(),
+    }
 }
 
 /// The answer of a command over a journal to its files and the disk.
@@ -291,6 +316,15 @@ fn answer_over_disk<D: Disk>(
 {
     match (command, files) {
         (Command::Init, [design]) => init_file(alloc, design, disk),
+        (Command::Sched, [design, certificate, script, order]) => {
+            run_files(alloc, design, certificate, script, order, disk)
+        }
+        (Command::Recover, [design, certificate]) => {
+            recover_files(alloc, design, certificate, Wanted::Counts, disk)
+        }
+        (Command::Dump, [design, certificate]) => {
+            recover_files(alloc, design, certificate, Wanted::Rows, disk)
+        }
         _ => unreachable!(),
     }
 }
@@ -305,10 +339,15 @@ pub fn run<D: Disk>(alloc: Global, command: Command, files: &[Vec<u8>], disk: D)
     ensures refused { IfOk result.answer (λ a. IsEarly a.ending → result.disk ≡ disk) }
     ensures leaves { Leaves D.clock D.left_since D.told D.may_leave D.faults disk result.disk
         (LeavesOfFile command (map (λ v. v.items) files.now)) }
+    ensures told { command ≡ Sched → IfOk result.answer (λ a. LeavesTold D.clock D.left_since D.told D.may_leave disk result.disk
+        (λ file image. LeavesFronts (map (λ v. v.items) files.now) file a.history image)
+        (λ file image. LeavesSettled (map (λ v. v.items) files.now) file a.history a.settled image)) }
     ensures calm { IfOk result.answer (λ a. a.ending ≢ DiskFailed → IsCalm (D.told disk) (D.may_leave disk)
         → IsCalm (D.told result.disk) (D.may_leave result.disk)) }
 {
-    if is_journalled(command) {
+    if command == Command::Sched {
+        answer_run(alloc, files, disk)
+    } else if is_journalled(command) {
         answer_over_disk(alloc, command, files, disk)
     } else {
         Closed {

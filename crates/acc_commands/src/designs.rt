@@ -4,10 +4,10 @@ ghost use Rattle.acc_commands.specs.Responses.{said_of};
 ghost use Rattle.acc_commands.specs.Refusals.{SaysError, SaysRule};
 ghost use Rattle.acc_commands.specs.ReadDesigns.{Reads};
 
-use crate::endings::Ending;
 use crate::responses::{Response, one_line};
 use acc_base::designs::Design;
 use acc_form::{FormError, well_formed};
+use acc_journalled::Ending;
 use acc_parse::{ParseError, parse};
 use std::alloc::{AllocError, Global};
 

@@ -4,19 +4,19 @@
 mod closings;
 mod commands;
 mod designs;
-mod endings;
 mod files;
 mod journals;
 pub mod laws;
 mod notes;
+mod recoveries;
 mod responses;
+mod runs;
 mod scripts;
 mod words;
 
-pub use closings::{Answer, Closed};
+pub use acc_journalled::{Answer, Closed, Ending};
 pub use commands::run;
 pub use designs::{ReadDesign, read_design};
-pub use endings::Ending;
 pub use files::{Refusal, read_all};
 pub use notes::help_text;
 pub use responses::{Response, one_line};

@@ -1,12 +1,13 @@
 //! What a command answers.
-ghost use Rattle.std.specs.Prelude.{IfOk};
+ghost use Rattle.std.specs.Prelude.{◌≡◌, [], IfOk};
 ghost use Rattle.acc_base.specs.Lines.{line};
+ghost use Rattle.acc_journalled.specs.declared.answers.Ending.TheVariants.{DesignRefused};
 ghost use Rattle.acc_commands.specs.Responses.{said_of};
 ghost use Rattle.acc_commands.specs.Text.{Says};
 
-use crate::endings::Ending;
 use acc_base::machines::Event;
 use acc_base::sequences::Seq;
+use acc_journalled::Ending;
 use std::alloc::{AllocError, Global};
 
 /// How a command ends, the text to print, and the events of its machine.
@@ -15,6 +16,17 @@ pub struct Response {
     pub ending: Ending,
     pub text: Vec<u8>,
     pub history: Seq<Event>,
+}
+
+/// The answer where a design is refused with its certificate, by the line that says why.
+pub fn refused(alloc: Global, text: Vec<u8>) -> Response
+    ensures { said_of result ≡ record { ending = DesignRefused; text = text.items; history = [] } }
+{
+    Response {
+        ending: Ending::DesignRefused,
+        text,
+        history: Seq::new(alloc),
+    }
 }
 
 /// An answer of one line.

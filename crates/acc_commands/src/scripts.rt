@@ -2,16 +2,16 @@
 ghost use Rattle.std.specs.Prelude.{◌≡◌, ◌++◌, length, IfOk};
 ghost use Rattle.std.specs.Fmt.{decimal};
 ghost use Rattle.acc_base.specs.Lines.{line};
-ghost use Rattle.acc_commands.specs.declared.endings.Ending.TheVariants.{ScriptRefused};
+ghost use Rattle.acc_journalled.specs.declared.answers.Ending.TheVariants.{ScriptRefused};
 ghost use Rattle.acc_commands.specs.ReadScripts.{ReadsScript, ReadsOrder};
 ghost use Rattle.acc_commands.specs.Responses.{said_of};
 ghost use Rattle.acc_commands.specs.Text.{Says};
 
-use crate::endings::Ending;
 use crate::responses::{Response, one_line};
 use acc_base::designs::Design;
 use acc_base::machines::Call;
 use acc_base::sequences::Seq;
+use acc_journalled::Ending;
 use acc_script::{ScriptError, calls, order};
 use std::alloc::{AllocError, Global};
 

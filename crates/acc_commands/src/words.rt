@@ -8,14 +8,20 @@ ghost use Rattle.acc_commands.specs.Words.{is_form, command_of, file_count, asks
 pub enum Command {
     /// `play DESIGN SCRIPT ORDER`
     Play,
-    /// `sched DESIGN CERT SCRIPT ORDER`
-    Sched,
+    /// `rehearse DESIGN CERT SCRIPT ORDER`
+    Rehearse,
     /// `print DESIGN`
     Print,
     /// `check DESIGN CERT`
     Check,
     /// `init DESIGN`, over a journal
     Init,
+    /// `sched DESIGN CERT SCRIPT ORDER`, over a journal
+    Sched,
+    /// `recover DESIGN CERT`, over a journal
+    Recover,
+    /// `dump DESIGN CERT`, over a journal
+    Dump,
     /// `--help`
     Help,
     /// `--version`
@@ -41,14 +47,20 @@ pub fn command_of(words: &[String]) -> Option<Command>
 {
     if is_form(words, "play", 3) {
         Some(Command::Play)
-    } else if is_form(words, "sched", 4) {
-        Some(Command::Sched)
+    } else if is_form(words, "rehearse", 4) {
+        Some(Command::Rehearse)
     } else if is_form(words, "print", 1) {
         Some(Command::Print)
     } else if is_form(words, "check", 2) {
         Some(Command::Check)
     } else if is_form(words, "init", 1) {
         Some(Command::Init)
+    } else if is_form(words, "sched", 4) {
+        Some(Command::Sched)
+    } else if is_form(words, "recover", 2) {
+        Some(Command::Recover)
+    } else if is_form(words, "dump", 2) {
+        Some(Command::Dump)
     } else if is_form(words, "--help", 0) {
         Some(Command::Help)
     } else if is_form(words, "--version", 0) {
@@ -65,9 +77,9 @@ pub fn file_count(command: Command) -> usize
 {
     match command {
         Command::Play => 3,
-        Command::Sched => 4,
+        Command::Rehearse | Command::Sched => 4,
         Command::Print | Command::Init => 1,
-        Command::Check => 2,
+        Command::Check | Command::Recover | Command::Dump => 2,
         Command::Help | Command::Version => 0,
     }
 }
@@ -76,7 +88,10 @@ pub fn file_count(command: Command) -> usize
 pub fn is_journalled(command: Command) -> bool
     ensures { result ≡ is_journalled command }
 {
-    matches!(command, Command::Init)
+    matches!(
+        command,
+        Command::Init | Command::Sched | Command::Recover | Command::Dump
+    )
 }
 
 /// Whether the words ask for a command over a journal. Then the program's own last word names the journal's file, and stands in no form.
@@ -84,7 +99,11 @@ pub fn asks_journal(words: &[String]) -> bool
     ensures { result ≡ asks_journal (map string_bytes words.now) }
 {
     match words {
-        [first, ..] => first.as_str() == "init",
+        [first, ..] => {
+            first.as_str() == "init"
+                || (first.as_str() == "sched"
+                    || (first.as_str() == "recover" || first.as_str() == "dump"))
+        }
         [] => false,
     }
 }

@@ -1,6 +1,7 @@
 //! What is told of a command line that ended with another status than 0.
 ghost use Rattle.acc_form.specs.WellFormed.{IsWellFormed};
 
+use crate::journals::{push_disk, push_journal};
 use crate::obligations::{File, push_fault};
 use acc_base::designs::Design;
 use acc_base::sequences::Seq;
@@ -167,11 +168,14 @@ fn push_status<H: Shelf>(
     status: u8,
     words: &[String],
     shelf: &mut H,
+    printed: &[u8],
     usage: &[u8],
 ) -> Result<(), AllocError> {
     match (status, words) {
         (0, _) => Ok(()),
         (1, _) => push_usage(out, usage),
+        (4, _) => push_journal(alloc, out, printed),
+        (5, [verb, ..]) => push_disk(out, verb.as_str()),
         (7, _) => push_note(out, b"acc", sink_text(), b""),
         (9, _) => push_note(out, b"acc", memory_text(), b""),
         (_, [_, names @ ..]) => push_names(alloc, out, names, shelf),
@@ -180,16 +184,17 @@ fn push_status<H: Shelf>(
 }
 
 /// What is told of a command line that ended with this status: nothing after 0, and the front of it where memory runs out. The
-/// files are read anew, and what is told is of what is read then. `usage` lists the commands.
+/// files are read anew, and what is told is of what is read then; of a journal it is of what was printed. `usage` lists the commands.
 pub fn explain<H: Shelf>(
     alloc: Global,
     status: u8,
     words: &[String],
     shelf: &mut H,
+    printed: &[u8],
     usage: &[u8],
 ) -> Vec<u8> {
     let mut out = Vec::new(alloc);
-    match push_status(alloc, &mut out, status, words, shelf, usage) {
+    match push_status(alloc, &mut out, status, words, shelf, printed, usage) {
         Ok(()) | Err(_) => out,
     }
 }

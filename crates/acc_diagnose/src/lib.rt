@@ -2,8 +2,11 @@
 #![tactic(auto)]
 
 mod explained;
+mod journals;
+mod keeping;
 mod obligations;
 mod reasons;
 
 pub use explained::explain;
+pub use keeping::Keeping;
 pub use reasons::system_reason;

@@ -1,4 +1,5 @@
 //! What the program answers.
+use crate::journals::Journals;
 use acc_cli::{acc, asks_journal};
 use acc_disk::MemDisk;
 use acc_io::{FolderShelf, MemShelf, MemSink, Shelf};
@@ -14,21 +15,58 @@ fn words_of(alloc: Global, line: &str) -> Result<Vec<String>, AllocError> {
     Ok(words)
 }
 
-/// What is printed of a command line over a shelf; the journal that it names is an empty file in memory.
-fn answer_over<H: Shelf>(alloc: Global, line: &str, shelf: &mut H) -> Result<String, AllocError> {
-    let mut words = words_of(alloc, line)?;
-    if asks_journal(&words) {
-        words.pop();
-    }
-    let mut out = MemSink::new(alloc, &[], &[]).map_err(|_| AllocError)?;
-    let disk = MemDisk::new(alloc, &[], &[], None).map_err(|_| AllocError)?;
-    let _ = acc(alloc, &words, shelf, &mut out, disk);
-    String::from_utf8_lossy(alloc, out.bytes())
+/// A disk in memory with these bytes.
+fn disk(alloc: Global, bytes: &[u8]) -> Result<MemDisk, AllocError> {
+    MemDisk::new(alloc, bytes, &[], None).map_err(|_| AllocError)
 }
 
-/// What is printed of a command line over the files of the folder.
-pub fn answer<R: Files + AllocGlobal>(rt: &R, line: &str) -> Result<String, AllocError> {
+/// What is printed of words over a shelf and a disk, and the disk that is handed back.
+fn answer_words<H: Shelf>(
+    alloc: Global,
+    words: &[String],
+    shelf: &mut H,
+    disk: MemDisk,
+) -> Result<(String, MemDisk), AllocError> {
+    let mut out = MemSink::new(alloc, &[], &[]).map_err(|_| AllocError)?;
+    let done = acc(alloc, words, shelf, &mut out, disk);
+    Ok((String::from_utf8_lossy(alloc, out.bytes())?, done.disk))
+}
+
+/// What is printed of a command line over a shelf, and no journal.
+fn answer_over<H: Shelf>(alloc: Global, line: &str, shelf: &mut H) -> Result<String, AllocError> {
+    let words = words_of(alloc, line)?;
+    let disk = disk(alloc, &[])?;
+    let (text, _) = answer_words(alloc, &words, shelf, disk)?;
+    Ok(text)
+}
+
+/// What is printed of words over a shelf and the journal of that name, which holds afterwards what the command left.
+fn answer_journal<H: Shelf>(
+    alloc: Global,
+    words: &[String],
+    shelf: &mut H,
+    journals: &mut Journals,
+    name: &str,
+) -> Result<String, AllocError> {
+    let bytes = journals.bytes(alloc, name)?;
+    let (text, disk) = answer_words(alloc, words, shelf, disk(alloc, &bytes)?)?;
+    journals.hold(alloc, name, disk.bytes())?;
+    Ok(text)
+}
+
+/// What is printed of a command line over the files of the folder, and the journal that it names, if it asks for one.
+pub fn answer<R: Files + AllocGlobal>(
+    rt: &R,
+    journals: &mut Journals,
+    line: &str,
+) -> Result<String, AllocError> {
     let mut shelf = FolderShelf::new(rt);
+    let mut words = words_of(rt.alloc(), line)?;
+    if asks_journal(&words)
+        && let Some(name) = words.pop()
+    {
+        return answer_journal(rt.alloc(), &words, &mut shelf, journals, name.as_str());
+    }
     answer_over(rt.alloc(), line, &mut shelf)
 }
 

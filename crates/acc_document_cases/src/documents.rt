@@ -1,5 +1,6 @@
 //! The commands and rows of a document, with what each shows.
 use crate::answers::answer;
+use crate::journals::Journals;
 use crate::rows::{Row, of_change, of_script, row_of};
 use std::alloc::{AllocError, Global};
 use std::rt::Files;
@@ -50,13 +51,14 @@ fn tell_answer<R: Print + AllocGlobal>(
 /// Tells of a command and the lines behind it.
 fn tell_command<R: Files + Print + AllocGlobal>(
     rt: &R,
+    journals: &mut Journals,
     name: &str,
     words: &str,
     behind: &[&str],
 ) -> io::Result<()> {
     let place = format!(in rt.alloc(); "{name}: {words}")?;
     let shown = block(rt.alloc(), behind)?;
-    let answered = answer(rt, words)?;
+    let answered = answer(rt, journals, words)?;
     tell_answer(rt, place.as_str(), answered.as_str(), shown.as_str())
 }
 
@@ -92,18 +94,31 @@ fn tell_row<R: Print + AllocGlobal>(
     }
 }
 
+/// Does what a line says to a journal in the place of a crash, if it does.
+fn crash(alloc: Global, journals: &mut Journals, line: &str) -> Result<(), AllocError> {
+    match line.strip_prefix("    $ head ") {
+        Some(text) => {
+            let words: Vec<&str> = text.split(' ').collect(alloc)?;
+            journals.take_front(alloc, words.as_slice())
+        }
+        None => Ok(()),
+    }
+}
+
 /// Tells of each command and each row of a document.
 pub fn tell<R: Files + Print + AllocGlobal>(rt: &R, name: &str) -> io::Result<()> {
     let text = fs::read_to_string(rt, name)?;
     let design = fs::read_to_string(rt, DESIGN)?;
     let lines = lines_of(rt.alloc(), text.as_str())?;
+    let mut journals = Journals::new(rt.alloc());
     let mut is_script = false;
     for (i, line) in lines.iter().enumerate() {
         if line.starts_with("#") {
             is_script = line.split_once("cripts").is_some();
         }
+        crash(rt.alloc(), &mut journals, line)?;
         match line.strip_prefix("    $ ./acc ") {
-            Some(words) => tell_command(rt, name, words, &lines[i + 1..])?,
+            Some(words) => tell_command(rt, &mut journals, name, words, &lines[i + 1..])?,
             None => tell_row(rt, name, design.as_str(), line, is_script)?,
         }
     }

@@ -2,3 +2,4 @@ pub mod Lefts
 pub mod Weights
 pub mod Accepted
 pub mod Shown
+pub mod ReadOn

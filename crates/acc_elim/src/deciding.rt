@@ -78,7 +78,7 @@ fn refuted(alloc: Global, rels: &[Rel], row: Row) -> Result<Verdict, ElimError>
 }
 
 /// What the end of a search for a point decides.
-fn ended(
+pub fn ended(
     alloc: Global,
     rels: &[Rel],
     end: Result<Seq<(i128, i128)>, Stop>,

@@ -3,4 +3,6 @@
 #![tactic(auto)]
 
 pub mod deciding;
+mod reading;
+pub mod solver;
 pub mod verdicts;

@@ -7,7 +7,7 @@ use crate::recoveries::{fresh, push_counts};
 use acc_base::designs::Design;
 use acc_case_words::words::number;
 use acc_disk::MemDisk;
-use acc_journalled::{Answer, Closed, Ending, dump_journal, init_journal, recover_journal};
+use acc_journalled::{Answer, Closed, Ending, Wanted, init_journal, recover_journal};
 use acc_lift::Accepted;
 use acc_print::print;
 use std::alloc::{AllocError, Global};
@@ -36,19 +36,25 @@ fn made(alloc: Global, design: &Design, disk: MemDisk) -> Option<Closed<MemDisk>
 fn closed(alloc: Global, design: &Accepted, name: &str, disk: MemDisk) -> Option<Closed<MemDisk>> {
     match name {
         "init" => made(alloc, design.design(), disk),
-        "recover" => Some(recover_journal(alloc, design, disk)),
-        "dump" => Some(dump_journal(alloc, design, disk)),
+        "recover" => Some(recover_journal(alloc, design, Wanted::Counts, disk)),
+        "dump" => Some(recover_journal(alloc, design, Wanted::Rows, disk)),
         _ => None,
+    }
+}
+
+/// The word for how a command ended.
+fn ending_word(ending: Ending) -> &'static str {
+    match ending {
+        Ending::Done => "done ",
+        Ending::JournalRefused => "refused ",
+        Ending::DiskFailed => "failed ",
+        Ending::DesignRefused | Ending::ScriptRefused | Ending::Unbegun => "otherwise ",
     }
 }
 
 /// Pushes how a command ended, its lines with ` / ` between two, and how many events it tells and how many of them are durable.
 fn push_said(alloc: Global, out: &mut String, answer: &Answer) -> Result<(), AllocError> {
-    out.push_str(match answer.ending {
-        Ending::Done => "done ",
-        Ending::JournalRefused => "refused ",
-        Ending::DiskFailed => "failed ",
-    })?;
+    out.push_str(ending_word(answer.ending))?;
     let lines = String::from_utf8_lossy(alloc, &answer.text)?;
     let line = lines.trim_end().replace(alloc, "\n", " / ")?;
     out.push_str(&line)?;

@@ -49,21 +49,37 @@ fn sink(alloc: Global, is_failing: bool) -> Result<MemSink, AllocError> {
     MemSink::new(alloc, fails, &[]).map_err(|_| AllocError)
 }
 
-/// The status of a command line, what it prints, and what is told of it.
+/// A disk with these bytes, of which all calls fail from that number on.
+fn disk(alloc: Global, bytes: &[u8], from: Option<u64>) -> Result<MemDisk, AllocError> {
+    MemDisk::new(alloc, bytes, &[], from).map_err(|_| AllocError)
+}
+
+/// The status of a command line over a disk, what it prints, and what is told of it.
+fn answered_over(
+    alloc: Global,
+    shelf: &mut MemShelf,
+    line: &str,
+    out: &mut MemSink,
+    disk: MemDisk,
+) -> Result<String, AllocError> {
+    let words = words_of(alloc, line)?;
+    let status = acc(alloc, &words, shelf, out, disk).status;
+    let usage = help_text(alloc)?;
+    let told = explain(alloc, status, &words, shelf, out.bytes(), &usage);
+    let printed = String::from_utf8_lossy(alloc, out.bytes())?;
+    let told = String::from_utf8_lossy(alloc, &told)?;
+    format!(in alloc; "status {status} {:?}\n{told}", printed.as_str())
+}
+
+/// The same over an empty disk.
 fn answered(
     alloc: Global,
     shelf: &mut MemShelf,
     line: &str,
     out: &mut MemSink,
 ) -> Result<String, AllocError> {
-    let words = words_of(alloc, line)?;
-    let disk = MemDisk::new(alloc, &[], &[], None).map_err(|_| AllocError)?;
-    let status = acc(alloc, &words, shelf, out, disk).status;
-    let usage = help_text(alloc)?;
-    let told = explain(alloc, status, &words, shelf, &usage);
-    let printed = String::from_utf8_lossy(alloc, out.bytes())?;
-    let told = String::from_utf8_lossy(alloc, &told)?;
-    format!(in alloc; "status {status} {:?}\n{told}", printed.as_str())
+    let disk = disk(alloc, &[], None)?;
+    answered_over(alloc, shelf, line, out, disk)
 }
 
 /// Answers a command line over a shelf.
@@ -102,6 +118,30 @@ fn check(alloc: Global, design: &str, certificate: &str) -> Result<String, Alloc
     answer_line(alloc, &mut shelf, "check design cert", false)
 }
 
+/// The bytes that a text spells, two digits each; a `-` is none.
+fn bytes_of(alloc: Global, text: &str) -> Vec<u8> {
+    let digits = if text == "-" { "" } else { text };
+    match hex::decode(alloc, digits) {
+        Ok(bytes) => bytes,
+        Err(_) => Vec::new(alloc),
+    }
+}
+
+/// Answers a command line over a design, its certificate without proofs and a journal, of which all calls fail from that number on.
+fn journal(
+    alloc: Global,
+    design: &str,
+    rest: &str,
+    from: Option<u64>,
+) -> Result<String, AllocError> {
+    let (bytes, line) = rest.split_once(" ").unwrap_or((rest, ""));
+    let mut shelf = shelf(alloc, design, "", "")?;
+    hold(&mut shelf, "cert", "[]")?;
+    let disk = disk(alloc, &bytes_of(alloc, bytes), from)?;
+    let mut out = sink(alloc, false)?;
+    answered_over(alloc, &mut shelf, line, &mut out, disk)
+}
+
 /// Prints a changed design.
 fn design(alloc: Global, base: &str, change: &str) -> Result<String, AllocError> {
     let text = changed(alloc, base, change)?;
@@ -117,6 +157,8 @@ fn answer(alloc: Global, base: &str, verb: &str, rest: &str) -> Result<String, A
         "certificate" => check(alloc, base, &with_feeds(alloc, rest)?),
         "run" => run(alloc, base, rest, false),
         "unread" => unread(alloc, base, rest),
+        "journal" => journal(alloc, base, rest, None),
+        "broken" => journal(alloc, base, rest, Some(1)),
         "fails" => run(alloc, base, rest, true),
         _ => String::from_str(alloc, "no such case\n"),
     }

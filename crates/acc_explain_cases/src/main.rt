@@ -2,7 +2,8 @@
 //!
 //! `base TEXT` gives the design of the cases behind it, with `\n` for a line feed. `design OLD -> NEW` prints that design with the
 //! first OLD exchanged for NEW; `script TEXT` and `order TEXT` play it; `certificate TEXT` checks it; `run WORDS`, `unread WORDS`
-//! and `fails WORDS` are command lines, the second over files that can't be read, the third over a sink that fails.
+//! and `fails WORDS` are command lines, the second over files that can't be read, the third over a sink that fails. `journal BYTES WORDS`
+//! is one over a disk with these bytes, two digits each, and `broken BYTES WORDS` over one that fails; there `cert` is `[]`.
 //! `reason NAMES` tells why the system doesn't give a file of the program's folder.
 #![tactic(auto)]
 

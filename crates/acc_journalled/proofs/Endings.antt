@@ -1,6 +1,7 @@
 -- What a command's parts come to.
-use Rattle.std.proofs.Common.{◌≡◌, inl, inr, ℕ, List, Option, Some, None, refl, subst}
-use Rattle.std.specs.Prelude.{IfSome}
+use Rattle.std.proofs.Common.{◌≡◌, inl, inr, ℕ, List, [], ◌∷◌, Option, Some, None, refl, subst}
+use Rattle.std.specs.Prelude.{◌≢◌, IfSome, codes}
+use Rattle.acc_base.specs.Lines.{line}
 use Rattle.acc_base.specs.declared.designs.Design.{Design}
 use Rattle.acc_base.specs.declared.machines.Event.{Event}
 use Rattle.acc_base.specs.Annotated.{IsIdle}
@@ -8,17 +9,18 @@ use Rattle.acc_base.specs.Machine.{World}
 use Rattle.acc_print.specs.Designs.{printed}
 use Rattle.acc_wal.specs.Journals.{Counts}
 use Rattle.acc_wal.specs.Wals.{Journal, IsOpened}
-use Rattle.acc_wal.specs.Creating.{RefusesNew}
-use Rattle.acc_wal.specs.Attaching.{IsOfBytes}
+use Rattle.acc_wal.specs.Creating.{rest_of, IsThere, RefusesNew}
+use Rattle.acc_wal.specs.Attaching.{IsOfBytes as IsOfBytesOld}
 use Rattle.acc_wal.specs.declared.errors.WalError.{WalError}
 use Rattle.acc_wal.specs.declared.errors.WalError.TheVariants.{Exists, NotJournal, OtherVersion, Damaged, Disk, Spent, Memory}
 use Rattle.acc_recover.specs.Answers.{RecoversFile}
-use Rattle.acc_recover.specs.Refusals.{RefusesRecovery}
+use Rattle.acc_recover.specs.Refusals.{RefusesRecovery, IsOfBytes, IsOfJournal, CountsSame}
 use Rattle.acc_recover.specs.declared.errors.RecoverError.{RecoverError}
 use Rattle.acc_recover.specs.declared.errors.RecoverError.TheVariants as recovery
-use Rattle.acc_journalled.specs.Tellings.{Telling, SaysOf}
+use Rattle.acc_journalled.specs.declared.answers.Ending.TheVariants.{Done, DiskFailed}
+use Rattle.acc_journalled.specs.Tellings.{Telling, Says, SaysOf}
 use Rattle.acc_journalled.specs.Making.{IsMakingError, SaysNotMade, MakesJournal}
-use Rattle.acc_journalled.specs.Recovering.{IsRecoverError, RecoversJournal}
+use Rattle.acc_journalled.specs.Recovering.{IsRecoverError, SaysNotRecovered, RecoversJournal}
 
 -- the disk of a journal that isn't spent holds its base text and its durable events
 pub holds : {D : Type 0} (wal : Journal D) (base : List ℕ) (events : List Event) (told : Option (List ℕ)) → IsOpened base events wal
@@ -39,8 +41,14 @@ making Disk told fault why = tt
 making Spent told fault why = absurd why
 making Memory told fault why = tt
 
+-- it was made: these bytes stand there now
+pub made_so : (d : Design) (told told' : Option (List ℕ)) (fault : Type 0) (t : Telling) → IfSome told (λ file. ¬ IsThere file)
+    → IfSome told' (λ file. file ≡ 0xA5 ∷ rest_of (printed d)) → IfSome told' (λ file. Counts file (printed d) [])
+    → Says Done (line (codes "created")) t → MakesJournal d told told' fault t
+made_so d told told' fault t fresh made holds says = inl (record { fresh = fresh; made = made; holds = holds; says = says })
+
 pub not_made_so : (error : WalError) (d : Design) (told told' : Option (List ℕ)) (fault : Type 0) (t : Telling)
-    → RefusesNew error told fault → (IsOfBytes error → told' ≡ told) → SaysNotMade error t → MakesJournal d told told' fault t
+    → RefusesNew error told fault → (IsOfBytesOld error → told' ≡ told) → SaysNotMade error t → MakesJournal d told told' fault t
 not_made_so Exists d told told' fault t why same says = inr (inl (record { there = why; same = same tt; says = says }))
 not_made_so NotJournal d told told' fault t why same says = absurd says
 not_made_so (OtherVersion version) d told told' fault t why same says = absurd says
@@ -48,6 +56,16 @@ not_made_so (Damaged place) d told told' fault t why same says = absurd says
 not_made_so Disk d told told' fault t why same says = inr (inr (record { failed = why; says = says }))
 not_made_so Spent d told told' fault t why same says = absurd says
 not_made_so Memory d told told' fault t why same says = absurd says
+
+-- where no call of the disk failed, a journal was there
+pub was_there : (error : WalError) (t : Telling) → SaysNotMade error t → t.ending ≢ DiskFailed → error ≡ Exists
+was_there Exists t says none = refl
+was_there NotJournal t says none = absurd says
+was_there (OtherVersion version) t says none = absurd says
+was_there (Damaged place) t says none = absurd says
+was_there Disk t says none = absurd (none says.0)
+was_there Spent t says none = absurd says
+was_there Memory t says none = absurd says
 
 -- ---- recovering
 
@@ -82,3 +100,18 @@ recovered_so text d told told' fault w wal compensated t file idle counts says =
       holds = holds wal (printed d) w.events told' file.settled counts;
       says = says;
     })
+
+-- where no call of the disk failed, the bytes gave cause for the refusal
+pub was_of_bytes : (error : RecoverError) (t : Telling) → SaysNotRecovered error t → t.ending ≢ DiskFailed → IsOfBytes error
+was_of_bytes (recovery.Journal error) t says none = tt
+was_of_bytes recovery.OtherDesign t says none = tt
+was_of_bytes (recovery.Unlawful at) t says none = tt
+was_of_bytes recovery.Disk t says none = none says.0
+was_of_bytes recovery.Memory t says none = says
+
+pub not_recovered_so : (error : RecoverError) (text : World → ℕ → List ℕ) (d : Design) (told told' : Option (List ℕ)) (fault : Type 0)
+    (t : Telling)
+    → RefusesRecovery d error told fault → (IsOfJournal error → told' ≡ told) → (IsOfBytes error → CountsSame told told')
+    → SaysNotRecovered error t → RecoversJournal text d told told' fault t
+not_recovered_so error text d told told' fault t why same kept says =
+    inr (record { error = error; cause = why; same = same; kept = kept; says = says })

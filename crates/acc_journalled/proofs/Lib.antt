@@ -1,3 +1,3 @@
-mod Endings
-mod Lawfuls
-mod Once
+pub mod Endings
+pub mod Lawfuls
+pub mod Once

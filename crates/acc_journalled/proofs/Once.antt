@@ -82,7 +82,7 @@ err_same p q same = cc
 
 module _ (d : Design) (file : List ℕ) where
   -- a journal is read
-  read_or : (e : WalError) (base : List ℕ) (events : List Event) → Counts file base events → RefusesJournal e (Some file) → ⊥
+  pub read_or : (e : WalError) (base : List ℕ) (events : List Event) → Counts file base events → RefusesJournal e (Some file) → ⊥
   read_or e base events c why =
       ok_or_err (base, events) e (one_answer file (Ok (base, events)) (Err e) c (counted_so e file why))
 
@@ -90,10 +90,10 @@ module _ (d : Design) (file : List ℕ) where
   one_reason p q h k = err_same p q (one_answer file (Err p) (Err q) (counted_so p file h) (counted_so q file k))
 
   -- a journal of the design's text isn't one of another text
-  text_or : (events : List Event) → Counts file (printed d) events → IsOfOther file (printed d) → ⊥
+  pub text_or : (events : List Event) → Counts file (printed d) events → IsOfOther file (printed d) → ⊥
   text_or events c other = other.other (one_reading file other.base (printed d) other.events events other.counts c).0
 
-  same_events : (a b : List Event) → Counts file (printed d) a → Counts file (printed d) b → a ≡ b
+  pub same_events : (a b : List Event) → Counts file (printed d) a → Counts file (printed d) b → a ≡ b
   same_events a b h k = (one_reading file (printed d) (printed d) a b h k).1
 
   one_place : (p q : ℕ) → IsUnlawfulAt d file p → IsUnlawfulAt d file q → p ≡ q
@@ -124,7 +124,7 @@ module _ (d : Design) (file : List ℕ) where
   refused_once (Unlawful at) Memory x y a b calm sound h k s r = absurd r
 
   -- what is recovered isn't refused
-  recovered_or : (found : List Event) (last : World) (e : RecoverError) (x : Type 0) (b : Telling) → ¬ x → Counts file (printed d) found
+  pub recovered_or : (found : List Event) (last : World) (e : RecoverError) (x : Type 0) (b : Telling) → ¬ x → Counts file (printed d) found
       → IsRecovery d found last → RefusesRecovery d e (Some file) x → SaysNotRecovered e b → ⊥
   recovered_or found last (Journal q) x b calm c r k s = read_or q (printed d) found c k
   recovered_or found last OtherDesign x b calm c r k s = text_or found c k
@@ -149,7 +149,7 @@ module _ (d : Design) (file : List ℕ) where
         (h.says.2 ∙ ap (λ (w : World). w.events) last ∙ sym k.says.2)
         (h.says.3 ∙ ap (λ (w : World). length w.events) last ∙ sym k.says.3)
 
-    refuses_once : (x y : Type 0) → ¬ x → ¬ y → RefusesSo d (Some file) x a → RefusesSo d (Some file) y b → a ≡ b
+    pub refuses_once : (x y : Type 0) → ¬ x → ¬ y → RefusesSo d (Some file) one x a → RefusesSo d (Some file) other y b → a ≡ b
     refuses_once x y calm sound h k =
         let same = refused_once h.error k.error x y a b calm sound h.cause k.cause h.says k.says in
         not_recovered_once k.error a b (subst (λ (e : RecoverError). SaysNotRecovered e a) same h.says) k.says

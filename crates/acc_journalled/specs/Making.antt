@@ -1,10 +1,10 @@
 -- Making a journal for a design.
-use Rattle.std.specs.Prelude.{◌≡◌, ◌⊎◌, ⊤, ℕ, List, [], Option, IfSome, codes}
+use Rattle.std.specs.Prelude.{◌≡◌, ◌⊎◌, ⊤, ◌∷◌, ℕ, List, [], Option, IfSome, codes}
 use Rattle.acc_base.specs.Lines.{line}
 use Rattle.acc_base.specs.declared.designs.Design.{Design}
 use Rattle.acc_print.specs.Designs.{printed}
 use Rattle.acc_wal.specs.Journals.{Counts}
-use Rattle.acc_wal.specs.Creating.{IsThere}
+use Rattle.acc_wal.specs.Creating.{rest_of, IsThere}
 use Rattle.acc_wal.specs.declared.errors.WalError.{WalError}
 use Rattle.acc_wal.specs.declared.errors.WalError.TheVariants.{Exists, Disk, Memory}
 use Rattle.acc_journalled.specs.declared.answers.Ending.TheVariants.{Done, JournalRefused, DiskFailed}
@@ -23,9 +23,10 @@ SaysNotMade Exists t = Says JournalRefused (line (codes "refused journal exists"
 SaysNotMade Disk t = Says DiskFailed (line (codes "fault disk")) t
 SaysNotMade _ t = ⊥
 
--- there was none, and now the disk holds a journal of the design's printed text without events
+-- There was none. Now the disk holds these bytes, which are a journal of the design's printed text without an event.
 pub record Makes (d : Design) (told told' : Option (List ℕ)) (t : Telling) : Type 0 where
   pub fresh : IfSome told (λ file. ¬ IsThere file)
+  pub made : IfSome told' (λ file. file ≡ 0xA5 ∷ rest_of (printed d))
   pub holds : IfSome told' (λ file. Counts file (printed d) [])
   pub says : Says Done (line (codes "created")) t
 

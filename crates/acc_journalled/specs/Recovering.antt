@@ -1,5 +1,5 @@
 -- Recovering a design's journal, and what is said of it.
-use Rattle.std.specs.Prelude.{◌⊎◌, ⊤, ◌++◌, ℕ, List, length, Option, IfSome, codes}
+use Rattle.std.specs.Prelude.{◌≡◌, ◌⊎◌, ⊤, ◌++◌, ℕ, List, length, Option, IfSome, codes}
 use Rattle.std.specs.Fmt.{decimal}
 use Rattle.acc_base.specs.Annotated.{IsIdle}
 use Rattle.acc_base.specs.Lines.{line}
@@ -12,9 +12,11 @@ use Rattle.acc_wal.specs.Journals.{Counts}
 use Rattle.acc_wal.specs.declared.errors.WalError.{WalError}
 use Rattle.acc_wal.specs.declared.errors.WalError.TheVariants.{NotJournal, OtherVersion, Damaged}
 use Rattle.acc_recover.specs.Recoveries.{IsRecovery, LeavesUnfinished}
-use Rattle.acc_recover.specs.Refusals.{RefusesRecovery}
+use Rattle.acc_recover.specs.Refusals.{RefusesRecovery, IsOfJournal, IsOfBytes, CountsSame}
 use Rattle.acc_recover.specs.declared.errors.RecoverError.{RecoverError}
 use Rattle.acc_recover.specs.declared.errors.RecoverError.TheVariants.{Journal, OtherDesign, Unlawful, Disk, Memory}
+use Rattle.acc_journalled.specs.declared.answers.Wanted.{Wanted}
+use Rattle.acc_journalled.specs.declared.answers.Wanted.TheVariants as wanted
 use Rattle.acc_journalled.specs.declared.answers.Ending.TheVariants.{JournalRefused, DiskFailed}
 use Rattle.acc_journalled.specs.Tellings.{Telling, Says, SaysOf}
 
@@ -27,6 +29,11 @@ counts_text w compensated = line (codes "events " ++ (decimal (length w.events) 
 -- its rows, a line each
 abbrev pub rows_text : Design → World → ℕ → List ℕ
 rows_text d w compensated = dump_text d w.rows
+
+-- what is wanted of it
+abbrev pub text_of : Wanted → Design → World → ℕ → List ℕ
+text_of wanted.Counts d = counts_text
+text_of wanted.Rows d = rows_text d
 
 -- ---- what is said where nothing is recovered
 
@@ -73,12 +80,14 @@ pub record Recovers (text : World → ℕ → List ℕ) (d : Design) (told told'
   pub holds : IfSome told' (λ file. Counts file (printed d) last.events)
   pub says : SaysOf (text last compensated) last t
 
--- it isn't recovered, for this cause
-pub record RefusesSo (d : Design) (told : Option (List ℕ)) (fault : Type 0) (t : Telling) : Type 0 where
+-- It isn't recovered, for this cause. What is no journal is left as it is; a journal that is refused counts what it counted.
+pub record RefusesSo (d : Design) (told told' : Option (List ℕ)) (fault : Type 0) (t : Telling) : Type 0 where
   pub error : RecoverError
   pub cause : RefusesRecovery d error told fault
+  pub same : IsOfJournal error → told' ≡ told
+  pub kept : IsOfBytes error → CountsSame told told'
   pub says : SaysNotRecovered error t
 
 abbrev pub RecoversJournal :
     (World → ℕ → List ℕ) → Design → Option (List ℕ) → Option (List ℕ) → Type 0 → Telling → Type 0
-RecoversJournal text d told told' fault t = Recovers text d told told' t ⊎ RefusesSo d told fault t
+RecoversJournal text d told told' fault t = Recovers text d told told' t ⊎ RefusesSo d told told' fault t

@@ -1,4 +1,4 @@
--- What a command over a journal says.
+-- What a command says over a disk.
 use Rattle.std.specs.Prelude.{◌≡◌, ℕ, List, [], length}
 use Rattle.acc_base.specs.declared.machines.Event.{Event}
 use Rattle.acc_journalled.specs.declared.answers.Answer.{Answer}
@@ -6,7 +6,7 @@ use Rattle.acc_base.specs.Machine.{World}
 use Rattle.acc_journalled.specs.declared.answers.Ending.{Ending}
 use Rattle.acc_journalled.specs.declared.answers.Ending.TheVariants.{Done}
 
--- how it ends, what is printed, the events of the recovered state, and how many of them are durable
+-- how it ends, what is printed, the events of its machine, and how many of the first of them the journal holds as durable when it ends
 pub record Telling : Type 0 where
   pub ending : Ending
   pub text : List ℕ
@@ -17,7 +17,7 @@ pub record Telling : Type 0 where
 abbrev pub telling_of : Answer → Telling
 telling_of a = record { ending = a.ending; text = a.text.items; history = a.history; settled = a.settled }
 
--- it ends so, prints this text, and nothing was recovered
+-- it ends so, prints this text, no machine ran, and no event is durable
 abbrev pub Says : Ending → List ℕ → Telling → Type 0
 Says ending text t = (t.ending ≡ ending) × (t.text ≡ text) × (t.history ≡ []) × (t.settled ≡ 0)
 

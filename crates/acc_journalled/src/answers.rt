@@ -1,20 +1,35 @@
-//! What a command over a journal answers.
+//! What a command answers.
 use acc_base::machines::Event;
 use acc_base::sequences::Seq;
 use std::alloc::AllocError;
 
-/// How a command over a journal ends.
+/// How a command ends whose files were given.
 #[derive(Clone, Copy, Debug, PartialEq, Eq)]
 pub enum Ending {
     Done,
+    /// The design or its certificate is refused.
+    DesignRefused,
+    /// The script or the order is refused.
+    ScriptRefused,
     /// The journal is refused: one is there where none may be, there is none, or it isn't one of the design.
     JournalRefused,
-    /// The disk failed: its count of faults rose in this call.
+    /// A call of the disk failed: its count of faults rose.
     DiskFailed,
+    /// A place of the script couldn't begin, since the history is full.
+    Unbegun,
 }
 
-/// How a command ends, the text to print, the events of the recovered state, and how many of them the journal holds as durable. A
-/// command that recovers nothing has no events.
+/// What is told of a recovered journal.
+#[derive(Clone, Copy, Debug, PartialEq, Eq)]
+pub enum Wanted {
+    /// How many events it has, and how many transactions were compensated.
+    Counts,
+    /// The rows, a line each.
+    Rows,
+}
+
+/// How a command ends, the text to print, the events of its machine, and how many of the first of them the journal holds as durable. A
+/// command that runs no machine has no events.
 #[derive(Drop)]
 pub struct Answer {
     pub ending: Ending,

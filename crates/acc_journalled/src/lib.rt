@@ -6,5 +6,6 @@ mod commands;
 pub mod laws;
 mod lines;
 
-pub use answers::{Answer, Closed, Ending};
-pub use commands::{dump_journal, init_journal, recover_journal};
+pub use answers::{Answer, Closed, Ending, Wanted};
+pub use commands::{init_journal, recover_journal};
+pub use lines::not_recovered;

@@ -5,9 +5,9 @@ ghost use Rattle.acc_journalled.specs.declared.answers.Ending.TheVariants.{Done}
 ghost use Rattle.acc_journalled.specs.Tellings.{telling_of, Says, SaysOf};
 ghost use Rattle.acc_journalled.specs.Making.{IsMakingError, SaysNotMade};
 ghost use Rattle.acc_journalled.specs.Recovering.{IsReadingError, IsRecoverError, SaysNotRead, SaysUnlawful, SaysNotRecovered};
-ghost use Rattle.acc_journalled.specs.Recovering.{counts_text, rows_text};
+ghost use Rattle.acc_journalled.specs.Recovering.{counts_text, rows_text, text_of};
 
-use crate::answers::{Answer, Ending};
+use crate::answers::{Answer, Ending, Wanted};
 use acc_base::designs::Design;
 use acc_base::sequences::Seq;
 use acc_dump::dump;
@@ -98,11 +98,7 @@ fn told(state: State<MapStore>, text: Vec<u8>) -> Answer
 }
 
 /// Says how many events a recovered state has, and how many transactions were compensated.
-pub fn counted(
-    alloc: Global,
-    state: State<MapStore>,
-    compensated: u64,
-) -> Result<Answer, AllocError>
+fn counted(alloc: Global, state: State<MapStore>, compensated: u64) -> Result<Answer, AllocError>
     ensures { IfOk result (λ a. SaysOf (counts_text state.entry.world compensated) state.entry.world (telling_of a)) }
 {
     let events = state.events().len();
@@ -111,7 +107,7 @@ pub fn counted(
 }
 
 /// Says the rows of a recovered state, a line each.
-pub fn dumped(
+fn dumped(
     alloc: Global,
     d: &Design,
     state: State<MapStore>,
@@ -121,4 +117,20 @@ pub fn dumped(
 {
     let text = dump(alloc, d, state.store())?;
     Ok(told(state, text))
+}
+
+/// Says what is wanted of a recovered state.
+pub fn tell_state(
+    alloc: Global,
+    d: &Design,
+    wanted: Wanted,
+    state: State<MapStore>,
+    compensated: u64,
+) -> Result<Answer, AllocError>
+    ensures { IfOk result (λ a. SaysOf (text_of wanted d.now state.entry.world compensated) state.entry.world (telling_of a)) }
+{
+    match wanted {
+        Wanted::Counts => counted(alloc, state, compensated),
+        Wanted::Rows => dumped(alloc, d, state, compensated),
+    }
 }

@@ -2,7 +2,7 @@
 #![tactic(auto)]
 
 use acc_cli::{acc, asks_journal, help_text};
-use acc_diagnose::{explain, system_reason};
+use acc_diagnose::{Keeping, explain, system_reason};
 use acc_disk::{Disk, FileDisk, MemDisk};
 use acc_io::{FolderShelf, StdSink};
 use std::io::{ErrorKind, Write};
@@ -22,13 +22,13 @@ fn words(rt: &HostRuntime) -> io::Result<Vec<String>> {
 }
 
 /// Tells on standard error why a command line ended with a status that isn't 0. What fails here changes nothing else.
-fn tell(rt: &HostRuntime, status: u8, words: &[String]) {
+fn tell(rt: &HostRuntime, status: u8, words: &[String], printed: &[u8]) {
     let usage = match help_text(rt.alloc()) {
         Ok(usage) => usage,
         Err(_) => Vec::new(rt.alloc()),
     };
     let mut shelf = FolderShelf::new(rt);
-    let told = explain(rt.alloc(), status, words, &mut shelf, &usage);
+    let told = explain(rt.alloc(), status, words, &mut shelf, printed, &usage);
     match rt.stderr().write_all(&told) {
         Ok(()) | Err(_) => {}
     }
@@ -56,11 +56,15 @@ fn take_journal(words: &mut Vec<String>) -> Option<String> {
     }
 }
 
-/// Answers a command line over a disk.
+/// Answers a command line over a disk, and tells on standard error why, where it isn't answered with status 0.
 fn answer<D: Disk + Drop>(rt: &HostRuntime, words: &[String], disk: D) -> u8 {
     let mut shelf = FolderShelf::new(rt);
-    let mut out = StdSink::new(rt);
-    acc(rt.alloc(), words, &mut shelf, &mut out, disk).status
+    let mut out = Keeping::new(rt.alloc(), StdSink::new(rt));
+    let status = acc(rt.alloc(), words, &mut shelf, &mut out, disk).status;
+    if status != 0 {
+        tell(rt, status, words, out.kept());
+    }
+    status
 }
 
 /// Answers a command line over the journal's file, or over an empty disk where there is none.
@@ -69,7 +73,10 @@ fn answer_over(rt: &HostRuntime, words: &[String], journal: Option<String>) -> u
         Some(path) => answer(rt, words, FileDisk::new(rt, path)),
         None => match MemDisk::new(rt.alloc(), &[], &[], None) {
             Ok(disk) => answer(rt, words, disk),
-            Err(_) => MEMORY,
+            Err(_) => {
+                tell(rt, MEMORY, words, &[]);
+                MEMORY
+            }
         },
     }
 }
@@ -82,9 +89,5 @@ fn main(rt: HostRuntime) -> ExitCode {
         Err(_) => Vec::new(rt.alloc()),
     };
     let journal = take_journal(&mut words);
-    let status = answer_over(&rt, &words, journal);
-    if status != 0 {
-        tell(&rt, status, &words);
-    }
-    ExitCode::from(status)
+    ExitCode::from(answer_over(&rt, &words, journal))
 }

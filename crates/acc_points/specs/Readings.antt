@@ -1,6 +1,6 @@
 -- The relations of an elimination, read from relations between unknowns: the number 1 without condition is part of the constant, the
 -- unknowns are numbered from 0 in the order in which they first appear, and each relation was made once by itself.
-use Rattle.std.specs.Prelude.{ℕ, suc, ◌||◌, if◌then◌else◌, List, [], ◌∷◌, ◌++◌, position, Option, Ok, ℤ, pos}
+use Rattle.std.specs.Prelude.{ℕ, suc, ◌||◌, if◌then◌else◌, List, [], ◌∷◌, ◌++◌, length, position, Option, Ok, ℤ, pos}
 use Rattle.std.specs.Option.{is_some, unwrap_or}
 use Rattle.std.specs.List.{fold}
 use Rattle.std.specs.Ordering.{int_eq}
@@ -63,3 +63,13 @@ abbrev pub rows_from : List Unknown → ℕ → List Rel → Computation (List R
 rows_from names place [] = Ok []
 rows_from names place (r ∷ rs) =
     chain (row_of names place r) (λ row. chain (rows_from names (suc place) rs) (λ rows. Ok (row ∷ rows)))
+
+-- ---- one relation after the other
+
+-- the unknowns and the rows of the relations that were read
+abbrev pub Read : Type 0
+Read = List Unknown × List Row
+
+-- one more relation is read, with its own unknowns behind the others
+abbrev pub read_next : Read → Rel → Computation Read
+read_next s r = chain (row_of (with_rel s.0 r) (length s.1) r) (λ row. Ok (with_rel s.0 r, s.1 ++ row ∷ []))

@@ -4,5 +4,5 @@
 mod fractions;
 pub mod laws;
 mod points;
-mod readings;
+pub mod readings;
 pub mod searching;

@@ -15,7 +15,7 @@ use acc_systems::stops::Stop;
 use std::alloc::{AllocError, Global};
 
 /// The place of an unknown among others.
-fn place_of(names: &[Unknown], unknown: &Unknown) -> Option<usize>
+pub fn place_of(names: &[Unknown], unknown: &Unknown) -> Option<usize>
     ensures value { result ≡ place_of names.now unknown.now }
     ensures within { IfSome result (λ i. i < length names.now) }
 {
@@ -46,7 +46,7 @@ fn add_term(names: &mut Vec<Unknown>, term: &(Unknown, i128)) -> Result<(), Allo
 }
 
 /// The unknowns of terms, after those that stand there.
-fn add_names(names: &mut Vec<Unknown>, terms: &[(Unknown, i128)]) -> Result<(), AllocError>
+pub fn add_names(names: &mut Vec<Unknown>, terms: &[(Unknown, i128)]) -> Result<(), AllocError>
     ensures { OnOk result (names.new.items ≡ fold with_term names.old.items terms.now) }
 {
     for term in terms {
@@ -163,6 +163,23 @@ fn row_of(alloc: Global, names: &[Unknown], place: u32, rel: &Rel) -> Result<Row
         equal: rel.equal,
         by,
     })
+}
+
+/// One more relation is read. Its unknowns come behind the others.
+pub fn read_next(
+    alloc: Global,
+    names: &mut Vec<Unknown>,
+    place: u32,
+    rel: &Rel,
+) -> Result<Row, Stop>
+    ensures names { OnOk result (names.new.items ≡ with_rel names.old.items rel.now) }
+    ensures row { Answers result (row_of (with_rel names.old.items rel.now) place rel.now) }
+{
+    add_names(names, rel.form.terms.as_slice())?;
+    if names.len() > u32::MAX as usize {
+        return Err(Stop::Memory);
+    }
+    row_of(alloc, names.as_slice(), place, rel)
 }
 
 /// One more relation behind the others.

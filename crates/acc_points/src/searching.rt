@@ -2,12 +2,13 @@
 ghost use Rattle.std.specs.Prelude.{◌≡◌, IfOk};
 ghost use Rattle.acc_systems.specs.Answers.{Answers};
 ghost use Rattle.acc_points.specs.Points.{zeros, point_of};
-ghost use Rattle.acc_points.specs.Searches.{searched};
+ghost use Rattle.acc_points.specs.Searches.{found_by, searched};
 
 use crate::points::{place_all, place_all_by};
 use crate::readings::{rows_of, unknowns_of};
 use acc_base::forms::Rel;
 use acc_base::sequences::Seq;
+use acc_systems::rows::Row;
 use acc_systems::stops::Stop;
 use acc_systems::systems::{Eliminated, eliminate_all};
 use std::alloc::{AllocError, Global};
@@ -28,6 +29,14 @@ fn point_of(alloc: Global, unknowns: u32, left: Eliminated) -> Result<Seq<(i128,
     place_all_by(point.into_vec(), left.aside.as_slice())
 }
 
+/// The point that the elimination of this many unknowns from these rows leaves, or what stops it.
+pub fn found_by(alloc: Global, unknowns: u32, rows: Vec<Row>) -> Result<Seq<(i128, i128)>, Stop>
+    ensures { Answers result (found_by unknowns rows.items) }
+{
+    let left = eliminate_all(alloc, unknowns, rows)?;
+    point_of(alloc, unknowns, left)
+}
+
 /// The point at which relations hold: a numerator and a denominator above 0 for each unknown, in the order of first appearance. Or
 /// what stops the elimination: `Refuted` with the false constant and its multipliers, `Wide` where a number lies beyond 2^120 on
 /// either side of 0, `Many` where a system has more than 4,096 relations, whichever it meets first; `Memory` where memory ran out, or
@@ -44,6 +53,5 @@ pub fn searched(alloc: Global, rels: &[Rel]) -> Result<Seq<(i128, i128)>, Stop>
     }
     let unknowns = names.len() as u32;
     let rows = rows_of(alloc, names.as_slice(), rels)?;
-    let left = eliminate_all(alloc, unknowns, rows)?;
-    point_of(alloc, unknowns, left)
+    found_by(alloc, unknowns, rows)
 }

@@ -17,6 +17,7 @@ use acc_base::sequents::Sequent;
 use acc_branch::copies::{copied_numbers, copied_rels, copied_schemas};
 use acc_branch::halts::Halt;
 use acc_branch::known::{Branch, above, below, verdict};
+use acc_elim::solver::Solver;
 use acc_elim::verdicts::Verdict;
 use acc_inst::making::Instance;
 use std::alloc::{AllocError, Global};
@@ -30,7 +31,7 @@ fn knowing(alloc: Global, known: &Branch, rel: Rel) -> Result<Branch, AllocError
     let insts = copied_numbers(alloc, known.insts.as_slice())?;
     let axioms = copied_schemas(alloc, known.axioms.as_slice())?;
     Ok(Branch {
-        rels,
+        rels: Solver::new(alloc, rels),
         insts,
         axioms,
     })
@@ -63,7 +64,7 @@ fn tried(
         (tried design.now sequent.now made.now (known_of known.old, nodes.old.items)) }
 {
     passes(alloc, design, sequent, made, known, nodes)?;
-    let verdict = verdict(alloc, known.rels.as_slice())?;
+    let verdict = verdict(alloc, &mut known.rels)?;
     let point = ended(nodes, verdict)?;
     Ok(point)
 }
@@ -80,7 +81,7 @@ fn closing(
     ensures { LeavesWith result (known_of known.new, nodes.new.items)
         (closing design.now sequent.now made.now (known_of known.old, nodes.old.items)) }
 {
-    match verdict(alloc, known.rels.as_slice())? {
+    match verdict(alloc, &mut known.rels)? {
         Verdict::Refuted(multipliers) => {
             nodes.push(Node::Leaf(multipliers))?;
             Ok(None)

@@ -20,6 +20,7 @@ use acc_base::sequents::Sequent;
 use acc_branch::copies::copied_rels;
 use acc_branch::halts::Halt;
 use acc_branch::known::{Branch, above};
+use acc_elim::solver::Solver;
 use acc_inst::listing::InstError;
 use acc_inst::lists::{Made, made_lists};
 use acc_inst::making::Instance;
@@ -48,7 +49,7 @@ fn starting(alloc: Global, sequent: &Sequent, contrary: Rel) -> Result<Branch, A
     let mut rels = copied_rels(alloc, sequent.rels.as_slice())?;
     rels.push(contrary)?;
     Ok(Branch {
-        rels,
+        rels: Solver::new(alloc, rels),
         insts: Vec::new(alloc),
         axioms: Vec::new(alloc),
     })

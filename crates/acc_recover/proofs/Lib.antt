@@ -4,3 +4,4 @@ pub mod InSteps
 pub mod Single
 pub mod Ends
 pub mod Attached
+pub mod Refused

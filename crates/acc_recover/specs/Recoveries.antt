@@ -34,6 +34,11 @@ abbrev pub CountsRecovered : Design → List ℕ → List Event → List ℕ →
 CountsRecovered d base found image =
     Counts image base found ⊎ ((last : World) × IsRecovery d found last × Counts image base last.events)
 
+-- the bytes are those of the file; or, where it is a journal, they are one of what it counts, or of the recovered history
+abbrev pub LeavesRecovery : Design → List ℕ → List ℕ → Type 0
+LeavesRecovery d file image =
+    (image ≡ file) ⊎ ((base : List ℕ) × (found : List Event) × Counts file base found × CountsRecovered d base found image)
+
 -- the rows after some first of these events
 abbrev pub AreRowsWithin : Design → List Event → List Row → Type 0
 AreRowsWithin d events rows = (w : World) × HasCome d start events w × (rows ≡ w.rows)

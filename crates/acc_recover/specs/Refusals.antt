@@ -1,5 +1,5 @@
 -- Why nothing is recovered, and what is handed back then.
-use Rattle.std.specs.Prelude.{◌≡◌, ◌≢◌, ◌⊎◌, ⊤, ℕ, List, [], Option, IfSome}
+use Rattle.std.specs.Prelude.{◌≡◌, ◌≢◌, ◌⊎◌, ⊤, ℕ, List, [], Option, Some, IfSome}
 use Rattle.acc_base.specs.declared.tables.Row.{Row}
 use Rattle.acc_base.specs.declared.designs.Design.{Design}
 use Rattle.acc_base.specs.declared.machines.Event.{Event}
@@ -40,6 +40,22 @@ RefusesRecovery d OtherDesign told fault = IfSome told (λ file. IsOfOther file 
 RefusesRecovery d (Unlawful at) told fault = IfSome told (λ file. IsUnlawfulAt d file at)
 RefusesRecovery d Disk told fault = fault
 RefusesRecovery d Memory told fault = ⊤
+
+-- the bytes aren't a journal's
+abbrev pub IsOfJournal : RecoverError → Type 0
+IsOfJournal (Journal error) = ⊤
+IsOfJournal _ = ⊥
+
+-- a refusal that the bytes give cause for
+abbrev pub IsOfBytes : RecoverError → Type 0
+IsOfBytes Disk = ⊥
+IsOfBytes Memory = ⊥
+IsOfBytes _ = ⊤
+
+-- where the one file is a journal, the other is one of the same base text and events
+abbrev pub CountsSame : Option (List ℕ) → Option (List ℕ) → Type 0
+CountsSame told told' = (file base : List ℕ) (events : List Event) → told ≡ Some file → Counts file base events
+    → (now : List ℕ) → told' ≡ Some now → Counts now base events
 
 -- ---- the rows that are handed back
 

@@ -9,10 +9,11 @@ ghost use Rattle.acc_disk.specs.Moments.{AtAnyMoment};
 ghost use Rattle.acc_wal.specs.Journals.{Counts};
 ghost use Rattle.acc_wal.specs.Wals.{IsOpened};
 ghost use Rattle.acc_machine.specs.Kept.{IsKept};
-ghost use Rattle.acc_recover.specs.Recoveries.{IsRecovery, GoesOn, CountsRecovered};
+ghost use Rattle.acc_recover.specs.Recoveries.{IsRecovery, GoesOn, CountsRecovered, LeavesRecovery};
 ghost use Rattle.acc_recover.specs.Steps.{InStep};
 ghost use Rattle.acc_recover.specs.Answers.{RecoversFile, IsReplayed};
 ghost use Rattle.acc_recover.specs.Refusals.{RefusesRecovery, HandsBack, RefusesText, RefusesHistory, FailsToSettle, refusal_for};
+ghost use Rattle.acc_recover.specs.Refusals.{IsOfJournal, IsOfBytes, CountsSame};
 
 use crate::endings::end_all;
 use crate::errors::RecoverError;
@@ -126,7 +127,7 @@ fn end_and_settle<S: Store, D: Disk>(
 /// `Disk`, only where the disk's count of faults rose in this call; and `Memory`. These two may come before the others.
 ///
 /// From a calm disk a crash at any moment of the call leaves a journal of the events that were found, or of the whole recovered
-/// history; and after Ok the disk is calm.
+/// history. After Ok, and after a refusal that the bytes give cause for, the disk is calm. What is no journal is left as it is.
 pub fn recover<'a, S: Store, D: Disk>(
     alloc: Global,
     d: &'a Accepted,
@@ -147,6 +148,18 @@ pub fn recover<'a, S: Store, D: Disk>(
         → IfErr result (λ refusal. AtAnyMoment D.clock D.left_since disk refusal.2 (CountsRecovered d.now base found)) }
     ensures calm { IsCalm (D.told disk) (D.may_leave disk)
         → IfOk result (λ r. IsCalm (D.told r.wal.disk) (D.may_leave r.wal.disk)) }
+    ensures leaves { (file : List ℕ) → D.told disk ≡ Some file → Only file (D.may_leave disk)
+        → IfOk result (λ r. AtAnyMoment D.clock D.left_since disk r.wal.disk (LeavesRecovery d.now file)) }
+    ensures leaves_refused { (file : List ℕ) → D.told disk ≡ Some file → Only file (D.may_leave disk)
+        → IfErr result (λ refusal. AtAnyMoment D.clock D.left_since disk refusal.2 (LeavesRecovery d.now file)) }
+    // What is no journal is left as it is.
+    ensures unread { IfErr result (λ refusal. IsOfJournal refusal.0 → (D.told refusal.2 ≡ D.told disk)
+        × ((file : List ℕ) → Only file (D.may_leave disk)
+        → AtAnyMoment D.clock D.left_since disk refusal.2 (λ image. image ≡ file))) }
+    // Behind each refusal that the bytes give cause for, a journal is one of the same base text and events, and a calm disk is calm again.
+    ensures kept { IfErr result (λ refusal. IsOfBytes refusal.0 → CountsSame (D.told disk) (D.told refusal.2)) }
+    ensures calm_refused { IsCalm (D.told disk) (D.may_leave disk)
+        → IfErr result (λ refusal. IsOfBytes refusal.0 → IsCalm (D.told refusal.2) (D.may_leave refusal.2)) }
     ensures faults { IfOk result (λ r. D.faults disk ≤ D.faults r.wal.disk) }
     ensures faults_refused { IfErr result (λ refusal. D.faults disk ≤ D.faults refusal.2) }
 {

@@ -77,13 +77,18 @@ module _ {D : Type 0} (told : D → Option (List ℕ)) (may_leave : D → List �
 
   module _ (clock : D → ℕ) (left_since : D → ℕ → List ℕ → Type 0) (count : D → ℕ)
       (only_now : (disk : D) (image : List ℕ) → left_since disk (clock disk) image → may_leave disk image) where
+    -- what a crash leaves of an engine whose next call may come
+    pub left_now : (e : Journalled D) → IsReady told may_leave e → (image : List ℕ) → may_leave e.disk image
+        → CountsFront e.base e.state.events e.settled image
+    left_now e ready image left =
+        let is = calm_file (told e.disk) (may_leave e.disk) ready.calm in
+        subst (λ (f : List ℕ). CountsFront e.base e.state.events e.settled f) (sym (is.2 image left)) (ready.counts is.0 is.1)
+
     here : (e : Journalled D) → IsReady told may_leave e
         → AtAnyMoment clock left_since e.disk e.disk (CountsFront e.base e.state.events e.settled)
     here e ready =
-        let is = calm_file (told e.disk) (may_leave e.disk) ready.calm in
-        started clock left_since e.disk (CountsFront e.base e.state.events e.settled) (λ image left.
-        subst (λ (f : List ℕ). CountsFront e.base e.state.events e.settled f) (sym (is.2 image (only_now e.disk image left)))
-        (ready.counts is.0 is.1))
+        started clock left_since e.disk (CountsFront e.base e.state.events e.settled)
+        (λ image left. left_now e ready image (only_now e.disk image left))
 
     pub runs_stays : (old new : Journalled D) (more : List Event) → StaysBut old new → new.state.events ≡ old.state.events ++ more
         → (IsAcked old → IsAckedButOne new) → RunsOn clock left_since told may_leave count old new
@@ -97,6 +102,8 @@ module _ {D : Type 0} (told : D → Option (List ℕ)) (may_leave : D → List �
           (CountsFront old.base new.state.events old.settled)
           (λ image front. subst (λ (h : List Event). CountsFront old.base h old.settled image) (sym is)
           (front_goes_on old.base image old.state.events more old.settled old.settled (omega arith) front)) (here old ready));
+      left = λ ready. left_now new (ready_stays old new more s is ready);
+      ready = λ ready _. ready_stays old new more s is ready;
       ends = ends;
     }
 
@@ -128,6 +135,8 @@ module _ {D : Type 0} (told : D → Option (List ℕ)) (may_leave : D → List �
               (weaker clock left_since old.disk mid.disk (CountsFront old.base mid.state.events old.settled) P first (a.moments ready))
               (weaker clock left_since mid.disk new.disk (CountsFront mid.base new.state.events mid.settled) P second
               (b.moments (ready_again ready)));
+          left = λ ready. b.left (ready_again ready);
+          ready = λ ready. b.ready (ready_again ready);
           ends = ends;
         }
 

@@ -6,3 +6,4 @@ pub mod Counts
 pub mod Marks
 pub mod Telling
 pub mod Lines
+pub mod BeginSizes

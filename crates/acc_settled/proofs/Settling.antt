@@ -1,5 +1,5 @@
 -- What a settling leaves, and why a call stops.
-use Rattle.std.proofs.Common.{◌≡◌, ◌≤◌, ℕ, List, [], length, false, Option, Some, sym, ap, subst, ◌∙◌}
+use Rattle.std.proofs.Common.{◌≡◌, ◌≤◌, ℕ, List, [], length, Bool, true, false, Option, Some, sym, ap, subst, ◌∙◌}
 use Rattle.std.specs.Prelude.{Result, IfErr, IsErrAnd}
 use Rattle.std.proofs.lemmas.List.{append-nil}
 use Rattle.std.proofs.lemmas.Result.{err_from_is_err_and}
@@ -12,6 +12,7 @@ use Rattle.acc_wal.specs.Fronts.{CountsFront}
 use Rattle.acc_machine.specs.Kept.{IsKept}
 use Rattle.acc_engine.specs.Calls.{RefusesTurn, RefusesSettling}
 use Rattle.acc_engine.specs.Keeping.{Journalled}
+use Rattle.acc_engine.specs.Ready.{IsReady}
 use Rattle.acc_engine.specs.declared.errors.EngineError.{EngineError}
 use Rattle.acc_engine.specs.declared.errors.EngineError.TheVariants.{Disk as DiskFails, Failed as HasFailed, Memory as NoMemory}
 use Rattle.acc_settled.specs.declared.errors.Stop.{Stop}
@@ -52,8 +53,11 @@ module _ {D : Type 0} (old new : Journalled D) (settles : Settles old new) where
       (may_leave : D → List ℕ → Type 0) (count : D → ℕ) → old.settled ≤ new.settled → count old.disk ≤ count new.disk
       → ((file : List ℕ) → told old.disk ≡ Some file → Only file (may_leave old.disk)
       → AtAnyMoment clock left_since old.disk new.disk (CountsFront old.base old.state.events old.settled))
+      → (IsReady told may_leave old → (image : List ℕ) → may_leave new.disk image
+      → CountsFront new.base new.state.events new.settled image)
+      → (IsReady told may_leave old → new.failed ≡ false → IsReady told may_leave new)
       → (IsAcked old → IsAckedButOne new) → RunsOn clock left_since told may_leave count old new
-  runs_settling clock left_since told may_leave count settled faults moments ends = record {
+  runs_settling clock left_since told may_leave count settled faults moments left ready ends = record {
     goes_on = goes_settling;
     settled = settled;
     faults = faults;
@@ -61,8 +65,33 @@ module _ {D : Type 0} (old new : Journalled D) (settles : Settles old new) where
         let is = calm_file (told old.disk) (may_leave old.disk) ready.calm in
         subst (λ (w : World). AtAnyMoment clock left_since old.disk new.disk (CountsFront old.base w.events old.settled))
         (sym settles.kept.0) (moments is.0 is.1 is.2);
+    left = left;
+    ready = ready;
     ends = ends;
   }
+
+  -- what a crash leaves where the settling failed
+  pub left_failing : (clock : D → ℕ) (left_since : D → ℕ → List ℕ → Type 0) (told : D → Option (List ℕ))
+      (may_leave : D → List ℕ → Type 0) → new.settled ≡ old.settled
+      → ((disk : D) (time : ℕ) (image : List ℕ) → time ≤ clock disk → may_leave disk image → left_since disk time image)
+      → ((file : List ℕ) → told old.disk ≡ Some file → Only file (may_leave old.disk)
+      → AtAnyMoment clock left_since old.disk new.disk (CountsFront old.base old.state.events old.settled))
+      → IsReady told may_leave old → (image : List ℕ) → may_leave new.disk image
+      → CountsFront new.base new.state.events new.settled image
+  left_failing clock left_since told may_leave same counts_now moments ready image left =
+      let is = calm_file (told old.disk) (may_leave old.disk) ready.calm in
+      let run = moments is.0 is.1 is.2 in
+      let front = run.each image (counts_now new.disk (clock old.disk) image run.later left) in
+      subst (λ (n : ℕ). CountsFront new.base new.state.events n image) (sym same)
+      (subst (λ (w : World). CountsFront new.base w.events old.settled image) (sym settles.kept.0)
+      (subst (λ (b : List ℕ). CountsFront b old.state.events old.settled image) (sym settles.kept.1) front))
+
+-- a settling that isn't done makes the engine fail
+pub settling_fails : (error : EngineError) (before now : Bool) (fault : Type 0) → RefusesSettling error before now fault → before ≡ false
+    → now ≡ true
+settling_fails DiskFails before now fault why unfailed = why.1
+settling_fails HasFailed before now fault why unfailed = absurd (let e = sym unfailed ∙ why in cc)
+settling_fails NoMemory before now fault why unfailed = absurd why
 
 -- ---- stops
 

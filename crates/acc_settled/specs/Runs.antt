@@ -27,7 +27,8 @@ pub record IsAckedButOne {D : Type 0} (e : Journalled D) : Type 0 where
   pub others : (t : ℕ) → t ≢ last → durable_reply e t ≡ reply_at t e.state
 
 -- The history goes on, no less of it is durable, and the disk's count of faults hasn't fallen. From a calm disk a crash at any moment
--- leaves a front of the history, of all that was durable at first at least. Where each reply was durable at first, each is but one's.
+-- leaves a front of the history, of all that was durable at first at least; and one afterwards, of all that is durable then. Unless the
+-- engine fails, the disk is calm again. Where each reply was durable at first, each is but one's.
 pub record RunsOn {D : Type 0} (clock : D → ℕ) (left_since : D → ℕ → List ℕ → Type 0) (told : D → Option (List ℕ))
     (may_leave : D → List ℕ → Type 0) (count : D → ℕ) (old new : Journalled D) : Type 0 where
   pub goes_on : GoesOn old new
@@ -35,6 +36,9 @@ pub record RunsOn {D : Type 0} (clock : D → ℕ) (left_since : D → ℕ → L
   pub faults : count old.disk ≤ count new.disk
   pub moments :
       IsReady told may_leave old → AtAnyMoment clock left_since old.disk new.disk (CountsFront old.base new.state.events old.settled)
+  pub left :
+      IsReady told may_leave old → (image : List ℕ) → may_leave new.disk image → CountsFront new.base new.state.events new.settled image
+  pub ready : IsReady told may_leave old → new.failed ≡ false → IsReady told may_leave new
   pub ends : IsAcked old → IsAckedButOne new
 
 -- the next call may come: the engine hasn't failed; the disk is calm and each reply durable, if they were

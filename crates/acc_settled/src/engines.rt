@@ -1,8 +1,8 @@
 //! Engines over a journal of which all is durable.
-ghost use Rattle.std.specs.Prelude.{◌≡◌, ◌<◌, ◌^◌, [], map, length, false};
+ghost use Rattle.std.specs.Prelude.{◌≡◌, ◌<◌, ◌^◌, [], length, false};
 ghost use Rattle.acc_disk.specs.Crashes.{IsCalm};
-ghost use Rattle.acc_wal.specs.Spellings.{body};
-ghost use Rattle.acc_engine.specs.Keeping.{CallsFit, begin_of};
+ghost use Rattle.acc_script.specs.BeginSizes.{begins_size};
+ghost use Rattle.acc_engine.specs.Keeping.{CallsFit};
 ghost use Rattle.acc_engine.specs.Ready.{IsReady};
 ghost use Rattle.acc_settled.specs.Openings.{IsFresh};
 
@@ -27,7 +27,7 @@ pub fn over_journal<'a, S: Store, D: Disk>(
     requires settled { wal.tail ≡ [] }
     requires unspent { wal.spent ≡ false }
     requires fits { CallsFit state.design calls }
-    requires few { length (body (map begin_of calls)) < 2 ^ 31 }
+    requires few { begins_size calls < 2 ^ 31 }
     ensures fresh { IsFresh result }
     ensures state { (result.state ≡ state.entry.world) × (result.design ≡ state.entry.design) }
     ensures journal { (result.disk ≡ wal.disk) × (result.base ≡ wal.base) }

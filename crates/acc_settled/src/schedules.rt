@@ -1,15 +1,12 @@
 //! An engine's calls that are scheduled in an order, and the lines of it.
 ghost use Rattle.std.specs.Prelude.{◌≡◌, ◌≤◌, ℕ, [], length, All, false, IfOk, IfErr, OnOk, IsTrue, IsFalse, IsSome, None, Some, slice_get};
-ghost use Rattle.acc_disk.specs.Moments.{AtAnyMoment};
-ghost use Rattle.acc_wal.specs.Fronts.{CountsFront};
 ghost use Rattle.acc_base.specs.declared.bounds.TheConstants.{MOST_EVENTS};
 ghost use Rattle.acc_base.specs.Machine.{unfinished};
-ghost use Rattle.acc_engine.specs.Ready.{IsReady};
 ghost use Rattle.acc_script.specs.OrderLines.{IsPlace};
 ghost use Rattle.acc_schedule.specs.Schedules.{TellsScheduleFrom, IsPlayed};
 ghost use Rattle.acc_settled.specs.Boards.{play_of, IsBoardOf, IsUnbegun};
 ghost use Rattle.acc_settled.specs.Openings.{opening_at, IsFresh};
-ghost use Rattle.acc_settled.specs.Runs.{GoesOn, RunsOn, IsReadyAgain, IsAckedButOne};
+ghost use Rattle.acc_settled.specs.Runs.{RunsOn, IsReadyAgain, IsAckedButOne};
 ghost use Rattle.acc_settled.specs.Schedules.{IsClosed, StopsSo, TellsStop};
 ghost use Rattle.acc_settled.specs.Stops.{Stops};
 
@@ -148,8 +145,9 @@ fn told_of<S: Store, D: Disk>(
 /// It tells a line each mention, the reply of each place in the order of the calls, and how many events there were; and then all of
 /// them are durable. `Disk` comes only where the disk's count of faults rose in this call.
 ///
-/// From a calm disk a crash at any moment of the call leaves a journal of some first of the events, of all that were durable before at
-/// least; and after Ok the disk is calm. However the call ends, each reply but one at most is durable.
+/// However it ends, the history goes on from the engine's; from a calm disk a crash at any moment of the call leaves a journal of some
+/// first of the events, of all that were durable before at least, and one after the call, of all that are durable then; unless the engine
+/// has failed, the disk is calm again; and each reply but one at most is durable.
 pub fn schedule<S: Store, D: Disk>(
     alloc: Global,
     engine: &mut Engine<S, D>,
@@ -161,15 +159,10 @@ pub fn schedule<S: Store, D: Disk>(
     requires places { All (IsPlace (length engine.old.calls)) order.now }
     ensures tells { IfOk result (λ s. TellsScheduleFrom d.now engine.old.calls (opening_at engine.old.state engine.old.calls) order.now
         s.text.items engine.new.state.events s.all_begun) }
-    ensures settled { OnOk result (engine.new.settled ≡ length engine.new.state.events) }
-    ensures ready { IsReady D.told D.may_leave engine.old → OnOk result (IsReady D.told D.may_leave engine.new) }
+    ensures settled { OnOk result ((engine.new.settled ≡ length engine.new.state.events) × (engine.new.failed ≡ false)) }
     ensures stops { IfErr result (λ stop. TellsStop D.faults stop engine.old engine.new) }
-    ensures goes_on { GoesOn engine.old engine.new }
-    ensures kept { engine.old.settled ≤ engine.new.settled }
+    ensures runs { RunsOn D.clock D.left_since D.told D.may_leave D.faults engine.old engine.new }
     ensures one_end { IsAckedButOne engine.new }
-    ensures moments { IsReady D.told D.may_leave engine.old → AtAnyMoment D.clock D.left_since engine.old.disk engine.new.disk
-        (CountsFront engine.old.base engine.new.state.events engine.old.settled) }
-    ensures faults { D.faults engine.old.disk ≤ D.faults engine.new.disk }
 {
     let mut board = match open(alloc, engine) {
         Ok(board) => board,

@@ -4,12 +4,15 @@
 //! `design FILE CERTIFICATE` gives the design of the lines behind it, by two files of the folder; a line with '#' is a remark. In a script
 //! and an order ';' is a line feed.
 //!
-//! `run SCRIPT -> ORDER` makes a journal of the design's text on an empty disk, recovers it, and schedules the script's calls in the
-//! order. It tells the schedule's lines, or those of the places where it stopped; how many events are durable, of how many, and how many
-//! calls the disk has had; and what the disk's recovery makes of its bytes. `fail N SCRIPT -> ORDER` does the same on a disk whose calls
-//! fail from number N on. `again SCRIPT -> ORDER | SCRIPT -> ORDER` schedules the second over what the first left.
+//! `run SCRIPT -> ORDER` makes a journal of the design's text on an empty disk, and lets the script's calls run over it in the order. It
+//! tells the lines that are said, how the run ended, how many events are durable, of how many, and how many calls the disk has had; and
+//! what the disk's recovery makes of its bytes. `fail N SCRIPT -> ORDER` does the same on a disk whose calls fail from number N on.
+//! `again SCRIPT -> ORDER | SCRIPT -> ORDER` lets the second run on a new disk with the bytes that the first left, and `crash N ..` does
+//! the same behind a first disk whose calls fail from number N on. `over BYTES SCRIPT -> ORDER` runs on a disk with the bytes that
+//! hexadecimal digits spell; behind a '+' they stand in the place of the gate of a journal of the design's text.
 #![tactic(auto)]
 
+mod files;
 mod runs;
 mod scripts;
 
@@ -28,14 +31,27 @@ fn push_answer(
 ) -> Result<(), AllocError> {
     let (verb, rest) = parted(line, " ");
     match verb {
-        "run" => runs::push_run(alloc, out, design, rest, None),
+        "run" => runs::push_on(
+            alloc,
+            out,
+            design,
+            files::created(alloc, design, None)?,
+            rest,
+        ),
         "fail" => {
             let (from, rest) = parted(rest, " ");
-            runs::push_run(alloc, out, design, rest, Some(number(from)))
+            let disk = files::created(alloc, design, Some(number(from)))?;
+            runs::push_on(alloc, out, design, disk, rest)
         }
-        "again" => {
-            let (first, second) = parted(rest, " | ");
-            runs::push_two(alloc, out, design, first, second)
+        "again" => runs::push_two(alloc, out, design, None, rest),
+        "crash" => {
+            let (from, rest) = parted(rest, " ");
+            runs::push_two(alloc, out, design, Some(number(from)), rest)
+        }
+        "over" => {
+            let (word, rest) = parted(rest, " ");
+            let disk = files::spelled(alloc, design, word)?;
+            runs::push_on(alloc, out, design, disk, rest)
         }
         _ => out.push_str("no question\n"),
     }

@@ -1,81 +1,58 @@
 //! Schedules over a journal.
-ghost use Rattle.std.specs.Prelude.{◌≡◌, ◌<◌, ◌^◌, [], false, All, map, length};
-ghost use Rattle.acc_wal.specs.Spellings.{body};
-ghost use Rattle.acc_engine.specs.Keeping.{CallsFit, begin_of};
+ghost use Rattle.std.specs.Prelude.{◌<◌, ◌^◌, All, length};
+ghost use Rattle.acc_engine.specs.Keeping.{CallsFit};
+ghost use Rattle.acc_script.specs.BeginSizes.{begins_size};
 ghost use Rattle.acc_script.specs.OrderLines.{IsPlace};
 
+use crate::files::{created, fresh};
 use crate::scripts::{asked, lines, named};
 use acc_base::machines::Call;
 use acc_base::sequences::Seq;
 use acc_case_words::words::parted;
 use acc_disk::MemDisk;
+use acc_journalled::Ending;
 use acc_lift::Accepted;
-use acc_print::print;
-use acc_recover::{Recovered, recover};
-use acc_settled::{Scheduled, Stopped, over_journal, schedule};
+use acc_recover::recover;
+use acc_running::{Run, Said, schedule_journal};
 use acc_store::MapStore;
-use acc_wal::Wal;
 use std::alloc::{AllocError, Global};
 use std::fmt::Write;
 
-/// The most bytes of a base text here.
-const LONGEST: usize = 1 << 31;
-
-/// Pushes the text of a schedule, or of one that stopped.
-fn push_told(out: &mut String, told: Result<Scheduled, Stopped>) -> Result<(), AllocError> {
-    let (text, mark) = match told {
-        Ok(scheduled) => (scheduled.text, ""),
-        Err(Stopped::Disk(text)) => (text, "fault disk\n"),
-        Err(Stopped::Memory) => return out.push_str("memory\n"),
-    };
-    for byte in &text {
-        out.push(*byte as char)?;
+/// How a run ended, in a word.
+fn word(ending: Ending) -> &'static str {
+    match ending {
+        Ending::Done => "done",
+        Ending::Unbegun => "unbegun",
+        Ending::JournalRefused => "refused",
+        Ending::DiskFailed => "failed",
+        _ => "otherwise",
     }
-    out.push_str(mark)
 }
 
-/// Pushes how many events are durable, of how many, and how many calls the disk has had.
-fn push_counts(out: &mut String, wal: &Wal<MemDisk>) -> Result<(), AllocError> {
-    let durable = wal.durable().len();
-    let all = durable.saturating_add(wal.tail().len());
+/// Pushes the lines that were said, and how the run ended.
+fn push_said(out: &mut String, said: &Said) -> Result<(), AllocError> {
+    for byte in &said.text {
+        out.push(*byte as char)?;
+    }
+    out.push_str(word(said.ending))
+}
+
+/// Pushes what a run answered, how many events are durable, of how many, and how many calls the disk has had.
+fn push_run_of(out: &mut String, run: &Run<MemDisk>) -> Result<(), AllocError> {
+    match &run.said {
+        Ok(said) => push_said(out, said)?,
+        Err(_) => out.push_str("memory")?,
+    }
+    let all = run.history.len();
     writeln!(
         out,
-        "durable {durable} of {all}, {} calls",
-        wal.disk().calls()
+        ", durable {} of {all}, {} calls",
+        run.settled,
+        run.disk.calls()
     )
 }
 
-/// Pushes what a schedule tells, of an engine over what was recovered; hands the disk back.
-fn push_schedule(
-    alloc: Global,
-    out: &mut String,
-    design: &Accepted,
-    recovered: Recovered<MapStore, MemDisk>,
-    calls: Seq<Call>,
-    order: &[u64],
-) -> Result<MemDisk, AllocError>
-    requires same { recovered.wal.durable ≡ recovered.state.world.events }
-    requires settled { recovered.wal.tail ≡ [] }
-    requires unspent { recovered.wal.spent ≡ false }
-    requires design { recovered.state.design ≡ design.now }
-    requires fits { CallsFit design.now calls }
-    requires few { length (body (map begin_of calls)) < 2 ^ 31 }
-    requires places { All (IsPlace (length calls)) order.now }
-{
-    let Recovered {
-        state,
-        wal,
-        compensated: _,
-    } = recovered;
-    let mut engine = over_journal(alloc, state, wal, calls);
-    let told = schedule(alloc, &mut engine, design.design(), order);
-    push_told(out, told)?;
-    let (_, wal) = engine.give_back();
-    push_counts(out, &wal)?;
-    Ok(wal.give_back())
-}
-
-/// Pushes what a schedule over a disk's journal tells, and hands the disk back.
+/// Pushes a run of calls in an order over a disk's journal, and hands the disk back.
 fn push_over(
     alloc: Global,
     out: &mut String,
@@ -85,19 +62,15 @@ fn push_over(
     order: &[u64],
 ) -> Result<MemDisk, AllocError>
     requires fits { CallsFit design.now calls }
-    requires few { length (body (map begin_of calls)) < 2 ^ 31 }
+    requires few { begins_size calls < 2 ^ 31 }
     requires places { All (IsPlace (length calls)) order.now }
 {
-    match recover(alloc, design, MapStore::new(alloc), disk) {
-        Ok(recovered) => push_schedule(alloc, out, design, recovered, calls, order),
-        Err((_, _, disk)) => {
-            out.push_str("not recovered\n")?;
-            Ok(disk)
-        }
-    }
+    let run = schedule_journal(alloc, design, calls, order, disk);
+    push_run_of(out, &run)?;
+    Ok(run.disk)
 }
 
-/// Pushes what the calls of a script tell in an order, over a disk's journal; hands the disk back.
+/// Pushes a run of a script in an order over a disk's journal; hands the disk back.
 fn push_case(
     alloc: Global,
     out: &mut String,
@@ -138,46 +111,29 @@ fn push_recovery(
     }
 }
 
-/// A disk with these bytes, whose calls fail from that number on.
-fn fresh(alloc: Global, bytes: &[u8], from: Option<u64>) -> Result<MemDisk, AllocError> {
-    MemDisk::new(alloc, bytes, &[], from).map_err(|_| AllocError)
-}
-
-/// A disk with a journal of the design's text, whose calls fail from that number on.
-fn created(alloc: Global, design: &Accepted, from: Option<u64>) -> Result<MemDisk, AllocError> {
-    let Ok(text) = print(alloc, design.design()) else {
-        return Err(AllocError);
-    };
-    if text.len() > LONGEST {
-        return Err(AllocError);
-    }
-    match Wal::create(alloc, fresh(alloc, &[], from)?, &text) {
-        Ok(wal) => Ok(wal.give_back()),
-        Err((_, disk)) => Ok(disk),
-    }
-}
-
-/// Pushes a schedule over a new journal.
-pub fn push_run(
+/// Pushes a run over a disk, and what recovery makes of what it left.
+pub fn push_on(
     alloc: Global,
     out: &mut String,
     design: &Accepted,
+    disk: MemDisk,
     case: &str,
-    from: Option<u64>,
 ) -> Result<(), AllocError> {
-    let disk = push_case(alloc, out, design, created(alloc, design, from)?, case)?;
+    let disk = push_case(alloc, out, design, disk, case)?;
     push_recovery(alloc, out, design, disk.bytes())
 }
 
-/// Pushes a schedule over a new journal, and another over what it left.
+/// Pushes a run over a new journal, on a disk whose calls fail from that number on; and another over what it left, on a disk that is
+/// sound.
 pub fn push_two(
     alloc: Global,
     out: &mut String,
     design: &Accepted,
-    first: &str,
-    second: &str,
+    from: Option<u64>,
+    cases: &str,
 ) -> Result<(), AllocError> {
-    let disk = push_case(alloc, out, design, created(alloc, design, None)?, first)?;
-    let disk = push_case(alloc, out, design, disk, second)?;
-    push_recovery(alloc, out, design, disk.bytes())
+    let (first, second) = parted(cases, " | ");
+    let disk = push_case(alloc, out, design, created(alloc, design, from)?, first)?;
+    let left = fresh(alloc, disk.bytes(), None)?;
+    push_on(alloc, out, design, left, second)
 }

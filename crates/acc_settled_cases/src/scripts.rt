@@ -1,7 +1,7 @@
 //! Scripts and orders.
-ghost use Rattle.std.specs.Prelude.{◌<◌, ◌^◌, map, length, All, IfSome};
-ghost use Rattle.acc_wal.specs.Spellings.{body};
-ghost use Rattle.acc_engine.specs.Keeping.{CallsFit, begin_of};
+ghost use Rattle.std.specs.Prelude.{◌<◌, ◌^◌, All, IfSome};
+ghost use Rattle.acc_engine.specs.Keeping.{CallsFit};
+ghost use Rattle.acc_script.specs.BeginSizes.{begins_size};
 ghost use Rattle.acc_script.specs.OrderLines.{IsPlace};
 
 use acc_base::machines::Call;
@@ -25,7 +25,7 @@ pub fn lines(alloc: Global, text: &str) -> Result<Vec<u8>, AllocError> {
 /// The calls of a script, if it is one of the design's.
 pub fn asked(alloc: Global, design: &Accepted, script: &[u8]) -> Option<Seq<Call>>
     ensures fits { IfSome result (CallsFit design.now) }
-    ensures few { IfSome result (λ asked. length (body (map begin_of asked)) < 2 ^ 31) }
+    ensures few { IfSome result (λ asked. begins_size asked < 2 ^ 31) }
 {
     if script.len() > LONGEST {
         return None;

@@ -6,5 +6,5 @@ invariant-loop-rel l =
     record {
       can : (goal.iterator-loop-rel).can_next l.rel-iterator;
       finite : (goal.iterator-loop-rel).is_finite l.rel-iterator;
-      value : l.rels.items ≡ l.fn.rels.items ++ l.yielded;
+      value : l.rels ≡ l.fn.rels ++ l.yielded;
     }

@@ -1,4 +1,6 @@
-use Rattle.std.proofs.Common.{◌∙◌, map, sym, arith}
+use Rattle.std.proofs.Common.{◌≡◌, ◌∙◌, ap, rules, map, sym, arith}
+use Rattle.acc_commands.specs.declared.words.Command.TheVariants.{Sched}
+use Rattle.acc_commands.specs.Words.{file_count}
 use Rattle.acc_commands.specs.Means.{LeavesOfFile}
 use Rattle.acc_commands.proofs.Leaving.{leaves_nothing}
 use Rattle.acc_commands.proofs.Tables.{leaves_file}
@@ -11,3 +13,9 @@ returns-else-is_journalled-clause-leaves g c =
     (λ image left. g.met.D.Disk.only_now c.args.disk image left) (omega arith)
     (λ file. leaves_file c.args.command (map (λ v. v.items) c.args.files.now) file
     (sym c.is_journalled.ensures ∙ c.if-is_journalled.false))
+
+pub answer_run-requires-clause-count : goal.answer_run-requires-clause-count
+unfolding file_count
+answer_run-requires-clause-count g c =
+    let is : c.args.command ≡ Sched = search rules in
+    c.requires.count ∙ ap file_count is

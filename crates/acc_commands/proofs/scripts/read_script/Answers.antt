@@ -2,7 +2,8 @@ use Rattle.acc_commands.proofs.SaidLemmas.{calls_fit}
 use Rattle.acc_commands.proofs.scripts.read_script.Goals as goal
 
 pub returns-in-Ok : goal.returns-in-Ok
-returns-in-Ok c = (c.in-Ok.ensures.ok, calls_fit c.args.d.now c.args.file.now c.in-Ok.asked c.in-Ok.ensures.ok)
+returns-in-Ok c =
+    (c.in-Ok.ensures.ok, calls_fit c.args.d.now c.args.file.now c.in-Ok.asked c.in-Ok.ensures.ok, c.in-Ok.ensures.short)
 
 pub returns-in_ok-line_refusal-in-Err-Line : goal.returns-in_ok-line_refusal-in-Err-Line
 returns-in_ok-line_refusal-in-Err-Line c = record {

@@ -2,10 +2,14 @@ use Rattle.std.proofs.Common.{◌∙◌, refl, sym, subst}
 use Rattle.acc_wal.specs.Journals.{Counts}
 use Rattle.acc_disk.specs.Moments.{AtAnyMoment}
 use Rattle.acc_wal.proofs.Moments.{if_some, calm_of}
-use Rattle.acc_recover.specs.Recoveries.{IsRecovery, CountsRecovered}
+use Rattle.acc_recover.specs.Recoveries.{IsRecovery, CountsRecovered, LeavesRecovery}
 use Rattle.acc_recover.proofs.InSteps.{in_step_new}
 use Rattle.acc_recover.proofs.Ends.{same_events, recovers_file, is_idle, rows_on_the_way}
 use Rattle.acc_recover.proofs.Attached.{history_refused, history_back, settle_back, attached, moments_all}
+use Rattle.acc_recover.specs.Refusals.{IsOfJournal, IsOfBytes}
+use Rattle.acc_recover.proofs.Refused.{leaves_attached, leaves_counted, calm_again, same_counts, read_counts}
+use Rattle.acc_recover.proofs.Refused.{read_refused, bytes_refused, history_read, settle_read, settle_of_bytes}
+use Rattle.acc_disk.specs.Crashes.{IsCalm}
 use Rattle.acc_recover.proofs.recovered.recover.Goals as goal
 
 -- ---- the journal is refused
@@ -14,6 +18,29 @@ pub returns-in-Err-clause-moments_refused : goal.returns-in-Err-clause-moments_r
 returns-in-Err-clause-moments_refused g c file base found told only counts =
     attached g.D.Disk.clock g.D.Disk.left_since c.args.d.now base found c.args.disk c.in-Err.disk
     (c.in-Err.ensures.moments file base found told only counts)
+
+pub returns-in-Err-clause-unread : goal.returns-in-Err-clause-unread
+returns-in-Err-clause-unread g c of =
+    c.in-Err.ensures.refused
+    (read_refused c.in-Err.error (g.D.Disk.told c.args.disk) _ c.in-Err.ensures.why (subst IsOfJournal c.refusal_of.ensures of))
+
+pub returns-in-Err-clause-calm_refused : goal.returns-in-Err-clause-calm_refused
+returns-in-Err-clause-calm_refused g c calm of =
+    let kept = c.in-Err.ensures.refused
+    (bytes_refused c.in-Err.error (g.D.Disk.told c.args.disk) _ c.in-Err.ensures.why (subst IsOfBytes c.refusal_of.ensures of)) in
+    calm_again g.D.Disk.clock g.D.Disk.left_since g.D.Disk.told g.D.Disk.may_leave c.args.disk c.in-Err.disk kept.0 kept.1
+    (λ time image le left. g.met.D.Disk.counts_now c.in-Err.disk time image le left) calm
+
+pub returns-in-Err-clause-kept : goal.returns-in-Err-clause-kept
+returns-in-Err-clause-kept g c of =
+    same_counts (g.D.Disk.told c.args.disk) (g.D.Disk.told c.in-Err.disk)
+    (c.in-Err.ensures.refused
+    (bytes_refused c.in-Err.error (g.D.Disk.told c.args.disk) _ c.in-Err.ensures.why (subst IsOfBytes c.refusal_of.ensures of))).0
+
+pub returns-in-Err-clause-leaves_refused : goal.returns-in-Err-clause-leaves_refused
+returns-in-Err-clause-leaves_refused g c file told only =
+    leaves_attached g.D.Disk.clock g.D.Disk.left_since c.args.d.now file c.args.disk c.in-Err.disk
+    (c.in-Err.ensures.leaves file told only)
 
 -- ---- its events are refused
 
@@ -35,6 +62,27 @@ returns-in-Err-replayed-clause-moments_refused g c file base found told only cou
     (c.in-Ok.ensures.moments file base found told only counts) in
     subst (λ x. AtAnyMoment g.D.Disk.clock g.D.Disk.left_since c.args.disk x (CountsRecovered c.args.d.now base found))
     (sym c.give_back.ensures.disk) run
+
+pub returns-in-Err-replayed-clause-unread : goal.returns-in-Err-replayed-clause-unread
+returns-in-Err-replayed-clause-unread g c of =
+    absurd (history_read c.args.d.now c.in-Ok.wal.base c.in-Ok.wal.durable c.in-Err-replayed.error (g.S.Store.rows c.in-Err-replayed.s)
+    c.in-Err-replayed.ensures.why of)
+
+pub returns-in-Err-replayed-clause-calm_refused : goal.returns-in-Err-replayed-clause-calm_refused
+returns-in-Err-replayed-clause-calm_refused g c calm of =
+    subst (λ x. IsCalm (g.D.Disk.told x) (g.D.Disk.may_leave x)) (sym c.give_back.ensures.disk) (c.in-Ok.ensures.calm calm)
+
+pub returns-in-Err-replayed-clause-kept : goal.returns-in-Err-replayed-clause-kept
+returns-in-Err-replayed-clause-kept g c of =
+    read_counts (g.D.Disk.told c.args.disk) (g.D.Disk.told c.give_back.result) c.in-Ok.wal.base c.in-Ok.wal.durable c.in-Ok.ensures.counts
+    (c.give_back.ensures.counts c.in-Ok.ensures.ok.1)
+
+pub returns-in-Err-replayed-clause-leaves_refused : goal.returns-in-Err-replayed-clause-leaves_refused
+returns-in-Err-replayed-clause-leaves_refused g c file told only =
+    subst (λ x. AtAnyMoment g.D.Disk.clock g.D.Disk.left_since c.args.disk x (LeavesRecovery c.args.d.now file))
+    (sym c.give_back.ensures.disk)
+    (leaves_attached g.D.Disk.clock g.D.Disk.left_since c.args.d.now file c.args.disk c.in-Ok.wal.disk
+    (c.in-Ok.ensures.leaves file told only))
 
 -- ---- what is unfinished is ended
 
@@ -89,3 +137,29 @@ returns-in-Err-end_and_settle-clause-moments_refused g c file base found told on
     (c.in-Ok-replayed.ensures.counts c.in-Ok.ensures.ok.1) c.end_and_settle.ensures.moments in
     subst (λ x. AtAnyMoment g.D.Disk.clock g.D.Disk.left_since c.args.disk x (CountsRecovered c.args.d.now base found))
     (sym c.give_back-in-Err-end_and_settle.ensures.disk) run
+
+pub returns-in-Err-end_and_settle-clause-unread : goal.returns-in-Err-end_and_settle-clause-unread
+returns-in-Err-end_and_settle-clause-unread g c of =
+    absurd (settle_read c.in-Err-end_and_settle.error _ c.in-Err-end_and_settle.ensures.why of)
+
+pub returns-in-Err-end_and_settle-clause-calm_refused : goal.returns-in-Err-end_and_settle-clause-calm_refused
+returns-in-Err-end_and_settle-clause-calm_refused g c calm of =
+    absurd (settle_of_bytes c.in-Err-end_and_settle.error _ c.in-Err-end_and_settle.ensures.why of)
+
+pub returns-in-Err-end_and_settle-clause-kept : goal.returns-in-Err-end_and_settle-clause-kept
+returns-in-Err-end_and_settle-clause-kept g c of =
+    absurd (settle_of_bytes c.in-Err-end_and_settle.error _ c.in-Err-end_and_settle.ensures.why of)
+
+pub returns-in-Ok-end_and_settle-clause-leaves : goal.returns-in-Ok-end_and_settle-clause-leaves
+returns-in-Ok-end_and_settle-clause-leaves g c file told only =
+    let wal = c.in-Ok.wal in
+    let counts = if_some (g.D.Disk.told c.args.disk) (λ f. Counts f wal.base wal.durable) file told c.in-Ok.ensures.counts in
+    leaves_counted g.D.Disk.clock g.D.Disk.left_since c.args.d.now file c.args.disk c.end_and_settle.new.wal.disk wal.base wal.durable
+    counts (returns-in-Ok-end_and_settle-clause-moments g c file wal.base wal.durable told only counts)
+
+pub returns-in-Err-end_and_settle-clause-leaves_refused : goal.returns-in-Err-end_and_settle-clause-leaves_refused
+returns-in-Err-end_and_settle-clause-leaves_refused g c file told only =
+    let wal = c.in-Ok.wal in
+    let counts = if_some (g.D.Disk.told c.args.disk) (λ f. Counts f wal.base wal.durable) file told c.in-Ok.ensures.counts in
+    leaves_counted g.D.Disk.clock g.D.Disk.left_since c.args.d.now file c.args.disk c.give_back-in-Err-end_and_settle.result wal.base
+    wal.durable counts (returns-in-Err-end_and_settle-clause-moments_refused g c file wal.base wal.durable told only counts)

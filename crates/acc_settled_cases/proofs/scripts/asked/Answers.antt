@@ -1,6 +1,5 @@
 use Rattle.std.proofs.Common.{arith}
-use Rattle.acc_settled_cases.proofs.BeginSizes.{begins_take}
 use Rattle.acc_settled_cases.proofs.scripts.asked.Goals as goal
 
 pub returns-in-Ok-clause-few : goal.returns-in-Ok-clause-few
-returns-in-Ok-clause-few c = omega (arith, begins_take c.in-Ok.asked, c.in-Ok.ensures.short)
+returns-in-Ok-clause-few c = omega (arith, c.in-Ok.ensures.short)

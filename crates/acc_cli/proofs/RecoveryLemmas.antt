@@ -1,0 +1,221 @@
+-- What `recover` and `dump` tell, and what a refused journal is afterwards.
+use Rattle.std.proofs.Common.{◌≡◌, ℕ, List, [], ◌∷◌, Option, Some, inl, inr, sym, subst, ◌∙◌, refl}
+use Rattle.std.specs.Prelude.{◌≢◌, ◌⊎◌}
+use Rattle.std.specs.Io.KnownBytes.{Appends}
+use Rattle.acc_base.specs.declared.designs.Design.{Design}
+use Rattle.acc_base.specs.declared.machines.Event.{Event}
+use Rattle.acc_io.specs.Causes.{Rose}
+use Rattle.acc_io.specs.Shelves.{Told}
+use Rattle.acc_io.specs.declared.counts.Counts.{Counts}
+use Rattle.acc_base.proofs.Leasts.{some_weaker}
+use Rattle.acc_check.specs.Admissions.{IsAcceptedWith}
+use Rattle.acc_parse.specs.Texts.{IsDesignText}
+use Rattle.acc_parse.specs.declared.errors.ParseError.{ParseError}
+use Rattle.acc_parse.specs.declared.errors.ParseError.TheVariants as errors
+use Rattle.acc_print.specs.Designs.{printed}
+use Rattle.acc_wal.specs.declared.errors.WalError.{WalError}
+use Rattle.acc_wal.specs.declared.errors.WalError.TheVariants as wal
+use Rattle.acc_recover.specs.Refusals.{IsOfOther, IsUnlawfulAt, RefusesRecovery, IsOfJournal, IsOfBytes, CountsSame}
+use Rattle.acc_recover.specs.declared.errors.RecoverError.{RecoverError}
+use Rattle.acc_recover.specs.declared.errors.RecoverError.TheVariants as recovery
+use Rattle.acc_journalled.specs.declared.answers.Ending.{Ending}
+use Rattle.acc_journalled.specs.declared.answers.Ending.TheVariants.{Done, DesignRefused, JournalRefused, DiskFailed}
+use Rattle.acc_journalled.specs.declared.answers.Wanted.{Wanted}
+use Rattle.acc_journalled.specs.declared.answers.Wanted.TheVariants as wanted
+use Rattle.acc_journalled.specs.Recovering.{SaysNotRead, SaysNotRecovered, RecoversJournal, text_of}
+use Rattle.acc_journalled.specs.Tellings.{Telling}
+use Rattle.acc_commands.specs.declared.words.Command.{Command}
+use Rattle.acc_commands.specs.declared.words.Command.TheVariants as command
+use Rattle.acc_commands.specs.Text.{Said, said_in}
+use Rattle.acc_commands.specs.Disks.{Seen}
+use Rattle.acc_commands.specs.Words.{command_of, files_of}
+use Rattle.acc_commands.specs.Files.{AreFiles}
+use Rattle.acc_commands.specs.Refusals.{SaysError, RefusesDesign}
+use Rattle.acc_commands.specs.RecoverFiles.{RecoversCertified, RecoversFiles}
+use Rattle.acc_commands.specs.Means.{MeansOverDisk, Means}
+use Rattle.acc_commands.proofs.JournalEndings.{refusal_ends, refusal_tells_none}
+use Rattle.acc_cli.specs.declared.status.Status.{Status}
+use Rattle.acc_cli.specs.declared.status.Status.TheVariants.{File, Sink, Memory, Ran}
+use Rattle.acc_cli.specs.Replies.{Reply}
+use Rattle.acc_cli.specs.Status.{code_of}
+use Rattle.acc_cli.specs.Meant.{MeansForm, Meant}
+use Rattle.acc_cli.specs.Answered.{Answered, Ends}
+use Rattle.acc_cli.specs.Causes.{FindsJournal, RefusesRecovering, RefusesJournal}
+use Rattle.acc_cli.specs.Recoveries.{wanted_by, IsRecovered, TellsRecovery, IsJournal, LeavesRefused}
+use Rattle.acc_cli.proofs.StatusLemmas.{zero_is_done, seven_is_sink}
+
+-- ---- what a refused journal is afterwards
+
+unrecovered_left : (error : RecoverError) (d : Design) (told told' : Option (List ℕ)) (fault : Type 0) → IsOfBytes error
+    → RefusesRecovery d error told fault → (IsOfJournal error → told' ≡ told) → CountsSame told told' → LeavesRefused told told'
+unrecovered_left (recovery.Journal error) d told told' fault of why same kept = inl (same tt)
+unrecovered_left recovery.OtherDesign d told told' fault of why same kept =
+    inr (some_weaker (λ file. IsOfOther file (printed d)) IsJournal told (λ file h. (h.base, h.events, h.counts)) why, kept)
+unrecovered_left (recovery.Unlawful at) d told told' fault of why same kept =
+    inr (some_weaker (λ file. IsUnlawfulAt d file at) IsJournal told (λ file h. (printed d, h.events, h.counts)) why, kept)
+unrecovered_left recovery.Disk d told told' fault of why same kept = absurd of
+unrecovered_left recovery.Memory d told told' fault of why same kept = absurd of
+
+pub left_refused : (held : List ℕ → Told) (counts counts' : Counts) (disk disk' : Seen) (words : List (List ℕ))
+    → RefusesJournal held counts counts' disk disk' words → LeavesRefused disk.told disk'.told
+left_refused held counts counts' disk disk' words refused = by refused.why
+  where
+    by : FindsJournal refused.ends.command disk disk' ⊎ RefusesRecovering refused.ends.command disk disk'
+        → LeavesRefused disk.told disk'.told
+    by (inl found) = inl found.same
+    by (inr r) =
+        unrecovered_left r.error r.d disk.told disk'.told (Rose disk.faults disk'.faults) r.of_bytes r.cause r.same r.kept
+
+-- ---- what is refused tells no history
+
+-- it ends otherwise than as done, and tells no history
+abbrev pub TellsNone : Telling → Type 0
+TellsNone t = (t.ending ≢ Done) × (t.history ≡ []) × (t.settled ≡ 0)
+
+none_of : (ending : Ending) (t : Telling) → ending ≢ Done → t.ending ≡ ending → t.history ≡ [] → t.settled ≡ 0 → TellsNone t
+none_of ending t other is none zero = (λ e. other (sym is ∙ e), none, zero)
+
+not_read_none : (error : WalError) (t : Telling) → SaysNotRead error t → TellsNone t
+not_read_none wal.NotJournal t says = none_of JournalRefused t (λ e. cc) says.0 says.2 says.3
+not_read_none (wal.OtherVersion version) t says = none_of JournalRefused t (λ e. cc) says.0 says.2 says.3
+not_read_none (wal.Damaged place) t says = none_of JournalRefused t (λ e. cc) says.0 says.2 says.3
+not_read_none wal.Exists t says = absurd says
+not_read_none wal.Disk t says = absurd says
+not_read_none wal.Spent t says = absurd says
+not_read_none wal.Memory t says = absurd says
+
+pub unrecovered_none : (error : RecoverError) (t : Telling) → SaysNotRecovered error t → TellsNone t
+unrecovered_none (recovery.Journal error) t says = not_read_none error t says
+unrecovered_none recovery.OtherDesign t says = none_of JournalRefused t (λ e. cc) says.0 says.2 says.3
+unrecovered_none (recovery.Unlawful at) t says = none_of JournalRefused t (λ e. cc) says.0 says.2 says.3
+unrecovered_none recovery.Disk t says = none_of DiskFailed t (λ e. cc) says.0 says.2 says.3
+unrecovered_none recovery.Memory t says = absurd says
+
+-- ---- what is recovered is told
+
+module _ (held : List ℕ → Told) (words : List (List ℕ)) (c : Command) (w : Wanted) (disk disk' : Seen) (old new : Option (List ℕ)) where
+  -- of a telling: it tells none, or what is recovered
+  abbrev OfTelling : ℕ → Telling → Type 0
+  OfTelling code t = TellsNone t
+      ⊎ ((t.ending ≡ Done)
+      × ((code ≡ 0 → Appends old new t.text) → IsRecovered held words c w disk.told disk'.told old new code t.history t.settled))
+
+  of_files : (code : ℕ) (design certificate : List ℕ) (t : Telling)
+      → AreFiles held (files_of c words) (design ∷ certificate ∷ []) → RecoversFiles w design certificate disk disk' t → OfTelling code t
+  of_files code design certificate t given (inl h) =
+      inl (none_of DesignRefused t (λ e. cc) (refusal_ends design (said_in t) h.2) (refusal_tells_none design (said_in t) h.2) h.0)
+  of_files code design certificate t given (inr h) = certified h.says
+    where
+      over : (d : Design) → IsDesignText design d → IsAcceptedWith d certificate
+          → RecoversJournal (text_of w d) d disk.told disk'.told (Rose disk.faults disk'.faults) t → OfTelling code t
+      over d is_text accepted (inl r) = inr (
+        r.says.0,
+        λ says. record {
+          design = design;
+          certificate = certificate;
+          given = given;
+          d = d;
+          is_text = is_text;
+          accepted = accepted;
+          text = t.text;
+          recovers = record {
+            found = r.found;
+            counts = r.counts;
+            last = r.last;
+            recovery = r.recovery;
+            idle = r.idle;
+            compensated = r.compensated;
+            unfinished_were = r.unfinished_were;
+            holds = r.holds;
+            says = (refl, r.says.1, r.says.2, r.says.3);
+          };
+          says = says;
+        },
+      )
+      over d is_text accepted (inr r) = inl (unrecovered_none r.error t r.says)
+
+      certified : RecoversCertified w h.d certificate disk disk' t → OfTelling code t
+      certified (inl r) = inl (none_of DesignRefused t (λ e. cc) r.2.ending r.2.history r.0)
+      certified (inr r) = over h.d h.is_text r.accepted r.ends
+
+  -- where the command wasn't done, the program tells no history
+  untold : (meant : Reply) (fault : Type 0) (status : Status) (history : List Event) (settled : ℕ) → meant.status ≢ Ran Done
+      → meant.status ≢ Sink → meant.history ≡ [] → meant.settled ≡ 0 → Ends meant old new fault status history settled
+      → TellsRecovery held words c w disk.told disk'.told old new (code_of status) history settled
+  untold meant fault status history settled done sink none zero ends = by ends.given_is
+    where
+      by : (status ≡ meant.status) ⊎ ((meant.status ≡ Ran Done) × (status ≡ Sink) × fault)
+          → TellsRecovery held words c w disk.told disk'.told old new (code_of status) history settled
+      by (inl same) = inl (
+        λ e. done (sym same ∙ zero_is_done status e),
+        λ e. sink (sym same ∙ seven_is_sink status e),
+        ends.history_is ∙ none,
+        ends.settled_is ∙ zero,
+      )
+      by (inr sunk) = absurd (done sunk.0)
+
+  of_telling : (meant : Reply) (ending : Ending) (fault : Type 0) (status : Status) (history : List Event) (settled : ℕ)
+      → meant.status ≡ Ran ending → Ends meant old new fault status history settled
+      → OfTelling (code_of status)
+      (record { ending = ending; text = meant.text; history = meant.history; settled = meant.settled })
+      → TellsRecovery held words c w disk.told disk'.told old new (code_of status) history settled
+  of_telling meant ending fault status history settled is ends (inl none) =
+      untold meant fault status history settled (λ e. none.0 (let s : Ran ending ≡ Ran Done = sym is ∙ e in cc))
+      (λ e. let s : Ran ending ≡ Sink = sym is ∙ e in absurd cc) none.1 none.2 ends
+  of_telling meant ending fault status history settled is ends (inr tells) =
+      inr (subst (λ h. IsRecovered held words c w disk.told disk'.told old new (code_of status) h settled) (sym ends.history_is)
+      (subst (λ n. IsRecovered held words c w disk.told disk'.told old new (code_of status) meant.history n) (sym ends.settled_is)
+      (tells.1 (λ zero. ends.done (zero_is_done status zero)))))
+
+of_command : (held : List ℕ → Told) (words : List (List ℕ)) (c : Command) (w : Wanted) (disk disk' : Seen) (old new : Option (List ℕ))
+    (code : ℕ) (files : List (List ℕ)) (t : Telling) → wanted_by c ≡ Some w → AreFiles held (files_of c words) files
+    → Means c files disk disk' t → OfTelling held words c w disk disk' old new code t
+unfolding MeansOverDisk
+of_command held words command.Recover w disk disk' old new code (design ∷ certificate ∷ []) t is given h =
+    let same : wanted.Counts ≡ w = cc in
+    of_files held words command.Recover w disk disk' old new code design certificate t given
+    (subst (λ x. RecoversFiles x design certificate disk disk' t) same h)
+of_command held words command.Recover w disk disk' old new code [] t is given h = absurd h
+of_command held words command.Recover w disk disk' old new code (design ∷ []) t is given h = absurd h
+of_command held words command.Recover w disk disk' old new code (design ∷ certificate ∷ more ∷ rest) t is given h = absurd h
+of_command held words command.Dump w disk disk' old new code (design ∷ certificate ∷ []) t is given h =
+    let same : wanted.Rows ≡ w = cc in
+    of_files held words command.Dump w disk disk' old new code design certificate t given
+    (subst (λ x. RecoversFiles x design certificate disk disk' t) same h)
+of_command held words command.Dump w disk disk' old new code [] t is given h = absurd h
+of_command held words command.Dump w disk disk' old new code (design ∷ []) t is given h = absurd h
+of_command held words command.Dump w disk disk' old new code (design ∷ certificate ∷ more ∷ rest) t is given h = absurd h
+of_command held words command.Init w disk disk' old new code files t is given h = absurd cc
+of_command held words command.Play w disk disk' old new code files t is given h = absurd cc
+of_command held words command.Rehearse w disk disk' old new code files t is given h = absurd cc
+of_command held words command.Sched w disk disk' old new code files t is given h = absurd cc
+of_command held words command.Print w disk disk' old new code files t is given h = absurd cc
+of_command held words command.Check w disk disk' old new code files t is given h = absurd cc
+of_command held words command.Help w disk disk' old new code files t is given h = absurd cc
+of_command held words command.Version w disk disk' old new code files t is given h = absurd cc
+
+module _ (held : List ℕ → Told) (words : List (List ℕ)) (c : Command) (w : Wanted) (disk disk' : Seen) (old new : Option (List ℕ))
+    (fault : Type 0) (status : Status) (history : List Event) (settled : ℕ) (tells : wanted_by c ≡ Some w) where
+  of_form : (counts counts' : Counts) (meant : Reply) → MeansForm held counts counts' disk disk' words (Some c) meant
+      → Ends meant old new fault status history settled
+      → TellsRecovery held words c w disk.told disk'.told old new (code_of status) history settled
+  of_form counts counts' meant (inl refused) ends =
+      untold held words c w disk disk' old new meant fault status history settled
+      (λ e. let s : File ≡ Ran Done = sym refused.0 ∙ e in absurd cc) (λ e. let s : File ≡ Sink = sym refused.0 ∙ e in absurd cc)
+      refused.1.0 refused.1.1 ends
+  of_form counts counts' meant (inr (files, given, counted, (ending, is, means))) ends =
+      of_telling held words c w disk disk' old new meant ending fault status history settled is ends
+      (of_command held words c w disk disk' old new (code_of status) files
+      (record { ending = ending; text = meant.text; history = meant.history; settled = meant.settled }) tells given means)
+
+  pub tells_recovery : (counts counts' : Counts) → command_of words ≡ Some c
+      → Answered (Meant held counts counts' disk disk' words) old new fault status history settled
+      → TellsRecovery held words c w disk.told disk'.told old new (code_of status) history settled
+  tells_recovery counts counts' form (inl none) = inl (
+    λ e. let s : Memory ≡ Ran Done = sym none.0 ∙ zero_is_done status e in absurd cc,
+    λ e. let s : Memory ≡ Sink = sym none.0 ∙ seven_is_sink status e in absurd cc,
+    none.2,
+    none.3,
+  )
+  tells_recovery counts counts' form (inr (meant, means, ends)) =
+      of_form counts counts' meant (subst (λ (o : Option Command). MeansForm held counts counts' disk disk' words o meant) form means) ends

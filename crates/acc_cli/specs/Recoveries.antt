@@ -1,0 +1,53 @@
+-- What stands behind the answers of `recover` and `dump`, and what a refused journal is afterwards.
+use Rattle.std.specs.Prelude.{◌≡◌, ◌≢◌, ◌⊎◌, ℕ, List, [], ◌∷◌, Option, Some, None, IfSome}
+use Rattle.std.specs.Io.KnownBytes.{Appends}
+use Rattle.acc_base.specs.declared.designs.Design.{Design}
+use Rattle.acc_base.specs.declared.machines.Event.{Event}
+use Rattle.acc_io.specs.Shelves.{Told}
+use Rattle.acc_parse.specs.Texts.{IsDesignText}
+use Rattle.acc_check.specs.Admissions.{IsAcceptedWith}
+use Rattle.acc_wal.specs.Journals.{Counts}
+use Rattle.acc_recover.specs.Refusals.{CountsSame}
+use Rattle.acc_journalled.specs.declared.answers.Ending.TheVariants.{Done}
+use Rattle.acc_journalled.specs.declared.answers.Wanted.{Wanted}
+use Rattle.acc_journalled.specs.declared.answers.Wanted.TheVariants as wanted
+use Rattle.acc_journalled.specs.Recovering.{Recovers, text_of}
+use Rattle.acc_commands.specs.declared.words.Command.{Command}
+use Rattle.acc_commands.specs.declared.words.Command.TheVariants as command
+use Rattle.acc_commands.specs.Words.{files_of}
+use Rattle.acc_commands.specs.Files.{AreFiles}
+
+-- what a command tells of a recovered journal, if it recovers one
+abbrev pub wanted_by : Command → Option Wanted
+wanted_by command.Recover = Some wanted.Counts
+wanted_by command.Dump = Some wanted.Rows
+wanted_by _ = None
+
+-- The files spell this design, which is accepted with its certificate, and the disk held a journal of it. This is the recovered history,
+-- all of it durable: the disk holds a journal of just that now. With status 0 what is wanted of it was said.
+pub record IsRecovered (held : List ℕ → Told) (words : List (List ℕ)) (c : Command) (w : Wanted) (told told' : Option (List ℕ))
+    (old new : Option (List ℕ)) (code : ℕ) (history : List Event) (settled : ℕ) : Type 0 where
+  pub design : List ℕ
+  pub certificate : List ℕ
+  pub given : AreFiles held (files_of c words) (design ∷ certificate ∷ [])
+  pub d : Design
+  pub is_text : IsDesignText design d
+  pub accepted : IsAcceptedWith d certificate
+  pub text : List ℕ
+  pub recovers : Recovers (text_of w d) d told told' (record { ending = Done; text = text; history = history; settled = settled })
+  pub says : code ≡ 0 → Appends old new text
+
+-- nothing is recovered, and so no history is told; or this one is
+abbrev pub TellsRecovery : (List ℕ → Told) → List (List ℕ) → Command → Wanted → Option (List ℕ) → Option (List ℕ) → Option (List ℕ)
+    → Option (List ℕ) → ℕ → List Event → ℕ → Type 0
+TellsRecovery held words c w told told' old new code history settled =
+    ((code ≢ 0) × (code ≢ 7) × (history ≡ []) × (settled ≡ 0))
+    ⊎ IsRecovered held words c w told told' old new code history settled
+
+-- the bytes are a journal
+abbrev pub IsJournal : List ℕ → Type 0
+IsJournal file = (base : List ℕ) × (events : List Event) × Counts file base events
+
+-- the disk tells the same bytes; or they were a journal, and are one of the same base text and events
+abbrev pub LeavesRefused : Option (List ℕ) → Option (List ℕ) → Type 0
+LeavesRefused told told' = (told' ≡ told) ⊎ (IfSome told IsJournal × CountsSame told told')

@@ -1,0 +1,219 @@
+-- Which journal is refused, and which run leaves a place unbegun.
+use Rattle.std.proofs.Common.{◌≡◌, ℕ, Bool, true, false, List, [], ◌∷◌, Option, inl, inr, sym, ◌∙◌, refl}
+use Rattle.std.specs.Prelude.{◌≢◌, ◌⊎◌}
+use Rattle.acc_io.specs.Causes.{Rose}
+use Rattle.acc_base.specs.declared.designs.Design.{Design}
+use Rattle.acc_base.specs.declared.machines.Call.{Call}
+use Rattle.acc_base.specs.Machine.{World}
+use Rattle.acc_parse.specs.declared.errors.ParseError.{ParseError}
+use Rattle.acc_parse.specs.declared.errors.ParseError.TheVariants as errors
+use Rattle.acc_wal.specs.declared.errors.WalError.{WalError}
+use Rattle.acc_wal.specs.declared.errors.WalError.TheVariants as wal
+use Rattle.acc_recover.specs.Refusals.{RefusesRecovery, IsOfBytes}
+use Rattle.acc_recover.specs.declared.errors.RecoverError.{RecoverError}
+use Rattle.acc_recover.specs.declared.errors.RecoverError.TheVariants as recovery
+use Rattle.acc_journalled.specs.declared.answers.Ending.{Ending}
+use Rattle.acc_journalled.specs.declared.answers.Ending.TheVariants.{Done, DesignRefused, ScriptRefused, JournalRefused}
+use Rattle.acc_journalled.specs.declared.answers.Ending.TheVariants.{DiskFailed, Unbegun}
+use Rattle.acc_journalled.specs.declared.answers.Wanted.{Wanted}
+use Rattle.acc_journalled.specs.declared.answers.Wanted.TheVariants.{Counts, Rows}
+use Rattle.acc_journalled.specs.Making.{FindsOne, MakesJournal}
+use Rattle.acc_journalled.specs.Recovering.{SaysNotRead, SaysNotRecovered, RefusesSo, RecoversJournal, text_of}
+use Rattle.acc_journalled.specs.Tellings.{Telling}
+use Rattle.acc_commands.specs.declared.words.Command.{Command}
+use Rattle.acc_commands.specs.declared.words.Command.TheVariants as command
+use Rattle.acc_commands.specs.Text.{Said, said_in, IsEarly}
+use Rattle.acc_commands.specs.Disks.{Seen}
+use Rattle.acc_commands.specs.Refusals.{SaysError, RefusesDesign}
+use Rattle.acc_commands.specs.InitFiles.{InitsJournal, InitsFile}
+use Rattle.acc_running.specs.Running.{RunsJournal}
+use Rattle.acc_running.specs.Engines.{ending_at}
+use Rattle.acc_schedule.specs.Schedules.{TellsScheduleFrom}
+use Rattle.acc_settled.specs.Openings.{opening_at}
+use Rattle.acc_commands.specs.RunFiles.{RunsSeen, RunsOfOrder, RunsOfScript, RunsCertified, RunsFiles}
+use Rattle.acc_commands.specs.RecoverFiles.{RecoversSeen, RecoversCertified, RecoversFiles}
+use Rattle.acc_commands.specs.Means.{MeansOverDisk}
+use Rattle.acc_commands.proofs.JournalEndings.{other_end, refusal_ends, making_ends, recovering_ends, unrecovered_ends, over_unbegun}
+
+-- ---- which journal is refused
+
+-- it recovers a journal
+abbrev pub IsRecovering : Command → Type 0
+IsRecovering c = (c ≡ command.Sched) ⊎ (c ≡ command.Recover) ⊎ (c ≡ command.Dump)
+
+-- It is `init`, and a journal is there; or a command that recovers one, and nothing is recovered for some cause.
+abbrev pub RefusesOver : Command → Seen → Seen → Telling → Type 0
+RefusesOver c old new t = ((c ≡ command.Init) × FindsOne old.told new.told t)
+    ⊎ (IsRecovering c × (d : Design) × RefusesSo d old.told new.told (Rose old.faults new.faults) t)
+
+init_refused : (design : List ℕ) (old new : Seen) (t : Telling) → InitsFile design old new t → t.ending ≡ JournalRefused
+    → FindsOne old.told new.told t
+init_refused design old new t (inl h) e =
+    absurd (other_end DesignRefused JournalRefused t (λ e. cc) (refusal_ends design (said_in t) h.2) e)
+init_refused design old new t (inr h) e = by h.ends
+  where
+    by : InitsJournal h.d old new t → FindsOne old.told new.told t
+    by (inl k) = absurd (other_end Done JournalRefused t (λ e. cc) k.says.0 e)
+    by (inr (inl k)) = k
+    by (inr (inr k)) = absurd (other_end DiskFailed JournalRefused t (λ e. cc) k.says.0 e)
+
+module _ (wanted : Wanted) (old new : Seen) (t : Telling) (so : t.ending ≡ JournalRefused) where
+  seen_refused : (d : Design) → RecoversSeen wanted d old new t → RefusesSo d old.told new.told (Rose old.faults new.faults) t
+  seen_refused d (inl h) = absurd (other_end Done JournalRefused t (λ e. cc) h.says.0 so)
+  seen_refused d (inr h) = h
+
+  certified_refused : (d : Design) (certificate : List ℕ) → RecoversCertified wanted d certificate old new t
+      → RefusesSo d old.told new.told (Rose old.faults new.faults) t
+  certified_refused d certificate (inl h) = absurd (other_end DesignRefused JournalRefused t (λ e. cc) h.2.ending so)
+  certified_refused d certificate (inr h) = seen_refused d h.ends
+
+  recover_refused : (design certificate : List ℕ) → RecoversFiles wanted design certificate old new t
+      → (d : Design) × RefusesSo d old.told new.told (Rose old.faults new.faults) t
+  recover_refused design certificate (inl h) =
+      absurd (other_end DesignRefused JournalRefused t (λ e. cc) (refusal_ends design (said_in t) h.2) so)
+  recover_refused design certificate (inr h) = (h.d, certified_refused h.d certificate h.says)
+
+-- ---- of a run
+
+module _ (old new : Seen) (t : Telling) (so : t.ending ≡ JournalRefused) where
+  running_refused : (d : Design) (calls : List Call) (order : List ℕ) → RunsSeen d calls order old new t
+      → RefusesSo d old.told new.told (Rose old.faults new.faults) t
+  running_refused d calls order (inl h) = absurd (by h.all_begun (sym h.ending ∙ so))
+    where
+      by : (all_begun : Bool) → ending_at all_begun ≡ JournalRefused → ⊥
+      by true e = cc
+      by false e = cc
+  running_refused d calls order (inr (inl h)) = absurd (other_end DiskFailed JournalRefused t (λ e. cc) h.ending so)
+  running_refused d calls order (inr (inr h)) = h
+
+  order_refused : (d : Design) (calls : List Call) (order : List ℕ) → RunsOfOrder d calls order old new t
+      → RefusesSo d old.told new.told (Rose old.faults new.faults) t
+  order_refused d calls order (inl h) = absurd (other_end ScriptRefused JournalRefused t (λ e. cc) h.2.says.0 so)
+  order_refused d calls order (inr h) = running_refused d calls h.numbers h.ends
+
+  script_refused : (d : Design) (script order : List ℕ) → RunsOfScript d script order old new t
+      → RefusesSo d old.told new.told (Rose old.faults new.faults) t
+  script_refused d script order (inl h) = absurd (other_end ScriptRefused JournalRefused t (λ e. cc) h.2.says.0 so)
+  script_refused d script order (inr h) = order_refused d h.calls order h.says
+
+  run_certified_refused : (d : Design) (certificate script order : List ℕ) → RunsCertified d certificate script order old new t
+      → RefusesSo d old.told new.told (Rose old.faults new.faults) t
+  run_certified_refused d certificate script order (inl h) = absurd (other_end DesignRefused JournalRefused t (λ e. cc) h.2.ending so)
+  run_certified_refused d certificate script order (inr h) = script_refused d script order h.says
+
+  run_refused : (design certificate script order : List ℕ) → RunsFiles design certificate script order old new t
+      → (d : Design) × RefusesSo d old.told new.told (Rose old.faults new.faults) t
+  run_refused design certificate script order (inl h) =
+      absurd (other_end DesignRefused JournalRefused t (λ e. cc) (refusal_ends design (said_in t) h.2) so)
+  run_refused design certificate script order (inr h) = (h.d, run_certified_refused h.d certificate script order h.says)
+
+pub refused_over : (c : Command) (files : List (List ℕ)) (old new : Seen) (t : Telling) → t.ending ≡ JournalRefused
+    → MeansOverDisk c files old new t → RefusesOver c old new t
+unfolding MeansOverDisk
+refused_over command.Init [] old new t e h = absurd h
+refused_over command.Init (design ∷ []) old new t e h = inl (refl, init_refused design old new t h e)
+refused_over command.Init (design ∷ more ∷ rest) old new t e h = absurd h
+refused_over command.Recover [] old new t e h = absurd h
+refused_over command.Recover (design ∷ []) old new t e h = absurd h
+refused_over command.Recover (design ∷ certificate ∷ []) old new t e h =
+    let r = recover_refused Counts old new t e design certificate h in inr (inr (inl refl), r.0, r.1)
+refused_over command.Recover (design ∷ certificate ∷ more ∷ rest) old new t e h = absurd h
+refused_over command.Dump [] old new t e h = absurd h
+refused_over command.Dump (design ∷ []) old new t e h = absurd h
+refused_over command.Dump (design ∷ certificate ∷ []) old new t e h =
+    let r = recover_refused Rows old new t e design certificate h in inr (inr (inr refl), r.0, r.1)
+refused_over command.Dump (design ∷ certificate ∷ more ∷ rest) old new t e h = absurd h
+refused_over command.Play files old new t e h = absurd h
+refused_over command.Rehearse files old new t e h = absurd h
+refused_over command.Sched [] old new t e h = absurd h
+refused_over command.Sched (design ∷ []) old new t e h = absurd h
+refused_over command.Sched (design ∷ certificate ∷ []) old new t e h = absurd h
+refused_over command.Sched (design ∷ certificate ∷ script ∷ []) old new t e h = absurd h
+refused_over command.Sched (design ∷ certificate ∷ script ∷ order ∷ []) old new t e h =
+    let r = run_refused old new t e design certificate script order h in inr (inl refl, r.0, r.1)
+refused_over command.Sched (design ∷ certificate ∷ script ∷ order ∷ more ∷ rest) old new t e h = absurd h
+refused_over command.Print files old new t e h = absurd h
+refused_over command.Check files old new t e h = absurd h
+refused_over command.Help files old new t e h = absurd h
+refused_over command.Version files old new t e h = absurd h
+
+-- ---- which run leaves a place unbegun
+
+-- a schedule from the recovered state on is told, and one of its places couldn't begin
+abbrev pub LeavesOver : Telling → Type 0
+LeavesOver t = (d : Design) × (calls : List Call) × (order : List ℕ) × (first : World)
+    × TellsScheduleFrom d calls (opening_at first calls) order t.text t.history false
+
+module _ (old new : Seen) (t : Telling) (so : t.ending ≡ Unbegun) where
+  running_unbegun : (d : Design) (calls : List Call) (order : List ℕ) → RunsSeen d calls order old new t → LeavesOver t
+  running_unbegun d calls order (inl h) = by h.all_begun (sym h.ending ∙ so) h.tells
+    where
+      by : (all_begun : Bool) → ending_at all_begun ≡ Unbegun
+          → TellsScheduleFrom d calls (opening_at h.first calls) order t.text t.history all_begun → LeavesOver t
+      by true e tells = absurd cc
+      by false e tells = (d, calls, order, h.first, tells)
+  running_unbegun d calls order (inr (inl h)) = absurd (other_end DiskFailed Unbegun t (λ e. cc) h.ending so)
+  running_unbegun d calls order (inr (inr h)) =
+      absurd (over_unbegun (Rose old.faults new.faults) t (unrecovered_ends h.error d old.told (Rose old.faults new.faults) t h.cause h.says) so)
+
+  order_unbegun : (d : Design) (calls : List Call) (order : List ℕ) → RunsOfOrder d calls order old new t → LeavesOver t
+  order_unbegun d calls order (inl h) = absurd (other_end ScriptRefused Unbegun t (λ e. cc) h.2.says.0 so)
+  order_unbegun d calls order (inr h) = running_unbegun d calls h.numbers h.ends
+
+  script_unbegun : (d : Design) (script order : List ℕ) → RunsOfScript d script order old new t → LeavesOver t
+  script_unbegun d script order (inl h) = absurd (other_end ScriptRefused Unbegun t (λ e. cc) h.2.says.0 so)
+  script_unbegun d script order (inr h) = order_unbegun d h.calls order h.says
+
+  run_certified_unbegun : (d : Design) (certificate script order : List ℕ) → RunsCertified d certificate script order old new t
+      → LeavesOver t
+  run_certified_unbegun d certificate script order (inl h) = absurd (other_end DesignRefused Unbegun t (λ e. cc) h.2.ending so)
+  run_certified_unbegun d certificate script order (inr h) = script_unbegun d script order h.says
+
+  run_unbegun : (design certificate script order : List ℕ) → RunsFiles design certificate script order old new t → LeavesOver t
+  run_unbegun design certificate script order (inl h) =
+      absurd (other_end DesignRefused Unbegun t (λ e. cc) (refusal_ends design (said_in t) h.2) so)
+  run_unbegun design certificate script order (inr h) = run_certified_unbegun h.d certificate script order h.says
+
+  init_unbegun : (design : List ℕ) → InitsFile design old new t → ⊥
+  init_unbegun design (inl h) = other_end DesignRefused Unbegun t (λ e. cc) (refusal_ends design (said_in t) h.2) so
+  init_unbegun design (inr h) =
+      over_unbegun (Rose old.faults new.faults) t (making_ends h.d old.told new.told (Rose old.faults new.faults) t h.ends) so
+
+  recover_certified_unbegun : (wanted : Wanted) (d : Design) (certificate : List ℕ) → RecoversCertified wanted d certificate old new t → ⊥
+  recover_certified_unbegun wanted d certificate (inl h) = other_end DesignRefused Unbegun t (λ e. cc) h.2.ending so
+  recover_certified_unbegun wanted d certificate (inr h) =
+      over_unbegun (Rose old.faults new.faults) t
+      (recovering_ends (text_of wanted d) d old.told new.told (Rose old.faults new.faults) t h.ends) so
+
+  recover_unbegun : (wanted : Wanted) (design certificate : List ℕ) → RecoversFiles wanted design certificate old new t → ⊥
+  recover_unbegun wanted design certificate (inl h) =
+      other_end DesignRefused Unbegun t (λ e. cc) (refusal_ends design (said_in t) h.2) so
+  recover_unbegun wanted design certificate (inr h) = recover_certified_unbegun wanted h.d certificate h.says
+
+pub unbegun_over : (c : Command) (files : List (List ℕ)) (old new : Seen) (t : Telling) → t.ending ≡ Unbegun
+    → MeansOverDisk c files old new t → (c ≡ command.Sched) × LeavesOver t
+unfolding MeansOverDisk
+unbegun_over command.Init [] old new t e h = absurd h
+unbegun_over command.Init (design ∷ []) old new t e h = absurd (init_unbegun old new t e design h)
+unbegun_over command.Init (design ∷ more ∷ rest) old new t e h = absurd h
+unbegun_over command.Sched [] old new t e h = absurd h
+unbegun_over command.Sched (design ∷ []) old new t e h = absurd h
+unbegun_over command.Sched (design ∷ certificate ∷ []) old new t e h = absurd h
+unbegun_over command.Sched (design ∷ certificate ∷ script ∷ []) old new t e h = absurd h
+unbegun_over command.Sched (design ∷ certificate ∷ script ∷ order ∷ []) old new t e h =
+    (refl, run_unbegun old new t e design certificate script order h)
+unbegun_over command.Sched (design ∷ certificate ∷ script ∷ order ∷ more ∷ rest) old new t e h = absurd h
+unbegun_over command.Recover [] old new t e h = absurd h
+unbegun_over command.Recover (design ∷ []) old new t e h = absurd h
+unbegun_over command.Recover (design ∷ certificate ∷ []) old new t e h = absurd (recover_unbegun old new t e Counts design certificate h)
+unbegun_over command.Recover (design ∷ certificate ∷ more ∷ rest) old new t e h = absurd h
+unbegun_over command.Dump [] old new t e h = absurd h
+unbegun_over command.Dump (design ∷ []) old new t e h = absurd h
+unbegun_over command.Dump (design ∷ certificate ∷ []) old new t e h = absurd (recover_unbegun old new t e Rows design certificate h)
+unbegun_over command.Dump (design ∷ certificate ∷ more ∷ rest) old new t e h = absurd h
+unbegun_over command.Rehearse files old new t e h = absurd h
+unbegun_over command.Play files old new t e h = absurd h
+unbegun_over command.Print files old new t e h = absurd h
+unbegun_over command.Check files old new t e h = absurd h
+unbegun_over command.Help files old new t e h = absurd h
+unbegun_over command.Version files old new t e h = absurd h

@@ -1,0 +1,89 @@
+//! What is told of a journal that is refused, and of a disk that failed.
+use acc_explain::{push_note, push_text};
+use std::alloc::{AllocError, Global};
+
+/// What is wrong with a journal, and what helps.
+struct Said {
+    what: &'static [u8],
+    hint: &'static [u8],
+}
+
+/// What is said of a refused journal, by the word that is printed for why.
+fn said_of(why: &str) -> Said {
+    match why {
+        "exists" => Said {
+            what: b"a journal is there already, and nothing of it was changed",
+            hint: b"`acc recover` and `acc dump` tell what it holds; a new one wants another name",
+        },
+        "none" => Said {
+            what: b"this file is no journal, and nothing of it was changed",
+            hint: b"`acc init` makes a journal; a name of which there was no file has an empty one now",
+        },
+        "version" => Said {
+            what: b"acc reads journals of version 1; nothing of this one was changed, and its version is ",
+            hint: b"take the program that wrote it",
+        },
+        "damaged" => Said {
+            what: b"this journal is damaged, as no crash leaves one, and nothing of it was changed; it can't be read from its byte ",
+            hint: b"take another copy of it; docs/JOURNAL.md tells how its bytes are to be read, and which events stand before that byte",
+        },
+        "design" => Said {
+            what: b"this journal is of another design, and holds what it held",
+            hint: b"take the design that it was made for; only comments, blanks and spelling may differ",
+        },
+        "unlawful" => Said {
+            what: b"this journal has an event that no run of its design has, and holds what it held; so many events stand before it: ",
+            hint: b"no crash leaves such a journal: the file was changed, or another program wrote it",
+        },
+        _ => Said {
+            what: b"",
+            hint: b"",
+        },
+    }
+}
+
+/// Says why a journal is refused: the word and the number that are printed for it.
+fn push_refusal(
+    alloc: Global,
+    out: &mut Vec<u8>,
+    why: &str,
+    number: &str,
+) -> Result<(), AllocError> {
+    let Said { what, hint } = said_of(why);
+    let mut whole = what.to_vec(alloc)?;
+    push_text(&mut whole, number.as_bytes())?;
+    push_note(out, b"the journal", &whole, hint)
+}
+
+/// Says why a journal is refused, by the line that is printed.
+pub fn push_journal(alloc: Global, out: &mut Vec<u8>, printed: &[u8]) -> Result<(), AllocError> {
+    let text = String::from_utf8_lossy(alloc, printed)?;
+    let line = text.trim_end();
+    match line.strip_prefix("refused journal ") {
+        Some(reason) => {
+            let (why, number) = reason.split_once(" ").unwrap_or((reason, ""));
+            push_refusal(alloc, out, why, number)
+        }
+        None => Ok(()),
+    }
+}
+
+/// What stands on a disk that failed under a command of this verb.
+fn standing(verb: &str) -> &'static [u8] {
+    match verb {
+        "init" =>
+            b"there is no journal now, or the new one, or the old file with another first byte; give the command again",
+        _ =>
+            b"what was durable is durable, and nothing half-written counts; `acc recover` brings the journal to rest",
+    }
+}
+
+/// Says that a call of the disk failed under a command of this verb.
+pub fn push_disk(out: &mut Vec<u8>, verb: &str) -> Result<(), AllocError> {
+    push_note(
+        out,
+        b"the journal",
+        b"the file can't be opened, read or written, or the device failed",
+        standing(verb),
+    )
+}

@@ -1,0 +1,5 @@
+pub mod Hints
+pub mod Lines
+pub mod Provings
+pub mod Founds
+pub mod Laws

@@ -1,0 +1,181 @@
+//! A design's obligations are proved, or it is told which aren't.
+ghost use Rattle.std.specs.Prelude.{◌≡◌, ◌≢◌, [], ◌∷◌, ◌++◌, codes, IfOk, OnOk, Err};
+ghost use Rattle.acc_base.specs.Lines.{line};
+ghost use Rattle.acc_form.specs.WellFormed.{IsWellFormed};
+ghost use Rattle.acc_obligations.specs.Rooms.{IsSmallDesign};
+ghost use Rattle.acc_oblig.specs.Laws.{sequents_of};
+ghost use Rattle.acc_prover.specs.declared.found.SearchError.TheVariants.{Memory as OutOfMemory};
+ghost use Rattle.acc_prover.specs.Tellings.{Tells, IfProved, IsProof};
+ghost use Rattle.acc_check.specs.Origins.{origin_text};
+ghost use Rattle.acc_prove.specs.Lines.{searched, open_line, open_lines};
+ghost use Rattle.acc_prove.specs.Provings.{IsWritten, Proves};
+ghost use Rattle.acc_prove.specs.Founds.{found_line, found_proofs, AddsProofs, Ends, ProvesAll};
+
+use crate::hints::hints_of;
+use crate::lines::{push_ended, push_point};
+use acc_accept::obligations;
+use acc_axioms::nodes::{Cert, Proof};
+use acc_base::designs::Design;
+use acc_base::sequences::Seq;
+use acc_base::sequents::{Origin, Sequent};
+use acc_cert::write;
+use acc_check::origins::push_origin;
+use acc_obligations::ObligError;
+use acc_prover::found::{Found, SearchError};
+use acc_prover::searching::search;
+use std::alloc::{AllocError, Global};
+
+/// What comes of proving a design's obligations.
+#[derive(Drop)]
+pub enum Proving {
+    /// Each is proved: the certificate, as a line.
+    Proved(Vec<u8>),
+    /// Not all are proved: a line for each that isn't.
+    Open(Vec<u8>),
+    /// A number of one is too large: the line that says where the first such comes from.
+    Wide(Vec<u8>),
+}
+
+/// The search for the proof of an obligation, with its hints.
+fn searched(alloc: Global, d: &Design, q: &Sequent) -> Result<Found, SearchError>
+    requires design { IsWellFormed d.now }
+    requires small { IsSmallDesign d.now }
+    ensures kind { Tells result (searched d.now q.now) }
+    ensures proof { IfProved result (IsProof d.now q.now) }
+{
+    let hints = hints_of(alloc, d, q)?;
+    search(alloc, d, q, hints.as_slice())
+}
+
+/// Adds the proof that a search found, or the line of the obligation.
+fn add_found(
+    d: &Design,
+    origin: &Origin,
+    found: Result<Found, SearchError>,
+    proofs: &mut Vec<Proof>,
+    lines: &mut Vec<u8>,
+) -> Result<(), AllocError>
+    ensures lines { OnOk result (lines.new.items ≡ lines.old.items ++ found_line d.now origin.now found) }
+    ensures proofs { OnOk result (proofs.new.items ≡ proofs.old.items ++ found_proofs found) }
+    ensures other { OnOk result (found ≢ Err OutOfMemory) }
+{
+    match found {
+        Ok(Found::Proved(proof)) => {
+            proofs.push(proof)?;
+            Ok(())
+        }
+        Ok(Found::Unproved(_, point)) => push_point(lines, d, origin, point.as_slice()),
+        Err(SearchError::Crowded) => push_ended(lines, d, origin, b"crowded"),
+        Err(SearchError::Wide) => push_ended(lines, d, origin, b"wide"),
+        Err(SearchError::Many) => push_ended(lines, d, origin, b"many"),
+        Err(SearchError::Memory) => Err(AllocError),
+    }
+}
+
+/// Adds the proof of an obligation, or its line.
+fn prove_one(
+    alloc: Global,
+    d: &Design,
+    q: &Sequent,
+    proofs: &mut Vec<Proof>,
+    lines: &mut Vec<u8>,
+) -> Result<(), AllocError>
+    requires design { IsWellFormed d.now }
+    requires small { IsSmallDesign d.now }
+    ensures lines { OnOk result (lines.new.items ≡ lines.old.items ++ open_line d.now q.now.origin (searched d.now q.now)) }
+    ensures proofs { OnOk result (AddsProofs d.now (q.now ∷ []) proofs.old.items proofs.new.items) }
+{
+    let found = searched(alloc, d, q);
+    add_found(d, &q.origin, found, proofs, lines)
+}
+
+/// Adds the proofs of obligations, and the lines of those that aren't proved.
+fn prove_each(
+    alloc: Global,
+    d: &Design,
+    sequents: &[Sequent],
+    proofs: &mut Vec<Proof>,
+    lines: &mut Vec<u8>,
+) -> Result<(), AllocError>
+    requires design { IsWellFormed d.now }
+    requires small { IsSmallDesign d.now }
+    ensures lines { OnOk result (lines.new.items ≡ lines.old.items ++ open_lines d.now sequents.now) }
+    ensures proofs { OnOk result (AddsProofs d.now sequents.now proofs.old.items proofs.new.items) }
+{
+    for q in sequents {
+        prove_one(alloc, d, q, proofs, lines)?;
+    }
+    Ok(())
+}
+
+/// A certificate, as a line.
+fn certificate_line(alloc: Global, certificate: &Cert) -> Result<Vec<u8>, AllocError>
+    ensures { IfOk result (λ text. IsWritten certificate.now text.items) }
+{
+    match write(alloc, certificate) {
+        Ok(text) => ended_line(text),
+        Err(_) => Err(AllocError),
+    }
+}
+
+/// A text, and a line feed.
+fn ended_line(text: Vec<u8>) -> Result<Vec<u8>, AllocError>
+    ensures { IfOk result (λ ended. ended.items ≡ line text.items) }
+{
+    let mut text = text;
+    text.push(b'\n')?;
+    Ok(text)
+}
+
+/// The certificate of proofs where there are no lines, and else the lines.
+fn ended(alloc: Global, proofs: Vec<Proof>, lines: Vec<u8>) -> Result<Proving, AllocError>
+    ensures { IfOk result (Ends proofs.items lines.items) }
+{
+    if !lines.is_empty() {
+        return Ok(Proving::Open(lines));
+    }
+    let certificate = Cert {
+        proofs: Seq::from_vec(proofs),
+    };
+    Ok(Proving::Proved(certificate_line(alloc, &certificate)?))
+}
+
+/// Proves the obligations of a design.
+fn prove_all(alloc: Global, d: &Design, sequents: &[Sequent]) -> Result<Proving, AllocError>
+    requires design { IsWellFormed d.now }
+    requires small { IsSmallDesign d.now }
+    ensures { IfOk result (ProvesAll d.now sequents.now) }
+{
+    let mut proofs = Vec::new(alloc);
+    let mut lines = Vec::new(alloc);
+    prove_each(alloc, d, sequents, &mut proofs, &mut lines)?;
+    ended(alloc, proofs, lines)
+}
+
+/// What is said of an obligation that has a number that is too large.
+fn wide_line(alloc: Global, d: &Design, origin: &Origin) -> Result<Vec<u8>, AllocError>
+    ensures { IfOk result (λ text. text.items ≡ line (codes "refused wide " ++ origin_text d.now origin.now)) }
+{
+    let mut text = b"refused wide ".to_vec(alloc)?;
+    push_origin(&mut text, d, origin)?;
+    text.push(b'\n')?;
+    Ok(text)
+}
+
+/// Proves the obligations of a design, by a search for each, with the hints of its point and side.
+///
+/// `Proved` where all branches of each search are closed; then the design is accepted with the certificate, and so it is sound. `Open`
+/// where some aren't: a line for each obligation that isn't proved, in their order, with what ended its search. `Wide` where a number
+/// of an obligation is too large. `AllocError` where memory ran out; nothing is told then.
+///
+/// Besides the searches it takes the time of the obligations' length, and of what is written.
+pub fn prove(alloc: Global, d: &Design) -> Result<Proving, AllocError>
+    requires { IsWellFormed d.now }
+    ensures { IfOk result (Proves d.now) }
+{
+    match obligations(alloc, d) {
+        Ok(sequents) => prove_all(alloc, d, sequents.as_slice()),
+        Err(ObligError::Wide(origin)) => Ok(Proving::Wide(wide_line(alloc, d, &origin)?)),
+        Err(ObligError::Memory) => Err(AllocError),
+    }
+}

@@ -1,0 +1,5 @@
+mod Saying
+mod Recording
+mod Crashing
+pub mod OneRun
+mod Again

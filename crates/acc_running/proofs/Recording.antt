@@ -1,0 +1,175 @@
+-- What is recorded of an engine's run over a recovered state, and what is said of it.
+use Rattle.std.proofs.Common.{◌≡◌, ◌≤◌, inl, inr, ℕ, List, ◌++◌, length, take, drop, false, Option, Some, None, refl}
+use Rattle.std.proofs.Common.{sym, ap, subst, ◌∙◌, arith}
+use Rattle.std.specs.Prelude.{IfSome, option_and_then}
+use Rattle.std.specs.List.{flat_map, range_with_len}
+use Rattle.std.proofs.lemmas.List.{take_all, drop_at}
+use Rattle.acc_io.specs.Causes.{Rose}
+use Rattle.acc_base.specs.declared.designs.Design.{Design}
+use Rattle.acc_base.specs.declared.machines.Call.{Call}
+use Rattle.acc_base.specs.declared.machines.Event.{Event}
+use Rattle.acc_base.specs.Lines.{settled_line}
+use Rattle.acc_base.specs.Machine.{World, world, reply_at}
+use Rattle.acc_lift.proofs.FormRules.{run_rules}
+use Rattle.acc_lift.proofs.Theorem.{annotated}
+use Rattle.acc_print.specs.Designs.{printed}
+use Rattle.acc_wal.specs.Fronts.{CountsFront}
+use Rattle.acc_wal.specs.Journals.{Counts}
+use Rattle.acc_wal.specs.Wals.{Journal, IsOpened}
+use Rattle.acc_machine.specs.Kept.{IsKept}
+use Rattle.acc_engine.specs.Keeping.{Journalled, BeginsFrom}
+use Rattle.acc_schedule.specs.Schedules.{TellsScheduleFrom}
+use Rattle.acc_schedule.proofs.Closing.{idle_between}
+use Rattle.acc_settled.specs.Openings.{opening_at, IsFresh}
+use Rattle.acc_settled.specs.Runs.{GoesOn, IsAckedButOne}
+use Rattle.acc_running.specs.declared.answers.Said.{Said}
+use Rattle.acc_running.specs.Engines.{SaysAll, SaysFault, SaysRun, HandsOver}
+use Rattle.acc_running.specs.Recorded.{telling_of, IsFound, IsRecorded}
+use Rattle.acc_running.specs.Running.{RunsThrough, BreaksOff, RunsJournal}
+
+-- an engine over a recovered state, as it begins
+pub record Begins {D : Type 0} (d : Design) (calls : List Call) (first : World) (e : Journalled D) : Type 0 where
+  pub design : e.design ≡ d
+  pub state : e.state ≡ first
+  pub base : e.base ≡ printed d
+  pub found : e.found ≡ length first.events
+  pub calls_are : e.calls ≡ calls
+  pub settled : e.settled ≡ length first.events
+
+-- and as it ends
+pub record Ends {D : Type 0} (e : Journalled D) : Type 0 where
+  pub kept : IsKept e.design e.state
+  pub begins : BeginsFrom e.calls e.begun (drop e.found e.state.events)
+  pub within : e.settled ≤ length e.state.events
+  pub one_end : IsAckedButOne e
+
+pub begins_so : {D : Type 0} (d : Design) (calls : List Call) (first : World) (design : Design) (wal : Journal D) (e : Journalled D)
+    → design ≡ d → IsOpened (printed d) first.events wal → IsFresh e → (e.state ≡ first) × (e.design ≡ design)
+    → (e.disk ≡ wal.disk) × (e.base ≡ wal.base) → e.found ≡ length e.state.events → e.calls ≡ calls → Begins d calls first e
+begins_so d calls first design wal e same opened fresh state journal found are =
+    let count = ap (λ (w : World). length w.events) state.0 in
+    record {
+      design = state.1 ∙ same;
+      state = state.0;
+      base = journal.1 ∙ opened.base_is;
+      found = found ∙ count;
+      calls_are = are;
+      settled = fresh.settled ∙ count;
+    }
+
+some_of : (told : Option (List ℕ)) (P : List ℕ → Type 0) → ((file : List ℕ) → told ≡ Some file → P file) → IfSome told P
+some_of None P f = tt
+some_of (Some file) P f = f file refl
+
+-- what is so of an engine is so of what it hands over, and what is so of no events is so of what was refused
+pub moved : {D : Type 0} (F : D → List Event → ℕ → Type 0) (x y : D) (xs ys : List Event) (m n : ℕ) → y ≡ x → ys ≡ xs → n ≡ m → F x xs m
+    → F y ys n
+moved F x y xs ys m n disk history settled h =
+    subst (λ (k : ℕ). F y ys k) (sym settled)
+    (subst (λ (es : List Event). F y es m) (sym history) (subst (λ z. F z xs m) (sym disk) h))
+
+pub handed : {D : Type 0} (F : D → List Event → ℕ → Type 0) (e : Journalled D) (disk : D) (history : List Event) (settled : ℕ)
+    → HandsOver e disk history settled → F e.disk e.state.events e.settled → F disk history settled
+handed F e disk history settled h x =
+    moved F e.disk disk e.state.events history e.settled settled h.disk_is h.history_is h.settled_is x
+
+module _ {D : Type 0} (d : Design) (calls : List Call) (first : World) (old new : Journalled D) (b : Begins d calls first old)
+    (on : GoesOn old new) (more_settled : old.settled ≤ new.settled) (ends : Ends new) where
+  pub design_is : new.design ≡ d
+  design_is = on.design ∙ b.design
+
+  pub calls_are : new.calls ≡ calls
+  calls_are = on.calls ∙ b.calls_are
+
+  pub history_is : new.state.events ≡ first.events ++ on.more
+  history_is = on.history ∙ ap (λ (w : World). w.events ++ on.more) b.state
+
+  pub behind : drop new.found new.state.events ≡ on.more
+  behind = (λ i. drop ((on.found ∙ b.found) i) (history_is i)) ∙ drop_at first.events on.more (length first.events) refl
+
+  pub kept : IsKept d new.state
+  kept = subst (λ x. IsKept x new.state) design_is ends.kept
+
+  abbrev pub recorded : IsRecorded d calls first new.state.events new.settled
+  recorded = record {
+    more = on.more;
+    history_is = history_is;
+    begun = new.begun;
+    begins =
+        subst (λ (es : List Event). BeginsFrom calls new.begun es) behind
+        (subst (λ (cs : List Call). BeginsFrom cs new.begun (drop new.found new.state.events)) calls_are ends.begins);
+    last = new.state;
+    lawful = kept.good.lawful;
+    annotated =
+        annotated d kept.accepted.sound (run_rules d kept.accepted.formed) new.state.events (new.state, kept.good.lawful);
+    idle = idle_between d new.state kept.accepted kept.good;
+    least = omega (arith, b.settled, more_settled);
+    within = ends.within;
+    durable = record {
+      one = ends.one_end.last;
+      others = λ t n.
+          subst (λ x. option_and_then (reply_at t) (world x (take new.settled new.state.events)) ≡ reply_at t new.state) design_is
+          (ends.one_end.others t n);
+    };
+  }
+
+  -- ---- what is said of it
+
+  module _ (order : List ℕ) (told told' : Option (List ℕ)) (found : IsFound d told first)
+      (counts : new.failed ≡ false → (file : List ℕ) → told' ≡ Some file
+      → CountsFront new.base new.state.events new.settled file) where
+    whole : new.failed ≡ false → new.settled ≡ length new.state.events
+        → IfSome told' (λ file. Counts file (printed d) new.state.events)
+    whole unfailed all =
+        some_of told' (λ file. Counts file (printed d) new.state.events) (λ file is.
+        let c = counts unfailed file is in
+        let events : take c.count new.state.events ≡ new.state.events =
+        take_all c.count new.state.events (omega (arith, c.at_least, all)) in
+        subst (λ (t : List ℕ). Counts file t new.state.events) (on.base ∙ b.base)
+        (subst (λ (es : List Event). Counts file new.base es) events c.counts))
+
+    runs_through : (s : Said) → SaysAll d order old new s
+        → RunsThrough d calls order told told' (telling_of s new.state.events new.settled)
+    runs_through s all = record {
+      first = first;
+      found = found;
+      recorded = recorded;
+      all_begun = all.all_begun;
+      tells =
+          subst (λ (w : World). TellsScheduleFrom d calls (opening_at w calls) order s.text.items new.state.events all.all_begun) b.state
+          (subst
+          (λ (cs : List Call). TellsScheduleFrom d cs (opening_at old.state cs) order s.text.items new.state.events all.all_begun)
+          b.calls_are all.tells);
+      ending = all.ending;
+      settled = all.settled;
+      holds = whole all.unfailed all.settled;
+    }
+
+    breaks_off : (count : D → ℕ) (fault : Type 0) → (Rose (count old.disk) (count new.disk) → fault) → (s : Said)
+        → SaysFault count old new s → BreaksOff d calls told fault (telling_of s new.state.events new.settled)
+    breaks_off count fault so s f = record {
+      failed = so f.rose;
+      first = first;
+      found = found;
+      recorded = recorded;
+      lines = f.lines;
+      replies = record {
+        play = f.play;
+        count = f.numbers.count ∙ ap length calls_are;
+        unbegun = f.numbers.unbegun;
+        durable = f.replies.durable;
+        run =
+            subst (λ x. world x (take new.settled new.state.events) ≡ Some f.replies.durable) design_is f.replies.run;
+        text_is =
+            f.replies.text_is
+            ∙ ap (λ (cs : List Call). flat_map (settled_line (record f.play { world = f.replies.durable }))
+            (range_with_len 1 (length cs))) calls_are;
+      };
+      ending = f.says.0;
+      text = f.says.1;
+    }
+
+    pub runs_journal : (count : D → ℕ) (fault : Type 0) → (Rose (count old.disk) (count new.disk) → fault) → (s : Said)
+        → SaysRun count d order old new s → RunsJournal d calls order told told' fault (telling_of s new.state.events new.settled)
+    runs_journal count fault so s (inl all) = inl (runs_through s all)
+    runs_journal count fault so s (inr f) = inr (inl (breaks_off count fault so s f))

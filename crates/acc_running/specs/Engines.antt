@@ -1,0 +1,59 @@
+-- What is said of an engine's run.
+use Rattle.std.specs.Prelude.{◌≡◌, ◌⊎◌, ◌++◌, ℕ, Bool, true, false, List, length, Result, Ok, Err, codes}
+use Rattle.acc_io.specs.Causes.{Rose}
+use Rattle.acc_base.specs.declared.designs.Design.{Design}
+use Rattle.acc_base.specs.declared.machines.Event.{Event}
+use Rattle.acc_base.specs.Lines.{line}
+use Rattle.acc_base.specs.Plays.{Play}
+use Rattle.acc_engine.specs.Keeping.{Journalled}
+use Rattle.acc_schedule.specs.Schedules.{TellsScheduleFrom}
+use Rattle.acc_settled.specs.declared.schedules.Scheduled.{Scheduled}
+use Rattle.acc_settled.specs.declared.schedules.Stopped.{Stopped}
+use Rattle.acc_settled.specs.declared.schedules.Stopped.TheVariants.{Disk, Memory}
+use Rattle.acc_settled.specs.Openings.{opening_at}
+use Rattle.acc_settled.specs.Stops.{AreNumbersOf, TellsSettled}
+use Rattle.acc_journalled.specs.declared.answers.Ending.{Ending}
+use Rattle.acc_journalled.specs.declared.answers.Ending.TheVariants.{Done, Unbegun, DiskFailed}
+use Rattle.acc_running.specs.declared.answers.Said.{Said}
+
+-- all is done where each call has begun; else one couldn't, since the history is full
+abbrev pub ending_at : Bool → Ending
+ending_at true = Done
+ending_at false = Unbegun
+
+-- the lines of the places, and behind them the fault
+abbrev pub IsWithFault : List ℕ → Said → Type 0
+IsWithFault lines s = (s.ending ≡ DiskFailed) × (s.text.items ≡ lines ++ line (codes "fault disk"))
+
+-- want of memory says nothing
+abbrev pub SaysTold : Result Scheduled Stopped → Said → Type 0
+SaysTold (Ok told) s = (s.ending ≡ ending_at told.all_begun) × (s.text.items ≡ told.text.items)
+SaysTold (Err (Disk lines)) s = IsWithFault lines.items s
+SaysTold (Err Memory) s = ⊥
+
+-- the whole schedule is said, and is durable
+pub record SaysAll {D : Type 0} (d : Design) (order : List ℕ) (old new : Journalled D) (s : Said) : Type 0 where
+  pub all_begun : Bool
+  pub tells :
+      TellsScheduleFrom d old.calls (opening_at old.state old.calls) order s.text.items new.state.events all_begun
+  pub ending : s.ending ≡ ending_at all_begun
+  pub settled : new.settled ≡ length new.state.events
+  pub unfailed : new.failed ≡ false
+
+-- the disk failed, and the durable replies are said
+pub record SaysFault {D : Type 0} (count : D → ℕ) (old new : Journalled D) (s : Said) : Type 0 where
+  pub rose : Rose (count old.disk) (count new.disk)
+  pub play : Play
+  pub numbers : AreNumbersOf new play.numbers
+  pub lines : List ℕ
+  pub replies : TellsSettled new play lines
+  pub says : IsWithFault lines s
+
+abbrev pub SaysRun : {D : Type 0} → (D → ℕ) → Design → List ℕ → Journalled D → Journalled D → Said → Type 0
+SaysRun count d order old new s = SaysAll d order old new s ⊎ SaysFault count old new s
+
+-- an engine's disk, its events and how many of them are durable
+pub record HandsOver {D : Type 0} (e : Journalled D) (disk : D) (history : List Event) (settled : ℕ) : Type 0 where
+  pub disk_is : disk ≡ e.disk
+  pub history_is : history ≡ e.state.events
+  pub settled_is : settled ≡ e.settled

@@ -1,0 +1,5 @@
+pub mod Recorded
+pub mod Running
+pub mod Engines
+pub mod Crashes
+pub mod Laws

@@ -1,0 +1,58 @@
+-- What is said of a run over a journal.
+use Rattle.std.specs.Prelude.{◌≡◌, ◌⊎◌, ◌++◌, ℕ, Bool, false, List, length, take, Option, Some, None, IfSome, slice_get, codes}
+use Rattle.std.specs.List.{flat_map, range_with_len}
+use Rattle.acc_base.specs.declared.designs.Design.{Design}
+use Rattle.acc_base.specs.declared.machines.Call.{Call}
+use Rattle.acc_base.specs.declared.machines.Event.{Event}
+use Rattle.acc_base.specs.Lines.{line, settled_line}
+use Rattle.acc_base.specs.Machine.{World, world}
+use Rattle.acc_base.specs.Plays.{Play}
+use Rattle.acc_print.specs.Designs.{printed}
+use Rattle.acc_wal.specs.Journals.{Counts}
+use Rattle.acc_engine.specs.Keeping.{is_begun}
+use Rattle.acc_schedule.specs.Schedules.{TellsScheduleFrom}
+use Rattle.acc_settled.specs.Openings.{opening_at}
+use Rattle.acc_journalled.specs.declared.answers.Ending.TheVariants.{DiskFailed}
+use Rattle.acc_journalled.specs.Recovering.{RefusesSo}
+use Rattle.acc_journalled.specs.Tellings.{Telling}
+use Rattle.acc_running.specs.Recorded.{IsFound, IsRecorded}
+use Rattle.acc_running.specs.Engines.{ending_at}
+
+-- The whole schedule is told, from the recovered state on: its lines, the replies, and how many events there are. All of it is durable, and
+-- the disk holds a journal of it.
+pub record RunsThrough (d : Design) (calls : List Call) (order : List ℕ) (told told' : Option (List ℕ)) (t : Telling) : Type 0 where
+  pub first : World
+  pub found : IsFound d told first
+  pub recorded : IsRecorded d calls first t.history t.settled
+  pub all_begun : Bool
+  pub tells : TellsScheduleFrom d calls (opening_at first calls) order t.text t.history all_begun
+  pub ending : t.ending ≡ ending_at all_begun
+  pub settled : t.settled ≡ length t.history
+  pub holds : IfSome told' (λ file. Counts file (printed d) t.history)
+
+-- a line each place, by the state after the durable events: its reply there, or that it is unsettled
+pub record TellsDurable (d : Design) (calls : List Call) (begun : List Bool) (history : List Event) (settled : ℕ) (text : List ℕ) : Type 0
+  where
+    pub play : Play
+    pub count : length play.numbers ≡ length calls
+    pub unbegun : (at : ℕ) → slice_get play.numbers at ≡ Some None → is_begun begun at ≡ false
+    pub durable : World
+    pub run : world d (take settled history) ≡ Some durable
+    pub text_is : text ≡ flat_map (settled_line (record play { world = durable })) (range_with_len 1 (length calls))
+
+-- the disk failed behind the recovery
+pub record BreaksOff (d : Design) (calls : List Call) (told : Option (List ℕ)) (fault : Type 0) (t : Telling) : Type 0 where
+  pub failed : fault
+  pub first : World
+  pub found : IsFound d told first
+  pub recorded : IsRecorded d calls first t.history t.settled
+  pub lines : List ℕ
+  pub replies : TellsDurable d calls recorded.begun t.history t.settled lines
+  pub ending : t.ending ≡ DiskFailed
+  pub text : t.text ≡ lines ++ line (codes "fault disk")
+
+-- the schedule is told to its end, or to where the disk failed; or the journal isn't recovered, for a cause
+abbrev pub RunsJournal :
+    Design → List Call → List ℕ → Option (List ℕ) → Option (List ℕ) → Type 0 → Telling → Type 0
+RunsJournal d calls order told told' fault t =
+    RunsThrough d calls order told told' t ⊎ BreaksOff d calls told fault t ⊎ RefusesSo d told told' fault t
