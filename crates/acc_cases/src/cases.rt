@@ -1,8 +1,9 @@
 //! The cases by their verbs.
-use crate::texts::{Change, first_word};
-use crate::{designs, journals, memory, texts};
+use crate::{designs, journals, memory, proofs};
+use acc_case_changes::texts::{self, Change, first_word};
 use acc_cli::acc;
 use acc_io::{FolderShelf, MemShelf, MemSink, StdSink};
+use acc_progress::Silent;
 use std::alloc::{AllocError, Global};
 use std::rt::Files;
 use std::{fs, io};
@@ -13,7 +14,7 @@ fn run<R: Files + Print + AllocGlobal>(rt: &R, line: &str) -> io::Result<()> {
     let mut shelf = FolderShelf::new(rt);
     let mut out = StdSink::new(rt);
     let disk = memory::disk(rt.alloc(), &[], &[], None)?;
-    let done = acc(rt.alloc(), &words, &mut shelf, &mut out, disk);
+    let done = acc(rt.alloc(), &words, &mut shelf, &mut out, disk, &mut Silent);
     println!(rt; "status {}", done.status)
 }
 
@@ -123,6 +124,19 @@ fn check<R: Print + AllocGlobal>(rt: &R, text: &str) -> io::Result<()> {
     let (design, certificate) = text.split_once(" -> ").unwrap_or((text, ""));
     let mut shelf = memory::certified_shelf(rt.alloc(), design, certificate)?;
     answer_at_once(rt, "check design certificate", &mut shelf)
+}
+
+/// `prove TEXT`: what the command `prove` answers to a text.
+fn prove<R: Print + AllocGlobal>(rt: &R, text: &str) -> io::Result<()> {
+    let mut shelf = memory::shelf(rt.alloc(), text)?;
+    answer_at_once(rt, "prove design", &mut shelf)
+}
+
+/// `proved DESIGN`: what `check` says of a design of the folder with the certificate that `prove` makes of it, or which obligations stay
+/// open.
+fn proved<R: Files + Print + AllocGlobal>(rt: &R, name: &str) -> io::Result<()> {
+    let design = fs::read_to_string(rt, name)?;
+    proofs::tell(rt, design.as_str())
 }
 
 /// The numbers with commas between them; a `-` is none.
@@ -266,6 +280,8 @@ fn answer_plain<R: Files + Print + AllocGlobal>(rt: &R, line: &str) -> io::Resul
         "many" => many(rt, name, behind),
         "print" => print(rt, rest),
         "check" => check(rt, rest),
+        "prove" => prove(rt, rest),
+        "proved" => proved(rt, rest),
         "fails" => fails(rt, rest),
         "disk" => journals::over_disk(rt, rest),
         "twice" => journals::twice(rt, rest),

@@ -1,7 +1,7 @@
 //! Command lines over a disk in memory.
 use crate::cases::{hold_files, numbers, sink};
 use crate::memory;
-use crate::texts::first_word;
+use acc_case_changes::texts::first_word;
 use acc_cli::Done;
 use acc_disk::MemDisk;
 use acc_io::{MemShelf, MemSink};

@@ -5,7 +5,7 @@ mod cases;
 mod designs;
 mod journals;
 mod memory;
-mod texts;
+mod proofs;
 
 use std::io;
 

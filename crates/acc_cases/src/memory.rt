@@ -2,6 +2,7 @@
 use acc_cli::{Done, acc};
 use acc_disk::MemDisk;
 use acc_io::{MemShelf, MemSink, Sink};
+use acc_progress::Silent;
 use std::alloc::{AllocError, Global};
 
 /// The words of a text.
@@ -81,7 +82,7 @@ pub fn answer_over<K: Sink>(
     disk: MemDisk,
 ) -> Result<Done<MemDisk>, AllocError> {
     let words = words(alloc, line)?;
-    Ok(acc(alloc, &words, shelf, out, disk))
+    Ok(acc(alloc, &words, shelf, out, disk, &mut Silent))
 }
 
 /// A sink; the writes of the first list fail, and the others take no more than the second says.

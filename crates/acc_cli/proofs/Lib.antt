@@ -4,5 +4,6 @@ pub mod StatusLemmas
 pub mod OneAnswer
 pub mod DiskLemmas
 pub mod CreationLemmas
+pub mod ProvingLemmas
 pub mod RecoveryLemmas
 pub mod RunLemmas

@@ -9,6 +9,7 @@ use Rattle.acc_io.specs.declared.counts.Counts.{Counts}
 use Rattle.acc_io.specs.declared.shelf.ShelfError.{ShelfError}
 use Rattle.acc_io.specs.declared.shelf.ShelfError.TheVariants.{Failed, Absent, Long, Memory}
 use Rattle.acc_commands.specs.declared.words.Command.{Command}
+use Rattle.acc_journalled.specs.declared.answers.Ending.{Ending}
 use Rattle.acc_cli.specs.declared.status.Status.TheVariants.{Ran}
 use Rattle.acc_journalled.specs.Tellings.{Telling}
 use Rattle.acc_commands.specs.Disks.{Seen, TellsAll}
@@ -16,7 +17,9 @@ use Rattle.acc_cli.specs.Replies.{Reply}
 use Rattle.acc_commands.specs.Words.{command_of, files_of}
 use Rattle.acc_commands.specs.Files.{AreFiles, SaysRefused}
 use Rattle.acc_commands.specs.Means.{is_journalled, Means}
+use Rattle.acc_commands.specs.Alike.{AreAlike as Alike}
 use Rattle.acc_cli.specs.Meant.{RefusesFile, Runs, MeansForm, Meant, is_over_journal}
+use Rattle.acc_cli.specs.Provings.{AreAlike}
 use Rattle.acc_commands.proofs.OneMeaning.{one_meaning}
 
 -- ---- what stands at a name is told in one way
@@ -152,37 +155,53 @@ module _ (held : List ℕ → Told) (tells : (name : List ℕ) → held name ≢
       given_or_refused held tells k.before k.after files k.files label f t (subst (λ ns. AreFiles held ns files) k.place given) k.read
       k.refused
 
-  both_run : (command : Command) (names : List (List ℕ)) (a b : Reply) → (is_journalled command ≡ true → TellsAll disk disk_one disk_other)
-      → Runs held counts one disk disk_one command names a → Runs held counts other disk disk_other command names b → a ≡ b
-  both_run command names a b all (files, given, counted, (ending, status, means)) (files', given', counted', (ending', status', means')) =
-      let same : files' ≡ files = one_files held tells names files' files given' given in
-      let said = one_meaning command files disk disk_one disk_other
+  alike : (command : Command) (a b : Reply) (ending ending' : Ending) → a.status ≡ Ran ending → b.status ≡ Ran ending'
+      → (words : List (List ℕ)) → command_of words ≡ Some command
+      → Alike command (record { ending = ending; text = a.text; history = a.history; settled = a.settled })
+      (record { ending = ending'; text = b.text; history = b.history; settled = b.settled }) → AreAlike words a b
+  alike command a b ending ending' status status' words is (inl said) =
+      let ended : a.status ≡ b.status = status ∙ ap (λ (s : Telling). Ran s.ending) said ∙ sym status' in
+      inl (λ i. record { status = ended i; text = (said i).text; history = (said i).history; settled = (said i).settled })
+  alike command a b ending ending' status status' words is (inr both) = inr (record {
+    is_prove = is ∙ ap Some both.is_prove;
+    one_done = status ∙ ap Ran both.one_done;
+    other_done = status' ∙ ap Ran both.other_done;
+    history = both.history;
+    settled = both.settled;
+  })
+
+  both_run : (command : Command) (words : List (List ℕ)) (a b : Reply) → command_of words ≡ Some command
+      → (is_journalled command ≡ true → TellsAll disk disk_one disk_other)
+      → Runs held counts one disk disk_one command (files_of command words) a
+      → Runs held counts other disk disk_other command (files_of command words) b → AreAlike words a b
+  both_run command words a b is all (files, given, counted, (ending, status, means))
+      (files', given', counted', (ending', status', means')) =
+      let same : files' ≡ files = one_files held tells (files_of command words) files' files given' given in
+      alike command a b ending ending' status status' words is (one_meaning command files disk disk_one disk_other
       (record { ending = ending; text = a.text; history = a.history; settled = a.settled })
       (record { ending = ending'; text = b.text; history = b.history; settled = b.settled }) all means
       (subst (λ fs. Means command fs disk disk_other
-      (record { ending = ending'; text = b.text; history = b.history; settled = b.settled })) same means') in
-      let ended : a.status ≡ b.status = status ∙ ap (λ (s : Telling). Ran s.ending) said ∙ sym status' in
-      λ i. record { status = ended i; text = (said i).text; history = (said i).history; settled = (said i).settled }
+      (record { ending = ending'; text = b.text; history = b.history; settled = b.settled })) same means'))
 
-  pub of_form : (form : Option Command) (words : List (List ℕ)) (a b : Reply)
+  pub of_form : (form : Option Command) (words : List (List ℕ)) (a b : Reply) → command_of words ≡ form
       → (is_over_journal form ≡ true → TellsAll disk disk_one disk_other) → MeansForm held counts one disk disk_one words form a
-      → MeansForm held counts other disk disk_other words form b → a ≡ b
-  of_form None words a b all h k = λ i. record {
+      → MeansForm held counts other disk disk_other words form b → AreAlike words a b
+  of_form None words a b is all h k = inl (λ i. record {
     status = (h.0 ∙ sym k.0) i;
     text = (h.2 ∙ sym k.2) i;
     history = (h.3.0 ∙ sym k.3.0) i;
     settled = (h.3.1 ∙ sym k.3.1) i;
-  }
-  of_form (Some command) words a b all (inl h) (inl k) = both_refuse (files_of command words) a b h k
-  of_form (Some command) words a b all (inl h) (inr k) =
+  })
+  of_form (Some command) words a b is all (inl h) (inl k) = inl (both_refuse (files_of command words) a b h k)
+  of_form (Some command) words a b is all (inl h) (inr k) =
       absurd (given_and_refused (files_of command words) k.0 one disk_one a first k.1 h)
-  of_form (Some command) words a b all (inr h) (inl k) =
+  of_form (Some command) words a b is all (inr h) (inl k) =
       absurd (given_and_refused (files_of command words) h.0 other disk_other b second h.1 k)
-  of_form (Some command) words a b all (inr h) (inr k) = both_run command (files_of command words) a b all h k
+  of_form (Some command) words a b is all (inr h) (inr k) = both_run command words a b is all h k
 
 pub one_answer : (held : List ℕ → Told) (counts one other : Counts) (disk disk_one disk_other : Seen) (words : List (List ℕ)) (a b : Reply)
     → ((name : List ℕ) → held name ≢ None) → ¬ Rose counts.faults one.faults → ¬ Rose counts.faults other.faults
     → (is_over_journal (command_of words) ≡ true → TellsAll disk disk_one disk_other)
-    → Meant held counts one disk disk_one words a → Meant held counts other disk disk_other words b → a ≡ b
+    → Meant held counts one disk disk_one words a → Meant held counts other disk disk_other words b → AreAlike words a b
 one_answer held counts one other disk disk_one disk_other words a b tells first second all h k =
-    of_form held tells counts one other first second disk disk_one disk_other (command_of words) words a b all h k
+    of_form held tells counts one other first second disk disk_one disk_other (command_of words) words a b refl all h k

@@ -82,7 +82,8 @@ module _ (held : List ℕ → Told) (words : List (List ℕ)) where
       by (inr a) = of_accepted a (of_script h.d script order said a.says)
 
   of_means :
-      (files : List (List ℕ)) (said : Said) → AreFiles held (files_of command.Rehearse words) files → MeansOfFiles command.Rehearse files said
+      (files : List (List ℕ)) (said : Said) → AreFiles held (files_of command.Rehearse words) files
+      → MeansOfFiles command.Rehearse files said
       → KeepsPromise held words said.history
   unfolding MeansOfFiles
   of_means [] said given h = absurd h

@@ -190,6 +190,7 @@ of_command held words command.Play w disk disk' old new code files t is given h 
 of_command held words command.Rehearse w disk disk' old new code files t is given h = absurd cc
 of_command held words command.Sched w disk disk' old new code files t is given h = absurd cc
 of_command held words command.Print w disk disk' old new code files t is given h = absurd cc
+of_command held words command.Prove w disk disk' old new code files t is given h = absurd cc
 of_command held words command.Check w disk disk' old new code files t is given h = absurd cc
 of_command held words command.Help w disk disk' old new code files t is given h = absurd cc
 of_command held words command.Version w disk disk' old new code files t is given h = absurd cc

@@ -1,7 +1,7 @@
 -- The status behind a number.
 use Rattle.std.proofs.Common.{◌≡◌, refl}
 use Rattle.acc_journalled.specs.declared.answers.Ending.TheVariants.{Done, DesignRefused, ScriptRefused, JournalRefused}
-use Rattle.acc_journalled.specs.declared.answers.Ending.TheVariants.{DiskFailed, Unbegun}
+use Rattle.acc_journalled.specs.declared.answers.Ending.TheVariants.{DiskFailed, Unbegun, Open}
 use Rattle.acc_cli.specs.declared.status.Status.{Status}
 use Rattle.acc_cli.specs.declared.status.Status.TheVariants.{Usage, File, Sink, Memory, Ran}
 use Rattle.acc_cli.specs.Status.{code_of}
@@ -13,6 +13,7 @@ zero_is_done (Ran ScriptRefused) h = cc
 zero_is_done (Ran JournalRefused) h = cc
 zero_is_done (Ran DiskFailed) h = cc
 zero_is_done (Ran Unbegun) h = cc
+zero_is_done (Ran Open) h = cc
 zero_is_done Usage h = cc
 zero_is_done File h = cc
 zero_is_done Sink h = cc
@@ -25,6 +26,7 @@ seven_is_sink (Ran ScriptRefused) h = cc
 seven_is_sink (Ran JournalRefused) h = cc
 seven_is_sink (Ran DiskFailed) h = cc
 seven_is_sink (Ran Unbegun) h = cc
+seven_is_sink (Ran Open) h = cc
 seven_is_sink Usage h = cc
 seven_is_sink File h = cc
 seven_is_sink Sink h = refl
@@ -37,6 +39,7 @@ four_is_refused (Ran ScriptRefused) h = cc
 four_is_refused (Ran JournalRefused) h = refl
 four_is_refused (Ran DiskFailed) h = cc
 four_is_refused (Ran Unbegun) h = cc
+four_is_refused (Ran Open) h = cc
 four_is_refused Usage h = cc
 four_is_refused File h = cc
 four_is_refused Sink h = cc

@@ -1,5 +1,5 @@
 -- When each status comes.
-use Rattle.std.specs.Prelude.{◌≡◌, ◌⊎◌, ℕ, false, List, length, Some, None, IfSome}
+use Rattle.std.specs.Prelude.{◌≡◌, ◌⊎◌, ℕ, false, List, [], ◌∷◌, length, Some, None, IfSome}
 use Rattle.acc_base.specs.declared.designs.Design.{Design}
 use Rattle.acc_base.specs.declared.machines.Call.{Call}
 use Rattle.acc_io.specs.Causes.{Rose}
@@ -16,12 +16,13 @@ use Rattle.acc_recover.specs.declared.errors.RecoverError.{RecoverError}
 use Rattle.acc_commands.specs.declared.words.Command.{Command}
 use Rattle.acc_commands.specs.declared.words.Command.TheVariants as command
 use Rattle.acc_journalled.specs.declared.answers.Ending.{Ending}
-use Rattle.acc_journalled.specs.declared.answers.Ending.TheVariants.{Done, JournalRefused, DiskFailed, Unbegun}
+use Rattle.acc_journalled.specs.declared.answers.Ending.TheVariants.{Done, JournalRefused, DiskFailed, Unbegun, Open}
 use Rattle.acc_cli.specs.declared.status.Status.{Status}
 use Rattle.acc_cli.specs.declared.status.Status.TheVariants.{Usage, File, Sink, Memory, Ran}
 use Rattle.acc_commands.specs.Words.{command_of, files_of}
 use Rattle.acc_commands.specs.Files.{AreFiles, IsFirstRefused, SaysRefused}
 use Rattle.acc_commands.specs.Means.{Means}
+use Rattle.acc_commands.specs.ProveFiles.{StaysOpen}
 use Rattle.acc_journalled.specs.Tellings.{Telling}
 use Rattle.acc_commands.specs.Disks.{Seen}
 
@@ -76,8 +77,8 @@ pub record FindsJournal (c : Command) (disk disk' : Seen) : Type 0 where
   pub there : IfSome disk.told IsThere
   pub same : disk'.told ≡ disk.told
 
--- It is `sched`, `recover` or `dump`, and the bytes of the disk give this cause why nothing is recovered. What is no journal is left as it is; a
--- journal that is refused counts what it counted.
+-- It is `sched`, `recover` or `dump`, and the bytes of the disk give this cause why nothing is recovered. What is no journal is left as it
+-- is; a journal that is refused counts what it counted.
 pub record RefusesRecovering (c : Command) (disk disk' : Seen) : Type 0 where
   pub is_over : (c ≡ command.Sched) ⊎ (c ≡ command.Recover) ⊎ (c ≡ command.Dump)
   pub d : Design
@@ -92,6 +93,14 @@ pub record RefusesJournal (held : List ℕ → Told) (counts counts' : Counts) (
   pub ends : EndsSo held counts counts' disk disk' words JournalRefused
   pub why : FindsJournal ends.command disk disk' ⊎ RefusesRecovering ends.command disk disk'
 
+-- it is `prove`, and obligations of the design stay open: what is said has a line for each
+pub record LeavesOpen (held : List ℕ → Told) (counts counts' : Counts) (disk disk' : Seen) (words : List (List ℕ)) : Type 0 where
+  pub ends : EndsSo held counts counts' disk disk' words Open
+  pub is_prove : ends.command ≡ command.Prove
+  pub design : List ℕ
+  pub file : ends.files ≡ design ∷ []
+  pub stays : StaysOpen design ends.said.text
+
 -- Want of memory alone is free. No status but that of a file comes after a read that gave no file.
 pub record HasCauses (held : List ℕ → Told) (counts counts' : Counts) (disk disk' : Seen) (words : List (List ℕ)) (sink_fault : Type 0)
     (status : Status) : Type 0 where
@@ -101,5 +110,6 @@ pub record HasCauses (held : List ℕ → Told) (counts counts' : Counts) (disk 
   pub sink : status ≡ Sink → sink_fault × EndsSo held counts counts' disk disk' words Done
   pub unbegun : status ≡ Ran Unbegun → LeavesUnbegun held counts counts' disk disk' words
   pub journal : status ≡ Ran JournalRefused → RefusesJournal held counts counts' disk disk' words
+  pub unproved : status ≡ Ran Open → LeavesOpen held counts counts' disk disk' words
   pub disk_fault : status ≡ Ran DiskFailed → Rose disk.faults disk'.faults
   pub ran : (ending : Ending) → status ≡ Ran ending → EndsSo held counts counts' disk disk' words ending

@@ -4,6 +4,8 @@ pub mod Responses
 pub mod Meant
 pub mod Answered
 pub mod Causes
+pub mod Provings
+pub mod Laws
 pub mod Promises
 pub mod Creations
 pub mod Recoveries

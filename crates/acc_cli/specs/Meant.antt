@@ -1,6 +1,5 @@
 -- What is answered to a command line, where memory lasts and each byte can be written.
-use Rattle.std.specs.Prelude.{◌≡◌, ◌≢◌, ℕ, Bool, true, false, List, [], length, ◌⊎◌, Option, Some, None, codes}
-use Rattle.acc_io.specs.Causes.{Rose}
+use Rattle.std.specs.Prelude.{◌≡◌, ℕ, Bool, false, List, [], length, ◌⊎◌, Option, Some, None, codes}
 use Rattle.acc_io.specs.Counted.{after_files}
 use Rattle.acc_io.specs.Shelves.{Told}
 use Rattle.acc_io.specs.declared.counts.Counts.{Counts}
@@ -11,7 +10,7 @@ use Rattle.acc_cli.specs.declared.status.Status.TheVariants.{Usage, File, Ran}
 use Rattle.acc_base.specs.Lines.{line}
 use Rattle.acc_cli.specs.Replies.{Reply}
 use Rattle.acc_commands.specs.Words.{command_of, files_of}
-use Rattle.acc_commands.specs.Disks.{Seen, TellsAll}
+use Rattle.acc_commands.specs.Disks.{Seen}
 use Rattle.acc_commands.specs.Means.{is_journalled, Means, LeavesOfFile}
 use Rattle.acc_commands.specs.Files.{AreFiles, IsFirstRefused, SaysRefused}
 
@@ -66,11 +65,3 @@ pub record LeavesByCommand (held : List ℕ → Told) (words : List (List ℕ)) 
 -- what a crash at any moment of the program leaves of the file that a calm disk held: that, or what one in the command leaves of it
 abbrev pub LeavesOfLine : (List ℕ → Told) → List (List ℕ) → List ℕ → List ℕ → Type 0
 LeavesOfLine held words file image = (image ≡ file) ⊎ LeavesByCommand held words file image
-
--- On a shelf that tells what stands at each name, a command line means one answer where no read fails, and, if it asks for a command over
--- a journal, the disk tells what it holds and none of its calls fails: two such answers to it are the same.
-abbrev pub LinesMeanOne : Type 0
-LinesMeanOne = (held : List ℕ → Told) (counts one other : Counts) (disk disk_one disk_other : Seen) (words : List (List ℕ)) (a b : Reply)
-    → ((name : List ℕ) → held name ≢ None) → ¬ Rose counts.faults one.faults → ¬ Rose counts.faults other.faults
-    → (is_over_journal (command_of words) ≡ true → TellsAll disk disk_one disk_other)
-    → Meant held counts one disk disk_one words a → Meant held counts other disk disk_other words b → a ≡ b

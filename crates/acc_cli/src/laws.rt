@@ -1,8 +1,8 @@
 //! What the definitions of the answers say by themselves.
-ghost use Rattle.acc_cli.specs.Meant.{LinesMeanOne};
+ghost use Rattle.acc_cli.specs.Laws.{LinesMeanOne};
 
 /// On a shelf that tells what stands at each name, a command line means one status, one text and one history, where no read
-/// fails. So each status but that of want of memory comes exactly where its row says.
+/// fails; but which certificate `prove` makes is free. So each status but that of want of memory comes exactly where its row says.
 pub fn lines_mean_one()
     ensures { LinesMeanOne }
 {}

@@ -35,6 +35,7 @@ impl Status {
             Status::Sink => 7,
             Status::Ran(Ending::Unbegun) => 8,
             Status::Memory => 9,
+            Status::Ran(Ending::Open) => 10,
         }
     }
 }

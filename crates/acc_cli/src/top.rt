@@ -18,6 +18,7 @@ ghost use Rattle.acc_cli.specs.Promises.{KeepsPromise};
 ghost use Rattle.acc_cli.specs.Runs.{KeepsRecord};
 ghost use Rattle.acc_cli.specs.Fronts.{LeavesFrontsOf, LeavesSettledOf};
 ghost use Rattle.acc_cli.specs.Creations.{IsCreated};
+ghost use Rattle.acc_cli.specs.Provings.{IsProved};
 ghost use Rattle.acc_cli.specs.Recoveries.{wanted_by, TellsRecovery, LeavesRefused};
 ghost use Rattle.acc_journalled.specs.declared.answers.Wanted.{Wanted};
 ghost use Rattle.acc_commands.specs.declared.words.Command.{Command as TheCommand};
@@ -25,7 +26,7 @@ ghost use Rattle.acc_commands.specs.Disks.{seen, Leaves, LeavesTold};
 ghost use Rattle.acc_commands.specs.RunFiles.{LeavesFronts, LeavesSettled};
 ghost use Rattle.acc_commands.specs.Words.{command_of, file_count};
 ghost use Rattle.acc_commands.specs.Means.{is_journalled, LeavesOfFile};
-ghost use Rattle.acc_commands.specs.declared.words.Command.TheVariants.{Rehearse, Sched, Init};
+ghost use Rattle.acc_commands.specs.declared.words.Command.TheVariants.{Rehearse, Sched, Init, Prove};
 
 use crate::status::Status;
 use acc_base::machines::Event;
@@ -35,9 +36,10 @@ use acc_commands::{
 };
 use acc_disk::Disk;
 use acc_io::{Shelf, ShelfError, Sink, write_all};
+use acc_progress::Progress;
 use std::alloc::{AllocError, Global};
 
-/// How the program ended: its status, from 0 to 9, the disk that it was handed, the events of the machine whose lines it printed, oldest
+/// How the program ended: its status, from 0 to 10, the disk that it was handed, the events of the machine whose lines it printed, oldest
 /// first, and how many of the first of them the journal holds as durable.
 #[derive(Drop)]
 pub struct Done<D> {
@@ -136,11 +138,12 @@ fn ran(answer: CommandAnswer) -> Answer
 }
 
 // The answer of a command to its files and the disk.
-fn decide_command<D: Disk>(
+fn decide_command<D: Disk, P: Progress>(
     alloc: Global,
     command: Command,
     files: &[Vec<u8>],
     disk: D,
+    progress: &mut P,
 ) -> Decided<D>
     requires count { length files.now ≡ file_count command }
     requires short { All (λ v. length v.items ≤ 2 ^ 26) files.now }
@@ -156,7 +159,7 @@ fn decide_command<D: Disk>(
     ensures calm { IfOk result.answer (λ a. code_of a.status ≢ 5 → IsCalm (D.told disk) (D.may_leave disk)
         → IsCalm (D.told result.disk) (D.may_leave result.disk)) }
 {
-    let Closed { disk, answer } = run(alloc, command, files, disk);
+    let Closed { disk, answer } = run(alloc, command, files, disk, progress);
     match answer {
         Ok(answer) => Decided {
             disk,
@@ -170,7 +173,13 @@ fn decide_command<D: Disk>(
 }
 
 // The answer to a command line.
-fn decide<H: Shelf, D: Disk>(alloc: Global, words: &[String], shelf: &mut H, disk: D) -> Decided<D>
+fn decide<H: Shelf, D: Disk, P: Progress>(
+    alloc: Global,
+    words: &[String],
+    shelf: &mut H,
+    disk: D,
+    progress: &mut P,
+) -> Decided<D>
     ensures held { H.held shelf.new ≡ H.held shelf.old }
     ensures faults { (H.counts shelf.old).faults ≤ (H.counts shelf.new).faults }
     ensures absences { (H.counts shelf.old).absences ≤ (H.counts shelf.new).absences }
@@ -196,7 +205,7 @@ fn decide<H: Shelf, D: Disk>(alloc: Global, words: &[String], shelf: &mut H, dis
     };
     let names = &words[1..=file_count(command)];
     match read_all(alloc, shelf, names) {
-        Ok(files) => decide_command(alloc, command, &files, disk),
+        Ok(files) => decide_command(alloc, command, &files, disk, progress),
         Err(refusal) => Decided {
             disk,
             answer: file_refusal(alloc, refusal.name, refusal.error),
@@ -222,12 +231,13 @@ fn print_answer<K: Sink>(out: &mut K, text: &[u8], status: Status) -> Status
 }
 
 // Answers a command line.
-fn answer_line<H: Shelf, K: Sink, D: Disk>(
+fn answer_line<H: Shelf, K: Sink, D: Disk, P: Progress>(
     alloc: Global,
     words: &[String],
     shelf: &mut H,
     out: &mut K,
     disk: D,
+    progress: &mut P,
 ) -> Ended<D>
     ensures held { H.held shelf.new ≡ H.held shelf.old }
     ensures faults { (H.counts shelf.old).faults ≤ (H.counts shelf.new).faults }
@@ -244,12 +254,13 @@ fn answer_line<H: Shelf, K: Sink, D: Disk>(
     ensures leaves { Leaves D.clock D.left_since D.told D.may_leave D.faults disk result.disk
         (LeavesOfLine (H.held shelf.old) (map string_bytes words.now)) }
     ensures told { command_of (map string_bytes words.now) ≡ Some Sched → code_of result.status ≢ 9 → LeavesTold D.clock D.left_since D.told
-        D.may_leave disk result.disk (λ file image. LeavesFrontsOf (H.held shelf.old) (map string_bytes words.now) file result.history image)
+        D.may_leave disk result.disk
+        (λ file image. LeavesFrontsOf (H.held shelf.old) (map string_bytes words.now) file result.history image)
         (λ file image. LeavesSettledOf (H.held shelf.old) (map string_bytes words.now) file result.history result.settled image) }
     ensures calm { code_of result.status ≢ 5 → code_of result.status ≢ 9 → IsCalm (D.told disk) (D.may_leave disk)
         → IsCalm (D.told result.disk) (D.may_leave result.disk) }
 {
-    let Decided { disk, answer } = decide(alloc, words, shelf, disk);
+    let Decided { disk, answer } = decide(alloc, words, shelf, disk, progress);
     let Ok(answer) = answer else {
         return Ended {
             status: Status::Memory,
@@ -269,13 +280,15 @@ fn answer_line<H: Shelf, K: Sink, D: Disk>(
 /// Answers a command line: reads the files that it names, answers the command over the disk, prints the text whole, and tells the status,
 /// the history and how much of it is durable. Hands the disk back.
 ///
-/// The text is made before its first byte is written. Want of memory (status 9) may come at any time, and then nothing was printed.
-pub fn acc<H: Shelf, K: Sink, D: Disk>(
+/// The text is made before its first byte is written. Want of memory (status 9) may come at any time, and then nothing was printed. How far
+/// a long command is, and what a recovery found, is told to `progress` meanwhile, and changes nothing of the answer.
+pub fn acc<H: Shelf, K: Sink, D: Disk, P: Progress>(
     alloc: Global,
     words: &[String],
     shelf: &mut H,
     out: &mut K,
     disk: D,
+    progress: &mut P,
 ) -> Done<D>
     ensures answered { IsCoded result.status (λ status. Answered
         (Meant (H.held shelf.old) (H.counts shelf.old) (H.counts shelf.new) (seen (D.told disk) (D.faults disk))
@@ -294,6 +307,9 @@ pub fn acc<H: Shelf, K: Sink, D: Disk>(
     // Where `init` ended with status 0, the disk holds the journal of the printed design, without an event.
     ensures created { command_of (map string_bytes words.now) ≡ Some Init → result.status ≡ 0
         → IsCreated (H.held shelf.old) (map string_bytes words.now) (D.told disk) (D.told result.disk) (K.bytes out.old) (K.bytes out.new) }
+    // Where `prove` ended with status 0, what it said is a certificate with which the design is accepted, and so it is sound.
+    ensures proved { command_of (map string_bytes words.now) ≡ Some Prove → result.status ≡ 0
+        → IsProved (H.held shelf.old) (map string_bytes words.now) (K.bytes out.old) (K.bytes out.new) }
     // Where `recover` or `dump` ended with status 0 or 7, the history is the recovered one, all of it durable, and the disk holds a journal
     // of just that; else none is told.
     ensures recovered { (c : TheCommand) (w : Wanted) → command_of (map string_bytes words.now) ≡ Some c → wanted_by c ≡ Some w
@@ -332,7 +348,7 @@ pub fn acc<H: Shelf, K: Sink, D: Disk>(
     ensures sink_faults { K.faults out.old ≤ K.faults out.new }
     ensures disk_faults { D.faults disk ≤ D.faults result.disk }
 {
-    let ended = answer_line(alloc, words, shelf, out, disk);
+    let ended = answer_line(alloc, words, shelf, out, disk, progress);
     Done {
         status: ended.status.code(),
         disk: ended.disk,

@@ -14,7 +14,7 @@ use Rattle.acc_recover.specs.declared.errors.RecoverError.{RecoverError}
 use Rattle.acc_recover.specs.declared.errors.RecoverError.TheVariants as recovery
 use Rattle.acc_journalled.specs.declared.answers.Ending.{Ending}
 use Rattle.acc_journalled.specs.declared.answers.Ending.TheVariants.{Done, DesignRefused, ScriptRefused, JournalRefused}
-use Rattle.acc_journalled.specs.declared.answers.Ending.TheVariants.{DiskFailed, Unbegun}
+use Rattle.acc_journalled.specs.declared.answers.Ending.TheVariants.{DiskFailed, Unbegun, Open}
 use Rattle.acc_journalled.specs.declared.answers.Wanted.{Wanted}
 use Rattle.acc_journalled.specs.declared.answers.Wanted.TheVariants.{Counts, Rows}
 use Rattle.acc_journalled.specs.Making.{FindsOne, MakesJournal}
@@ -189,6 +189,7 @@ ends_over_disk command.Sched (design ∷ certificate ∷ script ∷ order ∷ []
 ends_over_disk command.Sched (design ∷ certificate ∷ script ∷ order ∷ more ∷ rest) old new t h = absurd h
 ends_over_disk command.Print files old new t h = absurd h
 ends_over_disk command.Check files old new t h = absurd h
+ends_over_disk command.Prove files old new t h = absurd h
 ends_over_disk command.Help files old new t h = absurd h
 ends_over_disk command.Version files old new t h = absurd h
 
@@ -207,3 +208,14 @@ failed_by fault t (inl (inl is)) e = absurd (other_end DesignRefused DiskFailed 
 failed_by fault t (inl (inr is)) e = absurd (other_end ScriptRefused DiskFailed t (λ e. cc) is e)
 failed_by fault t (inr (inl h)) e = over_failed fault t h e
 failed_by fault t (inr (inr is)) e = absurd (other_end Unbegun DiskFailed t (λ e. cc) is e)
+
+over_open : (fault : Type 0) (t : Telling) → EndsOver fault t → t.ending ≡ Open → ⊥
+over_open fault t (inl is) e = other_end Done Open t (λ e. cc) is e
+over_open fault t (inr (inl is)) e = other_end JournalRefused Open t (λ e. cc) is e
+over_open fault t (inr (inr is)) e = other_end DiskFailed Open t (λ e. cc) is.0 e
+
+pub never_open : (fault : Type 0) (t : Telling) → EndsOverDisk fault t → t.ending ≡ Open → ⊥
+never_open fault t (inl (inl is)) e = other_end DesignRefused Open t (λ e. cc) is e
+never_open fault t (inl (inr is)) e = other_end ScriptRefused Open t (λ e. cc) is e
+never_open fault t (inr (inl h)) e = over_open fault t h e
+never_open fault t (inr (inr is)) e = other_end Unbegun Open t (λ e. cc) is e

@@ -2,6 +2,8 @@ pub mod FilesLemmas
 pub mod SaidLemmas
 pub mod OneDesign
 pub mod OneRun
+pub mod OneProving
+pub mod ProvedAccepted
 pub mod OneMeaning
 pub mod Leaving
 pub mod FirstTwo

@@ -5,7 +5,7 @@ use Rattle.std.specs.Fmt.{decimal}
 use Rattle.acc_base.specs.declared.designs.Design.{Design}
 use Rattle.acc_base.specs.Lines.{line}
 use Rattle.acc_lex.proofs.WholeTexts.{one_reading}
-use Rattle.acc_syntax.proofs.WholeLaws.{one_tree}
+use Rattle.acc_designs.proofs.WholeLaws.{one_tree}
 use Rattle.acc_statements.specs.Lines.{first_lines, IsLineOf}
 use Rattle.acc_statements.proofs.FirstLines.{later_lines}
 use Rattle.acc_statements.proofs.OneLine.{one_line_of}

@@ -1,5 +1,6 @@
 -- A command says one thing of its files.
-use Rattle.std.proofs.Common.{◌≡◌, ◌<◌, ◌^◌, length, arith, ℕ, Bool, true, false, List, [], ◌∷◌, Option, None, Some, refl, sym, ap, subst, ◌∙◌, inl, inr}
+use Rattle.std.proofs.Common.{◌≡◌, ◌<◌, ◌^◌, length, arith, ℕ, Bool, true, false, List, [], ◌∷◌, Option, None, Some}
+use Rattle.std.proofs.Common.{refl, sym, ap, subst, ◌∙◌, inl, inr}
 use Rattle.std.specs.Prelude.{◌≢◌, IfSome}
 use Rattle.acc_base.specs.declared.designs.Design.{Design}
 use Rattle.acc_base.specs.declared.machines.Call.{Call}
@@ -27,8 +28,10 @@ use Rattle.acc_commands.specs.PrintFiles.{PrintsFile}
 use Rattle.acc_commands.specs.CheckFiles.{ChecksFiles, ending_by}
 use Rattle.acc_commands.specs.InitFiles.{InitsJournal, InitsFile}
 use Rattle.acc_commands.specs.RecoverFiles.{RecoversSeen, RecoversCertified, RecoversFiles}
+use Rattle.acc_commands.specs.Alike.{AreAlike}
 use Rattle.acc_commands.specs.Means.{is_journalled, MeansOfFiles, MeansOverDisk, MeansBy, Means}
 use Rattle.acc_commands.proofs.OneDesign.{said_same, one_design, one_refusal, formed_or_refused}
+use Rattle.acc_commands.proofs.OneProving.{SaidAlike, one_prove}
 use Rattle.acc_commands.proofs.OneRun.{one_of_script, one_play, one_certificate_refusal, accepted_or_refused, one_certified}
 use Rattle.acc_commands.proofs.OneRun.{one_order_refusal, one_numbers, one_script_refusal, one_calls}
 use Rattle.acc_commands.specs.RunFiles.{RunsSeen, RunsOfOrder, RunsOfScript, RunsCertified, RunsFiles}
@@ -77,33 +80,37 @@ one_scheduled design certificate script order a b (inr h) (inr k) =
 -- ---- commands without a journal
 
 one_of_files :
-    (c : Command) (files : List (List ℕ)) (a b : Said) → MeansOfFiles c files a → MeansOfFiles c files b → a ≡ b
+    (c : Command) (files : List (List ℕ)) (a b : Said) → MeansOfFiles c files a → MeansOfFiles c files b → SaidAlike c a b
 unfolding MeansOfFiles
 one_of_files command.Play [] a b h k = absurd h
 one_of_files command.Play (design ∷ []) a b h k = absurd h
 one_of_files command.Play (design ∷ script ∷ []) a b h k = absurd h
-one_of_files command.Play (design ∷ script ∷ order ∷ []) a b h k = one_play_of design script order a b h k
+one_of_files command.Play (design ∷ script ∷ order ∷ []) a b h k = inl (one_play_of design script order a b h k)
 one_of_files command.Play (design ∷ script ∷ order ∷ more ∷ rest) a b h k = absurd h
 one_of_files command.Rehearse [] a b h k = absurd h
 one_of_files command.Rehearse (design ∷ []) a b h k = absurd h
 one_of_files command.Rehearse (design ∷ certificate ∷ []) a b h k = absurd h
 one_of_files command.Rehearse (design ∷ certificate ∷ script ∷ []) a b h k = absurd h
-one_of_files command.Rehearse (design ∷ certificate ∷ script ∷ order ∷ []) a b h k = one_scheduled design certificate script order a b h k
+one_of_files command.Rehearse (design ∷ certificate ∷ script ∷ order ∷ []) a b h k =
+    inl (one_scheduled design certificate script order a b h k)
 one_of_files command.Rehearse (design ∷ certificate ∷ script ∷ order ∷ more ∷ rest) a b h k = absurd h
 one_of_files command.Print [] a b h k = absurd h
-one_of_files command.Print (design ∷ []) a b h k = one_print design a b h k
+one_of_files command.Print (design ∷ []) a b h k = inl (one_print design a b h k)
 one_of_files command.Print (design ∷ more ∷ rest) a b h k = absurd h
 one_of_files command.Check [] a b h k = absurd h
 one_of_files command.Check (design ∷ []) a b h k = absurd h
-one_of_files command.Check (design ∷ certificate ∷ []) a b h k = one_check design certificate a b h k
+one_of_files command.Check (design ∷ certificate ∷ []) a b h k = inl (one_check design certificate a b h k)
 one_of_files command.Check (design ∷ certificate ∷ more ∷ rest) a b h k = absurd h
+one_of_files command.Prove [] a b h k = absurd h
+one_of_files command.Prove (design ∷ []) a b h k = one_prove design a b h k
+one_of_files command.Prove (design ∷ more ∷ rest) a b h k = absurd h
 one_of_files command.Init files a b h k = absurd h
 one_of_files command.Sched files a b h k = absurd h
 one_of_files command.Recover files a b h k = absurd h
 one_of_files command.Dump files a b h k = absurd h
-one_of_files command.Help [] a b h k = said_same Done help_text help_text a b refl h k
+one_of_files command.Help [] a b h k = inl (said_same Done help_text help_text a b refl h k)
 one_of_files command.Help (more ∷ rest) a b h k = absurd h
-one_of_files command.Version [] a b h k = said_same Done version_text version_text a b refl h k
+one_of_files command.Version [] a b h k = inl (said_same Done version_text version_text a b refl h k)
 one_of_files command.Version (more ∷ rest) a b h k = absurd h
 
 -- ---- journals
@@ -177,7 +184,8 @@ module _ (old one other : Seen) (a b : Telling) (all : TellsAll old one other) w
   one_run_order d calls order few (inr h) (inl k) = absurd (k.2.none h.numbers h.is_order)
   one_run_order d calls order few (inr h) (inr k) =
       one_running old.told d calls k.numbers refl
-      (subst (λ (ns : List ℕ). RunsSeen d calls ns old one a) (one_numbers calls order h.numbers k.numbers few h.is_order k.is_order) h.ends)
+      (subst (λ (ns : List ℕ). RunsSeen d calls ns old one a)
+      (one_numbers calls order h.numbers k.numbers few h.is_order k.is_order) h.ends)
       k.ends
 
   one_run_script : (d : Design) (script order : List ℕ) → RunsOfScript d script order old one a → RunsOfScript d script order old other b
@@ -242,19 +250,25 @@ one_over_disk command.Sched (design ∷ certificate ∷ script ∷ order ∷ [])
 one_over_disk command.Sched (design ∷ certificate ∷ script ∷ order ∷ more ∷ rest) old one other a b all h k = absurd h
 one_over_disk command.Print files old one other a b all h k = absurd h
 one_over_disk command.Check files old one other a b all h k = absurd h
+one_over_disk command.Prove files old one other a b all h k = absurd h
 one_over_disk command.Help files old one other a b all h k = absurd h
 one_over_disk command.Version files old one other a b all h k = absurd h
 
 -- ---- commands
 
+alike_telling : (c : Command) (a b : Telling) → SaidAlike c (said_in a) (said_in b) → a.settled ≡ b.settled → AreAlike c a b
+alike_telling c a b (inl same) settled = inl (telling_same a b same settled)
+alike_telling c a b (inr (is, one, other, history)) settled =
+    inr (record { is_prove = is; one_done = one; other_done = other; history = history; settled = settled })
+
 one_by :
     (over : Bool) (c : Command) (files : List (List ℕ)) (old one other : Seen) (a b : Telling) → (over ≡ true → TellsAll old one other)
-    → MeansBy over c files old one a → MeansBy over c files old other b → a ≡ b
-one_by true c files old one other a b all h k = one_over_disk c files old one other a b (all refl) h k
+    → MeansBy over c files old one a → MeansBy over c files old other b → AreAlike c a b
+one_by true c files old one other a b all h k = inl (one_over_disk c files old one other a b (all refl) h k)
 one_by false c files old one other a b all h k =
-    telling_same a b (one_of_files c files (said_in a) (said_in b) h.2 k.2) (h.0 ∙ sym k.0)
+    alike_telling c a b (one_of_files c files (said_in a) (said_in b) h.2 k.2) (h.0 ∙ sym k.0)
 
 pub one_meaning :
     (c : Command) (files : List (List ℕ)) (old one other : Seen) (a b : Telling) → (is_journalled c ≡ true → TellsAll old one other)
-    → Means c files old one a → Means c files old other b → a ≡ b
+    → Means c files old one a → Means c files old other b → AreAlike c a b
 one_meaning c = one_by (is_journalled c) c

@@ -134,6 +134,7 @@ refused_over command.Sched (design ∷ certificate ∷ script ∷ order ∷ []) 
 refused_over command.Sched (design ∷ certificate ∷ script ∷ order ∷ more ∷ rest) old new t e h = absurd h
 refused_over command.Print files old new t e h = absurd h
 refused_over command.Check files old new t e h = absurd h
+refused_over command.Prove files old new t e h = absurd h
 refused_over command.Help files old new t e h = absurd h
 refused_over command.Version files old new t e h = absurd h
 
@@ -154,7 +155,8 @@ module _ (old new : Seen) (t : Telling) (so : t.ending ≡ Unbegun) where
       by false e tells = (d, calls, order, h.first, tells)
   running_unbegun d calls order (inr (inl h)) = absurd (other_end DiskFailed Unbegun t (λ e. cc) h.ending so)
   running_unbegun d calls order (inr (inr h)) =
-      absurd (over_unbegun (Rose old.faults new.faults) t (unrecovered_ends h.error d old.told (Rose old.faults new.faults) t h.cause h.says) so)
+      absurd (over_unbegun (Rose old.faults new.faults) t
+      (unrecovered_ends h.error d old.told (Rose old.faults new.faults) t h.cause h.says) so)
 
   order_unbegun : (d : Design) (calls : List Call) (order : List ℕ) → RunsOfOrder d calls order old new t → LeavesOver t
   order_unbegun d calls order (inl h) = absurd (other_end ScriptRefused Unbegun t (λ e. cc) h.2.says.0 so)
@@ -215,5 +217,6 @@ unbegun_over command.Rehearse files old new t e h = absurd h
 unbegun_over command.Play files old new t e h = absurd h
 unbegun_over command.Print files old new t e h = absurd h
 unbegun_over command.Check files old new t e h = absurd h
+unbegun_over command.Prove files old new t e h = absurd h
 unbegun_over command.Help files old new t e h = absurd h
 unbegun_over command.Version files old new t e h = absurd h

@@ -26,5 +26,6 @@ leaves_file command.Rehearse files file is = refl
 leaves_file command.Sched files file is = (let e : true ≡ false = is in absurd cc)
 leaves_file command.Print files file is = refl
 leaves_file command.Check files file is = refl
+leaves_file command.Prove files file is = refl
 leaves_file command.Help files file is = refl
 leaves_file command.Version files file is = refl

@@ -11,7 +11,7 @@ use Rattle.acc_commands.specs.declared.words.Command.{Command}
 use Rattle.acc_commands.specs.declared.words.Command.TheVariants as command
 use Rattle.acc_journalled.specs.declared.answers.Ending.{Ending}
 use Rattle.acc_journalled.specs.declared.answers.Ending.TheVariants.{Done, DesignRefused, ScriptRefused, JournalRefused, DiskFailed}
-use Rattle.acc_journalled.specs.declared.answers.Ending.TheVariants.{Unbegun}
+use Rattle.acc_journalled.specs.declared.answers.Ending.TheVariants.{Unbegun, Open}
 use Rattle.acc_journalled.specs.Tellings.{Telling}
 use Rattle.acc_commands.specs.Text.{Said, said_in}
 use Rattle.acc_commands.specs.Disks.{Seen}
@@ -21,8 +21,9 @@ use Rattle.acc_commands.specs.PlayFiles.{SaysPlay, PlaysFiles}
 use Rattle.acc_commands.specs.ScheduleFiles.{SaysSchedule, SaysOfCertificate, SchedulesFiles, ending_at}
 use Rattle.acc_commands.specs.PrintFiles.{PrintsFile}
 use Rattle.acc_commands.specs.CheckFiles.{ChecksFiles, ending_by}
+use Rattle.acc_commands.specs.ProveFiles.{EndsProving, StaysOpen, ProvesFile}
 use Rattle.acc_commands.specs.Means.{is_journalled, MeansOfFiles, MeansBy, Means}
-use Rattle.acc_commands.proofs.JournalEndings.{failed_by, ends_over_disk}
+use Rattle.acc_commands.proofs.JournalEndings.{failed_by, never_open, ends_over_disk}
 use Rattle.acc_commands.proofs.RefusedOvers.{RefusesOver, LeavesOver, refused_over, unbegun_over}
 
 -- ---- commands without a journal
@@ -34,8 +35,13 @@ done_unbegun e = cc
 abbrev pub Scheduled : Command → Said → Type 0
 Scheduled c said = (c ≡ command.Rehearse) × (d : Design) × (calls : List Call) × (order : List ℕ) × SaysSchedule d calls order said
 
+-- it is said which obligations of a design stay open
+abbrev pub Opens : Command → List (List ℕ) → Said → Type 0
+Opens c files said =
+    (c ≡ command.Prove) × (said.ending ≡ Open) × (design : List ℕ) × (files ≡ design ∷ []) × StaysOpen design said.text
+
 -- An ending that is neither that all is done nor a refusal of the design or the script. A command without a journal that ends so is
--- `sched`.
+-- `rehearse`, or `prove` with obligations that stay open.
 module _ (other : Ending) (done_other : Done ≢ other) (design_other : DesignRefused ≢ other) (script_other : ScriptRefused ≢ other) where
   -- what ends otherwise doesn't end so
   not_so : (ending : Ending) (said : Said) → ending ≢ other → said.ending ≡ ending → said.ending ≡ other → ⊥
@@ -87,6 +93,19 @@ module _ (other : Ending) (done_other : Done ≢ other) (design_other : DesignRe
   check_other design certificate said so (inl h) = refusal_other design said h so
   check_other design certificate said so (inr h) = not_so (ending_by h.accepted) said (judged_other h.accepted) h.ending so
 
+  prove_other : (design : List ℕ) (said : Said) → said.ending ≡ other → ProvesFile design said
+      → (said.ending ≡ Open) × StaysOpen design said.text
+  prove_other design said so (inl h) = absurd (refusal_other design said h so)
+  prove_other design said so (inr h) = by h.says.1
+    where
+      by : EndsProving h.d said.ending said.text → (said.ending ≡ Open) × StaysOpen design said.text
+      by (inl k) = absurd (not_so Done said done_other k.0 so)
+      by (inr (inl k)) = (k.0, record { d = h.d; is_text = h.is_text; formed = h.formed; is_open = k.1 })
+      by (inr (inr k)) = absurd (not_so DesignRefused said design_other k.0 so)
+
+  opens_so : (design : List ℕ) (said : Said) → said.ending ≡ other → ProvesFile design said → Opens command.Prove (design ∷ []) said
+  opens_so design said so h = let left = prove_other design said so h in (refl, left.0, design, refl, left.1)
+
   certified_so :
       (d : Design) (certificate script order : List ℕ) (said : Said) → said.ending ≡ other
       → SaysOfCertificate d certificate script order said → Scheduled command.Rehearse said
@@ -102,7 +121,8 @@ module _ (other : Ending) (done_other : Done ≢ other) (design_other : DesignRe
   sched_so design certificate script order said so (inr h) = certified_so h.d certificate script order said so h.says
 
   pub ends_scheduled :
-      (c : Command) (files : List (List ℕ)) (said : Said) → said.ending ≡ other → MeansOfFiles c files said → Scheduled c said
+      (c : Command) (files : List (List ℕ)) (said : Said) → said.ending ≡ other → MeansOfFiles c files said
+      → Scheduled c said ⊎ Opens c files said
   unfolding MeansOfFiles
   ends_scheduled command.Play [] said e h = absurd h
   ends_scheduled command.Play (design ∷ []) said e h = absurd h
@@ -113,7 +133,8 @@ module _ (other : Ending) (done_other : Done ≢ other) (design_other : DesignRe
   ends_scheduled command.Rehearse (design ∷ []) said e h = absurd h
   ends_scheduled command.Rehearse (design ∷ certificate ∷ []) said e h = absurd h
   ends_scheduled command.Rehearse (design ∷ certificate ∷ script ∷ []) said e h = absurd h
-  ends_scheduled command.Rehearse (design ∷ certificate ∷ script ∷ order ∷ []) said e h = sched_so design certificate script order said e h
+  ends_scheduled command.Rehearse (design ∷ certificate ∷ script ∷ order ∷ []) said e h =
+      inl (sched_so design certificate script order said e h)
   ends_scheduled command.Rehearse (design ∷ certificate ∷ script ∷ order ∷ more ∷ rest) said e h = absurd h
   ends_scheduled command.Print [] said e h = absurd h
   ends_scheduled command.Print (design ∷ []) said e h = absurd (print_other design said e h)
@@ -122,6 +143,9 @@ module _ (other : Ending) (done_other : Done ≢ other) (design_other : DesignRe
   ends_scheduled command.Check (design ∷ []) said e h = absurd h
   ends_scheduled command.Check (design ∷ certificate ∷ []) said e h = absurd (check_other design certificate said e h)
   ends_scheduled command.Check (design ∷ certificate ∷ more ∷ rest) said e h = absurd h
+  ends_scheduled command.Prove [] said e h = absurd h
+  ends_scheduled command.Prove (design ∷ []) said e h = inr (opens_so design said e h)
+  ends_scheduled command.Prove (design ∷ more ∷ rest) said e h = absurd h
   ends_scheduled command.Init files said e h = absurd h
   ends_scheduled command.Sched files said e h = absurd h
   ends_scheduled command.Recover files said e h = absurd h
@@ -152,8 +176,15 @@ ending_else : (other : Ending) (all_begun : Bool) → Done ≢ other → Unbegun
 ending_else other true done unbegun e = done e
 ending_else other false done unbegun e = unbegun e
 
-left_of : (c : Command) (t : Telling) → t.ending ≡ Unbegun → Scheduled c (said_in t) → Left c t
-left_of c t e (is, d, calls, order, says) =
+-- what stays open ends so
+never_opens : (other : Ending) → Open ≢ other → (c : Command) (files : List (List ℕ)) (t : Telling) → t.ending ≡ other
+    → Opens c files (said_in t) → ⊥
+never_opens other differs c files t e (is, ending, design, file, stays) = differs (sym ending ∙ e)
+
+left_of : (c : Command) (files : List (List ℕ)) (t : Telling) → t.ending ≡ Unbegun
+    → Scheduled c (said_in t) ⊎ Opens c files (said_in t) → Left c t
+left_of c files t e (inr opens) = absurd (never_opens Unbegun (λ e. cc) c files t e opens)
+left_of c files t e (inl (is, d, calls, order, says)) =
     let begun : says.all_begun ≡ false = ending_unbegun says.all_begun (sym says.ending ∙ e) in
     (is, d, calls, order, subst (TellsSchedule d calls order t.text t.history) begun says.tells)
 
@@ -165,12 +196,18 @@ leaves_unbegun c files old new t e = by (is_journalled c)
     by : (over : Bool) → MeansBy over c files old new t → LeftAnyhow c t
     by true h = inr (unbegun_over c files old new t e h)
     by false h =
-        inl (left_of c t e (ends_scheduled Unbegun done_unbegun (λ e. cc) (λ e. cc) c files (said_in t) e h.2))
+        inl (left_of c files t e (ends_scheduled Unbegun done_unbegun (λ e. cc) (λ e. cc) c files (said_in t) e h.2))
 
 not_scheduled :
     (other : Ending) → Done ≢ other → Unbegun ≢ other → (c : Command) (t : Telling) → t.ending ≡ other → Scheduled c (said_in t) → ⊥
 not_scheduled other done unbegun c t e (is, d, calls, order, says) =
     ending_else other says.all_begun done unbegun (sym says.ending ∙ e)
+
+-- a command without a journal neither refuses one nor fails by its disk
+neither : (other : Ending) → Done ≢ other → Unbegun ≢ other → Open ≢ other → (c : Command) (files : List (List ℕ)) (t : Telling)
+    → t.ending ≡ other → Scheduled c (said_in t) ⊎ Opens c files (said_in t) → ⊥
+neither other done unbegun differs c files t e (inl h) = not_scheduled other done unbegun c t e h
+neither other done unbegun differs c files t e (inr h) = never_opens other differs c files t e h
 
 pub refuses_journal :
     (c : Command) (files : List (List ℕ)) (old new : Seen) (t : Telling) → t.ending ≡ JournalRefused → Means c files old new t
@@ -180,7 +217,7 @@ refuses_journal c files old new t e = by (is_journalled c)
     by : (over : Bool) → MeansBy over c files old new t → RefusesOver c old new t
     by true h = refused_over c files old new t e h
     by false h =
-        absurd (not_scheduled JournalRefused (λ e. cc) (λ e. cc) c t e
+        absurd (neither JournalRefused (λ e. cc) (λ e. cc) (λ e. cc) c files t e
         (ends_scheduled JournalRefused (λ e. cc) (λ e. cc) (λ e. cc) c files (said_in t) e h.2))
 
 pub fails_by_disk :
@@ -191,5 +228,19 @@ fails_by_disk c files old new t e = by (is_journalled c)
     by : (over : Bool) → MeansBy over c files old new t → Rose old.faults new.faults
     by true h = failed_by (Rose old.faults new.faults) t (ends_over_disk c files old new t h) e
     by false h =
-        absurd (not_scheduled DiskFailed (λ e. cc) (λ e. cc) c t e
+        absurd (neither DiskFailed (λ e. cc) (λ e. cc) (λ e. cc) c files t e
         (ends_scheduled DiskFailed (λ e. cc) (λ e. cc) (λ e. cc) c files (said_in t) e h.2))
+
+-- a command that leaves something open is `prove`
+pub leaves_open :
+    (c : Command) (files : List (List ℕ)) (old new : Seen) (t : Telling) → t.ending ≡ Open → Means c files old new t
+    → Opens c files (said_in t)
+leaves_open c files old new t e = by (is_journalled c)
+  where
+    open_so : Scheduled c (said_in t) ⊎ Opens c files (said_in t) → Opens c files (said_in t)
+    open_so (inl h) = absurd (not_scheduled Open (λ e. cc) (λ e. cc) c t e h)
+    open_so (inr h) = h
+
+    by : (over : Bool) → MeansBy over c files old new t → Opens c files (said_in t)
+    by true h = absurd (never_open (Rose old.faults new.faults) t (ends_over_disk c files old new t h) e)
+    by false h = open_so (ends_scheduled Open (λ e. cc) (λ e. cc) (λ e. cc) c files (said_in t) e h.2)

@@ -13,6 +13,9 @@ pub mod InitFiles
 pub mod RecoverFiles
 pub mod RunFiles
 pub mod CheckFiles
+pub mod ProveFiles
 pub mod Responses
 pub mod ReadScripts
 pub mod Means
+pub mod Alike
+pub mod Laws

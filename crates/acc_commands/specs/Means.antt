@@ -6,12 +6,13 @@ use Rattle.acc_journalled.specs.declared.answers.Ending.TheVariants.{Done}
 use Rattle.acc_journalled.specs.declared.answers.Wanted.TheVariants.{Counts, Rows}
 use Rattle.acc_journalled.specs.Tellings.{Telling}
 use Rattle.acc_commands.specs.Text.{Said, Says}
-use Rattle.acc_commands.specs.Disks.{Seen, WithoutDisk, TellsAll}
+use Rattle.acc_commands.specs.Disks.{Seen, WithoutDisk}
 use Rattle.acc_commands.specs.Notes.{help_text, version_text}
 use Rattle.acc_commands.specs.PlayFiles.{PlaysFiles}
 use Rattle.acc_commands.specs.ScheduleFiles.{SchedulesFiles}
 use Rattle.acc_commands.specs.PrintFiles.{PrintsFile}
 use Rattle.acc_commands.specs.CheckFiles.{ChecksFiles}
+use Rattle.acc_commands.specs.ProveFiles.{ProvesFile}
 use Rattle.acc_commands.specs.InitFiles.{InitsFile, InitLeaves}
 use Rattle.acc_commands.specs.RecoverFiles.{RecoversFiles, RecoverLeaves}
 use Rattle.acc_commands.specs.RunFiles.{RunsFiles, RunLeaves}
@@ -30,6 +31,7 @@ MeansOfFiles command.Play (design ∷ script ∷ order ∷ []) = PlaysFiles desi
 MeansOfFiles command.Rehearse (design ∷ certificate ∷ script ∷ order ∷ []) = SchedulesFiles design certificate script order
 MeansOfFiles command.Print (design ∷ []) = PrintsFile design
 MeansOfFiles command.Check (design ∷ certificate ∷ []) = ChecksFiles design certificate
+MeansOfFiles command.Prove (design ∷ []) = ProvesFile design
 MeansOfFiles command.Help [] = Says Done help_text
 MeansOfFiles command.Version [] = Says Done version_text
 MeansOfFiles _ _ = λ said. ⊥
@@ -57,9 +59,3 @@ LeavesOfFile command.Sched (design ∷ certificate ∷ script ∷ order ∷ []) 
 LeavesOfFile command.Recover (design ∷ certificate ∷ []) = RecoverLeaves design certificate
 LeavesOfFile command.Dump (design ∷ certificate ∷ []) = RecoverLeaves design certificate
 LeavesOfFile _ _ = λ file image. image ≡ file
-
--- A command says one thing of its files. One over a journal says one thing of them and of what its disk tells, where no call of the disk
--- failed.
-abbrev pub CommandsMeanOne : Type 0
-CommandsMeanOne = (c : Command) (files : List (List ℕ)) (old one other : Seen) (a b : Telling)
-    → (is_journalled c ≡ true → TellsAll old one other) → Means c files old one a → Means c files old other b → a ≡ b

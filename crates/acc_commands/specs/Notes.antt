@@ -6,14 +6,15 @@ use Rattle.acc_base.specs.Lines.{line}
 -- each command, and where the documents are
 unfoldable pub help_text : List ℕ
 help_text = flat_map line (
-    codes "acc play DESIGN SCRIPT ORDER                plays the script's transactions in the order's turns, and prints the turns and replies" ∷
-    codes "acc rehearse DESIGN CERT SCRIPT ORDER       plays them by the rules of locks, if the certificate proves the design, and ends the rest" ∷
+    codes "acc play DESIGN SCRIPT ORDER                plays the script in the order's turns, and prints the turns and the replies" ∷
+    codes "acc rehearse DESIGN CERT SCRIPT ORDER       the same by the rules of locks, if the certificate proves it sound; ends the rest" ∷
     codes "acc print DESIGN                            prints the design in its one spelling" ∷
     codes "acc check DESIGN CERT                       tells whether the certificate proves that the design is sound, and else why not" ∷
-    codes "acc init DESIGN JOURNAL                     makes the file JOURNAL a journal of the design without events, if it isn't one already" ∷
+    codes "acc prove DESIGN                            makes such a certificate, or tells which obligations stay open" ∷
+    codes "acc init DESIGN JOURNAL                     makes JOURNAL a journal of the design without events, if it isn't one already" ∷
     codes "acc sched DESIGN CERT SCRIPT ORDER JOURNAL  recovers the journal, and goes on as `rehearse`; each end is kept in it" ∷
-    codes "acc recover DESIGN CERT JOURNAL             ends what the journal's events left unfinished, and tells how many events it has then" ∷
-    codes "acc dump DESIGN CERT JOURNAL                does the same, and prints the rows that the journal's events lead to" ∷
+    codes "acc recover DESIGN CERT JOURNAL             ends what its events left unfinished, and tells how many events there are then" ∷
+    codes "acc dump DESIGN CERT JOURNAL                does the same, and prints the rows that its events lead to" ∷
     codes "acc --help                                  prints these lines" ∷
     codes "acc --version                               prints the version of acc, and of the toolchain that proved it" ∷
     codes "README.md tells what acc is for, and docs/DESIGN-LANGUAGE.md how a design is written and how to mend one that is refused." ∷

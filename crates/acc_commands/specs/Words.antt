@@ -10,20 +10,22 @@ is_form verb count [] = false
 is_form verb count (first ∷ rest) = bytes_eq first verb && (length rest == count)
 
 -- the command that the words ask for: `play DESIGN SCRIPT ORDER`, `rehearse DESIGN CERT SCRIPT ORDER`, `print DESIGN`,
--- `check DESIGN CERT`, `init DESIGN`, `sched DESIGN CERT SCRIPT ORDER`, `recover DESIGN CERT`, `dump DESIGN CERT`, `--help`, `--version`
+-- `check DESIGN CERT`, `prove DESIGN`, `init DESIGN`, `sched DESIGN CERT SCRIPT ORDER`, `recover DESIGN CERT`, `dump DESIGN CERT`,
+-- `--help`, `--version`
 unfoldable pub command_of : List (List ℕ) → Option Command
 command_of words =
     if is_form (codes "play") 3 words then Some command.Play else
     (if is_form (codes "rehearse") 4 words then Some command.Rehearse else
     (if is_form (codes "print") 1 words then Some command.Print else
     (if is_form (codes "check") 2 words then Some command.Check else
+    (if is_form (codes "prove") 1 words then Some command.Prove else
     (if is_form (codes "init") 1 words then Some command.Init else
     (if is_form (codes "sched") 4 words then Some command.Sched else
     (if is_form (codes "recover") 2 words then Some command.Recover else
     (if is_form (codes "dump") 2 words then Some command.Dump else
     (if is_form (codes "--help") 0 words then Some command.Help else
     (if is_form (codes "--version") 0 words then Some command.Version else
-    None)))))))))
+    None))))))))))
 
 -- how many files a command reads: the first words behind the verb name them
 unfoldable pub file_count : Command → ℕ
@@ -31,6 +33,7 @@ file_count command.Play = 3
 file_count command.Rehearse = 4
 file_count command.Print = 1
 file_count command.Check = 2
+file_count command.Prove = 1
 file_count command.Init = 1
 file_count command.Sched = 4
 file_count command.Recover = 2

@@ -22,6 +22,7 @@ use crate::closings::unsettled;
 use crate::designs::{ReadDesign, read_design};
 use crate::journals::init_file;
 use crate::notes;
+use crate::provings::prove_file;
 use crate::recoveries::recover_files;
 use crate::responses::{Response, refused};
 use crate::runs::run_files;
@@ -36,6 +37,7 @@ use acc_journalled::{Answer, Closed, Ending, Wanted};
 use acc_lift::Accepted;
 use acc_play::{Transcript, play};
 use acc_print::{PrintError, print};
+use acc_progress::Progress;
 use acc_schedule::{Scheduled, schedule};
 use std::alloc::{AllocError, Global};
 
@@ -244,7 +246,12 @@ fn note(alloc: Global, text: Vec<u8>) -> Response
 
 /// The response of a command without a journal to its files.
 #[tactic(auto, unfolding(crate::specs::Words::file_count, crate::specs::Means::MeansOfFiles))]
-fn respond(alloc: Global, command: Command, files: &[Vec<u8>]) -> Result<Response, AllocError>
+fn respond<P: Progress>(
+    alloc: Global,
+    command: Command,
+    files: &[Vec<u8>],
+    progress: &mut P,
+) -> Result<Response, AllocError>
     requires count { length files.now ≡ file_count command }
     requires without { is_journalled command ≡ false }
     ensures { IfOk result (λ a. MeansOfFiles command (map (λ v. v.items) files.now) (said_of a)) }
@@ -256,6 +263,7 @@ fn respond(alloc: Global, command: Command, files: &[Vec<u8>]) -> Result<Respons
         }
         (Command::Print, [design]) => print_file(alloc, design),
         (Command::Check, [design, certificate]) => check_files(alloc, design, certificate),
+        (Command::Prove, [design]) => prove_file(alloc, design, progress),
         (Command::Help, []) => Ok(note(alloc, notes::help_text(alloc)?)),
         (Command::Version, []) => Ok(note(alloc, notes::version_text(alloc)?)),
         _ => unreachable!(),
@@ -263,17 +271,27 @@ fn respond(alloc: Global, command: Command, files: &[Vec<u8>]) -> Result<Respons
 }
 
 /// The answer of a command without a journal to its files.
-fn answer_files(alloc: Global, command: Command, files: &[Vec<u8>]) -> Result<Answer, AllocError>
+fn answer_files<P: Progress>(
+    alloc: Global,
+    command: Command,
+    files: &[Vec<u8>],
+    progress: &mut P,
+) -> Result<Answer, AllocError>
     requires count { length files.now ≡ file_count command }
     requires without { is_journalled command ≡ false }
     ensures { IfOk result (λ a. (a.settled ≡ 0) × MeansOfFiles command (map (λ v. v.items) files.now) (said_in (telling_of a))) }
 {
-    Ok(unsettled(respond(alloc, command, files)?))
+    Ok(unsettled(respond(alloc, command, files, progress)?))
 }
 
 /// The answer of `sched` to its files and the disk.
 #[tactic(auto, unfolding(crate::specs::Means::MeansOverDisk, crate::specs::Means::LeavesOfFile))]
-fn answer_run<D: Disk>(alloc: Global, files: &[Vec<u8>], disk: D) -> Closed<D>
+fn answer_run<D: Disk, P: Progress>(
+    alloc: Global,
+    files: &[Vec<u8>],
+    disk: D,
+    progress: &mut P,
+) -> Closed<D>
     requires count { length files.now ≡ 4 }
     requires short { All (λ v. length v.items ≤ 2 ^ 26) files.now }
     ensures means { IfOk result.answer (λ a. MeansOverDisk Sched (map (λ v. v.items) files.now) (seen (D.told disk) (D.faults disk))
@@ -289,7 +307,7 @@ fn answer_run<D: Disk>(alloc: Global, files: &[Vec<u8>], disk: D) -> Closed<D>
 {
     match files {
         [design, certificate, script, order] => {
-            run_files(alloc, design, certificate, script, order, disk)
+            run_files(alloc, design, certificate, script, order, disk, progress)
         }
         _ => unreachable!(),
     }
@@ -297,11 +315,12 @@ fn answer_run<D: Disk>(alloc: Global, files: &[Vec<u8>], disk: D) -> Closed<D>
 
 /// The answer of a command over a journal to its files and the disk.
 #[tactic(auto, unfolding(crate::specs::Words::file_count, crate::specs::Means::MeansOverDisk, crate::specs::Means::LeavesOfFile))]
-fn answer_over_disk<D: Disk>(
+fn answer_over_disk<D: Disk, P: Progress>(
     alloc: Global,
     command: Command,
     files: &[Vec<u8>],
     disk: D,
+    progress: &mut P,
 ) -> Closed<D>
     requires count { length files.now ≡ file_count command }
     requires short { All (λ v. length v.items ≤ 2 ^ 26) files.now }
@@ -317,20 +336,26 @@ fn answer_over_disk<D: Disk>(
     match (command, files) {
         (Command::Init, [design]) => init_file(alloc, design, disk),
         (Command::Sched, [design, certificate, script, order]) => {
-            run_files(alloc, design, certificate, script, order, disk)
+            run_files(alloc, design, certificate, script, order, disk, progress)
         }
         (Command::Recover, [design, certificate]) => {
-            recover_files(alloc, design, certificate, Wanted::Counts, disk)
+            recover_files(alloc, design, certificate, Wanted::Counts, disk, progress)
         }
         (Command::Dump, [design, certificate]) => {
-            recover_files(alloc, design, certificate, Wanted::Rows, disk)
+            recover_files(alloc, design, certificate, Wanted::Rows, disk, progress)
         }
         _ => unreachable!(),
     }
 }
 
-/// The answer of a command to its files and the disk.
-pub fn run<D: Disk>(alloc: Global, command: Command, files: &[Vec<u8>], disk: D) -> Closed<D>
+/// The answer of a command to its files and the disk. How far a long one is, and what a recovery found, is told while it goes on.
+pub fn run<D: Disk, P: Progress>(
+    alloc: Global,
+    command: Command,
+    files: &[Vec<u8>],
+    disk: D,
+    progress: &mut P,
+) -> Closed<D>
     requires count { length files.now ≡ file_count command }
     requires short { All (λ v. length v.items ≤ 2 ^ 26) files.now }
     ensures means { IfOk result.answer (λ a. Means command (map (λ v. v.items) files.now) (seen (D.told disk) (D.faults disk))
@@ -346,13 +371,13 @@ pub fn run<D: Disk>(alloc: Global, command: Command, files: &[Vec<u8>], disk: D)
         → IsCalm (D.told result.disk) (D.may_leave result.disk)) }
 {
     if command == Command::Sched {
-        answer_run(alloc, files, disk)
+        answer_run(alloc, files, disk, progress)
     } else if is_journalled(command) {
-        answer_over_disk(alloc, command, files, disk)
+        answer_over_disk(alloc, command, files, disk, progress)
     } else {
         Closed {
             disk,
-            answer: answer_files(alloc, command, files),
+            answer: answer_files(alloc, command, files, progress),
         }
     }
 }

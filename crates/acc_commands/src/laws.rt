@@ -1,7 +1,12 @@
 //! What the definitions of the commands say by themselves.
-ghost use Rattle.acc_commands.specs.Means.{CommandsMeanOne};
+ghost use Rattle.acc_commands.specs.Laws.{CommandsMeanOne, ProvedIsAccepted};
 
-/// Whatever its files hold, a command means one ending, one text and one history.
+/// Whatever its files hold, a command means one ending, one text and one history; but which certificate `prove` makes is free.
 pub fn commands_mean_one()
     ensures { CommandsMeanOne }
+{}
+
+/// What `prove` prints where it is done, `check` accepts.
+pub fn proved_is_accepted()
+    ensures { ProvedIsAccepted }
 {}

@@ -8,6 +8,7 @@ mod files;
 mod journals;
 pub mod laws;
 mod notes;
+mod provings;
 mod recoveries;
 mod responses;
 mod runs;

@@ -9,14 +9,15 @@ use std::alloc::{AllocError, Global};
 pub fn help_text(alloc: Global) -> Result<Vec<u8>, AllocError>
     ensures { IfOk result (λ text. text.items ≡ help_text) }
 {
-    b"acc play DESIGN SCRIPT ORDER                plays the script's transactions in the order's turns, and prints the turns and replies
-acc rehearse DESIGN CERT SCRIPT ORDER       plays them by the rules of locks, if the certificate proves the design, and ends the rest
+    b"acc play DESIGN SCRIPT ORDER                plays the script in the order's turns, and prints the turns and the replies
+acc rehearse DESIGN CERT SCRIPT ORDER       the same by the rules of locks, if the certificate proves it sound; ends the rest
 acc print DESIGN                            prints the design in its one spelling
 acc check DESIGN CERT                       tells whether the certificate proves that the design is sound, and else why not
-acc init DESIGN JOURNAL                     makes the file JOURNAL a journal of the design without events, if it isn't one already
+acc prove DESIGN                            makes such a certificate, or tells which obligations stay open
+acc init DESIGN JOURNAL                     makes JOURNAL a journal of the design without events, if it isn't one already
 acc sched DESIGN CERT SCRIPT ORDER JOURNAL  recovers the journal, and goes on as `rehearse`; each end is kept in it
-acc recover DESIGN CERT JOURNAL             ends what the journal's events left unfinished, and tells how many events it has then
-acc dump DESIGN CERT JOURNAL                does the same, and prints the rows that the journal's events lead to
+acc recover DESIGN CERT JOURNAL             ends what its events left unfinished, and tells how many events there are then
+acc dump DESIGN CERT JOURNAL                does the same, and prints the rows that its events lead to
 acc --help                                  prints these lines
 acc --version                               prints the version of acc, and of the toolchain that proved it
 README.md tells what acc is for, and docs/DESIGN-LANGUAGE.md how a design is written and how to mend one that is refused.

@@ -14,15 +14,17 @@ use acc_base::designs::Design;
 use acc_check::{Admission, admit};
 use acc_disk::Disk;
 use acc_journalled::{Closed, Wanted, recover_journal};
+use acc_progress::Progress;
 use std::alloc::Global;
 
 /// Recovers the journal of a design, if it is accepted with its certificate.
-fn recover_design<D: Disk>(
+fn recover_design<D: Disk, P: Progress>(
     alloc: Global,
     d: Design,
     certificate: &[u8],
     wanted: Wanted,
     disk: D,
+    progress: &mut P,
 ) -> Closed<D>
     ensures recovers { IfOk result.answer (λ a. RecoversCertified wanted d certificate.now (seen (D.told disk) (D.faults disk))
         (seen (D.told result.disk) (D.faults result.disk)) (telling_of a)) }
@@ -32,7 +34,9 @@ fn recover_design<D: Disk>(
         → IsCalm (D.told result.disk) (D.may_leave result.disk)) }
 {
     match admit(alloc, d, certificate) {
-        Ok(Admission::Accepted(accepted)) => recover_journal(alloc, &accepted, wanted, disk),
+        Ok(Admission::Accepted(accepted)) => {
+            recover_journal(alloc, &accepted, wanted, disk, progress)
+        }
         Ok(Admission::Refused(text)) => Closed {
             disk,
             answer: Ok(unsettled(refused(alloc, text))),
@@ -45,12 +49,13 @@ fn recover_design<D: Disk>(
 }
 
 /// Recovers the journal of the design of a text, if it is accepted with its certificate.
-pub fn recover_files<D: Disk>(
+pub fn recover_files<D: Disk, P: Progress>(
     alloc: Global,
     design: &[u8],
     certificate: &[u8],
     wanted: Wanted,
     disk: D,
+    progress: &mut P,
 ) -> Closed<D>
     ensures recovers { IfOk result.answer (λ a. RecoversFiles wanted design.now certificate.now (seen (D.told disk) (D.faults disk))
         (seen (D.told result.disk) (D.faults result.disk)) (telling_of a)) }
@@ -61,7 +66,7 @@ pub fn recover_files<D: Disk>(
         → IsCalm (D.told result.disk) (D.may_leave result.disk)) }
 {
     match read_design(alloc, design) {
-        Ok(ReadDesign::Read(d)) => recover_design(alloc, d, certificate, wanted, disk),
+        Ok(ReadDesign::Read(d)) => recover_design(alloc, d, certificate, wanted, disk, progress),
         Ok(ReadDesign::Refused(response)) => Closed {
             disk,
             answer: Ok(unsettled(response)),

@@ -29,6 +29,17 @@ pub fn refused(alloc: Global, text: Vec<u8>) -> Response
     }
 }
 
+/// The answer of a text alone, where the command ends so.
+pub fn ended(alloc: Global, ending: Ending, text: Vec<u8>) -> Response
+    ensures { said_of result ≡ record { ending = ending; text = text.items; history = [] } }
+{
+    Response {
+        ending,
+        text,
+        history: Seq::new(alloc),
+    }
+}
+
 /// An answer of one line.
 pub fn one_line(alloc: Global, ending: Ending, text: &str) -> Result<Response, AllocError>
     ensures { IfOk result (λ a. Says ending (line text.now) (said_of a)) }

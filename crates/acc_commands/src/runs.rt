@@ -24,6 +24,7 @@ use acc_check::{Admission, admit};
 use acc_disk::Disk;
 use acc_journalled::{Answer, Closed};
 use acc_lift::Accepted;
+use acc_progress::Progress;
 use acc_running::{Run, Said, schedule_journal};
 use std::alloc::{AllocError, Global};
 
@@ -45,12 +46,13 @@ fn answer_of(
 }
 
 /// Runs calls in an order.
-fn run_calls<D: Disk>(
+fn run_calls<D: Disk, P: Progress>(
     alloc: Global,
     accepted: &Accepted,
     asked: Seq<Call>,
     places: &[u64],
     disk: D,
+    progress: &mut P,
 ) -> Closed<D>
     requires fits { CallsFit accepted.now asked }
     requires few { begins_size asked < 2 ^ 31 }
@@ -65,7 +67,7 @@ fn run_calls<D: Disk>(
     ensures calm { IfOk result.answer (λ a. a.ending ≢ DiskFailed → IsCalm (D.told disk) (D.may_leave disk)
         → IsCalm (D.told result.disk) (D.may_leave result.disk)) }
 {
-    let run = schedule_journal(alloc, accepted, asked, places, disk);
+    let run = schedule_journal(alloc, accepted, asked, places, disk, progress);
     let Run {
         disk,
         history,
@@ -79,12 +81,13 @@ fn run_calls<D: Disk>(
 }
 
 /// Runs the calls in the order that the file gives.
-fn run_order<D: Disk>(
+fn run_order<D: Disk, P: Progress>(
     alloc: Global,
     accepted: &Accepted,
     asked: Seq<Call>,
     file: &[u8],
     disk: D,
+    progress: &mut P,
 ) -> Closed<D>
     requires fits { CallsFit accepted.now asked }
     requires few { begins_size asked < 2 ^ 31 }
@@ -102,7 +105,7 @@ fn run_order<D: Disk>(
     match read_order(alloc, calls, file) {
         Ok(ReadOrder::Read(places)) => {
             let order = places.as_slice();
-            run_calls(alloc, accepted, asked, order, disk)
+            run_calls(alloc, accepted, asked, order, disk, progress)
         }
         Ok(ReadOrder::Refused(response)) => Closed {
             disk,
@@ -116,12 +119,13 @@ fn run_order<D: Disk>(
 }
 
 /// Runs the calls of a script.
-fn run_script<D: Disk>(
+fn run_script<D: Disk, P: Progress>(
     alloc: Global,
     accepted: &Accepted,
     script: &[u8],
     file: &[u8],
     disk: D,
+    progress: &mut P,
 ) -> Closed<D>
     requires short { length script.now ≤ 2 ^ 26 }
     ensures runs { IfOk result.answer (λ a. RunsOfScript accepted.now script.now file.now (seen (D.told disk) (D.faults disk))
@@ -135,7 +139,7 @@ fn run_script<D: Disk>(
         → IsCalm (D.told result.disk) (D.may_leave result.disk)) }
 {
     match read_script(alloc, accepted.design(), script) {
-        Ok(ReadScript::Read(asked)) => run_order(alloc, accepted, asked, file, disk),
+        Ok(ReadScript::Read(asked)) => run_order(alloc, accepted, asked, file, disk, progress),
         Ok(ReadScript::Refused(response)) => Closed {
             disk,
             answer: Ok(unsettled(response)),
@@ -148,13 +152,14 @@ fn run_script<D: Disk>(
 }
 
 /// Runs the calls of a script over the journal of a design, if it is accepted with its certificate.
-fn run_design<D: Disk>(
+fn run_design<D: Disk, P: Progress>(
     alloc: Global,
     d: Design,
     certificate: &[u8],
     script: &[u8],
     file: &[u8],
     disk: D,
+    progress: &mut P,
 ) -> Closed<D>
     requires short { length script.now ≤ 2 ^ 26 }
     ensures runs { IfOk result.answer (λ a. RunsCertified d certificate.now script.now file.now (seen (D.told disk) (D.faults disk))
@@ -163,12 +168,15 @@ fn run_design<D: Disk>(
     ensures leaves { Leaves D.clock D.left_since D.told D.may_leave D.faults disk result.disk (LeavesAcceptedRun d certificate.now) }
     ensures told { IfOk result.answer (λ a. LeavesTold D.clock D.left_since D.told D.may_leave disk result.disk
         (λ file image. (image ≡ file) ⊎ (IsAcceptedWith d certificate.now × LeavesRun d file a.history image))
-        (λ file image. IsUntouched file a.history a.settled image ⊎ (IsAcceptedWith d certificate.now × LeavesDurable d file a.history a.settled image))) }
+        (λ file image. IsUntouched file a.history a.settled image
+        ⊎ (IsAcceptedWith d certificate.now × LeavesDurable d file a.history a.settled image))) }
     ensures calm { IfOk result.answer (λ a. a.ending ≢ DiskFailed → IsCalm (D.told disk) (D.may_leave disk)
         → IsCalm (D.told result.disk) (D.may_leave result.disk)) }
 {
     match admit(alloc, d, certificate) {
-        Ok(Admission::Accepted(accepted)) => run_script(alloc, &accepted, script, file, disk),
+        Ok(Admission::Accepted(accepted)) => {
+            run_script(alloc, &accepted, script, file, disk, progress)
+        }
         Ok(Admission::Refused(text)) => Closed {
             disk,
             answer: Ok(unsettled(refused(alloc, text))),
@@ -181,13 +189,14 @@ fn run_design<D: Disk>(
 }
 
 /// Runs the calls of a script over the journal of the design of a text, if it is accepted with its certificate.
-pub fn run_files<D: Disk>(
+pub fn run_files<D: Disk, P: Progress>(
     alloc: Global,
     design: &[u8],
     certificate: &[u8],
     script: &[u8],
     file: &[u8],
     disk: D,
+    progress: &mut P,
 ) -> Closed<D>
     requires short { length script.now ≤ 2 ^ 26 }
     ensures runs { IfOk result.answer (λ a. RunsFiles design.now certificate.now script.now file.now (seen (D.told disk) (D.faults disk))
@@ -202,7 +211,9 @@ pub fn run_files<D: Disk>(
         → IsCalm (D.told result.disk) (D.may_leave result.disk)) }
 {
     match read_design(alloc, design) {
-        Ok(ReadDesign::Read(d)) => run_design(alloc, d, certificate, script, file, disk),
+        Ok(ReadDesign::Read(d)) => {
+            run_design(alloc, d, certificate, script, file, disk, progress)
+        }
         Ok(ReadDesign::Refused(response)) => Closed {
             disk,
             answer: Ok(unsettled(response)),

@@ -14,6 +14,8 @@ pub enum Command {
     Print,
     /// `check DESIGN CERT`
     Check,
+    /// `prove DESIGN`
+    Prove,
     /// `init DESIGN`, over a journal
     Init,
     /// `sched DESIGN CERT SCRIPT ORDER`, over a journal
@@ -53,6 +55,8 @@ pub fn command_of(words: &[String]) -> Option<Command>
         Some(Command::Print)
     } else if is_form(words, "check", 2) {
         Some(Command::Check)
+    } else if is_form(words, "prove", 1) {
+        Some(Command::Prove)
     } else if is_form(words, "init", 1) {
         Some(Command::Init)
     } else if is_form(words, "sched", 4) {
@@ -78,7 +82,7 @@ pub fn file_count(command: Command) -> usize
     match command {
         Command::Play => 3,
         Command::Rehearse | Command::Sched => 4,
-        Command::Print | Command::Init => 1,
+        Command::Print | Command::Prove | Command::Init => 1,
         Command::Check | Command::Recover | Command::Dump => 2,
         Command::Help | Command::Version => 0,
     }

@@ -3,6 +3,7 @@ ghost use Rattle.acc_form.specs.WellFormed.{IsWellFormed};
 
 use crate::journals::{push_disk, push_journal};
 use crate::obligations::{File, push_fault};
+use crate::openings::push_unproved;
 use acc_base::designs::Design;
 use acc_base::sequences::Seq;
 use acc_explain::{
@@ -94,31 +95,38 @@ fn push_judged(
     }
 }
 
-/// Says what is wrong with the files behind a design that is well-formed.
+/// Says what is wrong with the files behind a design that is well-formed; or, where there are none, which of its obligations stay open, as
+/// it was printed.
 fn push_behind(
     alloc: Global,
     out: &mut Vec<u8>,
     d: Design,
     design: File,
     behind: &[File],
+    printed: &[u8],
 ) -> Result<(), AllocError>
     requires { IsWellFormed d }
 {
     match behind {
         [script, order] => push_script(alloc, out, &d, *script, *order),
         [certificate, rest @ ..] => push_judged(alloc, out, d, design, *certificate, rest),
-        [] => Ok(()),
+        [] => push_unproved(alloc, out, &d, design, printed),
     }
 }
 
 /// Says what is wrong with the files that a command line names: a design, then its certificate, where the command takes one, and
 /// then a script and an order, where it takes these.
-fn push_files(alloc: Global, out: &mut Vec<u8>, files: &[File]) -> Result<(), AllocError> {
+fn push_files(
+    alloc: Global,
+    out: &mut Vec<u8>,
+    files: &[File],
+    printed: &[u8],
+) -> Result<(), AllocError> {
     let [design, behind @ ..] = files else {
         return Ok(());
     };
     match diagnose(alloc, design.text)? {
-        Diagnosed::Read(d) => push_behind(alloc, out, d, *design, behind),
+        Diagnosed::Read(d) => push_behind(alloc, out, d, *design, behind, printed),
         Diagnosed::Refused(d) => push_report(out, design.name, design.text, d.line, &d.spot),
     }
 }
@@ -145,11 +153,12 @@ fn push_names<H: Shelf>(
     out: &mut Vec<u8>,
     names: &[String],
     shelf: &mut H,
+    printed: &[u8],
 ) -> Result<(), AllocError> {
     match read_all(alloc, out, names, shelf)? {
         Some(texts) => {
             let files = named(alloc, names, &texts)?;
-            push_files(alloc, out, &files)
+            push_files(alloc, out, &files, printed)
         }
         None => Ok(()),
     }
@@ -178,13 +187,14 @@ fn push_status<H: Shelf>(
         (5, [verb, ..]) => push_disk(out, verb.as_str()),
         (7, _) => push_note(out, b"acc", sink_text(), b""),
         (9, _) => push_note(out, b"acc", memory_text(), b""),
-        (_, [_, names @ ..]) => push_names(alloc, out, names, shelf),
+        (_, [_, names @ ..]) => push_names(alloc, out, names, shelf, printed),
         _ => Ok(()),
     }
 }
 
 /// What is told of a command line that ended with this status: nothing after 0, and the front of it where memory runs out. The
-/// files are read anew, and what is told is of what is read then; of a journal it is of what was printed. `usage` lists the commands.
+/// files are read anew, and what is told is of what is read then; of a journal and of open obligations it is of what was printed. `usage`
+/// lists the commands.
 pub fn explain<H: Shelf>(
     alloc: Global,
     status: u8,

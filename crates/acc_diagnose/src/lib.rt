@@ -1,12 +1,16 @@
-//! What is told of a refused command line: the file, the line and the word, what is wrong, and how to mend it.
+//! What is told of a refused command line: the file, the line and the word, what is wrong, and how to mend it. And of a long
+//! one, how far it is.
 #![tactic(auto)]
 
 mod explained;
 mod journals;
 mod keeping;
 mod obligations;
+mod openings;
+mod progress;
 mod reasons;
 
 pub use explained::explain;
 pub use keeping::Keeping;
+pub use progress::{found_line, replay_line, search_line};
 pub use reasons::system_reason;

@@ -59,7 +59,7 @@ fn push_place(out: &mut Vec<u8>, place: Place) -> Result<(), AllocError> {
 }
 
 /// Says which assertion isn't shown, and by which path.
-fn push_assertion(
+pub fn push_assertion(
     alloc: Global,
     out: &mut Vec<u8>,
     d: &Design,
@@ -118,7 +118,7 @@ fn push_proof(
 }
 
 /// Says that a number of an obligation is too large.
-fn push_wide(out: &mut Vec<u8>, design: File) -> Result<(), AllocError> {
+pub fn push_wide(out: &mut Vec<u8>, design: File) -> Result<(), AllocError> {
     push_note(
         out,
         design.name,

@@ -3,6 +3,7 @@ use crate::journals::Journals;
 use acc_cli::{acc, asks_journal};
 use acc_disk::MemDisk;
 use acc_io::{FolderShelf, MemShelf, MemSink, Shelf};
+use acc_progress::Silent;
 use std::alloc::{AllocError, Global};
 use std::rt::Files;
 
@@ -28,7 +29,7 @@ fn answer_words<H: Shelf>(
     disk: MemDisk,
 ) -> Result<(String, MemDisk), AllocError> {
     let mut out = MemSink::new(alloc, &[], &[]).map_err(|_| AllocError)?;
-    let done = acc(alloc, words, shelf, &mut out, disk);
+    let done = acc(alloc, words, shelf, &mut out, disk, &mut Silent);
     Ok((String::from_utf8_lossy(alloc, out.bytes())?, done.disk))
 }
 

@@ -1,6 +1,6 @@
 //! Runs in which a call of the disk fails.
-use crate::recoveries::push_counts;
 use crate::runs::{Case, push_whole};
+use acc_case_journals::recoveries::push_counts;
 use std::alloc::{AllocError, Global};
 use std::fmt::Write;
 

@@ -22,16 +22,14 @@
 
 mod answers;
 mod calls;
-mod commands;
 mod faults;
-mod files;
 mod items;
-mod recoveries;
 mod runs;
 mod stops;
 
 use crate::runs::Case;
 use acc_case_designs::accepted_file;
+use acc_case_journals::{commands, files};
 use acc_case_words::words::{number, parted};
 use acc_lift::Accepted;
 use std::alloc::{AllocError, Global};

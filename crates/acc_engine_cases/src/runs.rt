@@ -3,25 +3,22 @@ ghost use Rattle.std.specs.Prelude.{◌≡◌, ◌<◌, ◌^◌, [], false, map,
 ghost use Rattle.acc_wal.specs.Spellings.{body};
 ghost use Rattle.acc_engine.specs.Keeping.{CallsFit, begin_of};
 
-use crate::answers::{push_recover_error, push_wal_error};
 use crate::calls::asked;
 use crate::items::push_items;
-use crate::recoveries::{self, fresh};
-use acc_base::designs::Design;
 use acc_base::machines::Call;
 use acc_base::sequences::Seq;
+use acc_case_journals::answers::{push_recover_error, push_wal_error};
+use acc_case_journals::files::create;
+use acc_case_journals::recoveries::{self, fresh};
 use acc_disk::MemDisk;
 use acc_engine::Engine;
 use acc_lift::Accepted;
-use acc_print::print;
+use acc_progress::Silent;
 use acc_recover::{Recovered, recover};
 use acc_store::MapStore;
-use acc_wal::{Wal, WalError};
+use acc_wal::Wal;
 use std::alloc::{AllocError, Global};
 use std::fmt::Write;
-
-/// The most bytes of a base text here.
-const LONGEST: usize = 1 << 31;
 
 /// What a run is made of: the design, the script's calls, and the items.
 #[derive(Clone, Copy)]
@@ -29,24 +26,6 @@ pub struct Case<'a> {
     pub design: &'a Accepted,
     pub script: &'a str,
     pub items: &'a str,
-}
-
-/// Makes a journal of the design's text on a disk.
-pub fn create(
-    alloc: Global,
-    design: &Design,
-    disk: MemDisk,
-) -> Result<MemDisk, (WalError, MemDisk)> {
-    let Ok(text) = print(alloc, design) else {
-        return Err((WalError::Memory, disk));
-    };
-    if text.len() > LONGEST {
-        return Err((WalError::Memory, disk));
-    }
-    match Wal::create(alloc, disk, &text) {
-        Ok(wal) => Ok(wal.give_back()),
-        Err(refusal) => Err(refusal),
-    }
 }
 
 /// Pushes how many events are durable, how many not, and how many calls the disk has had.
@@ -97,7 +76,7 @@ fn push_opened(
     requires fits { CallsFit case.now.design.now calls }
     requires few { length (body (map begin_of calls)) < 2 ^ 31 }
 {
-    match recover(alloc, case.design, MapStore::new(alloc), disk) {
+    match recover(alloc, case.design, MapStore::new(alloc), disk, &mut Silent) {
         Ok(recovered) => push_engine(alloc, out, case, recovered, calls),
         Err((error, _, disk)) => {
             out.push_str("recover ")?;

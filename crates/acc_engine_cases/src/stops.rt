@@ -1,6 +1,6 @@
 //! What recovery makes of the images that a crash leaves behind each call of a disk.
-use crate::recoveries::push_counts;
 use crate::runs::{Case, push_whole};
+use acc_case_journals::recoveries::push_counts;
 use acc_disk::MemDisk;
 use acc_lift::Accepted;
 use std::alloc::{AllocError, Global};

@@ -3,12 +3,12 @@ use crate::bytes::{bad_byte, byte_hint};
 use crate::mistakes::{Wrong, mending, wrong_at};
 use crate::wanted::{Wanted, could_stand};
 use acc_base::sequences::Seq;
+use acc_designs::{SyntaxError, syntax};
 use acc_explain::{Spot, line_at, push_quoted, push_text};
 use acc_lex::texts::words;
 use acc_lex::words::Word;
 use acc_lex::{Kind, LexError, Token, lex};
 use acc_spot::{bytes_of, line_spot, spot_at};
-use acc_syntax::{SyntaxError, syntax};
 use std::alloc::{AllocError, Global};
 
 /// The number of the first of the words with which no design goes on, or how many there are.

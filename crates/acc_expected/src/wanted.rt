@@ -1,9 +1,9 @@
 //! What could stand at a place among words: each word with which some design goes on there.
 use crate::signs::{COUNT, SIGNS, sign_text};
 use acc_base::sequences::Seq;
+use acc_designs::{SyntaxError, syntax};
 use acc_explain::push_text;
 use acc_lex::words::{Sign, Word};
-use acc_syntax::{SyntaxError, syntax};
 use std::alloc::{AllocError, Global};
 
 /// How many words a text may have before a place at which it is told what could stand there: the words are read once for each

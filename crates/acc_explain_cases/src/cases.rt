@@ -1,9 +1,10 @@
 //! The cases by their verbs.
 use crate::texts::{changed, with_feeds};
 use acc_cli::{acc, help_text};
-use acc_diagnose::{explain, system_reason};
+use acc_diagnose::{explain, found_line, replay_line, system_reason};
 use acc_disk::MemDisk;
 use acc_io::{MemShelf, MemSink};
+use acc_progress::{Found, Silent};
 use std::alloc::{AllocError, Global};
 use std::io;
 
@@ -63,7 +64,7 @@ fn answered_over(
     disk: MemDisk,
 ) -> Result<String, AllocError> {
     let words = words_of(alloc, line)?;
-    let status = acc(alloc, &words, shelf, out, disk).status;
+    let status = acc(alloc, &words, shelf, out, disk, &mut Silent).status;
     let usage = help_text(alloc)?;
     let told = explain(alloc, status, &words, shelf, out.bytes(), &usage);
     let printed = String::from_utf8_lossy(alloc, out.bytes())?;
@@ -148,6 +149,29 @@ fn design(alloc: Global, base: &str, change: &str) -> Result<String, AllocError>
     run(alloc, &text, "print design", false)
 }
 
+/// The number that a word spells; 0 where it spells none.
+fn number(word: Option<&str>) -> u64 {
+    word.unwrap_or("").parse().unwrap_or(0)
+}
+
+/// The line of a replay, spelled: so many events are done, of so many.
+fn replay(alloc: Global, rest: &str) -> Result<String, AllocError> {
+    let mut words = rest.split_whitespace();
+    let line = replay_line(alloc, number(words.next()), number(words.next()))?;
+    format!(in alloc; "{:?}\n", line.as_str())
+}
+
+/// The line of a recovery that found so many events and unfinished transactions, and compensated so many.
+fn found(alloc: Global, rest: &str) -> Result<String, AllocError> {
+    let mut words = rest.split_whitespace();
+    let found = Found {
+        events: number(words.next()),
+        unfinished: number(words.next()),
+        compensated: number(words.next()),
+    };
+    found_line(alloc, found)
+}
+
 /// What a case answers.
 fn answer(alloc: Global, base: &str, verb: &str, rest: &str) -> Result<String, AllocError> {
     match verb {
@@ -160,6 +184,8 @@ fn answer(alloc: Global, base: &str, verb: &str, rest: &str) -> Result<String, A
         "journal" => journal(alloc, base, rest, None),
         "broken" => journal(alloc, base, rest, Some(1)),
         "fails" => run(alloc, base, rest, true),
+        "replay" => replay(alloc, rest),
+        "found" => found(alloc, rest),
         _ => String::from_str(alloc, "no such case\n"),
     }
 }

@@ -9,6 +9,7 @@ ghost use Rattle.acc_faults.specs.Refusals.{IsRefused, IsDiagnosed};
 use crate::forms::source_line;
 use crate::tokens::tokens_of;
 use acc_base::designs::Design;
+use acc_designs::syntax;
 use acc_expected::syntax_spot;
 use acc_explain::{Spot, push_number, push_text, rule_hint, rule_text};
 use acc_form::{FormError, well_formed};
@@ -16,7 +17,6 @@ use acc_lex::texts::words;
 use acc_names::names_of;
 use acc_parse::{ParseError, parse};
 use acc_spot::{limit_spot, name_spot, statement_spot};
-use acc_syntax::syntax;
 use std::alloc::{AllocError, Global};
 
 /// Why a text is no design that can be played.

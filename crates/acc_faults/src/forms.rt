@@ -3,7 +3,7 @@ ghost use Rattle.std.specs.Prelude.{◌≡◌, ◌-◌, List, IfOk};
 ghost use Rattle.acc_lex.specs.declared.words.Word.{Word as WordValue};
 ghost use Rattle.acc_lex.specs.Texts.{IsLexed};
 ghost use Rattle.acc_syntax.specs.declared.trees.DesignTree.{DesignTree as TreeValue};
-ghost use Rattle.acc_syntax.specs.Texts.{IsSpelling};
+ghost use Rattle.acc_designs.specs.Texts.{IsSpelling};
 ghost use Rattle.acc_statements.specs.Lines.{IsLineOf};
 ghost use Rattle.acc_form.specs.declared.rules.FormError.TheVariants.{Bad};
 ghost use Rattle.acc_form.specs.Judged.{IsFaultInPrint};
@@ -13,11 +13,11 @@ ghost use Rattle.acc_faults.specs.Refusals.{IsFormFaultAt};
 
 use acc_base::designs::Design;
 use acc_base::sequences::Seq;
+use acc_designs::syntax;
 use acc_lex::texts::words;
 use acc_lex::words::Word;
 use acc_sources::source_of;
 use acc_statements::{ends, line_of};
-use acc_syntax::syntax;
 use acc_syntax::trees::DesignTree;
 use std::alloc::{AllocError, Global};
 

@@ -17,6 +17,8 @@ pub enum Ending {
     DiskFailed,
     /// A place of the script couldn't begin, since the history is full.
     Unbegun,
+    /// An obligation of the design stays open: the search found no proof of it.
+    Open,
 }
 
 /// What is told of a recovered journal.

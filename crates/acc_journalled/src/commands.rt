@@ -18,6 +18,7 @@ use acc_base::designs::Design;
 use acc_disk::Disk;
 use acc_lift::Accepted;
 use acc_print::{PrintError, print};
+use acc_progress::Progress;
 use acc_recover::{Recovered, recover};
 use acc_store::MapStore;
 use acc_wal::Wal;
@@ -80,7 +81,13 @@ pub fn init_journal<D: Disk>(alloc: Global, d: &Design, disk: D) -> Closed<D>
 ///
 /// From a calm disk a crash at any moment leaves a journal of the events that were found, or of the whole recovered history, and the disk
 /// holds such a one afterwards. It is calm again, unless one of its calls failed. What is no journal is left as it is.
-pub fn recover_journal<D: Disk>(alloc: Global, d: &Accepted, wanted: Wanted, disk: D) -> Closed<D>
+pub fn recover_journal<D: Disk, P: Progress>(
+    alloc: Global,
+    d: &Accepted,
+    wanted: Wanted,
+    disk: D,
+    progress: &mut P,
+) -> Closed<D>
     ensures answer { IfOk result.answer (λ a. RecoversJournal (text_of wanted d.now) d.now (D.told disk) (D.told result.disk)
         (Rose (D.faults disk) (D.faults result.disk)) (telling_of a)) }
     ensures moments { (file : List ℕ) → D.told disk ≡ Some file → Only file (D.may_leave disk)
@@ -91,7 +98,7 @@ pub fn recover_journal<D: Disk>(alloc: Global, d: &Accepted, wanted: Wanted, dis
         → IsCalm (D.told result.disk) (D.may_leave result.disk)) }
     ensures faults { D.faults disk ≤ D.faults result.disk }
 {
-    match recover(alloc, d, MapStore::new(alloc), disk) {
+    match recover(alloc, d, MapStore::new(alloc), disk, progress) {
         Ok(found) => {
             let Recovered {
                 state,

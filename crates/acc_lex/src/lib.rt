@@ -4,6 +4,7 @@
 
 pub mod lexers;
 mod parts;
+mod readers;
 mod scans;
 pub mod signs;
 pub mod texts;

@@ -1,6 +1,9 @@
 //! The program: makes the real shelf, sink and disk, answers the command line, and tells on standard error why one is refused.
 #![tactic(auto)]
 
+mod terminal;
+
+use crate::terminal::TerminalProgress;
 use acc_cli::{acc, asks_journal, help_text};
 use acc_diagnose::{Keeping, explain, system_reason};
 use acc_disk::{Disk, FileDisk, MemDisk};
@@ -60,7 +63,9 @@ fn take_journal(words: &mut Vec<String>) -> Option<String> {
 fn answer<D: Disk + Drop>(rt: &HostRuntime, words: &[String], disk: D) -> u8 {
     let mut shelf = FolderShelf::new(rt);
     let mut out = Keeping::new(rt.alloc(), StdSink::new(rt));
-    let status = acc(rt.alloc(), words, &mut shelf, &mut out, disk).status;
+    let mut progress = TerminalProgress::new(rt);
+    let status = acc(rt.alloc(), words, &mut shelf, &mut out, disk, &mut progress).status;
+    progress.end_line();
     if status != 0 {
         tell(rt, status, words, out.kept());
     }

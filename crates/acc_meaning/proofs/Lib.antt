@@ -1,4 +1,3 @@
 pub mod Walked
 pub mod Endings
 pub mod Ended
-pub mod LoneLimit

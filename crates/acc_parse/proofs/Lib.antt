@@ -1,5 +1,6 @@
 pub mod Continued
 pub mod WrongLines
+pub mod LoneLimit
 pub mod Limited
 pub mod Statements
 pub mod Designs

@@ -13,7 +13,7 @@ use Rattle.acc_limits.specs.Numbers.{number_of, is_lower, is_before}
 use Rattle.acc_limits.specs.Faults.{limits_on, limit_faults}
 use Rattle.acc_base.specs.Leasts.{IsLeast}
 use Rattle.acc_meaning.specs.Sizes.{size_faults}
-use Rattle.acc_meaning.proofs.LoneLimit.{sizes_alone}
+use Rattle.acc_parse.proofs.LoneLimit.{sizes_alone}
 use Rattle.acc_parse.specs.Texts.{past_limits}
 use Rattle.acc_parse.specs.Faults.{IsFirstIn, PassesAt}
 use Rattle.std.proofs.lemmas.List.Elements.{All-contains, All-append, All-weaker, Contains-append_left, Contains-append_right}

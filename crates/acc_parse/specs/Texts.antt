@@ -4,7 +4,7 @@ use Rattle.acc_base.specs.declared.designs.Design.{Design}
 use Rattle.acc_lex.specs.declared.words.Word.{Word}
 use Rattle.acc_lex.specs.Texts.{IsLexed}
 use Rattle.acc_syntax.specs.declared.trees.DesignTree.{DesignTree}
-use Rattle.acc_syntax.specs.Texts.{IsSpelling}
+use Rattle.acc_designs.specs.Texts.{IsSpelling}
 use Rattle.acc_names.specs.Faults.{first_fault_of}
 use Rattle.acc_limits.specs.declared.limits.Limit.{Limit}
 use Rattle.acc_limits.specs.Faults.{limit_faults}

@@ -3,7 +3,7 @@ ghost use Rattle.std.specs.Prelude.{◌≡◌, ◌<◌, ◌^◌, ℕ, None, leng
 ghost use Rattle.acc_base.specs.declared.designs.Design.{Design as DesignValue};
 ghost use Rattle.acc_lex.specs.Texts.{IsLexed};
 ghost use Rattle.acc_syntax.specs.declared.trees.DesignTree.{DesignTree as TreeValue};
-ghost use Rattle.acc_syntax.specs.Texts.{IsSpelling};
+ghost use Rattle.acc_designs.specs.Texts.{IsSpelling};
 ghost use Rattle.acc_statements.specs.Counts.{statements_of};
 ghost use Rattle.acc_statements.specs.Lines.{IsLineOf};
 ghost use Rattle.acc_names.specs.Faults.{first_fault_of};
@@ -16,6 +16,7 @@ use crate::errors::ParseError;
 use crate::limits::{first_passed, limit_at};
 use crate::lines::{good_words, wrong_line};
 use acc_base::designs::Design;
+use acc_designs::designs::{SyntaxError, syntax};
 use acc_lex::lexers::LexError;
 use acc_lex::texts::words;
 use acc_lex::words::Word;
@@ -23,7 +24,6 @@ use acc_meaning::meaning_of;
 use acc_names::names_of;
 use acc_statements::line_of;
 use acc_statements::lines::first_lines;
-use acc_syntax::designs::{SyntaxError, syntax};
 use acc_syntax::trees::DesignTree;
 use std::alloc::{AllocError, Global};
 

@@ -1,7 +1,6 @@
 pub mod Feeds
 pub mod LineFeeds
 pub mod Readings
-pub mod FewReads
 pub mod Adding
 pub mod Judging
 pub mod OneProving

@@ -6,4 +6,4 @@ pub mod laws;
 pub mod lines;
 mod proving;
 
-pub use proving::{Proving, prove};
+pub use proving::{Proving, prove, searched};

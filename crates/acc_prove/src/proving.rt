@@ -2,7 +2,6 @@
 ghost use Rattle.std.specs.Prelude.{◌≡◌, ◌≢◌, [], ◌∷◌, ◌++◌, codes, IfOk, OnOk, Err};
 ghost use Rattle.acc_base.specs.Lines.{line};
 ghost use Rattle.acc_form.specs.WellFormed.{IsWellFormed};
-ghost use Rattle.acc_obligations.specs.Rooms.{IsSmallDesign};
 ghost use Rattle.acc_oblig.specs.Laws.{sequents_of};
 ghost use Rattle.acc_prover.specs.declared.found.SearchError.TheVariants.{Memory as OutOfMemory};
 ghost use Rattle.acc_prover.specs.Tellings.{Tells, IfProved, IsProof};
@@ -21,6 +20,7 @@ use acc_base::sequents::{Origin, Sequent};
 use acc_cert::write;
 use acc_check::origins::push_origin;
 use acc_obligations::ObligError;
+use acc_progress::Progress;
 use acc_prover::found::{Found, SearchError};
 use acc_prover::searching::search;
 use std::alloc::{AllocError, Global};
@@ -37,9 +37,9 @@ pub enum Proving {
 }
 
 /// The search for the proof of an obligation, with its hints.
-fn searched(alloc: Global, d: &Design, q: &Sequent) -> Result<Found, SearchError>
-    requires design { IsWellFormed d.now }
-    requires small { IsSmallDesign d.now }
+#[tactic(auto, using(acc_obligations::proofs::Small::design_small))]
+pub fn searched(alloc: Global, d: &Design, q: &Sequent) -> Result<Found, SearchError>
+    requires { IsWellFormed d.now }
     ensures kind { Tells result (searched d.now q.now) }
     ensures proof { IfProved result (IsProof d.now q.now) }
 {
@@ -80,8 +80,7 @@ fn prove_one(
     proofs: &mut Vec<Proof>,
     lines: &mut Vec<u8>,
 ) -> Result<(), AllocError>
-    requires design { IsWellFormed d.now }
-    requires small { IsSmallDesign d.now }
+    requires { IsWellFormed d.now }
     ensures lines { OnOk result (lines.new.items ≡ lines.old.items ++ open_line d.now q.now.origin (searched d.now q.now)) }
     ensures proofs { OnOk result (AddsProofs d.now (q.now ∷ []) proofs.old.items proofs.new.items) }
 {
@@ -89,21 +88,30 @@ fn prove_one(
     add_found(d, &q.origin, found, proofs, lines)
 }
 
+/// Tells how far the search is: it is through with so many of so many obligations, and has found so many proofs.
+fn tell<P: Progress>(progress: &mut P, done: u64, obligations: usize, found: usize) {
+    let open = done.saturating_sub(found as u64);
+    progress.searched(done, obligations as u64, open);
+}
+
 /// Adds the proofs of obligations, and the lines of those that aren't proved.
-fn prove_each(
+fn prove_each<P: Progress>(
     alloc: Global,
     d: &Design,
     sequents: &[Sequent],
     proofs: &mut Vec<Proof>,
     lines: &mut Vec<u8>,
+    progress: &mut P,
 ) -> Result<(), AllocError>
-    requires design { IsWellFormed d.now }
-    requires small { IsSmallDesign d.now }
+    requires { IsWellFormed d.now }
     ensures lines { OnOk result (lines.new.items ≡ lines.old.items ++ open_lines d.now sequents.now) }
     ensures proofs { OnOk result (AddsProofs d.now sequents.now proofs.old.items proofs.new.items) }
 {
+    let mut done: u64 = 0;
     for q in sequents {
         prove_one(alloc, d, q, proofs, lines)?;
+        done = done.saturating_add(1);
+        tell(progress, done, sequents.len(), proofs.len());
     }
     Ok(())
 }
@@ -141,14 +149,18 @@ fn ended(alloc: Global, proofs: Vec<Proof>, lines: Vec<u8>) -> Result<Proving, A
 }
 
 /// Proves the obligations of a design.
-fn prove_all(alloc: Global, d: &Design, sequents: &[Sequent]) -> Result<Proving, AllocError>
-    requires design { IsWellFormed d.now }
-    requires small { IsSmallDesign d.now }
+fn prove_all<P: Progress>(
+    alloc: Global,
+    d: &Design,
+    sequents: &[Sequent],
+    progress: &mut P,
+) -> Result<Proving, AllocError>
+    requires { IsWellFormed d.now }
     ensures { IfOk result (ProvesAll d.now sequents.now) }
 {
     let mut proofs = Vec::new(alloc);
     let mut lines = Vec::new(alloc);
-    prove_each(alloc, d, sequents, &mut proofs, &mut lines)?;
+    prove_each(alloc, d, sequents, &mut proofs, &mut lines, progress)?;
     ended(alloc, proofs, lines)
 }
 
@@ -166,15 +178,20 @@ fn wide_line(alloc: Global, d: &Design, origin: &Origin) -> Result<Vec<u8>, Allo
 ///
 /// `Proved` where all branches of each search are closed; then the design is accepted with the certificate, and so it is sound. `Open`
 /// where some aren't: a line for each obligation that isn't proved, in their order, with what ended its search. `Wide` where a number
-/// of an obligation is too large. `AllocError` where memory ran out; nothing is told then.
+/// of an obligation is too large. `AllocError` where memory ran out; nothing is told then. Behind each search `progress` is told how many
+/// obligations are done, and how many of these are open.
 ///
 /// Besides the searches it takes the time of the obligations' length, and of what is written.
-pub fn prove(alloc: Global, d: &Design) -> Result<Proving, AllocError>
+pub fn prove<P: Progress>(
+    alloc: Global,
+    d: &Design,
+    progress: &mut P,
+) -> Result<Proving, AllocError>
     requires { IsWellFormed d.now }
     ensures { IfOk result (Proves d.now) }
 {
     match obligations(alloc, d) {
-        Ok(sequents) => prove_all(alloc, d, sequents.as_slice()),
+        Ok(sequents) => prove_all(alloc, d, sequents.as_slice(), progress),
         Err(ObligError::Wide(origin)) => Ok(Proving::Wide(wide_line(alloc, d, &origin)?)),
         Err(ObligError::Memory) => Err(AllocError),
     }

@@ -4,6 +4,7 @@ use acc_cert_read::certificates::read;
 use acc_check::check;
 use acc_form::well_formed;
 use acc_parse::parse;
+use acc_progress::Silent;
 use acc_prove::{Proving, prove};
 use std::alloc::{AllocError, Global};
 use std::fmt::Write;
@@ -22,7 +23,7 @@ fn proving_of(alloc: Global, text: &[u8]) -> Result<Option<Proving>, AllocError>
 
 fn proving(alloc: Global, design: &Design) -> Result<Option<Proving>, AllocError> {
     match well_formed(design) {
-        Ok(()) => Ok(Some(prove(alloc, design)?)),
+        Ok(()) => Ok(Some(prove(alloc, design, &mut Silent)?)),
         Err(_) => Ok(None),
     }
 }

@@ -12,7 +12,7 @@ use Rattle.acc_lex.proofs.WholeTexts.{can_spell}
 use Rattle.acc_syntax.specs.declared.trees.TableTree.{TableTree}
 use Rattle.acc_syntax.specs.declared.trees.TypeTree.{TypeTree}
 use Rattle.acc_syntax.specs.declared.trees.DesignTree.{DesignTree}
-use Rattle.acc_syntax.specs.OwnWords.{OwnInTypes}
+use Rattle.acc_designs.specs.OwnWords.{OwnInTypes}
 use Rattle.acc_syntax.specs.Spelling.{type_words}
 use Rattle.acc_names.specs.Names.{stands_in, defines_again}
 use Rattle.acc_names.specs.Faults.{clause_fault, tables_faults, type_faults, types_faults, entry_fault, hint_fault}

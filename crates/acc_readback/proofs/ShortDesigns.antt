@@ -14,7 +14,7 @@ use Rattle.acc_syntax.specs.declared.trees.TableTree.{TableTree}
 use Rattle.acc_syntax.specs.declared.trees.PointTree.{PointTree}
 use Rattle.acc_syntax.specs.declared.trees.TypeTree.{TypeTree}
 use Rattle.acc_syntax.specs.declared.trees.DesignTree.{DesignTree}
-use Rattle.acc_syntax.specs.OwnWords.{OwnInTypes}
+use Rattle.acc_designs.specs.OwnWords.{OwnInTypes}
 use Rattle.acc_syntax.specs.Spelling.{just, name, number, clause_statement, table, type_words, entry, hint, spelled_design}
 use Rattle.acc_names.specs.Scopes.{points_in}
 use Rattle.acc_names.specs.Faults.{clause_fault, tables_faults, types_faults, entry_fault, hint_fault, outside as known_outside}

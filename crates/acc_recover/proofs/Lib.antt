@@ -5,3 +5,4 @@ pub mod Single
 pub mod Ends
 pub mod Attached
 pub mod Refused
+pub mod Compensating

@@ -5,6 +5,7 @@ mod endings;
 mod errors;
 pub mod laws;
 mod recovered;
+mod tellings;
 
 pub use errors::RecoverError;
 pub use recovered::{Recovered, recover};

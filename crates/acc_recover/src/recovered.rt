@@ -17,11 +17,13 @@ ghost use Rattle.acc_recover.specs.Refusals.{IsOfJournal, IsOfBytes, CountsSame}
 
 use crate::endings::end_all;
 use crate::errors::RecoverError;
+use crate::tellings::found_in;
 use acc_base::designs::Design;
 use acc_disk::Disk;
 use acc_lift::Accepted;
 use acc_machine::{ReplayError, State, replay};
 use acc_print::{PrintError, print};
+use acc_progress::Progress;
 use acc_store::Store;
 use acc_wal::{Wal, WalError};
 use std::alloc::Global;
@@ -65,11 +67,12 @@ fn is_of(alloc: Global, design: &Design, base: &[u8]) -> Result<(), RecoverError
 }
 
 // The state after a journal's durable events, where its base text is the design's.
-fn replayed<'a, S: Store, D: Disk>(
+fn replayed<'a, S: Store, D: Disk, P: Progress>(
     alloc: Global,
     d: &'a Accepted,
     s: S,
     wal: &Wal<D>,
+    progress: &mut P,
 ) -> Result<State<'a, S>, (RecoverError, S)>
     requires empty { S.rows s ≡ [] }
     ensures ok { IfOk result (IsReplayed d.now wal.now) }
@@ -80,7 +83,7 @@ fn replayed<'a, S: Store, D: Disk>(
     if let Err(error) = is_of(alloc, d.design(), wal.base()) {
         return Err((error, s));
     }
-    match replay(alloc, d, s, wal.durable()) {
+    match replay(alloc, d, s, wal.durable(), progress) {
         Ok(state) => Ok(state),
         Err((ReplayError::Unlawful(at), s)) => Err((RecoverError::Unlawful(at), s)),
         Err((ReplayError::Memory, s)) => Err((RecoverError::Memory, s)),
@@ -128,11 +131,14 @@ fn end_and_settle<S: Store, D: Disk>(
 ///
 /// From a calm disk a crash at any moment of the call leaves a journal of the events that were found, or of the whole recovered
 /// history. After Ok, and after a refusal that the bytes give cause for, the disk is calm. What is no journal is left as it is.
-pub fn recover<'a, S: Store, D: Disk>(
+///
+/// How far a long replay is, is told now and then; and behind the recovery what it found (`found_in`).
+pub fn recover<'a, S: Store, D: Disk, P: Progress>(
     alloc: Global,
     d: &'a Accepted,
     s: S,
     disk: D,
+    progress: &mut P,
 ) -> Result<Recovered<'a, S, D>, (RecoverError, S, D)>
     requires empty { S.rows s ≡ [] }
     ensures ok { IfOk result (λ r. RecoversFile d.now (D.told disk) r.state.world r.wal r.compensated) }
@@ -167,17 +173,20 @@ pub fn recover<'a, S: Store, D: Disk>(
         Ok(wal) => wal,
         Err((error, disk)) => return Err((refusal_of(error), s, disk)),
     };
-    let mut state = match replayed(alloc, d, s, &wal) {
+    let mut state = match replayed(alloc, d, s, &wal, progress) {
         Ok(state) => state,
         Err((error, s)) => return Err((error, s, wal.give_back())),
     };
-    let compensated = state.unfinished().len() as u64;
+    let found = found_in(&state);
     match end_and_settle(&mut state, &mut wal) {
-        Ok(()) => Ok(Recovered {
-            state,
-            wal,
-            compensated,
-        }),
+        Ok(()) => {
+            progress.recovered(found);
+            Ok(Recovered {
+                state,
+                wal,
+                compensated: found.compensated,
+            })
+        }
         Err(error) => Err((error, state.into_parts().0, wal.give_back())),
     }
 }

@@ -10,6 +10,7 @@ use Rattle.acc_base.specs.declared.machines.Call.{Call}
 use Rattle.acc_base.specs.declared.machines.Event.{Event}
 use Rattle.acc_base.specs.Lines.{settled_line}
 use Rattle.acc_base.specs.Machine.{World, world, reply_at}
+use Rattle.acc_base.specs.Plays.{Play}
 use Rattle.acc_lift.proofs.FormRules.{run_rules}
 use Rattle.acc_lift.proofs.Theorem.{annotated}
 use Rattle.acc_print.specs.Designs.{printed}
@@ -22,6 +23,7 @@ use Rattle.acc_schedule.specs.Schedules.{TellsScheduleFrom}
 use Rattle.acc_schedule.proofs.Closing.{idle_between}
 use Rattle.acc_settled.specs.Openings.{opening_at, IsFresh}
 use Rattle.acc_settled.specs.Runs.{GoesOn, IsAckedButOne}
+use Rattle.acc_settled.specs.Wholes.{IsAfterSchedule, IsFrontOfSchedule, TellsDurablePart}
 use Rattle.acc_running.specs.declared.answers.Said.{Said}
 use Rattle.acc_running.specs.Engines.{SaysAll, SaysFault, SaysRun, HandsOver}
 use Rattle.acc_running.specs.Recorded.{telling_of, IsFound, IsRecorded}
@@ -115,7 +117,22 @@ module _ {D : Type 0} (d : Design) (calls : List Call) (first : World) (old new 
 
   -- ---- what is said of it
 
-  module _ (order : List ℕ) (told told' : Option (List ℕ)) (found : IsFound d told first)
+  -- the first events of the whole schedule, from the recovered state on
+  pub fronts : (order : List ℕ) → IsFrontOfSchedule d old.calls order (opening_at old.state old.calls) new.state.events
+      → IsFrontOfSchedule d calls order (opening_at first calls) new.state.events
+  fronts order front =
+      subst (λ (w : World). IsFrontOfSchedule d calls order (opening_at w calls) new.state.events) b.state
+      (subst (λ (cs : List Call). IsFrontOfSchedule d cs order (opening_at old.state cs) new.state.events) b.calls_are front)
+
+  -- the whole schedule from the recovered state on is the engine's
+  whole_of : (order : List ℕ) (ended : Play) → IsAfterSchedule d calls order (opening_at first calls) ended
+      → IsAfterSchedule d old.calls order (opening_at old.state old.calls) ended
+  whole_of order ended whole =
+      subst (λ (cs : List Call). IsAfterSchedule d cs order (opening_at old.state cs) ended) (sym b.calls_are)
+      (subst (λ (w : World). IsAfterSchedule d calls order (opening_at w calls) ended) (sym b.state) whole)
+
+  module _ (order : List ℕ) (front : IsFrontOfSchedule d old.calls order (opening_at old.state old.calls) new.state.events)
+      (told told' : Option (List ℕ)) (found : IsFound d told first)
       (counts : new.failed ≡ false → (file : List ℕ) → told' ≡ Some file
       → CountsFront new.base new.state.events new.settled file) where
     whole : new.failed ≡ false → new.settled ≡ length new.state.events
@@ -146,12 +163,13 @@ module _ {D : Type 0} (d : Design) (calls : List Call) (first : World) (old new 
     }
 
     breaks_off : (count : D → ℕ) (fault : Type 0) → (Rose (count old.disk) (count new.disk) → fault) → (s : Said)
-        → SaysFault count old new s → BreaksOff d calls told fault (telling_of s new.state.events new.settled)
+        → SaysFault count d order old new s → BreaksOff d calls order told fault (telling_of s new.state.events new.settled)
     breaks_off count fault so s f = record {
       failed = so f.rose;
       first = first;
       found = found;
       recorded = recorded;
+      front = fronts order front;
       lines = f.lines;
       replies = record {
         play = f.play;
@@ -165,6 +183,10 @@ module _ {D : Type 0} (d : Design) (calls : List Call) (first : World) (old new 
             ∙ ap (λ (cs : List Call). flat_map (settled_line (record f.play { world = f.replies.durable }))
             (range_with_len 1 (length cs))) calls_are;
       };
+      unsettled = λ ended whole.
+          subst (λ x. TellsDurablePart x calls new.state.events new.settled ended f.lines) design_is
+          (subst (λ (cs : List Call). TellsDurablePart new.design cs new.state.events new.settled ended f.lines) calls_are
+          (f.unsettled ended (whole_of order ended whole)));
       ending = f.says.0;
       text = f.says.1;
     }

@@ -9,7 +9,7 @@ use Rattle.acc_settled.specs.declared.schedules.Scheduled.{Scheduled}
 use Rattle.acc_settled.specs.declared.schedules.Stopped.{Stopped}
 use Rattle.acc_settled.specs.declared.schedules.Stopped.TheVariants.{Disk, Memory}
 use Rattle.acc_settled.specs.Openings.{opening_at}
-use Rattle.acc_settled.specs.Schedules.{TellsStop}
+use Rattle.acc_settled.specs.Schedules.{TellsStop, TellsPartOfSchedule}
 use Rattle.acc_recover.specs.declared.errors.RecoverError.{RecoverError}
 use Rattle.acc_recover.specs.declared.errors.RecoverError.TheVariants as recovery
 use Rattle.acc_wal.specs.declared.errors.WalError.TheVariants as wal
@@ -24,8 +24,9 @@ module _ {D : Type 0} (count : D → ℕ) (d : Design) (order : List ℕ) (old n
       (told : Result Scheduled Stopped)
       → IfOk told (λ s. TellsScheduleFrom d old.calls (opening_at old.state old.calls) order s.text.items new.state.events s.all_begun)
       → OnOk told ((new.settled ≡ length new.state.events) × (new.failed ≡ false)) → IfErr told (λ stop. TellsStop count stop old new)
+      → IfErr told (TellsPartOfSchedule d old.calls order (opening_at old.state old.calls) new)
       → (s : Said) → SaysTold told s → SaysRun count d order old new s
-  says_one (Ok told) tells settled stops s says =
+  says_one (Ok told) tells settled stops parts s says =
       inl
       (record {
         all_begun = told.all_begun;
@@ -36,7 +37,7 @@ module _ {D : Type 0} (count : D → ℕ) (d : Design) (order : List ℕ) (old n
         settled = settled.0;
         unfailed = settled.1;
       })
-  says_one (Err (Disk lines)) tells settled stops s says =
+  says_one (Err (Disk lines)) tells settled stops parts s says =
       inr
       (record {
         rose = stops.1;
@@ -44,17 +45,19 @@ module _ {D : Type 0} (count : D → ℕ) (d : Design) (order : List ℕ) (old n
         numbers = stops.2.2;
         lines = lines.items;
         replies = stops.2.3;
+        unsettled = parts;
         says = says;
       })
-  says_one (Err Memory) tells settled stops s says = absurd says
+  says_one (Err Memory) tells settled stops parts s says = absurd says
 
   pub says_run :
       {E : Type 0} (told : Result Scheduled Stopped) (said : Result Said E)
       → IfOk told (λ s. TellsScheduleFrom d old.calls (opening_at old.state old.calls) order s.text.items new.state.events s.all_begun)
       → OnOk told ((new.settled ≡ length new.state.events) × (new.failed ≡ false)) → IfErr told (λ stop. TellsStop count stop old new)
+      → IfErr told (TellsPartOfSchedule d old.calls order (opening_at old.state old.calls) new)
       → IfOk said (SaysTold told) → IfOk said (SaysRun count d order old new)
-  says_run told said tells settled stops says =
-      IfOk-weaker said (SaysTold told) (SaysRun count d order old new) (says_one told tells settled stops) says
+  says_run told said tells settled stops parts says =
+      IfOk-weaker said (SaysTold told) (SaysRun count d order old new) (says_one told tells settled stops parts) says
 
 -- ---- a refusal has no events
 

@@ -12,6 +12,7 @@ use Rattle.acc_settled.specs.declared.schedules.Stopped.{Stopped}
 use Rattle.acc_settled.specs.declared.schedules.Stopped.TheVariants.{Disk, Memory}
 use Rattle.acc_settled.specs.Openings.{opening_at}
 use Rattle.acc_settled.specs.Stops.{AreNumbersOf, TellsSettled}
+use Rattle.acc_settled.specs.Wholes.{IsAfterSchedule, TellsDurablePart}
 use Rattle.acc_journalled.specs.declared.answers.Ending.{Ending}
 use Rattle.acc_journalled.specs.declared.answers.Ending.TheVariants.{Done, Unbegun, DiskFailed}
 use Rattle.acc_running.specs.declared.answers.Said.{Said}
@@ -40,17 +41,20 @@ pub record SaysAll {D : Type 0} (d : Design) (order : List ℕ) (old new : Journ
   pub settled : new.settled ≡ length new.state.events
   pub unfailed : new.failed ≡ false
 
--- the disk failed, and the durable replies are said
-pub record SaysFault {D : Type 0} (count : D → ℕ) (old new : Journalled D) (s : Said) : Type 0 where
+-- the disk failed, and the durable replies are said, which are those of the whole schedule
+pub record SaysFault {D : Type 0} (count : D → ℕ) (d : Design) (order : List ℕ) (old new : Journalled D) (s : Said) : Type 0 where
   pub rose : Rose (count old.disk) (count new.disk)
   pub play : Play
   pub numbers : AreNumbersOf new play.numbers
   pub lines : List ℕ
   pub replies : TellsSettled new play lines
+  pub unsettled :
+      (ended : Play) → IsAfterSchedule d old.calls order (opening_at old.state old.calls) ended
+      → TellsDurablePart new.design new.calls new.state.events new.settled ended lines
   pub says : IsWithFault lines s
 
 abbrev pub SaysRun : {D : Type 0} → (D → ℕ) → Design → List ℕ → Journalled D → Journalled D → Said → Type 0
-SaysRun count d order old new s = SaysAll d order old new s ⊎ SaysFault count old new s
+SaysRun count d order old new s = SaysAll d order old new s ⊎ SaysFault count d order old new s
 
 -- an engine's disk, its events and how many of them are durable
 pub record HandsOver {D : Type 0} (e : Journalled D) (disk : D) (history : List Event) (settled : ℕ) : Type 0 where

@@ -1,5 +1,5 @@
 -- What is said of a run over a journal.
-use Rattle.std.specs.Prelude.{◌≡◌, ◌⊎◌, ◌++◌, ℕ, Bool, false, List, length, take, Option, Some, None, IfSome, slice_get, codes}
+use Rattle.std.specs.Prelude.{◌≡◌, ◌⊎◌, ◌++◌, ℕ, Bool, false, List, [], length, take, Option, Some, None, IfSome, slice_get, codes}
 use Rattle.std.specs.List.{flat_map, range_with_len}
 use Rattle.acc_base.specs.declared.designs.Design.{Design}
 use Rattle.acc_base.specs.declared.machines.Call.{Call}
@@ -12,6 +12,7 @@ use Rattle.acc_wal.specs.Journals.{Counts}
 use Rattle.acc_engine.specs.Keeping.{is_begun}
 use Rattle.acc_schedule.specs.Schedules.{TellsScheduleFrom}
 use Rattle.acc_settled.specs.Openings.{opening_at}
+use Rattle.acc_settled.specs.Wholes.{IsAfterSchedule, IsFrontOfSchedule, TellsDurablePart}
 use Rattle.acc_journalled.specs.declared.answers.Ending.TheVariants.{DiskFailed}
 use Rattle.acc_journalled.specs.Recovering.{RefusesSo}
 use Rattle.acc_journalled.specs.Tellings.{Telling}
@@ -40,19 +41,30 @@ pub record TellsDurable (d : Design) (calls : List Call) (begun : List Bool) (hi
     pub run : world d (take settled history) ≡ Some durable
     pub text_is : text ≡ flat_map (settled_line (record play { world = durable })) (range_with_len 1 (length calls))
 
--- the disk failed behind the recovery
-pub record BreaksOff (d : Design) (calls : List Call) (told : Option (List ℕ)) (fault : Type 0) (t : Telling) : Type 0 where
-  pub failed : fault
-  pub first : World
-  pub found : IsFound d told first
-  pub recorded : IsRecorded d calls first t.history t.settled
-  pub lines : List ℕ
-  pub replies : TellsDurable d calls recorded.begun t.history t.settled lines
-  pub ending : t.ending ≡ DiskFailed
-  pub text : t.text ≡ lines ++ line (codes "fault disk")
+-- The disk failed behind the recovery. The events are the first of those of the whole schedule, which is what the same order gives where
+-- nothing fails, and the lines are those of its places, as far as they are durable.
+pub record BreaksOff (d : Design) (calls : List Call) (order : List ℕ) (told : Option (List ℕ)) (fault : Type 0) (t : Telling) : Type 0
+  where
+    pub failed : fault
+    pub first : World
+    pub found : IsFound d told first
+    pub recorded : IsRecorded d calls first t.history t.settled
+    pub front : IsFrontOfSchedule d calls order (opening_at first calls) t.history
+    pub lines : List ℕ
+    pub replies : TellsDurable d calls recorded.begun t.history t.settled lines
+    pub unsettled :
+        (ended : Play) → IsAfterSchedule d calls order (opening_at first calls) ended
+        → TellsDurablePart d calls t.history t.settled ended lines
+    pub ending : t.ending ≡ DiskFailed
+    pub text : t.text ≡ lines ++ line (codes "fault disk")
 
 -- the schedule is told to its end, or to where the disk failed; or the journal isn't recovered, for a cause
 abbrev pub RunsJournal :
     Design → List Call → List ℕ → Option (List ℕ) → Option (List ℕ) → Type 0 → Telling → Type 0
 RunsJournal d calls order told told' fault t =
-    RunsThrough d calls order told told' t ⊎ BreaksOff d calls told fault t ⊎ RefusesSo d told told' fault t
+    RunsThrough d calls order told told' t ⊎ BreaksOff d calls order told fault t ⊎ RefusesSo d told told' fault t
+
+-- nothing was recovered, and no event is told; or the events are the first of those of the whole schedule from the recovered state on
+abbrev pub FollowsOrder : Design → List Call → List ℕ → Option (List ℕ) → List Event → Type 0
+FollowsOrder d calls order told history =
+    (history ≡ []) ⊎ ((first : World) × IsFound d told first × IsFrontOfSchedule d calls order (opening_at first calls) history)

@@ -4,8 +4,9 @@ ghost use Rattle.acc_wal.specs.Fronts.{CountsFront};
 ghost use Rattle.acc_machine.specs.Kept.{IsKept};
 ghost use Rattle.acc_engine.specs.Keeping.{BeginsFrom};
 ghost use Rattle.acc_script.specs.OrderLines.{IsPlace};
-ghost use Rattle.acc_settled.specs.Openings.{IsFresh};
+ghost use Rattle.acc_settled.specs.Openings.{opening_at, IsFresh};
 ghost use Rattle.acc_settled.specs.Runs.{RunsOn, IsAckedButOne};
+ghost use Rattle.acc_settled.specs.Wholes.{IsFrontOfSchedule};
 ghost use Rattle.acc_running.specs.Engines.{ending_at, IsWithFault, SaysTold, SaysRun, HandsOver};
 
 use crate::answers::{Run, Said};
@@ -65,6 +66,8 @@ pub fn say<S: Store, D: Disk>(
     requires fresh { IsFresh engine.old }
     requires places { All (IsPlace (length engine.old.calls)) order.now }
     ensures says { IfOk result (SaysRun D.faults d.now order.now engine.old engine.new) }
+    ensures front { IsFrontOfSchedule d.now engine.old.calls order.now (opening_at engine.old.state engine.old.calls)
+        engine.new.state.events }
     ensures runs { RunsOn D.clock D.left_since D.told D.may_leave D.faults engine.old engine.new }
     ensures one_end { IsAckedButOne engine.new }
     ensures kept { IsKept engine.new.design engine.new.state }

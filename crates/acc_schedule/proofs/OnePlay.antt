@@ -35,7 +35,7 @@ module _ (m : Rules) (one : IsDetermined m) where
         one.begins p.world k.call h.world k.world (subst (λ (c : Call). m.begins p.world c h.world) same_call h.allowed) k.allowed in
         one_opening place p k.world x y (subst (λ (w : Option World). Opens m place p w x) same_world h.opens) k.opens
 
-    one_mention :
+    pub one_mention :
         (place : ℕ) (p : Play) (o : Option ℕ) (x y : Told × Play) → Mentions m calls place p o x → Mentions m calls place p o y → x ≡ y
     one_mention place p None x y h k = one_begin place p x y h k
     one_mention place p (Some t) x y h k = one_going place t p (reply_at t p.world) x y h k
@@ -55,15 +55,15 @@ module _ (m : Rules) (one : IsDetermined m) where
   -- ---- passes
 
   -- the turns of a pass by their list
-  abbrev Turned : World → List ℕ → World → Type 0
+  abbrev pub Turned : World → List ℕ → World → Type 0
   Turned w [] v = w ≡ v
   Turned w (t ∷ ts) v = (x : Option (Turn × World)) × m.turns w t x × TurnsEach m (after_turn w x) ts v
 
-  turned : (w v : World) (ts : List ℕ) → TurnsEach m w ts v → Turned w ts v
+  pub turned : (w v : World) (ts : List ℕ) → TurnsEach m w ts v → Turned w ts v
   turned w v ts none = refl
   turned w v ts (turns x allowed rest) = (x, allowed, rest)
 
-  one_pass : (ts : List ℕ) (w u v : World) → TurnsEach m w ts u → TurnsEach m w ts v → u ≡ v
+  pub one_pass : (ts : List ℕ) (w u v : World) → TurnsEach m w ts u → TurnsEach m w ts v → u ≡ v
   one_pass [] w u v h k = sym (turned w u [] h) ∙ turned w v [] k
   one_pass (t ∷ ts) w u v h k =
       let a = turned w u (t ∷ ts) h in
@@ -72,13 +72,13 @@ module _ (m : Rules) (one : IsDetermined m) where
       one_pass ts (after_turn w b.0) u v (subst (λ (x : Option (Turn × World)). TurnsEach m (after_turn w x) ts u) same a.2) b.2
 
   -- nothing is left, or there is a pass, and then the rest
-  abbrev Passed : World → World → Type 0
+  abbrev pub Passed : World → World → Type 0
   Passed w v = (u : World) × (unfinished w ≢ []) × TurnsEach m w (unfinished_numbers w) u × EndsAll m u v
 
-  abbrev Over : World → World → Type 0
+  abbrev pub Over : World → World → Type 0
   Over w v = (unfinished w ≡ []) × (w ≡ v)
 
-  passed : (w v : World) → EndsAll m w v → Over w v ⊎ Passed w v
+  pub passed : (w v : World) → EndsAll m w v → Over w v ⊎ Passed w v
   passed w v (ended over) = inl (over, refl)
   passed w v (pass {u = u} some turned rest) = inr (u, some, turned, rest)
 
@@ -113,7 +113,8 @@ module _ (m : Rules) (one : IsDetermined m) where
         one.begins p.world k.call h.world k.world (subst (λ (c : Call). m.begins p.world c h.world) same_call h.allowed) k.allowed in
         one_begun place p k.world q r (subst (λ (w : Option World). EndsBegun m place p w q) same_world h.ends) k.ends
 
-    one_place : (place : ℕ) (p : Play) (o : Option ℕ) (q r : Play) → EndsPlace m calls place p o q → EndsPlace m calls place p o r → q ≡ r
+    pub one_place : (place : ℕ) (p : Play) (o : Option ℕ) (q r : Play) → EndsPlace m calls place p o q → EndsPlace m calls place p o r
+        → q ≡ r
     one_place place p (Some t) q r h k = h ∙ sym k
     one_place place p None q r h k = one_beginning place p q r h k
 

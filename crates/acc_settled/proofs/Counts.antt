@@ -30,14 +30,14 @@ became_same w v e t (Some y) h =
     subst (λ (z : World). length z.transactions ≡ length w.transactions + 0) (same_Some (became w e t y) v h)
     (let same = length-set w.transactions (t - 1) y.1 in omega (arith, same))
 
-event_more : (d : Design) (w v : World) (e : Event) → after_event d w e ≡ Some v
+pub event_more : (d : Design) (w v : World) (e : Event) → after_event d w e ≡ Some v
     → length v.transactions ≡ length w.transactions + cond (is_begin e) 1 0
 event_more d w v (Begin call) h = begun_more d w v call (call_fits (slice_get d.types call.ty) call) h
 event_more d w v (Step t) h = became_same w v (Step t) t (changed d w.rows (Step t) (transaction_at t w.transactions)) h
 event_more d w v (Abort t c) h = became_same w v (Abort t c) t (changed d w.rows (Abort t c) (transaction_at t w.transactions)) h
 event_more d w v (Undo t) h = became_same w v (Undo t) t (changed d w.rows (Undo t) (transaction_at t w.transactions)) h
 
-events_more : (d : Design) (w v : World) (events : List Event) → after_events d w events ≡ Some v
+pub events_more : (d : Design) (w v : World) (events : List Event) → after_events d w events ≡ Some v
     → length v.transactions ≡ length w.transactions + count_by is_begin events
 events_more d w v [] h = let same = ap (λ (z : World). length z.transactions) (same_Some w v h) in omega (arith, same)
 events_more d w v (e ∷ events) h = by (after_event d w e) refl h (λ u k. events_more d u v events k)

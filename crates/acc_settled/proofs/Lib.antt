@@ -7,3 +7,7 @@ pub mod Marks
 pub mod Telling
 pub mod Lines
 pub mod BeginSizes
+pub mod Preceding
+pub mod Leading
+pub mod Remaining
+pub mod Fronts

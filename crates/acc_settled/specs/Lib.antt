@@ -3,4 +3,6 @@ pub mod Boards
 pub mod Openings
 pub mod Stops
 pub mod Replies
+pub mod Wholes
+pub mod Ways
 pub mod Schedules

@@ -3,6 +3,8 @@ use Rattle.std.specs.Prelude.{◌≡◌, ◌++◌, ℕ, List, Bool, true, length
 use Rattle.std.specs.List.{flat_map, range_with_len}
 use Rattle.std.specs.Fmt.{decimal}
 use Rattle.acc_io.specs.Causes.{Rose}
+use Rattle.acc_base.specs.declared.designs.Design.{Design}
+use Rattle.acc_base.specs.declared.machines.Call.{Call}
 use Rattle.acc_base.specs.Lines.{line}
 use Rattle.acc_base.specs.Plays.{Play}
 use Rattle.acc_engine.specs.Keeping.{Journalled}
@@ -14,6 +16,7 @@ use Rattle.acc_settled.specs.declared.schedules.Stopped.{Stopped}
 use Rattle.acc_settled.specs.declared.schedules.Stopped.TheVariants.{Disk, Memory}
 use Rattle.acc_settled.specs.Replies.{line_after}
 use Rattle.acc_settled.specs.Stops.{AreNumbersOf, TellsSettled}
+use Rattle.acc_settled.specs.Wholes.{IsAfterSchedule, TellsDurablePart}
 
 -- behind the lines of a board whose engine has nothing unfinished: a reply line each place, and the number of events
 pub record IsClosed {D : Type 0} (e : Journalled D) (old new : Board) (all_begun : Bool) : Type 0 where
@@ -35,3 +38,11 @@ TellsStop count (Disk text) old new =
     (new.failed ≡ true) × Rose (count old.disk) (count new.disk)
     × ((p : Play) × (p.world ≡ new.state) × AreNumbersOf new p.numbers × TellsSettled new p text.items)
 TellsStop count Memory old new = new.failed ≡ true → Rose (count old.disk) (count new.disk)
+
+-- the lines are those of this whole schedule, as far as they are durable; want of memory tells none
+abbrev pub TellsPart : {D : Type 0} → Journalled D → Stopped → Play → Type 0
+TellsPart e (Disk text) ended = TellsDurablePart e.design e.calls e.state.events e.settled ended text.items
+TellsPart e Memory ended = Unit {0}
+
+abbrev pub TellsPartOfSchedule : {D : Type 0} → Design → List Call → List ℕ → Play → Journalled D → Stopped → Type 0
+TellsPartOfSchedule d calls order first e stop = (ended : Play) → IsAfterSchedule d calls order first ended → TellsPart e stop ended

@@ -1,5 +1,5 @@
 //! How transactions are ended that an order leaves unfinished, and the places that it leaves out.
-ghost use Rattle.std.specs.Prelude.{◌≡◌, ◌≢◌, ◌≤◌, ◌<◌, ◌-◌, ℕ, [], length, map, false, IfOk, IfErr, OnOk, IsTrue, ◌↔◌};
+ghost use Rattle.std.specs.Prelude.{◌≡◌, ◌≢◌, ◌≤◌, ◌<◌, ◌-◌, ℕ, [], length, map, false, IfOk, IfErr, OnOk, OnErr, IsTrue, ◌↔◌};
 ghost use Rattle.std.specs.List.{range_with_len};
 ghost use Rattle.acc_base.specs.declared.bounds.TheConstants.{MOST_EVENTS};
 ghost use Rattle.acc_base.specs.Invariant.{IsGood};
@@ -12,6 +12,7 @@ ghost use Rattle.acc_schedule.specs.Passes.{Takes, Moves};
 ghost use Rattle.acc_settled.specs.Boards.{play_of, IsBoardOf, IsUnbegun, KeepsBegun};
 ghost use Rattle.acc_settled.specs.Runs.{RunsOn, IsReadyAgain};
 ghost use Rattle.acc_settled.specs.Stops.{Stops};
+ghost use Rattle.acc_settled.specs.Ways.{PrecedesEach, PlayPrecedesEach};
 
 use crate::boards::Board;
 use crate::errors::Stop;
@@ -42,6 +43,7 @@ fn take_any<S: Store, D: Disk>(engine: &mut Engine<S, D>, t: u64) -> Result<(), 
     ensures begun { engine.new.begun ≡ engine.old.begun }
     ensures runs { RunsOn D.clock D.left_since D.told D.may_leave D.faults engine.old engine.new }
     ensures again { OnOk result (IsReadyAgain D.told D.may_leave engine.old engine.new) }
+    ensures front { OnErr result (PrecedesEach engine.new.state (Takes engine.old.design engine.old.state t)) }
     ensures why { IfErr result (λ stop. Stops D.faults stop engine.old engine.new) }
 {
     let state = engine.state();
@@ -63,6 +65,8 @@ fn pass<S: Store, D: Disk>(alloc: Global, engine: &mut Engine<S, D>) -> Result<(
     ensures begun { engine.new.begun ≡ engine.old.begun }
     ensures runs { RunsOn D.clock D.left_since D.told D.may_leave D.faults engine.old engine.new }
     ensures again { OnOk result (IsReadyAgain D.told D.may_leave engine.old engine.new) }
+    ensures front { OnErr result (PrecedesEach engine.new.state
+        (TurnsEach (with_locks engine.old.design) engine.old.state (unfinished_numbers engine.old.state))) }
     ensures why { IfErr result (λ stop. Stops D.faults stop engine.old engine.new) }
 {
     let numbers = numbers_of(alloc, engine.state().unfinished())?;
@@ -89,6 +93,7 @@ pub fn end_all<S: Store, D: Disk>(alloc: Global, engine: &mut Engine<S, D>) -> R
     ensures begun { engine.new.begun ≡ engine.old.begun }
     ensures runs { RunsOn D.clock D.left_since D.told D.may_leave D.faults engine.old engine.new }
     ensures again { OnOk result (IsReadyAgain D.told D.may_leave engine.old engine.new) }
+    ensures front { OnErr result (PrecedesEach engine.new.state (EndsAll (with_locks engine.old.design) engine.old.state)) }
     ensures why { IfErr result (λ stop. Stops D.faults stop engine.old engine.new) }
 {
     while !is_over(engine) {
@@ -117,6 +122,8 @@ fn end_place<S: Store, D: Disk>(
     ensures text { board.new.text.items ≡ board.old.text.items }
     ensures runs { RunsOn D.clock D.left_since D.told D.may_leave D.faults engine.old engine.new }
     ensures again { OnOk result (IsReadyAgain D.told D.may_leave engine.old engine.new) }
+    ensures front { OnErr result (PlayPrecedesEach (play_of engine.new.state board.new) (EndsPlace (with_locks engine.old.design)
+        engine.old.calls place (play_of engine.old.state board.old) (number_of (play_of engine.old.state board.old) place))) }
     ensures why { IfErr result (λ stop. Stops D.faults stop engine.old engine.new) }
 {
     if board.numbers[(place - 1) as usize].is_some() {
@@ -145,6 +152,8 @@ pub fn end_places<S: Store, D: Disk>(
     ensures text { board.new.text.items ≡ board.old.text.items }
     ensures runs { RunsOn D.clock D.left_since D.told D.may_leave D.faults engine.old engine.new }
     ensures again { OnOk result (IsReadyAgain D.told D.may_leave engine.old engine.new) }
+    ensures front { OnErr result (PlayPrecedesEach (play_of engine.new.state board.new) (EndsPlaces (with_locks engine.old.design)
+        engine.old.calls (play_of engine.old.state board.old) (range_with_len 1 (length engine.old.calls)))) }
     ensures why { IfErr result (λ stop. Stops D.faults stop engine.old engine.new) }
 {
     for at in 0..engine.places() {

@@ -1,5 +1,5 @@
 //! Mentions of places.
-ghost use Rattle.std.specs.Prelude.{◌≡◌, ◌-◌, length, false, Some, IfOk, IfErr, IfSome, OnOk, slice_get};
+ghost use Rattle.std.specs.Prelude.{◌≡◌, ◌-◌, length, false, Some, IfOk, IfErr, IfSome, OnOk, OnErr, slice_get};
 ghost use Rattle.acc_base.specs.Plays.{number_of};
 ghost use Rattle.acc_plain.specs.Turned.{IsUnfinished};
 ghost use Rattle.acc_script.specs.OrderLines.{IsPlace};
@@ -7,6 +7,7 @@ ghost use Rattle.acc_schedule.specs.Stages.{HasBegun};
 ghost use Rattle.acc_settled.specs.Boards.{play_of, IsBoardOf, KeepsBegun, TakesItsTurn, IsMentioned};
 ghost use Rattle.acc_settled.specs.Runs.{RunsOn, IsReadyAgain};
 ghost use Rattle.acc_settled.specs.Stops.{Stops};
+ghost use Rattle.acc_settled.specs.Ways.{PlayPrecedesEach, IsAfterBegin, IsAfterGoing, IsAfterMention};
 
 use crate::boards::Board;
 use crate::errors::Stop;
@@ -34,6 +35,8 @@ pub fn number<S: Store, D: Disk>(
     ensures text { board.new.text.items ≡ board.old.text.items }
     ensures runs { RunsOn D.clock D.left_since D.told D.may_leave D.faults engine.old engine.new }
     ensures again { OnOk result (IsReadyAgain D.told D.may_leave engine.old engine.new) }
+    ensures front { OnErr result (PlayPrecedesEach (play_of engine.new.state board.new)
+        (IsAfterBegin engine.old.design engine.old.calls place (play_of engine.old.state board.old))) }
     ensures why { IfErr result (λ stop. Stops D.faults stop engine.old engine.new) }
 {
     let at = (place - 1) as usize;
@@ -69,6 +72,8 @@ fn take_open_turn<S: Store, D: Disk>(
     ensures board { IsBoardOf engine.new board.new }
     ensures runs { RunsOn D.clock D.left_since D.told D.may_leave D.faults engine.old engine.new }
     ensures again { OnOk result (IsReadyAgain D.told D.may_leave engine.old engine.new) }
+    ensures front { OnErr result (PlayPrecedesEach (play_of engine.new.state board.new)
+        (IsAfterGoing d.now place t (play_of engine.old.state board.old))) }
     ensures why { IfErr result (λ stop. Stops D.faults stop engine.old engine.new) }
 {
     let turn = take(engine, t)?;
@@ -91,6 +96,8 @@ fn take_turn<S: Store, D: Disk>(
     ensures board { IsBoardOf engine.new board.new }
     ensures runs { RunsOn D.clock D.left_since D.told D.may_leave D.faults engine.old engine.new }
     ensures again { OnOk result (IsReadyAgain D.told D.may_leave engine.old engine.new) }
+    ensures front { OnErr result (PlayPrecedesEach (play_of engine.new.state board.new)
+        (IsAfterGoing d.now place t (play_of engine.old.state board.old))) }
     ensures why { IfErr result (λ stop. Stops D.faults stop engine.old engine.new) }
 {
     if engine.state().is_unfinished(t) {
@@ -118,6 +125,8 @@ pub fn mention<S: Store, D: Disk>(
     ensures board { IsBoardOf engine.new board.new }
     ensures runs { RunsOn D.clock D.left_since D.told D.may_leave D.faults engine.old engine.new }
     ensures again { OnOk result (IsReadyAgain D.told D.may_leave engine.old engine.new) }
+    ensures front { OnErr result (PlayPrecedesEach (play_of engine.new.state board.new)
+        (IsAfterMention d.now engine.old.calls place (play_of engine.old.state board.old))) }
     ensures why { IfErr result (λ stop. Stops D.faults stop engine.old engine.new) }
 {
     match number(engine, board, place)? {

@@ -1,14 +1,18 @@
 //! An engine's calls that are scheduled in an order, and the lines of it.
-ghost use Rattle.std.specs.Prelude.{◌≡◌, ◌≤◌, ℕ, [], length, All, false, IfOk, IfErr, OnOk, IsTrue, IsFalse, IsSome, None, Some, slice_get};
+ghost use Rattle.std.specs.Prelude.{◌≡◌, ◌≤◌, ℕ, [], length, All, false, IfOk, IfErr, OnOk, OnErr, IsTrue, IsFalse, IsSome, None, Some};
+ghost use Rattle.std.specs.Prelude.{slice_get};
 ghost use Rattle.acc_base.specs.declared.bounds.TheConstants.{MOST_EVENTS};
 ghost use Rattle.acc_base.specs.Machine.{unfinished};
+ghost use Rattle.acc_base.specs.Plays.{Play};
 ghost use Rattle.acc_script.specs.OrderLines.{IsPlace};
 ghost use Rattle.acc_schedule.specs.Schedules.{TellsScheduleFrom, IsPlayed};
 ghost use Rattle.acc_settled.specs.Boards.{play_of, IsBoardOf, IsUnbegun};
 ghost use Rattle.acc_settled.specs.Openings.{opening_at, IsFresh};
 ghost use Rattle.acc_settled.specs.Runs.{RunsOn, IsReadyAgain, IsAckedButOne};
-ghost use Rattle.acc_settled.specs.Schedules.{IsClosed, StopsSo, TellsStop};
+ghost use Rattle.acc_settled.specs.Schedules.{IsClosed, StopsSo, TellsStop, TellsPart, TellsPartOfSchedule};
 ghost use Rattle.acc_settled.specs.Stops.{Stops};
+ghost use Rattle.acc_settled.specs.Ways.{PlayPrecedes, PlayPrecedesEach, IsAfterOrder};
+ghost use Rattle.acc_settled.specs.Wholes.{IsAfterSchedule, IsFrontOfSchedule};
 
 use crate::boards::{Board, open};
 use crate::endings::{end_all, end_places};
@@ -56,6 +60,8 @@ fn mention_all<S: Store, D: Disk>(
     ensures board { IsBoardOf engine.new board.new }
     ensures runs { RunsOn D.clock D.left_since D.told D.may_leave D.faults engine.old engine.new }
     ensures again { OnOk result (IsReadyAgain D.told D.may_leave engine.old engine.new) }
+    ensures front { OnErr result (PlayPrecedesEach (play_of engine.new.state board.new)
+        (IsAfterOrder d.now engine.old.calls order.now (play_of engine.old.state board.old))) }
     ensures why { IfErr result (λ stop. Stops D.faults stop engine.old engine.new) }
 {
     for place in order {
@@ -109,6 +115,8 @@ fn run<S: Store, D: Disk>(
     ensures board { IsBoardOf engine.new board.new }
     ensures runs { RunsOn D.clock D.left_since D.told D.may_leave D.faults engine.old engine.new }
     ensures again { OnOk result (IsReadyAgain D.told D.may_leave engine.old engine.new) }
+    ensures front { OnErr result (PlayPrecedesEach (play_of engine.new.state board.new)
+        (IsAfterSchedule d.now engine.old.calls order.now (play_of engine.old.state board.old))) }
     ensures why { IfErr result (λ stop. Stops D.faults stop engine.old engine.new) }
 {
     mention_all(engine, board, d, order)?;
@@ -126,7 +134,8 @@ fn told_of<S: Store, D: Disk>(
     stop: Stop,
 ) -> Stopped
     requires board { IsBoardOf engine.now board.now }
-    ensures { StopsSo stop engine.now (play_of engine.now.state board.now) result }
+    ensures so { StopsSo stop engine.now (play_of engine.now.state board.now) result }
+    ensures part { (later : Play) → PlayPrecedes (play_of engine.now.state board.now) later → TellsPart engine.now result later }
 {
     let _state = engine.state();
     match stop {
@@ -148,6 +157,9 @@ fn told_of<S: Store, D: Disk>(
 /// However it ends, the history goes on from the engine's; from a calm disk a crash at any moment of the call leaves a journal of some
 /// first of the events, of all that were durable before at least, and one after the call, of all that are durable then; unless the engine
 /// has failed, the disk is calm again; and each reply but one at most is durable.
+///
+/// However it ends, the events are the first of those of the whole schedule, which is what the same order gives where nothing fails. Where
+/// the disk fails, the lines are those of the whole schedule's places: a reply of its, where that is durable, or that it is unsettled.
 pub fn schedule<S: Store, D: Disk>(
     alloc: Global,
     engine: &mut Engine<S, D>,
@@ -161,6 +173,10 @@ pub fn schedule<S: Store, D: Disk>(
         s.text.items engine.new.state.events s.all_begun) }
     ensures settled { OnOk result ((engine.new.settled ≡ length engine.new.state.events) × (engine.new.failed ≡ false)) }
     ensures stops { IfErr result (λ stop. TellsStop D.faults stop engine.old engine.new) }
+    ensures front { IsFrontOfSchedule d.now engine.old.calls order.now (opening_at engine.old.state engine.old.calls)
+        engine.new.state.events }
+    ensures unsettled { IfErr result (TellsPartOfSchedule d.now engine.old.calls order.now (opening_at engine.old.state engine.old.calls)
+        engine.new) }
     ensures runs { RunsOn D.clock D.left_since D.told D.may_leave D.faults engine.old engine.new }
     ensures one_end { IsAckedButOne engine.new }
 {

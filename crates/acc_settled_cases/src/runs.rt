@@ -12,6 +12,7 @@ use acc_case_words::words::parted;
 use acc_disk::MemDisk;
 use acc_journalled::Ending;
 use acc_lift::Accepted;
+use acc_progress::Silent;
 use acc_recover::recover;
 use acc_running::{Run, Said, schedule_journal};
 use acc_store::MapStore;
@@ -65,7 +66,7 @@ fn push_over(
     requires few { begins_size calls < 2 ^ 31 }
     requires places { All (IsPlace (length calls)) order.now }
 {
-    let run = schedule_journal(alloc, design, calls, order, disk);
+    let run = schedule_journal(alloc, design, calls, order, disk, &mut Silent);
     push_run_of(out, &run)?;
     Ok(run.disk)
 }
@@ -98,7 +99,7 @@ fn push_recovery(
     bytes: &[u8],
 ) -> Result<(), AllocError> {
     let disk = fresh(alloc, bytes, None)?;
-    match recover(alloc, design, MapStore::new(alloc), disk) {
+    match recover(alloc, design, MapStore::new(alloc), disk, &mut Silent) {
         Ok(recovered) => {
             let events = recovered.state.events().len();
             writeln!(

@@ -3,6 +3,7 @@ use acc_base::machines::Event;
 use acc_case_words::events::event;
 use acc_lift::Accepted;
 use acc_machine::{ReplayError, State, replay};
+use acc_progress::Silent;
 use acc_store::MapStore;
 use std::alloc::{AllocError, Global};
 use std::fmt::Write;
@@ -38,7 +39,7 @@ fn push_done_again(
     design: &Accepted,
     events: &[Event],
 ) -> Result<(), AllocError> {
-    match replay(alloc, design, MapStore::new(alloc), events) {
+    match replay(alloc, design, MapStore::new(alloc), events, &mut Silent) {
         Ok(state) => push_count(out, state),
         Err((ReplayError::Unlawful(at), _)) => write!(out, "unlawful {at}"),
         Err((ReplayError::Memory, _)) => Err(AllocError),

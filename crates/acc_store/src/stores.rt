@@ -4,10 +4,9 @@ ghost use Rattle.std.specs.List.{list_any};
 ghost use Rattle.acc_base.specs.Tables.{is_at, column_of, count_of, sum_of, least_of, greatest_of};
 ghost use Rattle.acc_store.specs.Rows.{columns_of, written, IsNarrow, SumsFit};
 
-use crate::maps::{
-    Entries, apply_writes, column_at, columns_at, count_under, greatest_under, has_row,
-    least_under, rows_of, sum_under,
-};
+use crate::changes::apply_writes;
+use crate::maps::{Entries, column_at, columns_at, has_row, rows_of};
+use crate::sums::{count_under, greatest_under, least_under, sum_under};
 use crate::writes::Write;
 use acc_base::sequences::Seq;
 use acc_base::tables::Plain;

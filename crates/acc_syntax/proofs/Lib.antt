@@ -2,7 +2,6 @@ pub mod Combinators
 pub mod Faults
 pub mod Following
 pub mod WordLaws
-pub mod OwnWords
 pub mod KindLaws
 pub mod SumLaws
 pub mod RowLaws
@@ -10,11 +9,3 @@ pub mod GuardLaws
 pub mod TableLaws
 pub mod FormLaws
 pub mod ClauseLaws
-pub mod EntryLaws
-pub mod ReadLaws
-pub mod ActionLaws
-pub mod TargetLaws
-pub mod StepLaws
-pub mod TypeLaws
-pub mod WholeLaws
-pub mod SpelledStatements

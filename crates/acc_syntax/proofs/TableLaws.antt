@@ -13,7 +13,7 @@ use Rattle.acc_syntax.specs.declared.trees.Names.{Names}
 use Rattle.acc_syntax.specs.declared.trees.TableTree.{TableTree}
 use Rattle.acc_syntax.specs.Spelling.{just, name, names, number, table, names_statement}
 use Rattle.acc_syntax.specs.WordReaders.{same_sign, comes, is_name}
-use Rattle.acc_syntax.specs.StatementReaders.{private_at, table_at, starts_table, names_at, names_statement_at}
+use Rattle.acc_syntax.specs.TableReaders.{private_at, table_at, starts_table, names_at, names_statement_at}
 use Rattle.acc_syntax.proofs.Following.{CanFollow, is_own}
 use Rattle.acc_syntax.proofs.Combinators.{made_free, all_in}
 use Rattle.acc_syntax.proofs.WordLaws.{same_refl, comes_head, sign_exact, name_exact, number_exact, after_exact, closed_exact, names_run}

@@ -11,7 +11,7 @@ use Rattle.acc_syntax.specs.declared.trees.FormRelTree.{FormRelTree}
 use Rattle.acc_syntax.specs.declared.trees.ClauseTree.{ClauseTree}
 use Rattle.acc_syntax.specs.WordReaders.{WordsRead, comes, sign_at, further_at}
 use Rattle.acc_syntax.specs.ValueReaders.{sum_at}
-use Rattle.acc_syntax.specs.StatementReaders.{names_at}
+use Rattle.acc_syntax.specs.TableReaders.{names_at}
 use Rattle.acc_syntax.specs.FormReaders.{form_rel_at}
 
 -- forall names :, or nothing

@@ -1,11 +1,6 @@
 pub mod Spelling
-pub mod OwnWords
-pub mod Texts
 pub mod WordReaders
 pub mod ValueReaders
-pub mod StatementReaders
-pub mod ReadReaders
+pub mod TableReaders
 pub mod FormReaders
 pub mod ClauseReaders
-pub mod EntryReaders
-pub mod DesignReaders

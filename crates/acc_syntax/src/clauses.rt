@@ -79,7 +79,7 @@ impl Parser<'_> {
     }
 
     /// Clauses, as long as a statement begins with the word.
-    pub(crate) fn clauses(&mut self, sign: Sign) -> Result<Seq<ClauseTree>, Fault>
+    pub fn clauses(&mut self, sign: Sign) -> Result<Seq<ClauseTree>, Fault>
         ensures { Gives result self.new.words.now (many (comes sign) (clause_statement_at sign) self.old.words.now) }
     {
         let mut clauses = Seq::new(self.alloc);
@@ -91,7 +91,7 @@ impl Parser<'_> {
     }
 
     #[tactic(auto, unfolding(crate::specs::ClauseReaders::variant_at))]
-    pub(crate) fn variant(&mut self) -> Result<Option<Sum>, Fault>
+    pub fn variant(&mut self) -> Result<Option<Sum>, Fault>
         ensures { Gives result self.new.words.now (variant_at self.old.words.now) }
     {
         if self.comes(Sign::Variant) {

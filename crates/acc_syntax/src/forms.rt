@@ -169,7 +169,7 @@ impl Parser<'_> {
     }
 
     #[tactic(auto, unfolding(crate::specs::FormReaders::form_rel_at))]
-    pub(crate) fn form_rel(&mut self) -> Result<FormRelTree, Fault>
+    pub fn form_rel(&mut self) -> Result<FormRelTree, Fault>
         ensures { Gives result self.new.words.now (form_rel_at self.old.words.now) }
     {
         let left = self.form()?;
@@ -190,7 +190,7 @@ impl Parser<'_> {
         self.form_rel()
     }
 
-    pub(crate) fn further_form_rels(&mut self) -> Result<Seq<FormRelTree>, Fault>
+    pub fn further_form_rels(&mut self) -> Result<Seq<FormRelTree>, Fault>
         ensures { Gives result self.new.words.now (many (comes Sign.Comma) (further_at form_rel_at) self.old.words.now) }
     {
         let mut rels = Seq::new(self.alloc);

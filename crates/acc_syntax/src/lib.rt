@@ -1,16 +1,11 @@
-//! The words of a design's text, read into a syntax tree: exactly what the grammar spells, and exactly where it stops.
+//! The syntax tree of a design, how it is spelled in words, and reading its values, forms, clauses and tables: exactly what the
+//! grammar spells, and exactly where it stops.
 #![tactic(auto)]
 
 pub mod boxes;
 mod clauses;
-pub mod designs;
-mod entries;
 mod forms;
-mod own_words;
-mod parsers;
-mod reads;
-mod statements;
+pub mod parsers;
+mod tables;
 pub mod trees;
 mod values;
-
-pub use designs::{SyntaxError, syntax};

@@ -11,13 +11,13 @@ use std::alloc::Global;
 
 /// The words that are left. Where a method answers that the words are no text, they begin with the first that doesn't fit.
 #[derive(Drop)]
-pub(crate) struct Parser<'a> {
-    pub(crate) alloc: Global,
-    pub(crate) words: &'a [Word],
+pub struct Parser<'a> {
+    pub alloc: Global,
+    pub words: &'a [Word],
 }
 
 impl Parser<'_> {
-    pub(crate) fn comes(&self, sign: Sign) -> bool
+    pub fn comes(&self, sign: Sign) -> bool
         ensures { result ≡ comes sign self.now.words.now }
     {
         match self.words.first() {
@@ -26,13 +26,13 @@ impl Parser<'_> {
         }
     }
 
-    pub(crate) fn is_name(&self) -> bool
+    pub fn is_name(&self) -> bool
         ensures { result ≡ is_name self.now.words.now }
     {
         matches!(self.words.first(), Some(Word::Name(_)))
     }
 
-    pub(crate) fn is_number(&self) -> bool
+    pub fn is_number(&self) -> bool
         ensures { result ≡ is_number self.now.words.now }
     {
         matches!(self.words.first(), Some(Word::Number(_)))
@@ -45,7 +45,7 @@ impl Parser<'_> {
     }
 
     #[tactic(auto, unfolding(crate::specs::WordReaders::sign_at))]
-    pub(crate) fn sign(&mut self, sign: Sign) -> Result<(), Fault>
+    pub fn sign(&mut self, sign: Sign) -> Result<(), Fault>
         ensures { Gives result self.new.words.now (sign_at sign self.old.words.now) }
     {
         if !self.comes(sign) {
@@ -56,7 +56,7 @@ impl Parser<'_> {
     }
 
     #[tactic(auto, unfolding(crate::specs::WordReaders::name_at))]
-    pub(crate) fn name(&mut self) -> Result<Text, Fault>
+    pub fn name(&mut self) -> Result<Text, Fault>
         ensures { Gives result self.new.words.now (name_at self.old.words.now) }
     {
         match self.words {
@@ -70,7 +70,7 @@ impl Parser<'_> {
     }
 
     #[tactic(auto, unfolding(crate::specs::WordReaders::number_at))]
-    pub(crate) fn number(&mut self) -> Result<u64, Fault>
+    pub fn number(&mut self) -> Result<u64, Fault>
         ensures { Gives result self.new.words.now (number_at self.old.words.now) }
     {
         match self.words {
@@ -83,7 +83,7 @@ impl Parser<'_> {
     }
 
     #[tactic(auto, unfolding(crate::specs::WordReaders::end_at, acc_grammar::specs::Runs::absent_at))]
-    pub(crate) fn end(&self) -> Result<(), Fault>
+    pub fn end(&self) -> Result<(), Fault>
         ensures { Gives result self.now.words.now (end_at self.now.words.now) }
     {
         if self.is_word() {
@@ -93,7 +93,7 @@ impl Parser<'_> {
     }
 
     /// Names, as long as one comes.
-    pub(crate) fn names(&mut self) -> Result<Seq<Text>, Fault>
+    pub fn names(&mut self) -> Result<Seq<Text>, Fault>
         ensures { Gives result self.new.words.now (many is_name name_at self.old.words.now) }
     {
         let mut names = Seq::new(self.alloc);

@@ -18,7 +18,7 @@ use acc_lex::words::Sign;
 
 impl Parser<'_> {
     #[tactic(auto, unfolding(crate::specs::ValueReaders::variable_at))]
-    pub(crate) fn variable(&mut self) -> Result<Variable, Fault>
+    pub fn variable(&mut self) -> Result<Variable, Fault>
         ensures { Gives result self.new.words.now (variable_at self.old.words.now) }
     {
         if self.comes(Sign::Oneself) {
@@ -64,7 +64,7 @@ impl Parser<'_> {
     }
 
     #[tactic(auto, unfolding(crate::specs::ValueReaders::minus_at))]
-    pub(crate) fn minus(&mut self) -> Result<bool, Fault>
+    pub fn minus(&mut self) -> Result<bool, Fault>
         ensures { Gives result self.new.words.now (minus_at self.old.words.now) }
     {
         if self.comes(Sign::Minus) {
@@ -76,7 +76,7 @@ impl Parser<'_> {
     }
 
     #[tactic(auto, unfolding(crate::specs::ValueReaders::direction_at))]
-    pub(crate) fn direction(&mut self) -> Result<bool, Fault>
+    pub fn direction(&mut self) -> Result<bool, Fault>
         ensures { Gives result self.new.words.now (direction_at self.old.words.now) }
     {
         if self.comes(Sign::Minus) {
@@ -97,7 +97,7 @@ impl Parser<'_> {
         Ok(SignedTerm { minus, term })
     }
 
-    pub(crate) fn starts_signed_term(&self) -> bool
+    pub fn starts_signed_term(&self) -> bool
         ensures { result ≡ starts_signed_term self.now.words.now }
     {
         self.comes(Sign::Plus) || self.comes(Sign::Minus)
@@ -115,7 +115,7 @@ impl Parser<'_> {
     }
 
     #[tactic(auto, unfolding(crate::specs::ValueReaders::sum_at))]
-    pub(crate) fn sum(&mut self) -> Result<Sum, Fault>
+    pub fn sum(&mut self) -> Result<Sum, Fault>
         ensures { Gives result self.new.words.now (sum_at self.old.words.now) }
     {
         let minus = self.minus()?;
@@ -154,7 +154,7 @@ impl Parser<'_> {
     }
 
     #[tactic(auto, unfolding(crate::specs::ValueReaders::sums_at))]
-    pub(crate) fn sums(&mut self) -> Result<Boxed<Sums>, Fault>
+    pub fn sums(&mut self) -> Result<Boxed<Sums>, Fault>
         ensures { Gives result self.new.words.now (sums_at self.old.words.now) }
     {
         let first = self.sum()?;
@@ -163,7 +163,7 @@ impl Parser<'_> {
     }
 
     #[tactic(auto, unfolding(crate::specs::ValueReaders::values_at))]
-    pub(crate) fn values(&mut self) -> Result<Option<Boxed<Sums>>, Fault>
+    pub fn values(&mut self) -> Result<Option<Boxed<Sums>>, Fault>
         ensures { Gives result self.new.words.now (values_at self.old.words.now) }
     {
         if self.starts_sum() {
@@ -174,7 +174,7 @@ impl Parser<'_> {
     }
 
     #[tactic(auto, unfolding(crate::specs::ValueReaders::place_at))]
-    pub(crate) fn place(&mut self) -> Result<Place, Fault>
+    pub fn place(&mut self) -> Result<Place, Fault>
         ensures { Gives result self.new.words.now (place_at self.old.words.now) }
     {
         let table = self.name()?;
@@ -185,7 +185,7 @@ impl Parser<'_> {
     }
 
     #[tactic(auto, unfolding(crate::specs::ValueReaders::cell_at))]
-    pub(crate) fn cell(&mut self) -> Result<Cell, Fault>
+    pub fn cell(&mut self) -> Result<Cell, Fault>
         ensures { Gives result self.new.words.now (cell_at self.old.words.now) }
     {
         let place = self.place()?;
@@ -195,7 +195,7 @@ impl Parser<'_> {
     }
 
     #[tactic(auto, unfolding(crate::specs::ValueReaders::relation_at))]
-    pub(crate) fn relation(&mut self) -> Result<Relation, Fault>
+    pub fn relation(&mut self) -> Result<Relation, Fault>
         ensures { Gives result self.new.words.now (relation_at self.old.words.now) }
     {
         if self.comes(Sign::AtMost) {
@@ -253,7 +253,7 @@ impl Parser<'_> {
     }
 
     #[tactic(auto, unfolding(crate::specs::ValueReaders::guard_at))]
-    pub(crate) fn guard(&mut self) -> Result<Option<Boxed<LinRels>>, Fault>
+    pub fn guard(&mut self) -> Result<Option<Boxed<LinRels>>, Fault>
         ensures { Gives result self.new.words.now (guard_at self.old.words.now) }
     {
         if self.starts_sum() {

@@ -2,6 +2,7 @@ pub mod Chains
 pub mod SparseSteps
 pub mod DivisorSteps
 pub mod SystemSteps
+pub mod Apart
 pub mod Worths
 pub mod Kept
 pub mod Divisions

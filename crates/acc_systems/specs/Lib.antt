@@ -5,3 +5,4 @@ pub mod Divisors
 pub mod Rows
 pub mod Systems
 pub mod Made
+pub mod Repetitions

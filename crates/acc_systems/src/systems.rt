@@ -1,13 +1,14 @@
 //! Systems of relations: what is dropped, and what ends an elimination.
-ghost use Rattle.std.specs.Prelude.{◌≡◌, ◌<◌, [], length, position, IfSome, IfOk};
+ghost use Rattle.std.specs.Prelude.{◌≡◌, ◌<◌, [], length, position, IfSome, IfOk, OnOk};
 ghost use Rattle.std.specs.List.{list_any};
 ghost use Rattle.acc_systems.specs.Answers.{Answers, Leaves, steps};
 ghost use Rattle.acc_systems.specs.Systems.{is_false, is_equation_with, repeats, is_constant, admitted, Takes, replaced, set_aside, whole};
+ghost use Rattle.acc_systems.specs.Repetitions.{AreApart, TellsOf, StillTells, StillTellsOf};
 ghost use Rattle.acc_systems.specs.Systems.{counted, IsParted, crossed_once, crossed_with, or_else, crossed, unbounded, eliminated};
 
 use crate::rows::{Row, cleared, crossing};
 use crate::stops::Stop;
-use acc_base::sequences::Seq;
+use acc_base::sequences::{Seq, copied};
 use std::alloc::{AllocError, Global};
 
 /// The most relations of a system.
@@ -50,8 +51,9 @@ fn is_repetition(rows: &[Row], row: &Row) -> bool
     false
 }
 
-/// One more relation. The cost is that of comparing it with each of the system.
-pub fn admit(rows: &mut Vec<Row>, row: Row) -> Result<(), Stop>
+/// One more relation, where it is known whether it repeats one.
+fn keep(rows: &mut Vec<Row>, row: Row, is_repeated: bool) -> Result<(), Stop>
+    requires { is_repeated ≡ list_any (repeats row) rows.old.items }
     ensures { Leaves result rows.new.items (admitted rows.old.items row) }
 {
     if is_constant(&row) {
@@ -60,7 +62,7 @@ pub fn admit(rows: &mut Vec<Row>, row: Row) -> Result<(), Stop>
         }
         return Ok(());
     }
-    if is_repetition(rows.as_slice(), &row) {
+    if is_repeated {
         return Ok(());
     }
     if rows.len() >= MOST {
@@ -68,6 +70,14 @@ pub fn admit(rows: &mut Vec<Row>, row: Row) -> Result<(), Stop>
     }
     rows.push(row)?;
     Ok(())
+}
+
+/// One more relation. The cost is that of comparing it with each of the system.
+pub fn admit(rows: &mut Vec<Row>, row: Row) -> Result<(), Stop>
+    ensures { Leaves result rows.new.items (admitted rows.old.items row) }
+{
+    let is_repeated = is_repetition(rows.as_slice(), &row);
+    keep(rows, row, is_repeated)
 }
 
 /// The place of the first equation that has the unknown.
@@ -88,34 +98,70 @@ fn take_equation(rows: &mut Vec<Row>, unknown: u32) -> Option<Row>
     }
 }
 
-/// One more relation, without the unknown of the equation.
+/// A relation by which repetitions of it are told: itself, without its multipliers.
+fn form_of(alloc: Global, row: &Row) -> Result<Row, AllocError>
+    ensures { IfOk result (λ r. r ≡ record row.now { by = [] }) }
+{
+    Ok(Row {
+        terms: copied(&row.terms)?,
+        constant: row.constant,
+        equal: row.equal,
+        by: Seq::new(alloc),
+    })
+}
+
+/// One more relation that has just been made.
+fn admit_made(alloc: Global, made: &mut Vec<Row>, kept: &mut Vec<Row>, row: Row) -> Result<(), Stop>
+    ensures value { Leaves result kept.new.items (admitted kept.old.items row) }
+    ensures told { OnOk result (StillTells made.old.items kept.old.items made.new.items kept.new.items) }
+{
+    let form = form_of(alloc, &row)?;
+    let before = kept.len();
+    admit(kept, row)?;
+    if before < kept.len() {
+        made.push(form)?;
+    }
+    Ok(())
+}
+
+/// One more relation, without the unknown of the equation. Where it doesn't have it, it can only repeat one of those that were made.
 fn replace(
     alloc: Global,
     unknown: u32,
     equation: &Row,
+    made: &mut Vec<Row>,
     kept: &mut Vec<Row>,
     row: Row,
 ) -> Result<(), Stop>
-    ensures { Leaves result kept.new.items (replaced unknown equation.now kept.old.items row) }
+    requires { TellsOf made.old.items kept.old.items row }
+    ensures value { Leaves result kept.new.items (replaced unknown equation.now kept.old.items row) }
+    ensures told { OnOk result (StillTellsOf made.old.items kept.old.items made.new.items kept.new.items row) }
 {
+    if !row.has(unknown) {
+        let is_repeated = is_repetition(made.as_slice(), &row);
+        return keep(kept, row, is_repeated);
+    }
     let row = cleared(alloc, unknown, equation, row)?;
-    admit(kept, row)
+    admit_made(alloc, made, kept, row)
 }
 
-/// The relations one after the other, each without the unknown of the equation. The cost is that of comparing each with each.
+/// The relations one after the other, each without the unknown of the equation. The cost is that of comparing each with those that are
+/// made, and each of these with each.
 fn replace_all(
     alloc: Global,
     unknown: u32,
     equation: &Row,
     rows: Vec<Row>,
 ) -> Result<Seq<Row>, Stop>
+    requires { AreApart rows.items }
     ensures { Answers result (steps (replaced unknown equation.now) [] rows.items) }
 {
     let mut kept = Vec::new(alloc);
+    let mut made = Vec::new(alloc);
     let mut rest = rows;
     rest.reverse();
     while let Some(row) = rest.pop() {
-        replace(alloc, unknown, equation, &mut kept, row)?;
+        replace(alloc, unknown, equation, &mut made, &mut kept, row)?;
     }
     Ok(Seq::from_vec(kept))
 }
@@ -130,6 +176,7 @@ pub struct Reduced {
 
 /// The system without the unknown where an equation has it; else the unknown is left.
 fn set_aside(alloc: Global, state: Reduced, unknown: u32) -> Result<Reduced, Stop>
+    requires { AreApart state.rows }
     ensures { Answers result (set_aside state unknown) }
 {
     let Reduced {
@@ -157,6 +204,7 @@ fn set_aside(alloc: Global, state: Reduced, unknown: u32) -> Result<Reduced, Sto
 
 /// The system without the unknowns that equations have, in their order.
 fn set_all_aside(alloc: Global, unknowns: u32, rows: Seq<Row>) -> Result<Reduced, Stop>
+    requires { AreApart rows }
     ensures { Answers result (steps set_aside (whole rows) (counted 0 unknowns)) }
 {
     let mut state = Reduced {

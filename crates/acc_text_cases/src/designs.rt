@@ -1,11 +1,11 @@
 //! The limits that a design's text passes, and what it stands for.
 use acc_base::designs::{Entry, Hint, TxType};
 use acc_base::forms::Lin;
+use acc_designs::designs::syntax;
 use acc_lex::texts::words;
 use acc_limits::{Limit, first_fault, lowest_on};
 use acc_meaning::{Meaning, meaning_of};
 use acc_names::names_of;
-use acc_syntax::designs::syntax;
 use acc_syntax::trees::DesignTree;
 use std::alloc::{AllocError, Global};
 use std::fmt::Write;

@@ -1,7 +1,7 @@
 //! Where the words of a text stop to be a design's.
+use acc_designs::designs::{SyntaxError, syntax};
 use acc_lex::texts::words;
 use acc_lex::words::{Sign, Word};
-use acc_syntax::designs::{SyntaxError, syntax};
 use std::alloc::{AllocError, Global};
 use std::fmt::Write;
 

@@ -2,6 +2,7 @@ use Rattle.std.proofs.Common.{sym, ◌∙◌}
 use Rattle.acc_cli.proofs.CauseLemmas.{causes_of}
 use Rattle.acc_cli.proofs.PromiseLemmas.{promise_kept}
 use Rattle.acc_cli.proofs.CreationLemmas.{is_created}
+use Rattle.acc_cli.proofs.ProvingLemmas.{is_proved}
 use Rattle.acc_cli.proofs.RunLemmas.{record_kept}
 use Rattle.acc_cli.proofs.RecoveryLemmas.{tells_recovery, left_refused}
 use Rattle.acc_cli.proofs.StatusLemmas.{zero_is_done, four_is_refused}
@@ -32,6 +33,11 @@ returns-clause-clean g c h = c.answer_line-ended.ensures.clean (zero_is_done c.a
 pub returns-clause-created : goal.returns-clause-created
 returns-clause-created g c is zero =
     is_created _ _ _ _ _ _ _ _ _ _ _ _ is (zero_is_done c.answer_line-ended.result.status (sym c.code.ensures ∙ zero))
+    c.answer_line-ended.ensures.answered
+
+pub returns-clause-proved : goal.returns-clause-proved
+returns-clause-proved g c is zero =
+    is_proved _ _ _ _ _ _ _ _ _ _ _ _ is (zero_is_done c.answer_line-ended.result.status (sym c.code.ensures ∙ zero))
     c.answer_line-ended.ensures.answered
 
 pub returns-clause-recovered : goal.returns-clause-recovered

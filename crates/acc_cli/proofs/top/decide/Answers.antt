@@ -1,4 +1,5 @@
-use Rattle.std.proofs.Common.{rules, refl, inl, arith, ◌≡◌, ◌≤◌, ◌+◌, ◌-◌, ◌^◌, ◌∙◌, List, ℕ, length, take, drop, map, Some, string_bytes, inr, sym}
+use Rattle.std.proofs.Common.{rules, refl, inl, inr, arith, ◌≡◌, ◌≤◌, ◌+◌, ◌-◌, ◌^◌, ◌∙◌, List, ℕ, length, take, drop, map, Some}
+use Rattle.std.proofs.Common.{string_bytes, sym}
 use Rattle.std.proofs.Common.{ap, subst, Vec, Global}
 use Rattle.std.specs.Prelude.{All}
 use Rattle.std.proofs.lemmas.List.{take-map, drop-map}

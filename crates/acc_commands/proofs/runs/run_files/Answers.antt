@@ -65,7 +65,8 @@ returns-in-Ok-Read-clause-told g c =
 pub returns-in-Ok-Refused-clause-told : goal.returns-in-Ok-Refused-clause-told
 returns-in-Ok-Refused-clause-told g c =
     let t = telling_of c.unsettled.result in
-    let none : t.history ≡ [] = ap (λ (s : Said). s.history) c.unsettled.ensures.said ∙ refusal_tells_none c.args.design.now (said_of c.in-Ok-Refused.response)
+    let none : t.history ≡ [] = ap (λ (s : Said). s.history) c.unsettled.ensures.said
+    ∙ refusal_tells_none c.args.design.now (said_of c.in-Ok-Refused.response)
     (subst (Reads c.args.design.now) c.in-Ok-Refused.field-0-is c.in-Ok-Refused.ensures) in
     told_nothing g.D.Disk.clock g.D.Disk.left_since g.D.Disk.told g.D.Disk.may_leave c.args.disk
     (λ file image. LeavesFronts (c.args.design.now ∷ c.args.certificate.now ∷ []) file t.history image)

@@ -33,13 +33,15 @@ returns-in-Ok-Read-clause-runs g c =
       is_order = read.0;
       ends = subst (λ (places : List ℕ). RunsSeen c.args.accepted.now asked places
           (seen (g.D.Disk.told c.args.disk) (g.D.Disk.faults c.args.disk))
-          (seen (g.D.Disk.told c.run_calls.result.disk) (g.D.Disk.faults c.run_calls.result.disk)) (telling_of a)) c.as_slice-order.ensures ends;
+          (seen (g.D.Disk.told c.run_calls.result.disk) (g.D.Disk.faults c.run_calls.result.disk)) (telling_of a))
+          c.as_slice-order.ensures ends;
     })) c.run_calls.ensures.runs
 
 pub returns-in-Ok-Refused-clause-told : goal.returns-in-Ok-Refused-clause-told
 returns-in-Ok-Refused-clause-told g c =
     let t = telling_of c.unsettled.result in
-    let none : t.history ≡ [] = ap (λ (s : Said). s.history) c.unsettled.ensures.said ∙ (subst (ReadsOrder c.as_slice-calls.result.now c.args.file.now) c.in-Ok-Refused.field-0-is c.in-Ok-Refused.ensures).says.2 in
+    let none : t.history ≡ [] = ap (λ (s : Said). s.history) c.unsettled.ensures.said
+    ∙ (subst (ReadsOrder c.as_slice-calls.result.now c.args.file.now) c.in-Ok-Refused.field-0-is c.in-Ok-Refused.ensures).says.2 in
     told_nothing g.D.Disk.clock g.D.Disk.left_since g.D.Disk.told g.D.Disk.may_leave c.args.disk
     (λ file image. LeavesRun c.args.accepted.now file t.history image)
     (λ file image. LeavesDurable c.args.accepted.now file t.history t.settled image)

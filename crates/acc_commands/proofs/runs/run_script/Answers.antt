@@ -28,7 +28,8 @@ returns-in-Ok-Read-clause-runs g c =
 pub returns-in-Ok-Refused-clause-told : goal.returns-in-Ok-Refused-clause-told
 returns-in-Ok-Refused-clause-told g c =
     let t = telling_of c.unsettled.result in
-    let none : t.history ≡ [] = ap (λ (s : Said). s.history) c.unsettled.ensures.said ∙ (subst (ReadsScript c.design.result.now c.args.script.now) c.in-Ok-Refused.field-0-is c.in-Ok-Refused.ensures).says.2 in
+    let none : t.history ≡ [] = ap (λ (s : Said). s.history) c.unsettled.ensures.said
+    ∙ (subst (ReadsScript c.design.result.now c.args.script.now) c.in-Ok-Refused.field-0-is c.in-Ok-Refused.ensures).says.2 in
     told_nothing g.D.Disk.clock g.D.Disk.left_since g.D.Disk.told g.D.Disk.may_leave c.args.disk
     (λ file image. LeavesRun c.args.accepted.now file t.history image)
     (λ file image. LeavesDurable c.args.accepted.now file t.history t.settled image)

@@ -1,7 +1,7 @@
 use Rattle.std.proofs.Common.{◌-◌, List, sym, subst, ◌∙◌}
 use Rattle.acc_lex.specs.declared.words.Word.{Word}
 use Rattle.acc_syntax.specs.declared.trees.DesignTree.{DesignTree}
-use Rattle.acc_syntax.specs.Texts.{IsSpelling}
+use Rattle.acc_designs.specs.Texts.{IsSpelling}
 use Rattle.acc_sources.specs.Sources.{IsPrintedBehind}
 use Rattle.acc_faults.proofs.forms.source_line.Goals as goal
 

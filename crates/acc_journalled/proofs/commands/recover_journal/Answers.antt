@@ -22,7 +22,8 @@ returns-in-Ok-clause-answer g c =
     (λ a says. recovered_so (text_of c.args.wanted c.args.d.now) c.args.d.now (g.D.Disk.told c.args.disk)
     (g.D.Disk.told c.give_back.result) _ r.state.world r.wal r.compensated (telling_of a) ok c.in-Ok.ensures.idle
     (c.give_back.ensures.counts ok.settled.unspent)
-    (subst (λ (x : Design). SaysOf (text_of c.args.wanted x r.state.world r.compensated) r.state.world (telling_of a)) c.design.ensures.design says))
+    (subst (λ (x : Design). SaysOf (text_of c.args.wanted x r.state.world r.compensated) r.state.world (telling_of a))
+    c.design.ensures.design says))
     c.tell_state.ensures
 
 pub returns-in-Ok-clause-moments : goal.returns-in-Ok-clause-moments

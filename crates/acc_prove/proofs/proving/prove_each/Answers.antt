@@ -2,7 +2,7 @@ use Rattle.acc_prove.proofs.Adding.{left_at, next_lines, next_proofs, ended_proo
 use Rattle.acc_prove.proofs.proving.prove_each.Goals as goal
 
 pub loop-q-preserved : goal.loop-q-preserved
-loop-q-preserved c =
+loop-q-preserved g c =
     let d = c.args.d.now in
     let qs = c.args.sequents.now in
     let i = c.loop-q.q-index in
@@ -18,6 +18,6 @@ loop-q-preserved c =
     }
 
 pub returns-clause-proofs : goal.returns-clause-proofs
-returns-clause-proofs c =
+returns-clause-proofs g c =
     ended_proofs c.args.d.now c.args.sequents.now c.loop-q.q-index c.args.proofs.now.items c.loop-q.proofs.items c.loop-q-test.false
     c.loop-q.invariant.proofs

@@ -6,7 +6,7 @@ use Rattle.acc_prove.specs.Founds.{AddsProofs}
 use Rattle.acc_prove.proofs.proving.prove_each.Given as goal
 
 abbrev pub invariant-loop-q : goal.invariant-loop-q
-invariant-loop-q l = record {
+invariant-loop-q g l = record {
   lines : l.lines.items ++ open_lines l.d (drop l.q-index l.sequents) ≡ l.fn.lines.items ++ open_lines l.d l.sequents;
   proofs :
       (new : List Proof) → AddsProofs l.d (drop l.q-index l.sequents) l.proofs.items new → AddsProofs l.d l.sequents l.fn.proofs.items new;

@@ -1,4 +1,5 @@
 use Rattle.std.proofs.Common.{◌∙◌, refl, sym, subst}
+use Rattle.acc_base.specs.Machine.{unfinished}
 use Rattle.acc_wal.specs.Journals.{Counts}
 use Rattle.acc_disk.specs.Moments.{AtAnyMoment}
 use Rattle.acc_wal.proofs.Moments.{if_some, calm_of}
@@ -95,8 +96,9 @@ pub returns-in-Ok-end_and_settle-clause-ok : goal.returns-in-Ok-end_and_settle-c
 returns-in-Ok-end_and_settle-clause-ok g c =
     recovers_file c.args.d.now c.in-Ok.wal c.in-Ok-replayed.state c.in-Ok-replayed.ensures.ok (g.D.Disk.told c.args.disk)
     c.end_and_settle.new.wal c.end_and_settle.new.state.world
-    c.unfinished.result.now _ c.in-Ok.ensures.counts c.in-Ok-end_and_settle.ensures.ok c.in-Ok-end_and_settle.ensures.durable
-    c.unfinished.ensures.frames refl
+    (unfinished c.in-Ok-replayed.state.world) _ c.in-Ok.ensures.counts c.in-Ok-end_and_settle.ensures.ok
+    c.in-Ok-end_and_settle.ensures.durable refl
+    (c.found_in-found.ensures.each ∙ c.found_in-found.ensures.unfinished)
 
 pub returns-in-Ok-end_and_settle-clause-idle : goal.returns-in-Ok-end_and_settle-clause-idle
 returns-in-Ok-end_and_settle-clause-idle g c =

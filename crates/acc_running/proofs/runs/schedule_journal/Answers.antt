@@ -13,14 +13,16 @@ use Rattle.acc_wal.specs.Journals.{Counts}
 use Rattle.acc_wal.proofs.Moments.{calm_of, if_some, read_left}
 use Rattle.acc_recover.specs.Recoveries.{LeavesRecovery}
 use Rattle.acc_engine.specs.Keeping.{CallsFit}
+use Rattle.acc_settled.specs.Openings.{opening_at}
+use Rattle.acc_settled.specs.Wholes.{IsFrontOfSchedule}
 use Rattle.acc_journalled.specs.declared.answers.Ending.TheVariants.{DiskFailed}
 use Rattle.acc_journalled.proofs.Endings.{recovering, was_of_bytes}
 use Rattle.acc_running.specs.declared.answers.Said.{Said}
 use Rattle.acc_running.specs.Crashes.{LeavesRun, LeavesDurable}
 use Rattle.acc_running.specs.Engines.{SaysRun}
 use Rattle.acc_running.specs.Recorded.{telling_of, IsFound, Records}
-use Rattle.acc_running.specs.Running.{RunsJournal}
-use Rattle.acc_running.proofs.Recording.{begins_so, Ends, moved, handed, history_is, recorded, runs_journal}
+use Rattle.acc_running.specs.Running.{RunsJournal, FollowsOrder}
+use Rattle.acc_running.proofs.Recording.{begins_so, Ends, moved, handed, history_is, recorded, fronts, runs_journal}
 use Rattle.acc_running.proofs.Crashing.{only_recovery, run_behind, left_recovery, calm_said}
 use Rattle.acc_running.proofs.runs.schedule_journal.Goals as goal
 
@@ -56,6 +58,9 @@ returns-in-Ok-clause-answer g c =
     let found : IsFound d (told c.args.disk) r.state.world =
     record { found = ok.found; counts = ok.counts; recovery = ok.recovery; idle = c.in-Ok.ensures.idle } in
     let same = ap faults o.journal.0 in
+    let front =
+    subst (λ (x : Design). IsFrontOfSchedule x old.calls c.args.order.now (opening_at old.state old.calls) new.state.events)
+    c.design.ensures.design s.front in
     handed
     (λ x es n. IfOk c.closed.result.said (λ (said : Said). RunsJournal d calls c.args.order.now (told c.args.disk) (told x)
     (Rose (faults c.args.disk) (faults x)) (telling_of said es n))) new c.closed.result.disk c.closed.result.history
@@ -64,8 +69,9 @@ returns-in-Ok-clause-answer g c =
     (subst (λ r. IfOk r (λ (said : Said). RunsJournal d calls c.args.order.now (told c.args.disk) (told new.disk)
     (Rose (faults c.args.disk) (faults new.disk)) (telling_of said new.state.events new.settled))) (sym c.closed.ensures.said)
     (IfOk-weaker c.say-said.result _ _
-    (runs_journal d calls r.state.world old new b s.runs.goes_on s.runs.settled ends c.args.order.now (told c.args.disk) (told new.disk)
-    found s.counts faults (Rose (faults c.args.disk) (faults new.disk)) (λ rose. omega (arith, c.in-Ok.ensures.faults, same, rose)))
+    (runs_journal d calls r.state.world old new b s.runs.goes_on s.runs.settled ends c.args.order.now front (told c.args.disk)
+    (told new.disk) found s.counts faults (Rose (faults c.args.disk) (faults new.disk))
+    (λ rose. omega (arith, c.in-Ok.ensures.faults, same, rose)))
     (subst (λ (x : Design). IfOk c.say-said.result (SaysRun faults x c.args.order.now old new)) c.design.ensures.design s.says)))
 
 pub returns-in-Ok-clause-recorded : goal.returns-in-Ok-clause-recorded
@@ -87,6 +93,29 @@ returns-in-Ok-clause-recorded g c =
     handed (λ x es n. Records d calls (told c.args.disk) es n) new c.closed.result.disk c.closed.result.history c.closed.result.settled
     c.closed.ensures.hands
     (inr (r.state.world, found, recorded d calls r.state.world old new b s.runs.goes_on s.runs.settled ends))
+
+pub returns-in-Ok-clause-front : goal.returns-in-Ok-clause-front
+returns-in-Ok-clause-front g c =
+    let d = c.args.d.now in
+    let calls = c.args.calls in
+    let told = g.D.Disk.told in
+    let r = c.in-Ok.recovered in
+    let ok = c.in-Ok.ensures.ok in
+    let o = c.over_journal-engine.ensures in
+    let old = c.over_journal-engine.result in
+    let new = c.say-said.new.engine in
+    let s = c.say-said.ensures in
+    let b = begins_so d calls r.state.world r.state.design r.wal old c.in-Ok.ensures.design ok.settled o.fresh o.state o.journal o.found
+    o.calls in
+    let ends : Ends new = record { kept = s.kept; begins = s.begins; within = s.within; one_end = s.one_end } in
+    let found : IsFound d (told c.args.disk) r.state.world =
+    record { found = ok.found; counts = ok.counts; recovery = ok.recovery; idle = c.in-Ok.ensures.idle } in
+    let front =
+    subst (λ (x : Design). IsFrontOfSchedule x old.calls c.args.order.now (opening_at old.state old.calls) new.state.events)
+    c.design.ensures.design s.front in
+    handed (λ x es n. FollowsOrder d calls c.args.order.now (told c.args.disk) es) new c.closed.result.disk c.closed.result.history
+    c.closed.result.settled c.closed.ensures.hands
+    (inr (r.state.world, found, fronts d calls r.state.world old new b s.runs.goes_on s.runs.settled ends c.args.order.now front))
 
 pub returns-in-Ok-clause-moments : goal.returns-in-Ok-clause-moments
 returns-in-Ok-clause-moments g c file is only =
@@ -184,6 +213,9 @@ returns-in-Err-clause-answer g c =
 
 pub returns-in-Err-clause-recorded : goal.returns-in-Err-clause-recorded
 returns-in-Err-clause-recorded g c = inl (c.refused.ensures.none.0, c.refused.ensures.none.1)
+
+pub returns-in-Err-clause-front : goal.returns-in-Err-clause-front
+returns-in-Err-clause-front g c = inl c.refused.ensures.none.0
 
 pub returns-in-Err-clause-moments : goal.returns-in-Err-clause-moments
 returns-in-Err-clause-moments g c file is only =

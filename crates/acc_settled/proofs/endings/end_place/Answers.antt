@@ -7,6 +7,9 @@ use Rattle.acc_schedule.specs.Endings.{EndsAll}
 use Rattle.acc_schedule.proofs.Ends.{begun_ends}
 use Rattle.acc_settled.specs.Boards.{play_of}
 use Rattle.acc_settled.proofs.Chains.{runs_more, again_more}
+use Rattle.acc_settled.proofs.Marks.{unnumbered}
+use Rattle.acc_settled.specs.Ways.{PrecedesEach}
+use Rattle.acc_settled.proofs.Fronts.{on_err, if_stopped, front_place, front_ended}
 use Rattle.acc_settled.proofs.endings.end_place.Goals as goal
 
 pub returns-in-Some-clause-ends : goal.returns-in-Some-clause-ends
@@ -45,3 +48,36 @@ returns-in-Some-clause-again g c =
     on_ok c.end_all.result
     (again_more g.D.Disk.told g.D.Disk.may_leave c.args.engine.now c.number.new.engine c.end_all.new.engine c.in_ok-number.ensures.again)
     c.end_all.ensures.again
+
+pub returns-in_err-number-clause-front : goal.returns-in_err-number-clause-front
+returns-in_err-number-clause-front g c =
+    let old = c.args.engine.now in
+    let place = c.args.place in
+    let b = c.args.board.now in
+    let above : 0 < place = omega (arith, c.requires.place.0) in
+    let within : place - 1 < length old.calls = omega (arith, c.requires.place.0, c.requires.place.1) in
+    let none : c.index.result.now ≡ None = search rules in
+    let number_at = slice_get_read b.numbers.items (length old.calls) (place - 1) None (sym c.requires.board.numbers) within
+    (search rules) in
+    if_stopped c.from_residual.result
+    (front_place old.design old.calls place (play_of old.state b) (play_of c.number.new.engine.state c.number.new.board)
+    (unnumbered (play_of old.state b) place above number_at) c.in_err-number.ensures.front)
+
+pub returns-in-Some-clause-front : goal.returns-in-Some-clause-front
+returns-in-Some-clause-front g c =
+    let old = c.args.engine.now in
+    let mid = c.number.new.engine in
+    let new = c.end_all.new.engine in
+    let place = c.args.place in
+    let b = c.args.board.now in
+    let above : 0 < place = omega (arith, c.requires.place.0) in
+    let within : place - 1 < length old.calls = omega (arith, c.requires.place.0, c.requires.place.1) in
+    let none : c.index.result.now ≡ None = search rules in
+    let number_at = slice_get_read b.numbers.items (length old.calls) (place - 1) None (sym c.requires.board.numbers) within
+    (search rules) in
+    let begun = rw c.in-Some.is at c.in_ok-number.ensures.begun in
+    on_err c.end_all.result (λ front.
+    front_ended old.design old.calls place c.in-Some.field-0 (play_of old.state b) (play_of mid.state c.number.new.board) new.state
+    (unnumbered (play_of old.state b) place above number_at) begun
+    (subst (λ (d : Design). PrecedesEach new.state (EndsAll (with_locks d) mid.state)) c.number.ensures.runs.goes_on.design front))
+    c.end_all.ensures.front

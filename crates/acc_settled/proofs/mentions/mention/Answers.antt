@@ -9,6 +9,8 @@ use Rattle.acc_schedule.specs.Stages.{HasBegun}
 use Rattle.acc_schedule.proofs.LockPlays.{mention_full, mention_goes}
 use Rattle.acc_settled.specs.Boards.{play_of}
 use Rattle.acc_settled.proofs.Chains.{runs_more}
+use Rattle.acc_settled.specs.Ways.{PlayPrecedesEach, IsAfterBegin}
+use Rattle.acc_settled.proofs.Fronts.{on_err, if_stopped, front_begun, front_mentioned, front_opened}
 use Rattle.acc_settled.proofs.mentions.mention.Goals as goal
 
 pub returns-in-Some-clause-mention : goal.returns-in-Some-clause-mention
@@ -46,3 +48,36 @@ returns-in_ok-push_full-in-None-clause-mention g c =
       is_mention = mention_full c.args.d.now old.calls p q place has;
       text = c.in_ok-push_full-in-None.ensures.ok ∙ ap (λ (z : List ℕ). z ++ line (decimal place ++ codes " full")) c.number.ensures.text;
     }
+
+pub returns-in_err-t-clause-front : goal.returns-in_err-t-clause-front
+returns-in_err-t-clause-front g c =
+    let old = c.args.engine.now in
+    let place = c.args.place in
+    let p = play_of old.state c.args.board.now in
+    let now = play_of c.number.new.engine.state c.number.new.board in
+    if_stopped c.from_residual.result
+    (front_begun c.args.d.now old.calls place p now
+    (subst (λ (d : Design). PlayPrecedesEach now (IsAfterBegin d old.calls place p)) c.requires.design c.in_err-t.ensures.front))
+
+pub returns-in-Some-clause-front : goal.returns-in-Some-clause-front
+returns-in-Some-clause-front g c =
+    let old = c.args.engine.now in
+    let d = c.args.d.now in
+    let place = c.args.place in
+    let t = c.in-Some.t in
+    let p = play_of old.state c.args.board.now in
+    let q = play_of c.number.new.engine.state c.number.new.board in
+    let now = play_of c.take_turn.new.engine.state c.take_turn.new.board in
+    let begun = rw c.in-Some.is at c.in_ok-t.ensures.begun in
+    let has = subst (λ (x : Design). HasBegun x old.calls place p (number_of p place) (Some t) q) c.requires.design begun in
+    on_err c.take_turn.result (front_mentioned d old.calls place t p q now has) c.take_turn.ensures.front
+
+pub returns-in_err-push_full-in-None-clause-front : goal.returns-in_err-push_full-in-None-clause-front
+returns-in_err-push_full-in-None-clause-front g c =
+    let old = c.args.engine.now in
+    let place = c.args.place in
+    let p = play_of old.state c.args.board.now in
+    let q = play_of c.number.new.engine.state c.number.new.board in
+    let begun = rw c.in-None.is at c.in_ok-t.ensures.begun in
+    let has = subst (λ (x : Design). HasBegun x old.calls place p (number_of p place) None q) c.requires.design begun in
+    if_stopped c.from_residual-in_err-push_full-in-None.result (front_opened c.args.d.now old.calls place p q None has)

@@ -1,13 +1,16 @@
-use Rattle.std.proofs.Common.{◌<◌, ◌-◌, ◌∷◌, [], length, None, arith, rules, refl, sym, ap, ◌∙◌, length-set}
+use Rattle.std.proofs.Common.{◌<◌, ◌-◌, ◌∷◌, ◌++◌, [], length, None, arith, rules, refl, sym, ap, subst, ◌∙◌, set, length-set}
 use Rattle.std.specs.Prelude.{Some}
 use Rattle.std.proofs.lemmas.Option.{slice_get_read}
 use Rattle.acc_base.specs.declared.machines.Event.TheVariants.{Begin}
 use Rattle.acc_base.specs.Machine.{World}
+use Rattle.acc_base.specs.Plays.{Play}
 use Rattle.acc_schedule.proofs.LockPlays.{begins_here, cannot_begin, set_keeps}
 use Rattle.acc_settled.specs.Boards.{play_of}
+use Rattle.acc_settled.specs.Ways.{PlayPrecedesEach, IsAfterBegin}
 use Rattle.acc_settled.proofs.Acks.{but_one, begin_history, acked_begun}
 use Rattle.acc_settled.proofs.Chains.{runs_stays, again_stays}
 use Rattle.acc_settled.proofs.Marks.{call_there, no_room, unbegun_others}
+use Rattle.acc_settled.proofs.Fronts.{if_stopped, before_begin, behind_begin}
 use Rattle.acc_settled.proofs.mentions.number.Goals as goal
 
 pub returns-in_err-push-in-Begun-clause-runs : goal.returns-in_err-push-in-Begun-clause-runs
@@ -87,3 +90,34 @@ returns-in-Full-clause-begun g c =
     let none = no_room c.in_ok-t.field-0 (place - 1) old c.begin_at.new.self c.in-Full.is c.in_ok-t.ensures.ok in
     cannot_begin old.design old.calls place (play_of old.state b) (play_of c.begin_at.new.self.state b) call.0 above number_at call.1 none.0
     (ap (λ (w : World). play_of w b) none.1)
+
+pub returns-in_err-t-clause-front : goal.returns-in_err-t-clause-front
+returns-in_err-t-clause-front g c =
+    let old = c.args.engine.now in
+    let b = c.args.board.now in
+    let new = c.begin_at.new.self in
+    let p = play_of old.state b in
+    if_stopped c.from_residual.result
+    (subst (λ (w : World). PlayPrecedesEach (play_of w b) (IsAfterBegin old.design old.calls c.args.place p))
+    (sym c.in_err-t.ensures.err.state)
+    (before_begin old.design old.calls c.args.place p))
+
+pub returns-in_err-push-in-Begun-clause-front : goal.returns-in_err-push-in-Begun-clause-front
+returns-in_err-push-in-Begun-clause-front g c =
+    let old = c.args.engine.now in
+    let new = c.begin_at.new.self in
+    let b = c.args.board.now in
+    let place = c.args.place in
+    let t = c.in-Begun.t in
+    let above : 0 < place = omega (arith, c.requires.place.0) in
+    let within : place - 1 < length old.calls = omega (arith, c.requires.place.0, c.requires.place.1) in
+    let number_at = slice_get_read b.numbers.items (length old.calls) (place - 1) None (sym c.requires.board.numbers) within
+    (search rules) in
+    let drawn = rw c.in-Begun.is at c.in_ok-t.ensures.ok in
+    let numbers = set b.numbers.items (place - 1) (Some t) in
+    let q : Play = record { world = new.state; numbers = numbers; places = b.places.items ++ place ∷ [] } in
+    let now : Play = record { world = new.state; numbers = numbers; places = c.push.new.self.items } in
+    if_stopped c.from_residual-in_err-push-in-Begun.result
+    (behind_begin old.design old.calls place (play_of old.state b) q now (Some t)
+    (begins_here old.design old.calls place (play_of old.state b) q drawn.0.call t above number_at drawn.0.is_call (drawn.1, drawn.2)
+    drawn.0.begins drawn.0.number refl refl) refl refl)

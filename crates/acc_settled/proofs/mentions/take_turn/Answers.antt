@@ -6,6 +6,7 @@ use Rattle.acc_play.proofs.Orders.{over_goes}
 use Rattle.acc_schedule.specs.LockRules.{with_locks}
 use Rattle.acc_schedule.proofs.LockPlays.{absent_goes}
 use Rattle.acc_settled.specs.Boards.{play_of}
+use Rattle.acc_settled.proofs.Fronts.{if_stopped, before_going}
 use Rattle.acc_settled.proofs.mentions.take_turn.Goals as goal
 
 pub returns-in_ok-push_over-in-Some-clause-turn : goal.returns-in_ok-push_over-in-Some-clause-turn
@@ -35,3 +36,13 @@ returns-in_ok-push_stuck-in-None-clause-turn g c =
           absurd cc) none;
       text = c.in_ok-push_stuck-in-None.ensures.ok;
     }
+
+pub returns-in_err-push_over-in-Some-clause-front : goal.returns-in_err-push_over-in-Some-clause-front
+returns-in_err-push_over-in-Some-clause-front g c =
+    if_stopped c.from_residual.result
+    (before_going c.args.d.now c.args.place c.args.t (play_of c.args.engine.now.state c.args.board.now))
+
+pub returns-in_err-push_stuck-in-None-clause-front : goal.returns-in_err-push_stuck-in-None-clause-front
+returns-in_err-push_stuck-in-None-clause-front g c =
+    if_stopped c.from_residual-in_err-push_stuck-in-None.result
+    (before_going c.args.d.now c.args.place c.args.t (play_of c.args.engine.now.state c.args.board.now))

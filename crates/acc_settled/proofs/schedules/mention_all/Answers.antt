@@ -6,6 +6,9 @@ use Rattle.acc_schedule.specs.LockRules.{with_locks}
 use Rattle.acc_schedule.proofs.Closing.{played}
 use Rattle.acc_settled.specs.Boards.{play_of, IsMentioned}
 use Rattle.acc_settled.proofs.Chains.{runs_more, again_more, runs_none, again_none}
+use Rattle.acc_settled.specs.Ways.{PlayPrecedesEach, IsAfterMention}
+use Rattle.acc_settled.proofs.Fronts.{if_stopped}
+use Rattle.acc_settled.proofs.Remaining.{LeavesPlay, leaves_play, stops_play}
 use Rattle.acc_settled.proofs.schedules.mention_all.Goals as goal
 
 pub loop-place-init : goal.loop-place-init
@@ -17,6 +20,7 @@ loop-place-init g c =
       board = c.requires.board;
       played = opens_play (with_locks d) d e.calls (play_of e.state b) c.args.order.now b.text.items (play_of e.state b) c.requires.text
           refl;
+      left = λ q h. h;
       runs = runs_none g.D.Disk.told g.D.Disk.may_leave g.D.Disk.clock g.D.Disk.left_since g.D.Disk.faults g.met.D.Disk.only_now e;
       again = again_none g.D.Disk.told g.D.Disk.may_leave e c.requires.unfailed;
     }
@@ -45,6 +49,9 @@ loop-place-preserved g c =
           (subst (λ (zs : List ℕ). IsPlayedSoFar (with_locks d) d was.calls first order zs before.text.items (play_of old.state before))
           split
           inv.played) m.is_mention m.text;
+      left = leaves_play d was.calls first (play_of old.state before) order (drop (i + 1) order) (get_or order i 0)
+          (m.told, play_of new.state after)
+          (subst (λ (zs : List ℕ). LeavesPlay d was.calls first order (play_of old.state before) zs) split inv.left) m.is_mention;
       runs = runs_more g.D.Disk.told g.D.Disk.may_leave g.D.Disk.clock g.D.Disk.left_since g.D.Disk.faults g.met.D.Disk.only_now was old new
           inv.runs inv.again c.mention.ensures.runs;
       again = again_more g.D.Disk.told g.D.Disk.may_leave was old new inv.again c.in_ok-mention.ensures.again;
@@ -68,3 +75,21 @@ pub returns-in_err-mention-clause-runs : goal.returns-in_err-mention-clause-runs
 returns-in_err-mention-clause-runs g c =
     runs_more g.D.Disk.told g.D.Disk.may_leave g.D.Disk.clock g.D.Disk.left_since g.D.Disk.faults g.met.D.Disk.only_now c.args.engine.now
     c.loop-place.engine c.mention.new.engine c.loop-place.invariant.runs c.loop-place.invariant.again c.mention.ensures.runs
+
+pub returns-in_err-mention-clause-front : goal.returns-in_err-mention-clause-front
+returns-in_err-mention-clause-front g c =
+    let d = c.args.d.now in
+    let was = c.args.engine.now in
+    let first = play_of was.state c.args.board.now in
+    let order = c.args.order.now in
+    let i = c.loop-place.place-index in
+    let old = play_of c.loop-place.engine.state c.loop-place.board in
+    let now = play_of c.mention.new.engine.state c.mention.new.board in
+    let inv = c.loop-place.invariant in
+    let within : i < length order = omega arith in
+    let split : drop i order ≡ get_or order i 0 ∷ drop (i + 1) order = rw (add-one, drop-cons order i 0) in
+    if_stopped c.from_residual.result
+    (stops_play d was.calls first old now order (drop (i + 1) order) (get_or order i 0)
+    (subst (λ (zs : List ℕ). LeavesPlay d was.calls first order old zs) split inv.left)
+    (subst (λ (cs : List Call). PlayPrecedesEach now (IsAfterMention d cs (get_or order i 0) old)) inv.runs.goes_on.calls
+    c.in_err-mention.ensures.front))

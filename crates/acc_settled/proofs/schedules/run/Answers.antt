@@ -1,4 +1,4 @@
-use Rattle.std.proofs.Common.{◌≡◌, ◌∙◌, ◌++◌, List, length, ap, refl, subst}
+use Rattle.std.proofs.Common.{◌≡◌, ◌∙◌, ◌++◌, List, length, sym, ap, refl, subst}
 use Rattle.std.specs.List.{flat_map, range_with_len}
 use Rattle.acc_base.specs.declared.designs.Design.{Design}
 use Rattle.acc_base.specs.declared.machines.Call.{Call}
@@ -9,7 +9,9 @@ use Rattle.acc_schedule.specs.Schedules.{EndsWell}
 use Rattle.acc_schedule.proofs.Closing.{tells_from, ending_text_is}
 use Rattle.acc_settled.specs.Boards.{play_of}
 use Rattle.acc_settled.specs.Replies.{line_after}
+use Rattle.acc_settled.specs.Ways.{PrecedesEach, PlayPrecedesEach}
 use Rattle.acc_settled.proofs.Chains.{runs_more, again_more}
+use Rattle.acc_settled.proofs.Fronts.{if_stopped, front_order, front_passes, front_places, behind_places}
 use Rattle.acc_settled.proofs.schedules.run.Goals as goal
 
 pub returns-in_err-end_all-clause-runs : goal.returns-in_err-end_all-clause-runs
@@ -114,3 +116,91 @@ returns-clause-tells g c =
     (ap (λ (w : World). w.events) state)
     (subst (λ (x : Design). EndsWell x e4.state.events e3.state) d4 (subst (EndsWell e4.design e4.state.events) state closed.ends_well))
     closed.begun
+
+pub returns-in_err-mention_all-clause-front : goal.returns-in_err-mention_all-clause-front
+returns-in_err-mention_all-clause-front g c =
+    let e0 = c.args.engine.now in
+    if_stopped c.from_residual.result
+    (front_order c.args.d.now e0.calls c.args.order.now (play_of e0.state c.args.board.now)
+    (play_of c.mention_all.new.engine.state c.mention_all.new.board) c.in_err-mention_all.ensures.front)
+
+pub returns-in_err-end_all-clause-front : goal.returns-in_err-end_all-clause-front
+returns-in_err-end_all-clause-front g c =
+    let d = c.args.d.now in
+    let e0 = c.args.engine.now in
+    let e1 = c.mention_all.new.engine in
+    let b1 = c.mention_all.new.board in
+    let now = c.end_all.new.engine.state in
+    let d1 : e1.design ≡ d = c.mention_all.ensures.runs.goes_on.design ∙ c.requires.design in
+    if_stopped c.from_residual-in_err-end_all.result
+    (front_passes d e0.calls c.args.order.now (play_of e0.state c.args.board.now) b1.text.items (play_of e1.state b1)
+    c.in_ok-mention_all.ensures.played now
+    (subst (λ (x : Design). PrecedesEach now (EndsAll (with_locks x) e1.state)) d1 c.in_err-end_all.ensures.front))
+
+pub returns-in_err-end_places-clause-front : goal.returns-in_err-end_places-clause-front
+returns-in_err-end_places-clause-front g c =
+    let d = c.args.d.now in
+    let e0 = c.args.engine.now in
+    let e1 = c.mention_all.new.engine in
+    let e2 = c.end_all.new.engine in
+    let b1 = c.mention_all.new.board in
+    let p = play_of e1.state b1 in
+    let q = play_of e2.state b1 in
+    let now = play_of c.end_places.new.engine.state c.end_places.new.board in
+    let on1 = c.mention_all.ensures.runs.goes_on in
+    let on2 = c.end_all.ensures.runs.goes_on in
+    let d1 : e1.design ≡ d = on1.design ∙ c.requires.design in
+    let ends = subst (λ (x : Design). EndsAll (with_locks x) e1.state e2.state) d1 c.in_ok-end_all.ensures.ends in
+    if_stopped c.from_residual-in_err-end_places.result
+    (front_places d e0.calls c.args.order.now (play_of e0.state c.args.board.now) b1.text.items p c.in_ok-mention_all.ensures.played e2.state
+    now ends
+    (subst (λ (cs : List Call). PlayPrecedesEach now (EndsPlaces (with_locks d) cs q (range_with_len 1 (length cs))))
+    (on2.calls ∙ on1.calls)
+    (subst (λ (x : Design). PlayPrecedesEach now (EndsPlaces (with_locks x) e2.calls q (range_with_len 1 (length e2.calls))))
+    (on2.design ∙ d1) c.in_err-end_places.ensures.front)))
+
+pub returns-in_err-settle-clause-front : goal.returns-in_err-settle-clause-front
+returns-in_err-settle-clause-front g c =
+    let d = c.args.d.now in
+    let e0 = c.args.engine.now in
+    let e1 = c.mention_all.new.engine in
+    let e2 = c.end_all.new.engine in
+    let e3 = c.end_places.new.engine in
+    let b1 = c.mention_all.new.board in
+    let p = play_of e1.state b1 in
+    let q = play_of e2.state b1 in
+    let r = play_of e3.state c.end_places.new.board in
+    let on1 = c.mention_all.ensures.runs.goes_on in
+    let on2 = c.end_all.ensures.runs.goes_on in
+    let d1 : e1.design ≡ d = on1.design ∙ c.requires.design in
+    let ends = subst (λ (x : Design). EndsAll (with_locks x) e1.state e2.state) d1 c.in_ok-end_all.ensures.ends in
+    let places =
+    subst (λ (cs : List Call). EndsPlaces (with_locks d) cs q (range_with_len 1 (length cs)) r) (on2.calls ∙ on1.calls)
+    (subst (λ (x : Design). EndsPlaces (with_locks x) e2.calls q (range_with_len 1 (length e2.calls)) r) (on2.design ∙ d1)
+    c.in_ok-end_places.ensures.ends) in
+    if_stopped c.from_residual-in_err-settle.result
+    (behind_places d e0.calls c.args.order.now (play_of e0.state c.args.board.now) b1.text.items p c.in_ok-mention_all.ensures.played
+    e2.state r (play_of c.settle.new.engine.state c.end_places.new.board) ends places (sym c.settle.ensures.state) refl)
+
+pub returns-in_err-close-clause-front : goal.returns-in_err-close-clause-front
+returns-in_err-close-clause-front g c =
+    let d = c.args.d.now in
+    let e0 = c.args.engine.now in
+    let e1 = c.mention_all.new.engine in
+    let e2 = c.end_all.new.engine in
+    let e3 = c.end_places.new.engine in
+    let b1 = c.mention_all.new.board in
+    let p = play_of e1.state b1 in
+    let q = play_of e2.state b1 in
+    let r = play_of e3.state c.end_places.new.board in
+    let on1 = c.mention_all.ensures.runs.goes_on in
+    let on2 = c.end_all.ensures.runs.goes_on in
+    let d1 : e1.design ≡ d = on1.design ∙ c.requires.design in
+    let ends = subst (λ (x : Design). EndsAll (with_locks x) e1.state e2.state) d1 c.in_ok-end_all.ensures.ends in
+    let places =
+    subst (λ (cs : List Call). EndsPlaces (with_locks d) cs q (range_with_len 1 (length cs)) r) (on2.calls ∙ on1.calls)
+    (subst (λ (x : Design). EndsPlaces (with_locks x) e2.calls q (range_with_len 1 (length e2.calls)) r) (on2.design ∙ d1)
+    c.in_ok-end_places.ensures.ends) in
+    if_stopped c.from_residual-in_err-close.result
+    (behind_places d e0.calls c.args.order.now (play_of e0.state c.args.board.now) b1.text.items p c.in_ok-mention_all.ensures.played
+    e2.state r (play_of c.settle.new.engine.state c.close.new.board) ends places (sym c.settle.ensures.state) (sym c.close.ensures.numbers))

@@ -6,6 +6,7 @@ use Rattle.acc_settled.proofs.Acks.{one_same, acked_turned, acked_unended}
 use Rattle.acc_settled.proofs.Chains.{ready_stays, again_stays, runs_stays, runs_behind, stops_since}
 use Rattle.acc_settled.proofs.Settling.{turning_stops, stops_by}
 use Rattle.acc_settled.proofs.Turned.{turn_adds}
+use Rattle.acc_settled.proofs.Fronts.{if_stopped, before_turn, behind_turn}
 use Rattle.acc_settled.proofs.turns.take.Goals as goal
 
 pub returns-in_err-turn-clause-runs : goal.returns-in_err-turn-clause-runs
@@ -108,3 +109,15 @@ returns-in_err-settle-in-Ended-clause-why g c =
     stops_by g.D.Disk.faults old c.settle.new.engine c.from_residual-in_err-settle-in-Ended.result stop
     c.from_residual-in_err-settle-in-Ended.ensures.1
     (stops_since g.D.Disk.faults stop old mid c.settle.new.engine (omega (arith, same)) c.in_err-settle-in-Ended.ensures.why)
+
+pub returns-in_err-turn-clause-front : goal.returns-in_err-turn-clause-front
+returns-in_err-turn-clause-front g c =
+    if_stopped c.from_residual.result
+    (before_turn c.args.engine.now.design c.args.engine.now.state c.turn.new.self.state c.args.t c.in_err-turn.ensures.err)
+
+pub returns-in_err-settle-in-Ended-clause-front : goal.returns-in_err-settle-in-Ended-clause-front
+returns-in_err-settle-in-Ended-clause-front g c =
+    let old = c.args.engine.now in
+    if_stopped c.from_residual-in_err-settle-in-Ended.result
+    (behind_turn old.design old.state c.turn.new.self.state c.settle.new.engine.state c.args.t c.in_ok-turn.turn c.in_ok-turn.ensures.turn
+    c.settle.ensures.state)

@@ -1,12 +1,17 @@
 use Rattle.std.proofs.Common.{◌≡◌, [], vec_len}
-use Rattle.std.specs.Prelude.{reverse}
+use Rattle.std.specs.Prelude.{All, reverse}
 use Rattle.acc_systems.specs.Answers.{steps}
 use Rattle.acc_systems.specs.Systems.{replaced}
+use Rattle.acc_systems.specs.Repetitions.{AreApart, TellsOf}
 use Rattle.acc_systems.proofs.systems.replace_all.Given as goal
 
 abbrev pub invariant-loop-row : goal.invariant-loop-row
-invariant-loop-row l = steps (replaced l.fn.unknown l.equation) l.kept.items (reverse l.rest.items)
-    ≡ steps (replaced l.fn.unknown l.equation) [] l.fn.rows.items
+invariant-loop-row l = record {
+  so_far : steps (replaced l.fn.unknown l.equation) l.kept.items (reverse l.rest.items)
+      ≡ steps (replaced l.fn.unknown l.equation) [] l.fn.rows.items;
+  apart : AreApart (reverse l.rest.items);
+  told : All (TellsOf l.made.items l.kept.items) (reverse l.rest.items);
+}
 
 abbrev pub decreases-loop-row : goal.decreases-loop-row
 decreases-loop-row l = vec_len l.rest

@@ -2,11 +2,16 @@ use Rattle.std.proofs.Common.{◌∙◌, ap, sym, ◌-◌, ◌+◌}
 use Rattle.acc_systems.specs.Answers.{chain, steps}
 use Rattle.acc_systems.specs.Systems.{set_aside, counted}
 use Rattle.acc_systems.proofs.SystemSteps.{counted_more}
+use Rattle.acc_systems.proofs.Apart.{aside_apart}
 use Rattle.acc_systems.proofs.systems.set_all_aside.Goals as goal
 
 pub loop-unknown-preserved : goal.loop-unknown-preserved
 loop-unknown-preserved c =
     let i = c.loop-unknown.unknown in
     let n = c.args.unknowns in
-    ap (λ r. chain r (λ s. steps set_aside s (counted (i + 1) (n - (i + 1))))) (sym c.in_ok-state.ensures)
-    ∙ (ap (steps set_aside c.loop-unknown.state) (sym (counted_more i n c.loop-unknown-test.true)) ∙ c.loop-unknown.invariant)
+    record {
+      so_far = ap (λ r. chain r (λ s. steps set_aside s (counted (i + 1) (n - (i + 1))))) (sym c.in_ok-state.ensures)
+          ∙ (ap (steps set_aside c.loop-unknown.state) (sym (counted_more i n c.loop-unknown-test.true))
+          ∙ c.loop-unknown.invariant.so_far);
+      apart = aside_apart c.loop-unknown.state c.in_ok-state.state i c.in_ok-state.ensures c.loop-unknown.invariant.apart;
+    }

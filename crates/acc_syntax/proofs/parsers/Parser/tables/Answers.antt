@@ -3,7 +3,7 @@ use Rattle.std.proofs.lemmas.Result.{err_from_is_err_and}
 use Rattle.acc_grammar.specs.Readers.{many}
 use Rattle.acc_grammar.proofs.Many.{goes_on, is_done}
 use Rattle.acc_grammar.proofs.LoopFaults.{ends_so}
-use Rattle.acc_syntax.specs.StatementReaders.{starts_table, table_at}
+use Rattle.acc_syntax.specs.TableReaders.{starts_table, table_at}
 use Rattle.acc_syntax.proofs.TableLaws.{table_shrinks}
 use Rattle.acc_syntax.proofs.parsers.Parser.tables.Goals as goal
 

@@ -1,7 +1,7 @@
 use Rattle.std.proofs.Common.{◌≡◌, length}
 use Rattle.acc_grammar.specs.Readers.{many}
 use Rattle.acc_grammar.proofs.Many.{with_front}
-use Rattle.acc_syntax.specs.StatementReaders.{starts_table, table_at}
+use Rattle.acc_syntax.specs.TableReaders.{starts_table, table_at}
 use Rattle.acc_syntax.proofs.parsers.Parser.tables.Given as goal
 
 abbrev pub invariant-loop-self : goal.invariant-loop-self

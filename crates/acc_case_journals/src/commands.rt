@@ -1,0 +1,118 @@
+//! Commands over a journal.
+ghost use Rattle.std.specs.Prelude.{◌<◌, ◌^◌, length, IsTrue};
+ghost use Rattle.acc_print.specs.Designs.{printed};
+
+use crate::files::file;
+use crate::recoveries::{fresh, push_counts};
+use acc_base::designs::Design;
+use acc_case_words::words::number;
+use acc_disk::MemDisk;
+use acc_journalled::{Answer, Closed, Ending, Wanted, init_journal, recover_journal};
+use acc_lift::Accepted;
+use acc_print::print;
+use acc_progress::Silent;
+use std::alloc::{AllocError, Global};
+use std::fmt::Write;
+
+/// Whether a journal can have the design's text.
+fn is_short(alloc: Global, design: &Design) -> bool
+    ensures { IsTrue result → length (printed design.now) < 2 ^ 32 }
+{
+    match print(alloc, design) {
+        Ok(text) => text.len() < 1 << 32,
+        Err(_) => false,
+    }
+}
+
+/// What making a journal answers, where its text can be the design's.
+fn made(alloc: Global, design: &Design, disk: MemDisk) -> Option<Closed<MemDisk>> {
+    if is_short(alloc, design) {
+        Some(init_journal(alloc, design, disk))
+    } else {
+        None
+    }
+}
+
+/// What a command answers of a disk, if there is one of that name.
+fn closed(alloc: Global, design: &Accepted, name: &str, disk: MemDisk) -> Option<Closed<MemDisk>> {
+    match name {
+        "init" => made(alloc, design.design(), disk),
+        "recover" => Some(recover_journal(alloc, design, Wanted::Counts, disk, &mut Silent)),
+        "dump" => Some(recover_journal(alloc, design, Wanted::Rows, disk, &mut Silent)),
+        _ => None,
+    }
+}
+
+/// The word for how a command ended.
+fn ending_word(ending: Ending) -> &'static str {
+    match ending {
+        Ending::Done => "done ",
+        Ending::JournalRefused => "refused ",
+        Ending::DiskFailed => "failed ",
+        Ending::DesignRefused | Ending::ScriptRefused | Ending::Unbegun | Ending::Open =>
+            "otherwise ",
+    }
+}
+
+/// Pushes how a command ended, its lines with ` / ` between two, and how many events it tells and how many of them are durable.
+fn push_said(alloc: Global, out: &mut String, answer: &Answer) -> Result<(), AllocError> {
+    out.push_str(ending_word(answer.ending))?;
+    let lines = String::from_utf8_lossy(alloc, &answer.text)?;
+    let line = lines.trim_end().replace(alloc, "\n", " / ")?;
+    out.push_str(&line)?;
+    write!(
+        out,
+        "; events {} settled {}",
+        answer.history.len(),
+        answer.settled
+    )
+}
+
+/// Pushes what a command answered, how many calls the disk has had, and what recovery makes of its bytes.
+fn push_closed(
+    alloc: Global,
+    out: &mut String,
+    design: &Accepted,
+    closed: &Closed<MemDisk>,
+) -> Result<(), AllocError> {
+    match &closed.answer {
+        Ok(answer) => push_said(alloc, out, answer)?,
+        Err(_) => out.push_str("memory")?,
+    }
+    write!(out, " calls {} | ", closed.disk.calls())?;
+    push_counts(alloc, out, design, closed.disk.bytes())
+}
+
+/// A disk with the bytes of a word, one of whose calls fails.
+fn disk(alloc: Global, design: &Accepted, word: &str, fails: u64) -> Result<MemDisk, AllocError> {
+    let bytes = file(alloc, design, word)?;
+    fresh(alloc, &bytes, fails)
+}
+
+/// Pushes what the command of those words answers.
+fn push_words(
+    alloc: Global,
+    out: &mut String,
+    design: &Accepted,
+    words: &[&str],
+) -> Result<(), AllocError> {
+    let [name, word, fails] = words else {
+        return out.push_str("no command");
+    };
+    let disk = disk(alloc, design, word, number(fails))?;
+    match closed(alloc, design, name, disk) {
+        Some(closed) => push_closed(alloc, out, design, &closed),
+        None => out.push_str("no command"),
+    }
+}
+
+/// Pushes what a command answers of a disk with the bytes of a word, one of whose calls fails.
+pub fn push_command(
+    alloc: Global,
+    out: &mut String,
+    design: &Accepted,
+    words: &str,
+) -> Result<(), AllocError> {
+    let words: Vec<&str> = words.split(' ').collect(alloc)?;
+    push_words(alloc, out, design, words.as_slice())
+}

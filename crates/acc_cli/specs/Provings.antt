@@ -1,0 +1,38 @@
+-- What stands behind a certificate that `prove` prints, and what its answer leaves free.
+use Rattle.std.specs.Prelude.{◌≡◌, ◌⊎◌, ◌∷◌, ℕ, List, [], Option, Some}
+use Rattle.std.specs.Io.KnownBytes.{Appends}
+use Rattle.acc_base.specs.declared.designs.Design.{Design}
+use Rattle.acc_io.specs.Shelves.{Told}
+use Rattle.acc_form.specs.WellFormed.{IsWellFormed}
+use Rattle.acc_parse.specs.Texts.{IsDesignText}
+use Rattle.acc_prove.specs.Provings.{IsCertified}
+use Rattle.acc_journalled.specs.declared.answers.Ending.TheVariants.{Done}
+use Rattle.acc_commands.specs.declared.words.Command.TheVariants as command
+use Rattle.acc_commands.specs.Words.{command_of, files_of}
+use Rattle.acc_commands.specs.Files.{AreFiles}
+use Rattle.acc_cli.specs.declared.status.Status.TheVariants.{Ran}
+use Rattle.acc_cli.specs.Replies.{Reply}
+
+-- The file spells this design, which is well-formed. What was said is a certificate with a proof of each of its obligations, in one line,
+-- with which the design is accepted; so it is sound.
+pub record IsProved (held : List ℕ → Told) (words : List (List ℕ)) (old new : Option (List ℕ)) : Type 0 where
+  pub design : List ℕ
+  pub given : AreFiles held (files_of command.Prove words) (design ∷ [])
+  pub d : Design
+  pub is_text : IsDesignText design d
+  pub formed : IsWellFormed d
+  pub text : List ℕ
+  pub certified : IsCertified d text
+  pub says : Appends old new text
+
+-- both are certificates that `prove` may make of a design
+pub record AreCertificates (words : List (List ℕ)) (a b : Reply) : Type 0 where
+  pub is_prove : command_of words ≡ Some command.Prove
+  pub one_done : a.status ≡ Ran Done
+  pub other_done : b.status ≡ Ran Done
+  pub history : a.history ≡ b.history
+  pub settled : a.settled ≡ b.settled
+
+-- nothing differs, but for which certificate is made
+abbrev pub AreAlike : List (List ℕ) → Reply → Reply → Type 0
+AreAlike words a b = (a ≡ b) ⊎ AreCertificates words a b

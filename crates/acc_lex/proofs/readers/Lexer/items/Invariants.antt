@@ -1,0 +1,14 @@
+use Rattle.std.proofs.Common.{◌≡◌, length}
+use Rattle.acc_grammar.specs.Readers.{many}
+use Rattle.acc_grammar.specs.Runs.{next_is}
+use Rattle.acc_grammar.proofs.Adding.{with_items}
+use Rattle.acc_lex.specs.LineTokens.{item_parts}
+use Rattle.acc_lex.specs.Readings.{is_inside, item_at}
+use Rattle.acc_lex.proofs.readers.Lexer.items.Given as goal
+
+abbrev pub invariant-loop-self : goal.invariant-loop-self
+invariant-loop-self l = with_items item_parts l.self.parts (many (next_is is_inside) item_at l.self.rest.now) ≡ with_items item_parts
+    l.fn.self.parts (many (next_is is_inside) item_at l.fn.self.rest.now)
+
+abbrev pub decreases-loop-self : goal.decreases-loop-self
+decreases-loop-self l = length l.self.rest.now

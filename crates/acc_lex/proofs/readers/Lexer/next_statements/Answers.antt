@@ -1,0 +1,34 @@
+use Rattle.std.proofs.Common.{refl, sym, ◌∙◌}
+use Rattle.std.proofs.lemmas.Result.{err_from_is_err_and}
+use Rattle.acc_grammar.specs.Runs.{next_is}
+use Rattle.acc_grammar.proofs.Adding.{adds_on, adds_ends, adds_all}
+use Rattle.acc_lex.specs.ByteKinds.{is_byte}
+use Rattle.acc_lex.specs.LineTokens.{next_statement_parts}
+use Rattle.acc_lex.specs.Readings.{next_statement_at, next_statements_at}
+use Rattle.acc_lex.proofs.Lines.{next_shorter}
+use Rattle.acc_lex.proofs.readers.Lexer.next_statements.Goals as goal
+
+pub loop-self-smaller : goal.loop-self-smaller
+loop-self-smaller c = next_shorter c.loop-self.self.rest.now c.in_ok-next_statement.ensures.0 c.next_statement.new.self.rest.now
+    c.in_ok-next_statement.ensures.1
+
+pub loop-self-preserved : goal.loop-self-preserved
+loop-self-preserved c =
+    adds_on (Unit {0}) next_statement_parts (next_is (is_byte 59)) next_statement_at refl next_shorter tt c.loop-self.self.parts
+    c.next_statement.new.self.parts c.loop-self.self.rest.now c.next_statement.new.self.rest.now _
+    (sym c.comes.ensures ∙ c.loop-self-test.true) c.in_ok-next_statement.ensures c.loop-self.invariant
+
+pub returns-in_err-next_statement : goal.returns-in_err-next_statement
+unfolding next_statements_at
+returns-in_err-next_statement c =
+    let p = err_from_is_err_and c.from_residual.result c.from_residual.ensures.1 in
+    rw (p.1, p.2) (adds_ends (Unit {0}) next_statement_parts (next_is (is_byte 59)) next_statement_at refl c.in_err-next_statement.field-0.0
+    c.loop-self.self.parts c.next_statement.new.self.parts c.next_statement.new.self.parts c.args.self.now.parts
+    c.loop-self.self.rest.now c.next_statement.new.self.rest.now c.args.self.now.rest.now (sym c.comes.ensures ∙ c.loop-self-test.true)
+    c.in_err-next_statement.ensures c.loop-self.invariant)
+
+pub returns : goal.returns
+unfolding next_statements_at
+returns c = adds_all (Unit {0}) next_statement_parts (next_is (is_byte 59)) next_statement_at refl tt c.loop-self.self.parts
+    c.args.self.now.parts c.loop-self.self.rest.now c.args.self.now.rest.now (sym c.comes.ensures ∙ c.loop-self-test.false)
+    c.loop-self.invariant

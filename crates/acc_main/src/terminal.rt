@@ -1,0 +1,98 @@
+//! How far a long call is, on standard error, where that is a terminal.
+use acc_diagnose::{found_line, replay_line, search_line};
+use acc_progress::{Found, Progress};
+use std::alloc::AllocError;
+use std::io::{IsTerminal, Write};
+use std::time::Instant;
+
+/// A replay of fewer events isn't told of.
+const LONG_REPLAY: u64 = 65_536;
+
+/// So many milliseconds pass between two tellings of a replay at least.
+const PAUSE: u128 = 250;
+
+/// So many milliseconds pass before the first telling of a search, and between two of them.
+const SECOND: u128 = 1_000;
+
+/// Tells on standard error, to a terminal only, how far a long replay or search is, and what a recovery found. What fails changes nothing
+/// else.
+#[derive(Drop)]
+pub struct TerminalProgress<'a> {
+    rt: &'a HostRuntime,
+    is_terminal: bool,
+    told: Option<Instant>,
+    has_line: bool,
+}
+
+impl<'a> TerminalProgress<'a> {
+    /// Nothing is told yet.
+    pub fn new(rt: &'a HostRuntime) -> Self {
+        TerminalProgress {
+            rt,
+            is_terminal: rt.stderr().is_terminal(),
+            told: None,
+            has_line: false,
+        }
+    }
+
+    /// Ends the line that tells how far the call is, if one stands there.
+    pub fn end_line(&mut self) {
+        if self.has_line {
+            self.write(b"\n");
+            self.has_line = false;
+        }
+    }
+
+    fn write(&self, text: &[u8]) {
+        match self.rt.stderr().write_all(text) {
+            Ok(()) | Err(_) => {}
+        }
+    }
+
+    /// Whether a pause of so many milliseconds since the last telling is over; it begins again then.
+    fn is_due(&mut self, pause: u128) -> bool {
+        let Ok(now) = Instant::now(self.rt) else {
+            return false;
+        };
+        let due = match self.told {
+            Some(told) => now.saturating_duration_since(told).as_millis() >= pause,
+            None => true,
+        };
+        if due {
+            self.told = Some(now);
+        }
+        due
+    }
+
+    /// Writes a line in the place of the one that stands there.
+    fn put_line(&mut self, line: Result<String, AllocError>) {
+        if let Ok(line) = line {
+            self.write(line.as_bytes());
+            self.has_line = true;
+        }
+    }
+}
+
+impl Progress for TerminalProgress<'_> {
+    fn replayed(&mut self, done: u64, events: u64) {
+        if self.is_terminal && events >= LONG_REPLAY && (done == events || self.is_due(PAUSE)) {
+            self.put_line(replay_line(self.rt.alloc(), done, events));
+        }
+    }
+
+    fn recovered(&mut self, found: Found) {
+        if self.is_terminal {
+            self.end_line();
+            if let Ok(line) = found_line(self.rt.alloc(), found) {
+                self.write(line.as_bytes());
+            }
+        }
+    }
+
+    fn searched(&mut self, done: u64, obligations: u64, open: u64) {
+        let is_first = self.told.is_none();
+        if self.is_terminal && self.is_due(SECOND) && !is_first {
+            self.put_line(search_line(self.rt.alloc(), done, obligations, open));
+        }
+    }
+}

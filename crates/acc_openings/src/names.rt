@@ -1,0 +1,196 @@
+//! What the variables of an obligation are called.
+use acc_base::designs::{At, Design, Point, Side, TxType};
+use acc_base::forms::Clause;
+use acc_base::sequences::Text;
+use acc_base::sequents::Origin;
+use acc_base::steps::{Read, Step, Target};
+use acc_explain::{push_number, push_text};
+use std::alloc::AllocError;
+
+/// What a variable of an obligation is.
+#[derive(Clone, Copy)]
+enum Variable<'a> {
+    /// A local, as the step leaves it to its path, or as the transaction has it where there is no step.
+    Local(&'a [u8]),
+    /// A local that a read of the step assigns, before it.
+    Before(&'a [u8]),
+    /// A local behind the read with this number, from 1, which a later one assigns again.
+    Behind(&'a [u8], u64),
+    /// The transaction's number.
+    Own,
+    /// A local of the held transaction.
+    Held(&'a [u8]),
+    /// The held transaction's number.
+    HeldOwn,
+    /// A name behind the `forall` of the assertion.
+    Named(&'a [u8]),
+    /// A key component of a row that isn't to be there, with its number, from 1.
+    Component(u64),
+}
+
+fn type_at(d: &Design, at: At) -> Option<&TxType> {
+    d.types.as_slice().get(at.ty as usize)
+}
+
+fn point_at(d: &Design, at: At) -> Option<&Point> {
+    type_at(d, at)?.points.as_slice().get(at.point as usize)
+}
+
+fn step_at(d: &Design, at: At, side: Side) -> Option<&Step> {
+    let point = point_at(d, at)?;
+    match side {
+        Side::Next => Some(&point.next),
+        Side::Undo => Some(&point.undo),
+    }
+}
+
+/// The locals of a point's type.
+fn locals_of(d: &Design, at: At) -> &[Text] {
+    match type_at(d, at) {
+        Some(ty) => ty.locals.as_slice(),
+        None => &[],
+    }
+}
+
+/// The reads that have a variable in an obligation: those of its step; none where a transaction begins or rests.
+fn reads_of<'a>(d: &'a Design, at: At, origin: &Origin) -> &'a [Read] {
+    if origin.rule == 0 || (origin.rule == 6 && origin.clause < 3) {
+        return &[];
+    }
+    match step_at(d, at, origin.side) {
+        Some(step) => step.reads.as_slice(),
+        None => &[],
+    }
+}
+
+/// The clauses that the target of an obligation's path promises.
+fn promised<'a>(d: &'a Design, at: At, origin: &Origin) -> Option<&'a [Clause]> {
+    let number = origin.path.checked_sub(1)?;
+    let path = step_at(d, at, origin.side)?
+        .paths
+        .as_slice()
+        .get(number as usize)?;
+    let ty = type_at(d, at)?;
+    match path.target {
+        Target::Point(point) => Some(point_at(d, At { ty: at.ty, point })?.clauses.as_slice()),
+        Target::Commit => Some(ty.posts.as_slice()),
+        Target::Undone => Some(ty.repairs.as_slice()),
+        Target::Refuse(_) => None,
+    }
+}
+
+/// The clauses among which the assertion of an obligation stands.
+fn clauses_of<'a>(d: &'a Design, origin: &Origin) -> Option<&'a [Clause]> {
+    match origin.rule {
+        0 => Some(point_at(d, origin.at?)?.clauses.as_slice()),
+        1 => promised(d, origin.at?, origin),
+        3 => Some(point_at(d, origin.held?)?.clauses.as_slice()),
+        2 | 8 => Some(d.always.as_slice()),
+        _ => None,
+    }
+}
+
+/// The name behind the `forall` of an obligation's assertion that has this place, if there is one.
+fn clause_name<'a>(d: &'a Design, origin: &Origin, place: usize) -> Option<&'a [u8]> {
+    let number = origin.clause.checked_sub(1)?;
+    let clause = clauses_of(d, origin)?.get(number as usize)?;
+    let name = clause.vars.as_slice().get(place)?;
+    Some(name.as_slice())
+}
+
+/// The variable of an obligation's assertion that has this place among them.
+fn of_clause<'a>(d: &'a Design, origin: &Origin, place: usize) -> Variable<'a> {
+    match clause_name(d, origin, place) {
+        Some(name) => Variable::Named(name),
+        None => Variable::Component((place as u64).saturating_add(1)),
+    }
+}
+
+/// The variable that has this place behind those of the step.
+fn behind_step<'a>(d: &'a Design, origin: &Origin, place: usize) -> Variable<'a> {
+    let Some(held) = origin.held else {
+        return of_clause(d, origin, place);
+    };
+    let locals = locals_of(d, held);
+    match locals.get(place) {
+        Some(name) => Variable::Held(name.as_slice()),
+        None if place == locals.len() => Variable::HeldOwn,
+        None => of_clause(
+            d,
+            origin,
+            place.saturating_sub(locals.len()).saturating_sub(1),
+        ),
+    }
+}
+
+fn assigns(reads: &[Read], local: usize) -> bool {
+    reads.iter().any(|read| read.assigned() as usize == local)
+}
+
+/// The variable of a step's read.
+fn of_read<'a>(locals: &'a [Text], reads: &[Read], place: usize, local: usize) -> Variable<'a> {
+    let name = match locals.get(local) {
+        Some(name) => name.as_slice(),
+        None => &[],
+    };
+    let number = place.saturating_add(1);
+    match reads.get(number..) {
+        Some(later) if assigns(later, local) => Variable::Behind(name, number as u64),
+        _ => Variable::Local(name),
+    }
+}
+
+/// What a variable of an obligation at a point is.
+fn at_point<'a>(d: &'a Design, origin: &Origin, at: At, place: usize) -> Variable<'a> {
+    let locals = locals_of(d, at);
+    let reads = reads_of(d, at, origin);
+    match locals.get(place) {
+        Some(name) if assigns(reads, place) => return Variable::Before(name.as_slice()),
+        Some(name) => return Variable::Local(name.as_slice()),
+        None if place == locals.len() => return Variable::Own,
+        None => {}
+    }
+    let place = place.saturating_sub(locals.len()).saturating_sub(1);
+    match reads.get(place) {
+        Some(read) => of_read(locals, reads, place, read.assigned() as usize),
+        None => behind_step(d, origin, place.saturating_sub(reads.len())),
+    }
+}
+
+fn variable_of<'a>(d: &'a Design, origin: &Origin, place: usize) -> Variable<'a> {
+    match origin.at {
+        Some(at) => at_point(d, origin, at, place),
+        None => of_clause(d, origin, place),
+    }
+}
+
+/// Puts what a variable of an obligation is called behind a text.
+pub fn push_variable(
+    out: &mut Vec<u8>,
+    d: &Design,
+    origin: &Origin,
+    variable: u32,
+) -> Result<(), AllocError> {
+    match variable_of(d, origin, variable as usize) {
+        Variable::Local(name) | Variable::Named(name) => push_text(out, name),
+        Variable::Before(name) => {
+            push_text(out, b"old ")?;
+            push_text(out, name)
+        }
+        Variable::Behind(name, read) => {
+            push_text(out, name)?;
+            push_text(out, b" of read ")?;
+            push_number(out, read)
+        }
+        Variable::Own => push_text(out, b"self"),
+        Variable::Held(name) => {
+            push_text(out, b"held ")?;
+            push_text(out, name)
+        }
+        Variable::HeldOwn => push_text(out, b"held self"),
+        Variable::Component(number) => {
+            push_text(out, b"key ")?;
+            push_number(out, number)
+        }
+    }
+}

@@ -1,0 +1,13 @@
+use crate::{Found, Progress};
+
+/// Tells nothing.
+#[derive(Clone, Copy, Debug, PartialEq, Eq)]
+pub struct Silent;
+
+impl Progress for Silent {
+    fn replayed(&mut self, _done: u64, _events: u64) {}
+
+    fn recovered(&mut self, _found: Found) {}
+
+    fn searched(&mut self, _done: u64, _obligations: u64, _open: u64) {}
+}
