@@ -1,5 +1,4 @@
-//! Texts of designs with a piece exchanged, and what is shown of them, for programs that play cases over them.
+//! What is shown of the texts of designs, for programs that play cases over them.
 #![tactic(auto)]
 
 pub mod designs;
-pub mod texts;

@@ -1,6 +1,7 @@
 //! The cases by their verbs.
-use crate::{designs, journals, memory, proofs};
-use acc_case_changes::texts::{self, Change, first_word};
+use crate::{designs, journals};
+use acc_case_commands::texts::{self, Change, first_word};
+use acc_case_commands::{memory, proofs};
 use acc_cli::acc;
 use acc_io::{FolderShelf, MemShelf, MemSink, StdSink};
 use acc_progress::Silent;

@@ -1,6 +1,6 @@
 //! What is shown of a design: its print, or how it is refused.
-use crate::memory;
 use acc_case_changes::designs::{judged_text, spelled};
+use acc_case_commands::memory;
 use acc_io::MemSink;
 use std::alloc::{AllocError, Global};
 

@@ -1,22 +1,13 @@
 //! Command lines over a disk in memory.
 use crate::cases::{hold_files, numbers, sink};
-use crate::memory;
-use acc_case_changes::texts::first_word;
+use acc_case_commands::memory::{self, bytes_of};
+use acc_case_commands::texts::first_word;
 use acc_cli::Done;
 use acc_disk::MemDisk;
 use acc_io::{MemShelf, MemSink};
 use std::alloc::{AllocError, Global};
 use std::io;
 use std::rt::Files;
-
-/// The bytes that a text spells, two digits each; a `-` is none.
-fn bytes_of(alloc: Global, text: &str) -> Vec<u8> {
-    let digits = if text == "-" { "" } else { text };
-    match hex::decode(alloc, digits) {
-        Ok(bytes) => bytes,
-        Err(_) => Vec::new(alloc),
-    }
-}
 
 /// The spelling of bytes, two digits each; a `-` where there are none.
 fn spelled(alloc: Global, bytes: &[u8]) -> Result<String, AllocError> {

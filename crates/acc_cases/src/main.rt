@@ -4,8 +4,6 @@
 mod cases;
 mod designs;
 mod journals;
-mod memory;
-mod proofs;
 
 use std::io;
 

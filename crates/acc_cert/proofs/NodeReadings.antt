@@ -11,25 +11,25 @@ use Rattle.acc_axioms.specs.declared.nodes.Node.{Node}
 use Rattle.acc_axioms.specs.declared.nodes.Node.TheVariants as node
 use Rattle.acc_axioms.specs.declared.nodes.Proof.{Proof}
 use Rattle.acc_axioms.specs.declared.nodes.Cert.{Cert}
+use Rattle.acc_cert_bounds.specs.InBounds.{is_near}
+use Rattle.acc_cert_bounds.specs.InBounds as bounds
 use Rattle.acc_cert_read.specs.Parts.{Part, Good, Off, and_then, under, gives, two, list_of}
-use Rattle.acc_cert_read.specs.Spellings.{is_wide}
 use Rattle.acc_cert_read.specs.Forms.{index_of, wide_of, lins_of, unknown_of, form_of}
 use Rattle.acc_cert_read.specs.Nodes.{mults_of, is_axiom, schema_of, schema_at, shown_by, axiom_of, node_of, proof_of}
 use Rattle.acc_cert_read.specs.Certificates.{cert_of}
 use Rattle.acc_cert.specs.Spelled.{array_of, each, pair, index, signed, lins, unknown, form}
 use Rattle.acc_cert.specs.SpelledNodes.{mults, axiom_number, arguments, node_data, proof, cert}
-use Rattle.acc_cert_read.specs.InBounds as bounds
 use Rattle.acc_cert.proofs.Readings.{each_read, one_read, one_behind, two_read, three_read, three_behind, index_read, wide_read, lins_read}
 use Rattle.acc_cert.proofs.Readings.{key_read, key_number_read, unknown_read, form_read}
 
-multiplier_read : (p : ℕ × ℤ) → bounds.pair bounds.index is_wide p ≡ true → two 0 index_of wide_of (pair index signed p) ≡ Good p
+multiplier_read : (p : ℕ × ℤ) → bounds.pair bounds.index is_near p ≡ true → two 0 index_of wide_of (pair index signed p) ≡ Good p
 multiplier_read p h =
-    two_read index_of (index p.0) p.0 (index_read p.0 (first_so (bounds.index p.0) (is_wide p.1) h)) wide_of (signed p.1) p.1
-    (wide_read p.1 (second_so (bounds.index p.0) (is_wide p.1) h))
+    two_read index_of (index p.0) p.0 (index_read p.0 (first_so (bounds.index p.0) (is_near p.1) h)) wide_of (signed p.1) p.1
+    (wide_read p.1 (second_so (bounds.index p.0) (is_near p.1) h))
 
 mults_read : (m : Mults) → bounds.mults m ≡ true → mults_of (mults m) ≡ Good m
 mults_read m h =
-    ap (gives (λ ps. record { of = ps })) (each_read (pair index signed) (two 0 index_of wide_of) (bounds.pair bounds.index is_wide)
+    ap (gives (λ ps. record { of = ps })) (each_read (pair index signed) (two 0 index_of wide_of) (bounds.pair bounds.index is_near)
     multiplier_read m.of h)
 
 list_read : (ms : List Mults) → list_all bounds.mults ms ≡ true → list_of mults_of (each mults ms) ≡ Good ms

@@ -11,12 +11,12 @@ use Rattle.acc_base.specs.declared.forms.Atom.{Atom}
 use Rattle.acc_base.specs.declared.forms.Atom.TheVariants as atom
 use Rattle.acc_base.specs.declared.forms.Unknown.{Unknown}
 use Rattle.acc_base.specs.declared.forms.Form.{Form}
+use Rattle.acc_cert_bounds.specs.InBounds.{is_near, is_narrow}
+use Rattle.acc_cert_bounds.specs.InBounds as bounds
 use Rattle.acc_cert_read.specs.Parts.{Part, Good, gives, given, one, two, three, items_from, list_of}
-use Rattle.acc_cert_read.specs.Spellings.{is_wide, is_narrow}
 use Rattle.acc_cert_read.specs.Forms.{index_of, wide_of, narrow_of, lin_of, lins_of, atom_of, unknown_of, form_of}
 use Rattle.acc_cert_read.proofs.Numerals.{number_read, wide_holds, narrow_holds}
 use Rattle.acc_cert.specs.Spelled.{array_of, each, pair, index, signed, lin, lins, atom_data, unknown, form}
-use Rattle.acc_cert_read.specs.InBounds as bounds
 
 module _ {A : Type 0} (f : A → Data) (g : Data → Part A) (ok : A → Bool) (h : (x : A) → ok x ≡ true → g (f x) ≡ Good x) where
   items_read : (i : ℕ) (xs : List A) → list_all ok xs ≡ true → items_from g i (items_of (map f xs)) ≡ Good xs
@@ -55,8 +55,8 @@ module _ {A : Type 0} (f : Data → Part A) (d : Data) (x : A) (a : f d ≡ Good
 pub index_read : (n : ℕ) → bounds.index n ≡ true → index_of (index n) ≡ Good n
 index_read n h = rw h refl
 
-pub wide_read : (z : ℤ) → is_wide z ≡ true → wide_of (signed z) ≡ Good z
-wide_read z h = ap given (number_read w128 is_wide wide_holds z h)
+pub wide_read : (z : ℤ) → is_near z ≡ true → wide_of (signed z) ≡ Good z
+wide_read z h = ap given (number_read w128 is_near wide_holds z h)
 
 pub narrow_read : (z : ℤ) → is_narrow z ≡ true → narrow_of (signed z) ≡ Good z
 narrow_read z h = ap given (number_read w64 is_narrow narrow_holds z h)
@@ -123,17 +123,17 @@ unknown_read u h =
     (two_read lins_of (lins u.under) u.under (lins_read u.under (first_so (bounds.lins u.under) (bounds.atom_in u.atom) h)) atom_of
     (atom_data u.atom) u.atom (atom_read u.atom (second_so (bounds.lins u.under) (bounds.atom_in u.atom) h)))
 
-term_read : (p : Unknown × ℤ) → bounds.pair bounds.unknown is_wide p ≡ true → two 0 unknown_of wide_of (pair unknown signed p) ≡ Good p
+term_read : (p : Unknown × ℤ) → bounds.pair bounds.unknown is_near p ≡ true → two 0 unknown_of wide_of (pair unknown signed p) ≡ Good p
 term_read p h =
-    two_read unknown_of (unknown p.0) p.0 (unknown_read p.0 (first_so (bounds.unknown p.0) (is_wide p.1) h)) wide_of (signed p.1) p.1
-    (wide_read p.1 (second_so (bounds.unknown p.0) (is_wide p.1) h))
+    two_read unknown_of (unknown p.0) p.0 (unknown_read p.0 (first_so (bounds.unknown p.0) (is_near p.1) h)) wide_of (signed p.1) p.1
+    (wide_read p.1 (second_so (bounds.unknown p.0) (is_near p.1) h))
 
 pub form_read : (f : Form) → bounds.form f ≡ true → form_of (form f) ≡ Good f
 form_read f h =
-    let all : Bool = list_all (bounds.pair bounds.unknown is_wide) f.terms in
-    let a = each_read (pair unknown signed) (two 0 unknown_of wide_of) (bounds.pair bounds.unknown is_wide) term_read f.terms
-    (first_so all (is_wide f.constant) h) in
-    let b = wide_read f.constant (second_so all (is_wide f.constant) h) in
+    let all : Bool = list_all (bounds.pair bounds.unknown is_near) f.terms in
+    let a = each_read (pair unknown signed) (two 0 unknown_of wide_of) (bounds.pair bounds.unknown is_near) term_read f.terms
+    (first_so all (is_near f.constant) h) in
+    let b = wide_read f.constant (second_so all (is_near f.constant) h) in
     ap (gives (λ p. record { terms = p.0; constant = p.1 }))
     (two_read (list_of (two 0 unknown_of wide_of)) (each (pair unknown signed) f.terms) f.terms a wide_of (signed f.constant) f.constant
     b)

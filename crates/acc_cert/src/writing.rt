@@ -1,11 +1,11 @@
 //! Writes a certificate.
 ghost use Rattle.std.specs.Prelude.{◌≡◌, IfOk, IfErr, IsTrue};
 ghost use Rattle.serde_json.specs.Written.{compact_text};
+ghost use Rattle.acc_cert_bounds.specs.InBounds.{cert as is_in_bounds};
 ghost use Rattle.acc_cert_read.specs.Parts.{Good};
 ghost use Rattle.acc_cert_read.specs.Certificates.{cert_in};
 ghost use Rattle.acc_cert_read.specs.declared.errors.CertError.TheVariants.{Memory};
 ghost use Rattle.acc_cert.specs.SpelledNodes.{cert};
-ghost use Rattle.acc_cert_read.specs.InBounds.{cert as is_in_bounds};
 
 use crate::spelled::Spelled;
 use acc_axioms::nodes::Cert;

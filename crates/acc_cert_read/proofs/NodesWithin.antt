@@ -12,27 +12,27 @@ use Rattle.acc_axioms.specs.declared.nodes.Schema.TheVariants as schema
 use Rattle.acc_axioms.specs.declared.nodes.Node.TheVariants as node
 use Rattle.acc_axioms.specs.declared.nodes.Cert.{Cert}
 use Rattle.acc_axioms.proofs.Tests.{both_true}
+use Rattle.acc_cert_bounds.specs.InBounds.{is_near}
+use Rattle.acc_cert_bounds.specs.InBounds as bounds
 use Rattle.acc_cert_read.specs.declared.words.NodeWord.{NodeWord}
 use Rattle.acc_cert_read.specs.declared.words.NodeWord.TheVariants as word
 use Rattle.acc_cert_read.specs.Parts.{Good, Off, and_then, given, gives, field, ends, one, two, three, list_of}
-use Rattle.acc_cert_read.specs.Spellings.{is_wide}
 use Rattle.acc_cert_read.specs.Forms.{index_of, wide_of, lins_of, unknown_of, form_of}
 use Rattle.acc_cert_read.specs.Words.{node_word}
 use Rattle.acc_cert_read.specs.Nodes.{mults_of, by_key, by_key_and_number, by_unknown, is_axiom, further_schema_of, schema_of, schema_at}
 use Rattle.acc_cert_read.specs.Nodes.{shown_by, axiom_of, node_rest, node_of, proof_of}
 use Rattle.acc_cert_read.specs.Certificates.{cert_of, cert_in}
-use Rattle.acc_cert_read.specs.InBounds as bounds
 use Rattle.acc_cert_read.proofs.Within.{Within, AllWithin, then_within, gives_within, field_within, ends_within, one_within, list_within}
 use Rattle.acc_cert_read.proofs.Within.{triple, two_within, three_within, wide_within, index_within, lins_within, keyed, numbered}
 use Rattle.acc_cert_read.proofs.Within.{key_within, key_number_within, worded, unknown_within, form_within}
 
-multiplier_within : AllWithin (bounds.pair bounds.index is_wide) (two 0 index_of wide_of)
-multiplier_within d = two_within bounds.index is_wide index_of wide_of index_within wide_within 0 d
+multiplier_within : AllWithin (bounds.pair bounds.index is_near) (two 0 index_of wide_of)
+multiplier_within d = two_within bounds.index is_near index_of wide_of index_within wide_within 0 d
 
 mults_within : AllWithin bounds.mults mults_of
 mults_within d =
-    gives_within (list_all (bounds.pair bounds.index is_wide)) bounds.mults (list_of (two 0 index_of wide_of) d) (λ ps. record { of = ps })
-    (list_within (bounds.pair bounds.index is_wide) (two 0 index_of wide_of) multiplier_within d) (λ ps h. h)
+    gives_within (list_all (bounds.pair bounds.index is_near)) bounds.mults (list_of (two 0 index_of wide_of) d) (λ ps. record { of = ps })
+    (list_within (bounds.pair bounds.index is_near) (two 0 index_of wide_of) multiplier_within d) (λ ps h. h)
 
 -- ---- axioms
 

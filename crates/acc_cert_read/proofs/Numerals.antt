@@ -12,7 +12,8 @@ use Rattle.std.proofs.lemmas.Fmt.{decimal_is_IsNumeral_wide}
 use Rattle.std.proofs.lemmas.Str.Parse.{digit_from_value}
 use Rattle.std.proofs.lemmas.Slice.Eq.{bytes_eq-Decides}
 use Rattle.std.specs.Int.{w64, w128}
-use Rattle.acc_cert_read.specs.Spellings.{number_within, is_wide, is_narrow}
+use Rattle.acc_cert_bounds.specs.InBounds.{is_near, is_narrow}
+use Rattle.acc_cert_read.specs.Spellings.{number_within}
 
 -- digits begin with no sign
 no_sign : (ds : List ℕ) → IsNumeral 10 ds → without_leading_sign ds ≡ ds
@@ -43,7 +44,7 @@ no_number w fits holds s unread =
     let same : signed_decimal z ≡ s = (bytes_eq-Decides (signed_decimal z) s).0 b in
     unread (subst (λ t. IsNumeral 10 (without_leading_sign t)) same (numeral z (holds z f).1), (holds z f).0))
 
-pub wide_holds : (z : ℤ) → is_wide z ≡ true → FitsSigned w128 z × (mag z < 10 ^ 63)
+pub wide_holds : (z : ℤ) → is_near z ≡ true → FitsSigned w128 z × (mag z < 10 ^ 63)
 wide_holds (pos n) h = let small : n ≤ 2 ^ 120 = grind (arith, nat_tests) in (record { sfits = omega arith }, omega arith)
 wide_holds (negsuc n) h = let small : suc n ≤ 2 ^ 120 = grind (arith, nat_tests) in (record { sfits = omega arith }, omega arith)
 

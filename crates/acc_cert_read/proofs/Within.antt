@@ -10,13 +10,14 @@ use Rattle.serde_json.specs.Find.{at, as_array, as_number, as_u64, as_str}
 use Rattle.acc_base.specs.declared.forms.Lin.{Lin}
 use Rattle.acc_base.specs.declared.forms.Atom.TheVariants as atom
 use Rattle.acc_axioms.proofs.Tests.{both_true}
+use Rattle.acc_cert_bounds.specs.InBounds.{is_near, is_narrow}
+use Rattle.acc_cert_bounds.specs.InBounds as bounds
 use Rattle.acc_cert_read.specs.declared.words.AtomWord.{AtomWord}
 use Rattle.acc_cert_read.specs.declared.words.AtomWord.TheVariants as word
 use Rattle.acc_cert_read.specs.Parts.{Part, Good, Off, and_then, gives, under, given, field, ends, one, two, three, items_from, list_of}
-use Rattle.acc_cert_read.specs.Spellings.{number_within, is_wide, is_narrow, index_in}
+use Rattle.acc_cert_read.specs.Spellings.{number_within, index_in}
 use Rattle.acc_cert_read.specs.Forms.{index_of, wide_of, narrow_of, word_of, lin_of, lins_of, atom_rest, atom_of, unknown_of, form_of}
 use Rattle.acc_cert_read.specs.Words.{atom_word}
-use Rattle.acc_cert_read.specs.InBounds as bounds
 
 -- what a part says, if it says something, passes a test
 abbrev pub Within : {A : Type 0} → (A → Bool) → Part A → Type 0
@@ -113,8 +114,8 @@ number_fits fits (Some s) z h =
     by y true false e k = absurd (cc)
     by y false b e k = absurd (cc)
 
-pub wide_within : AllWithin is_wide wide_of
-wide_within d = given_within is_wide (option_and_then (number_within is_wide) (as_str d)) (number_fits is_wide (as_str d))
+pub wide_within : AllWithin is_near wide_of
+wide_within d = given_within is_near (option_and_then (number_within is_near) (as_str d)) (number_fits is_near (as_str d))
 
 pub narrow_within : AllWithin is_narrow narrow_of
 narrow_within d = given_within is_narrow (option_and_then (number_within is_narrow) (as_str d)) (number_fits is_narrow (as_str d))
@@ -193,13 +194,13 @@ unknown_within d =
     gives_within (bounds.pair bounds.lins bounds.atom_in) bounds.unknown (two 0 lins_of atom_of d) (λ p. record { under = p.0; atom = p.1 })
     (two_within bounds.lins bounds.atom_in lins_of atom_of lins_within atom_within 0 d) (λ p h. h)
 
-term_within : AllWithin (bounds.pair bounds.unknown is_wide) (two 0 unknown_of wide_of)
-term_within d = two_within bounds.unknown is_wide unknown_of wide_of unknown_within wide_within 0 d
+term_within : AllWithin (bounds.pair bounds.unknown is_near) (two 0 unknown_of wide_of)
+term_within d = two_within bounds.unknown is_near unknown_of wide_of unknown_within wide_within 0 d
 
 pub form_within : AllWithin bounds.form form_of
 form_within d =
-    let terms = list_within (bounds.pair bounds.unknown is_wide) (two 0 unknown_of wide_of) term_within in
-    gives_within (bounds.pair (list_all (bounds.pair bounds.unknown is_wide)) is_wide) bounds.form
+    let terms = list_within (bounds.pair bounds.unknown is_near) (two 0 unknown_of wide_of) term_within in
+    gives_within (bounds.pair (list_all (bounds.pair bounds.unknown is_near)) is_near) bounds.form
     (two 0 (list_of (two 0 unknown_of wide_of)) wide_of d) (λ p. record { terms = p.0; constant = p.1 })
-    (two_within (list_all (bounds.pair bounds.unknown is_wide)) is_wide (list_of (two 0 unknown_of wide_of)) wide_of
+    (two_within (list_all (bounds.pair bounds.unknown is_near)) is_near (list_of (two 0 unknown_of wide_of)) wide_of
     terms wide_within 0 d) (λ p h. h)

@@ -5,4 +5,3 @@ pub mod Causes
 pub mod Forms
 pub mod Nodes
 pub mod Certificates
-pub mod InBounds

@@ -1,11 +1,11 @@
 -- How numbers stand in certificates.
-use Rattle.std.specs.Prelude.{ℕ, ◌^◌, Bool, ◌&&◌, nat_lt, nat_le, if◌then◌else◌, List, Option, Some, None, option_and_then, ℤ, pos}
-use Rattle.std.specs.Prelude.{unsigned_abs}
+use Rattle.std.specs.Prelude.{ℕ, ◌^◌, Bool, ◌&&◌, nat_lt, if◌then◌else◌, List, Option, Some, None, option_and_then, ℤ}
 use Rattle.std.specs.Fmt.{signed_decimal}
 use Rattle.std.specs.Str.{bytes_eq}
 use Rattle.std.specs.Str.Parse.{signed_digits_value}
 use Rattle.serde_json.specs.Data.{Data}
 use Rattle.serde_json.specs.Find.{as_number, as_u64, as_str}
+use Rattle.acc_cert_bounds.specs.InBounds.{is_near, is_narrow}
 
 -- the number that a text spells in the one way in which it is written: decimal digits without leading zeros, with a minus
 -- where it is below 0
@@ -13,17 +13,8 @@ abbrev pub number_within : (ℤ → Bool) → List ℕ → Option ℤ
 number_within fits s =
     let z = signed_digits_value 10 s in if fits z && bytes_eq (signed_decimal z) s then Some z else None
 
--- within 2^120 of 0
-abbrev pub is_wide : ℤ → Bool
-is_wide z = nat_le (unsigned_abs z) (2 ^ 120)
-
--- of 64 bits
-abbrev pub is_narrow : ℤ → Bool
-is_narrow (pos n) = nat_lt n (2 ^ 63)
-is_narrow z = nat_le (unsigned_abs z) (2 ^ 63)
-
 abbrev pub wide_number : Data → Option ℤ
-wide_number d = option_and_then (number_within is_wide) (as_str d)
+wide_number d = option_and_then (number_within is_near) (as_str d)
 
 abbrev pub narrow_number : Data → Option ℤ
 narrow_number d = option_and_then (number_within is_narrow) (as_str d)

@@ -2,10 +2,10 @@
 ghost use Rattle.std.specs.Prelude.{◌≡◌, IfOk, IsTrue};
 ghost use Rattle.serde_json.specs.Read.{read};
 ghost use Rattle.serde_json.specs.View.{view};
+ghost use Rattle.acc_cert_bounds.specs.InBounds.{cert as is_in_bounds};
 ghost use Rattle.acc_cert_read.specs.Parts.{Good, given, and_then};
 ghost use Rattle.acc_cert_read.specs.Causes.{TellsOff};
 ghost use Rattle.acc_cert_read.specs.Certificates.{cert_in, cert_of};
-ghost use Rattle.acc_cert_read.specs.InBounds.{cert as is_in_bounds};
 
 use crate::errors::{CertError, off};
 use crate::parts::Part;

@@ -2,9 +2,10 @@
 ghost use Rattle.std.specs.Prelude.{◌≡◌};
 ghost use Rattle.std.specs.Fmt.{signed_decimal};
 ghost use Rattle.std.specs.Str.{bytes_eq};
-ghost use Rattle.acc_cert_read.specs.Spellings.{number_within, is_wide, is_narrow, index_in};
+ghost use Rattle.acc_cert_bounds.specs.InBounds.{is_near, is_narrow};
+ghost use Rattle.acc_cert_read.specs.Spellings.{number_within, index_in};
 
-use acc_base::bounds::LARGEST_SUM;
+use acc_cert_bounds::numbers::is_near;
 use itoa::Buffer;
 
 /// Whether a text is the spelling of a number.
@@ -14,20 +15,14 @@ fn is_spelling(text: &str, number: i128) -> bool
     Buffer::new().format(number).as_bytes() == text.as_bytes()
 }
 
-fn is_wide(number: i128) -> bool
-    ensures { result ≡ is_wide number }
-{
-    number.unsigned_abs() <= LARGEST_SUM
-}
-
 /// The number within 2^120 of 0 that a text spells, if there is one.
 pub fn wide(text: &str) -> Option<i128>
-    ensures { result ≡ number_within is_wide text.now }
+    ensures { result ≡ number_within is_near text.now }
 {
     let Ok(number) = text.parse() else {
         return None;
     };
-    if is_wide(number) && is_spelling(text, number) {
+    if is_near(number) && is_spelling(text, number) {
         Some(number)
     } else {
         None

@@ -10,12 +10,12 @@ use Rattle.acc_io.specs.declared.counts.Counts.{Counts}
 use Rattle.acc_check.specs.Admissions.{IsAcceptedWith}
 use Rattle.acc_running.specs.Recorded.{IsFound, IsRecorded}
 use Rattle.acc_journalled.specs.Tellings.{Telling}
-use Rattle.acc_commands.specs.declared.words.Command.{Command}
-use Rattle.acc_commands.specs.declared.words.Command.TheVariants as command
-use Rattle.acc_commands.specs.Text.{said_in}
+use Rattle.acc_inputs.specs.declared.words.Command.{Command}
+use Rattle.acc_inputs.specs.declared.words.Command.TheVariants as command
+use Rattle.acc_inputs.specs.Text.{said_in}
 use Rattle.acc_commands.specs.Disks.{Seen}
-use Rattle.acc_commands.specs.Words.{command_of, files_of}
-use Rattle.acc_commands.specs.Files.{AreFiles}
+use Rattle.acc_inputs.specs.Words.{command_of, files_of}
+use Rattle.acc_inputs.specs.Files.{AreFiles}
 use Rattle.acc_commands.specs.RunFiles.{RunsSeen, RunsOfOrder, RunsOfScript, RunsCertified, RunsFiles}
 use Rattle.acc_commands.specs.Means.{MeansOverDisk}
 use Rattle.acc_cli.specs.declared.status.Status.{Status}

@@ -8,19 +8,19 @@ use Rattle.acc_io.specs.Shelves.{Told}
 use Rattle.acc_io.specs.declared.counts.Counts.{Counts}
 use Rattle.acc_io.specs.declared.shelf.ShelfError.{ShelfError}
 use Rattle.acc_schedule.specs.Schedules.{TellsSchedule, TellsScheduleFrom}
-use Rattle.acc_settled.specs.Openings.{opening_at}
+use Rattle.acc_mentions.specs.Openings.{opening_at}
 use Rattle.acc_base.specs.Machine.{World}
 use Rattle.acc_wal.specs.Creating.{IsThere}
 use Rattle.acc_recover.specs.Refusals.{RefusesRecovery, IsOfJournal, IsOfBytes, CountsSame}
 use Rattle.acc_recover.specs.declared.errors.RecoverError.{RecoverError}
-use Rattle.acc_commands.specs.declared.words.Command.{Command}
-use Rattle.acc_commands.specs.declared.words.Command.TheVariants as command
+use Rattle.acc_inputs.specs.declared.words.Command.{Command}
+use Rattle.acc_inputs.specs.declared.words.Command.TheVariants as command
 use Rattle.acc_journalled.specs.declared.answers.Ending.{Ending}
 use Rattle.acc_journalled.specs.declared.answers.Ending.TheVariants.{Done, JournalRefused, DiskFailed, Unbegun, Open}
 use Rattle.acc_cli.specs.declared.status.Status.{Status}
 use Rattle.acc_cli.specs.declared.status.Status.TheVariants.{Usage, File, Sink, Memory, Ran}
-use Rattle.acc_commands.specs.Words.{command_of, files_of}
-use Rattle.acc_commands.specs.Files.{AreFiles, IsFirstRefused, SaysRefused}
+use Rattle.acc_inputs.specs.Words.{command_of, files_of}
+use Rattle.acc_inputs.specs.Files.{AreFiles, IsFirstRefused, SaysRefused}
 use Rattle.acc_commands.specs.Means.{Means}
 use Rattle.acc_commands.specs.ProveFiles.{StaysOpen}
 use Rattle.acc_journalled.specs.Tellings.{Telling}

@@ -2,9 +2,9 @@
 use Rattle.std.specs.Prelude.{◌≡◌, ◌⊎◌, ℕ, List}
 use Rattle.acc_base.specs.declared.machines.Event.{Event}
 use Rattle.acc_io.specs.Shelves.{Told}
-use Rattle.acc_commands.specs.declared.words.Command.TheVariants as command
-use Rattle.acc_commands.specs.Words.{files_of}
-use Rattle.acc_commands.specs.Files.{AreFiles}
+use Rattle.acc_inputs.specs.declared.words.Command.TheVariants as command
+use Rattle.acc_inputs.specs.Words.{files_of}
+use Rattle.acc_inputs.specs.Files.{AreFiles}
 use Rattle.acc_commands.specs.RunFiles.{IsUntouched, LeavesFronts, LeavesSettled}
 
 -- the files of `sched` are given, and this is so to them

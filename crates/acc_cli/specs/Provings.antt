@@ -7,9 +7,9 @@ use Rattle.acc_form.specs.WellFormed.{IsWellFormed}
 use Rattle.acc_parse.specs.Texts.{IsDesignText}
 use Rattle.acc_prove.specs.Provings.{IsCertified}
 use Rattle.acc_journalled.specs.declared.answers.Ending.TheVariants.{Done}
-use Rattle.acc_commands.specs.declared.words.Command.TheVariants as command
-use Rattle.acc_commands.specs.Words.{command_of, files_of}
-use Rattle.acc_commands.specs.Files.{AreFiles}
+use Rattle.acc_inputs.specs.declared.words.Command.TheVariants as command
+use Rattle.acc_inputs.specs.Words.{command_of, files_of}
+use Rattle.acc_inputs.specs.Files.{AreFiles}
 use Rattle.acc_cli.specs.declared.status.Status.TheVariants.{Ran}
 use Rattle.acc_cli.specs.Replies.{Reply}
 

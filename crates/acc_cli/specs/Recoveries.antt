@@ -12,10 +12,10 @@ use Rattle.acc_journalled.specs.declared.answers.Ending.TheVariants.{Done}
 use Rattle.acc_journalled.specs.declared.answers.Wanted.{Wanted}
 use Rattle.acc_journalled.specs.declared.answers.Wanted.TheVariants as wanted
 use Rattle.acc_journalled.specs.Recovering.{Recovers, text_of}
-use Rattle.acc_commands.specs.declared.words.Command.{Command}
-use Rattle.acc_commands.specs.declared.words.Command.TheVariants as command
-use Rattle.acc_commands.specs.Words.{files_of}
-use Rattle.acc_commands.specs.Files.{AreFiles}
+use Rattle.acc_inputs.specs.declared.words.Command.{Command}
+use Rattle.acc_inputs.specs.declared.words.Command.TheVariants as command
+use Rattle.acc_inputs.specs.Words.{files_of}
+use Rattle.acc_inputs.specs.Files.{AreFiles}
 
 -- what a command tells of a recovered journal, if it recovers one
 abbrev pub wanted_by : Command → Option Wanted

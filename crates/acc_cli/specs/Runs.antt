@@ -9,9 +9,9 @@ use Rattle.acc_parse.specs.Texts.{IsDesignText}
 use Rattle.acc_check.specs.Admissions.{IsAcceptedWith}
 use Rattle.acc_script.specs.CallLines.{IsScript}
 use Rattle.acc_running.specs.Recorded.{IsFound, IsRecorded}
-use Rattle.acc_commands.specs.declared.words.Command.TheVariants as command
-use Rattle.acc_commands.specs.Words.{files_of}
-use Rattle.acc_commands.specs.Files.{AreFiles}
+use Rattle.acc_inputs.specs.declared.words.Command.TheVariants as command
+use Rattle.acc_inputs.specs.Words.{files_of}
+use Rattle.acc_inputs.specs.Files.{AreFiles}
 
 -- The files spell this design, which is accepted with its certificate, and these calls. The disk held a journal of the design, the history
 -- begins with the recovered one, and the calls run behind it: lawful, annotated, idle whenever nothing is unfinished, each end durable but

@@ -5,6 +5,7 @@ pub mod laws;
 mod status;
 mod top;
 
-pub use acc_commands::{Command, Ending, asks_journal, help_text};
+pub use acc_commands::Ending;
+pub use acc_inputs::{Command, asks_journal, help_text};
 pub use status::Status;
 pub use top::{Done, acc};

@@ -5,7 +5,7 @@ ghost use Rattle.std.specs.Io.KnownBytes.{Appends};
 ghost use Rattle.acc_io.specs.Sinks.{WritesFront};
 ghost use Rattle.acc_disk.specs.Crashes.{Only, IsCalm};
 ghost use Rattle.acc_disk.specs.Moments.{AtAnyMoment};
-ghost use Rattle.acc_commands.specs.Files.{AllGiven, SaysRefused};
+ghost use Rattle.acc_inputs.specs.Files.{AllGiven, SaysRefused};
 ghost use Rattle.acc_journalled.specs.declared.answers.Ending.TheVariants as ending;
 ghost use Rattle.acc_cli.specs.declared.status.Status.TheVariants.{Ran, Usage, File, Sink};
 ghost use Rattle.acc_base.specs.Lines.{line};
@@ -21,20 +21,19 @@ ghost use Rattle.acc_cli.specs.Creations.{IsCreated};
 ghost use Rattle.acc_cli.specs.Provings.{IsProved};
 ghost use Rattle.acc_cli.specs.Recoveries.{wanted_by, TellsRecovery, LeavesRefused};
 ghost use Rattle.acc_journalled.specs.declared.answers.Wanted.{Wanted};
-ghost use Rattle.acc_commands.specs.declared.words.Command.{Command as TheCommand};
+ghost use Rattle.acc_inputs.specs.declared.words.Command.{Command as TheCommand};
 ghost use Rattle.acc_commands.specs.Disks.{seen, Leaves, LeavesTold};
 ghost use Rattle.acc_commands.specs.RunFiles.{LeavesFronts, LeavesSettled};
-ghost use Rattle.acc_commands.specs.Words.{command_of, file_count};
-ghost use Rattle.acc_commands.specs.Means.{is_journalled, LeavesOfFile};
-ghost use Rattle.acc_commands.specs.declared.words.Command.TheVariants.{Rehearse, Sched, Init, Prove};
+ghost use Rattle.acc_inputs.specs.Words.{command_of, file_count, is_journalled};
+ghost use Rattle.acc_commands.specs.Means.{LeavesOfFile};
+ghost use Rattle.acc_inputs.specs.declared.words.Command.TheVariants.{Rehearse, Sched, Init, Prove};
 
 use crate::status::Status;
 use acc_base::machines::Event;
 use acc_base::sequences::Seq;
-use acc_commands::{
-    Answer as CommandAnswer, Closed, Command, Ending, command_of, file_count, read_all, run,
-};
+use acc_commands::{Answer as CommandAnswer, Closed, Ending, run};
 use acc_disk::Disk;
+use acc_inputs::{Command, command_of, file_count, read_all};
 use acc_io::{Shelf, ShelfError, Sink, write_all};
 use acc_progress::Progress;
 use std::alloc::{AllocError, Global};

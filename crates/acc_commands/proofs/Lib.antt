@@ -1,6 +1,3 @@
-pub mod FilesLemmas
-pub mod SaidLemmas
-pub mod OneDesign
 pub mod OneRun
 pub mod OneProving
 pub mod ProvedAccepted

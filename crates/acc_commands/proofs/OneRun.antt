@@ -18,12 +18,12 @@ use Rattle.acc_play.proofs.OneTold.{tells_once}
 use Rattle.acc_schedule.proofs.OneSchedule.{schedules_once}
 use Rattle.acc_journalled.specs.declared.answers.Ending.TheVariants.{DesignRefused, ScriptRefused}
 use Rattle.acc_journalled.specs.Tellings.{Telling}
-use Rattle.acc_commands.specs.Text.{Said, said_in}
+use Rattle.acc_inputs.specs.Text.{Said, said_in}
 use Rattle.acc_commands.specs.Disks.{Seen, WithoutDisk}
-use Rattle.acc_commands.specs.Scripts.{RefusesOrder, SaysOfOrder, RefusesScript, SaysOfScript}
+use Rattle.acc_inputs.specs.Scripts.{RefusesOrder, SaysOfOrder, RefusesScript, SaysOfScript}
 use Rattle.acc_commands.specs.PlayFiles.{SaysPlay}
 use Rattle.acc_commands.specs.ScheduleFiles.{SaysSchedule, RefusesCertificate, SaysOfCertificate, ending_at}
-use Rattle.acc_commands.proofs.OneDesign.{said_same}
+use Rattle.acc_inputs.proofs.OneDesign.{said_same}
 
 -- ---- scripts and orders
 

@@ -1,31 +1,24 @@
 -- What `prove` says where it is done, `check` accepts.
 use Rattle.std.proofs.Common.{◌≡◌, ℕ, Bool, true, List, inl, inr, refl, sym, ap, subst, ◌∙◌}
-use Rattle.std.specs.Prelude.{IsTrue, codes}
+use Rattle.std.specs.Prelude.{codes}
 use Rattle.acc_base.specs.declared.designs.Design.{Design}
 use Rattle.acc_base.specs.Lines.{line}
-use Rattle.acc_axioms.specs.declared.nodes.Cert.{Cert}
-use Rattle.acc_cert_read.specs.InBounds.{cert as is_in_bounds}
 use Rattle.acc_check.proofs.Admitting.{accepted_reports}
 use Rattle.acc_check.proofs.OneReported.{reports_once}
 use Rattle.acc_check.specs.Admissions.{IsAcceptedWith}
 use Rattle.acc_check.specs.Reports.{Reports}
-use Rattle.acc_prove.specs.Provings.{IsWritten, IsCertified}
+use Rattle.acc_prove.specs.Provings.{IsCertified}
 use Rattle.acc_journalled.specs.declared.answers.Ending.TheVariants.{Done, DesignRefused, Open}
-use Rattle.acc_commands.specs.Text.{Said, Says}
+use Rattle.acc_inputs.specs.Text.{Said, Says}
 use Rattle.acc_commands.specs.CheckFiles.{ChecksFiles, ending_by}
 use Rattle.acc_commands.specs.ProveFiles.{EndsProving, ProvesFile}
 use Rattle.acc_commands.proofs.JournalEndings.{refusal_ends}
-use Rattle.acc_commands.proofs.OneDesign.{one_design, formed_or_refused}
+use Rattle.acc_inputs.proofs.OneDesign.{one_design, formed_or_refused}
 
--- the numbers of the certificate of a text are within bounds
-abbrev IsNarrow : List ℕ → Type 0
-IsNarrow text = (c : Cert) → IsWritten c text → IsTrue (is_in_bounds c)
+accepted_with : (d : Design) (text : List ℕ) → IsCertified d text → IsAcceptedWith d text
+accepted_with d text h = record { c = h.c; is_certificate = h.written.reads; accepts = h.accepts; sound = h.sound }
 
-accepted_with : (d : Design) (text : List ℕ) → IsNarrow text → IsCertified d text → IsAcceptedWith d text
-accepted_with d text narrow h =
-    record { c = h.c; is_certificate = h.written.reads (narrow h.c h.written); accepts = h.accepts; sound = h.sound }
-
-module _ (design : List ℕ) (proved checked : Said) (done : proved.ending ≡ Done) (narrow : IsNarrow proved.text) where
+module _ (design : List ℕ) (proved checked : Said) (done : proved.ending ≡ Done) where
   of_certified : (d : Design) → IsAcceptedWith d proved.text → (accepted : Bool) → Reports d proved.text accepted checked.text
       → checked.ending ≡ ending_by accepted → (checked.ending ≡ Done) × (checked.text ≡ line (codes "accepted"))
   of_certified d with_text accepted reports ending =
@@ -42,13 +35,12 @@ module _ (design : List ℕ) (proved checked : Said) (done : proved.ending ≡ D
   of_files (inl h) k = (let e : Done ≡ DesignRefused = sym done ∙ refusal_ends design proved h in absurd cc)
   of_files (inr h) (inl k) = absurd (formed_or_refused design h.d checked h.is_text h.formed k)
   of_files (inr h) (inr k) =
-      let accepted = accepted_with h.d proved.text narrow (of_ended h.d h.says.1) in
+      let accepted = accepted_with h.d proved.text (of_ended h.d h.says.1) in
       let same = of_certified k.d
       (subst (λ (d : Design). IsAcceptedWith d proved.text) (one_design design h.d k.d h.is_text k.is_text) accepted) k.accepted k.reports
       k.ending in
       (same.0, same.1, k.history)
 
 pub accepted_when_proved : (design : List ℕ) (proved checked : Said) → ProvesFile design proved → proved.ending ≡ Done
-    → ((c : Cert) → IsWritten c proved.text → IsTrue (is_in_bounds c)) → ChecksFiles design proved.text checked
-    → Says Done (line (codes "accepted")) checked
-accepted_when_proved design proved checked h done narrow k = of_files design proved checked done narrow h k
+    → ChecksFiles design proved.text checked → Says Done (line (codes "accepted")) checked
+accepted_when_proved design proved checked h done k = of_files design proved checked done h k

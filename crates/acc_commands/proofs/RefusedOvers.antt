@@ -20,16 +20,16 @@ use Rattle.acc_journalled.specs.declared.answers.Wanted.TheVariants.{Counts, Row
 use Rattle.acc_journalled.specs.Making.{FindsOne, MakesJournal}
 use Rattle.acc_journalled.specs.Recovering.{SaysNotRead, SaysNotRecovered, RefusesSo, RecoversJournal, text_of}
 use Rattle.acc_journalled.specs.Tellings.{Telling}
-use Rattle.acc_commands.specs.declared.words.Command.{Command}
-use Rattle.acc_commands.specs.declared.words.Command.TheVariants as command
-use Rattle.acc_commands.specs.Text.{Said, said_in, IsEarly}
+use Rattle.acc_inputs.specs.declared.words.Command.{Command}
+use Rattle.acc_inputs.specs.declared.words.Command.TheVariants as command
+use Rattle.acc_inputs.specs.Text.{Said, said_in, IsEarly}
 use Rattle.acc_commands.specs.Disks.{Seen}
-use Rattle.acc_commands.specs.Refusals.{SaysError, RefusesDesign}
+use Rattle.acc_inputs.specs.Refusals.{SaysError, RefusesDesign}
 use Rattle.acc_commands.specs.InitFiles.{InitsJournal, InitsFile}
 use Rattle.acc_running.specs.Running.{RunsJournal}
 use Rattle.acc_running.specs.Engines.{ending_at}
 use Rattle.acc_schedule.specs.Schedules.{TellsScheduleFrom}
-use Rattle.acc_settled.specs.Openings.{opening_at}
+use Rattle.acc_mentions.specs.Openings.{opening_at}
 use Rattle.acc_commands.specs.RunFiles.{RunsSeen, RunsOfOrder, RunsOfScript, RunsCertified, RunsFiles}
 use Rattle.acc_commands.specs.RecoverFiles.{RecoversSeen, RecoversCertified, RecoversFiles}
 use Rattle.acc_commands.specs.Means.{MeansOverDisk}

@@ -1,11 +1,12 @@
 -- The tables of the commands, by whether a command goes over a journal.
 use Rattle.std.proofs.Common.{◌≡◌, ℕ, true, false, List, refl, sym, subst}
-use Rattle.acc_commands.specs.declared.words.Command.{Command}
-use Rattle.acc_commands.specs.declared.words.Command.TheVariants as command
+use Rattle.acc_inputs.specs.declared.words.Command.{Command}
+use Rattle.acc_inputs.specs.declared.words.Command.TheVariants as command
 use Rattle.acc_journalled.specs.Tellings.{Telling}
-use Rattle.acc_commands.specs.Text.{said_in}
+use Rattle.acc_inputs.specs.Text.{said_in}
 use Rattle.acc_commands.specs.Disks.{Seen}
-use Rattle.acc_commands.specs.Means.{is_journalled, MeansOfFiles, MeansOverDisk, MeansBy, Means, LeavesOfFile}
+use Rattle.acc_inputs.specs.Words.{is_journalled}
+use Rattle.acc_commands.specs.Means.{MeansOfFiles, MeansOverDisk, MeansBy, Means, LeavesOfFile}
 
 pub means_over : (c : Command) (files : List (List ℕ)) (old new : Seen) (t : Telling) → is_journalled c ≡ true
     → MeansOverDisk c files old new t → Means c files old new t

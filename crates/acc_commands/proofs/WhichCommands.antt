@@ -7,22 +7,23 @@ use Rattle.acc_base.specs.declared.machines.Call.{Call}
 use Rattle.acc_parse.specs.declared.errors.ParseError.{ParseError}
 use Rattle.acc_parse.specs.declared.errors.ParseError.TheVariants as errors
 use Rattle.acc_schedule.specs.Schedules.{TellsSchedule}
-use Rattle.acc_commands.specs.declared.words.Command.{Command}
-use Rattle.acc_commands.specs.declared.words.Command.TheVariants as command
+use Rattle.acc_inputs.specs.declared.words.Command.{Command}
+use Rattle.acc_inputs.specs.declared.words.Command.TheVariants as command
 use Rattle.acc_journalled.specs.declared.answers.Ending.{Ending}
 use Rattle.acc_journalled.specs.declared.answers.Ending.TheVariants.{Done, DesignRefused, ScriptRefused, JournalRefused, DiskFailed}
 use Rattle.acc_journalled.specs.declared.answers.Ending.TheVariants.{Unbegun, Open}
 use Rattle.acc_journalled.specs.Tellings.{Telling}
-use Rattle.acc_commands.specs.Text.{Said, said_in}
+use Rattle.acc_inputs.specs.Text.{Said, said_in}
 use Rattle.acc_commands.specs.Disks.{Seen}
-use Rattle.acc_commands.specs.Refusals.{SaysError, RefusesDesign}
-use Rattle.acc_commands.specs.Scripts.{SaysOfOrder, SaysOfScript}
+use Rattle.acc_inputs.specs.Refusals.{SaysError, RefusesDesign}
+use Rattle.acc_inputs.specs.Scripts.{SaysOfOrder, SaysOfScript}
 use Rattle.acc_commands.specs.PlayFiles.{SaysPlay, PlaysFiles}
 use Rattle.acc_commands.specs.ScheduleFiles.{SaysSchedule, SaysOfCertificate, SchedulesFiles, ending_at}
 use Rattle.acc_commands.specs.PrintFiles.{PrintsFile}
 use Rattle.acc_commands.specs.CheckFiles.{ChecksFiles, ending_by}
 use Rattle.acc_commands.specs.ProveFiles.{EndsProving, StaysOpen, ProvesFile}
-use Rattle.acc_commands.specs.Means.{is_journalled, MeansOfFiles, MeansBy, Means}
+use Rattle.acc_inputs.specs.Words.{is_journalled}
+use Rattle.acc_commands.specs.Means.{MeansOfFiles, MeansBy, Means}
 use Rattle.acc_commands.proofs.JournalEndings.{failed_by, never_open, ends_over_disk}
 use Rattle.acc_commands.proofs.RefusedOvers.{RefusesOver, LeavesOver, refused_over, unbegun_over}
 

@@ -6,8 +6,8 @@ use Rattle.acc_parse.specs.Texts.{IsDesignText}
 use Rattle.acc_check.specs.Reports.{Reports}
 use Rattle.acc_journalled.specs.declared.answers.Ending.{Ending}
 use Rattle.acc_journalled.specs.declared.answers.Ending.TheVariants.{Done, DesignRefused}
-use Rattle.acc_commands.specs.Text.{Said}
-use Rattle.acc_commands.specs.Refusals.{RefusesDesign}
+use Rattle.acc_inputs.specs.Text.{Said}
+use Rattle.acc_inputs.specs.Refusals.{RefusesDesign}
 
 abbrev pub ending_by : Bool → Ending
 ending_by accepted = if accepted then Done else DesignRefused

@@ -4,7 +4,7 @@ use Rattle.acc_io.specs.Causes.{Rose}
 use Rattle.acc_disk.specs.Crashes.{Only}
 use Rattle.acc_disk.specs.Moments.{AtAnyMoment}
 use Rattle.acc_journalled.specs.Tellings.{Telling}
-use Rattle.acc_commands.specs.Text.{Said, said_in}
+use Rattle.acc_inputs.specs.Text.{Said, said_in}
 
 -- what a disk tells that it holds, where it tells that, and how many of its calls have failed
 pub record Seen : Type 0 where

@@ -9,7 +9,7 @@ use Rattle.acc_wal.specs.Creating.{LeavesNew}
 use Rattle.acc_journalled.specs.Making.{MakesJournal}
 use Rattle.acc_journalled.specs.Tellings.{Telling}
 use Rattle.acc_commands.specs.Disks.{Seen, WithoutDisk}
-use Rattle.acc_commands.specs.Refusals.{RefusesDesign}
+use Rattle.acc_inputs.specs.Refusals.{RefusesDesign}
 
 -- the journal is made, is there already, or the disk failed
 abbrev pub InitsJournal : Design → Seen → Seen → Telling → Type 0

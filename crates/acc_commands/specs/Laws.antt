@@ -1,17 +1,15 @@
 -- What the definitions of the commands say by themselves.
-use Rattle.std.specs.Prelude.{◌≡◌, ℕ, true, IsTrue, List, codes}
+use Rattle.std.specs.Prelude.{◌≡◌, ℕ, true, List, codes}
 use Rattle.acc_base.specs.Lines.{line}
-use Rattle.acc_axioms.specs.declared.nodes.Cert.{Cert}
-use Rattle.acc_cert_read.specs.InBounds.{cert as is_in_bounds}
-use Rattle.acc_prove.specs.Provings.{IsWritten}
 use Rattle.acc_journalled.specs.declared.answers.Ending.TheVariants.{Done}
 use Rattle.acc_journalled.specs.Tellings.{Telling}
-use Rattle.acc_commands.specs.declared.words.Command.{Command}
-use Rattle.acc_commands.specs.Text.{Said, Says}
+use Rattle.acc_inputs.specs.declared.words.Command.{Command}
+use Rattle.acc_inputs.specs.Text.{Said, Says}
 use Rattle.acc_commands.specs.Disks.{Seen, TellsAll}
 use Rattle.acc_commands.specs.CheckFiles.{ChecksFiles}
 use Rattle.acc_commands.specs.ProveFiles.{ProvesFile}
-use Rattle.acc_commands.specs.Means.{is_journalled, Means}
+use Rattle.acc_inputs.specs.Words.{is_journalled}
+use Rattle.acc_commands.specs.Means.{Means}
 use Rattle.acc_commands.specs.Alike.{AreAlike}
 
 -- A command says one thing of its files, but for which certificate `prove` makes. One over a journal says one thing of them and of what its
@@ -20,9 +18,7 @@ abbrev pub CommandsMeanOne : Type 0
 CommandsMeanOne = (c : Command) (files : List (List ℕ)) (old one other : Seen) (a b : Telling)
     → (is_journalled c ≡ true → TellsAll old one other) → Means c files old one a → Means c files old other b → AreAlike c a b
 
--- With what `prove` says of a design where it is done, `check` says of it that it is accepted, if the numbers of that certificate are
--- within the bounds of its file.
+-- With what `prove` says of a design where it is done, `check` says of it that it is accepted.
 abbrev pub ProvedIsAccepted : Type 0
 ProvedIsAccepted = (design : List ℕ) (proved checked : Said) → ProvesFile design proved → proved.ending ≡ Done
-    → ((c : Cert) → IsWritten c proved.text → IsTrue (is_in_bounds c)) → ChecksFiles design proved.text checked
-    → Says Done (line (codes "accepted")) checked
+    → ChecksFiles design proved.text checked → Says Done (line (codes "accepted")) checked

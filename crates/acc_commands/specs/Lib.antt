@@ -1,11 +1,4 @@
-pub mod Words
-pub mod Files
-pub mod Text
 pub mod Disks
-pub mod Refusals
-pub mod ReadDesigns
-pub mod Notes
-pub mod Scripts
 pub mod PlayFiles
 pub mod ScheduleFiles
 pub mod PrintFiles
@@ -14,8 +7,6 @@ pub mod RecoverFiles
 pub mod RunFiles
 pub mod CheckFiles
 pub mod ProveFiles
-pub mod Responses
-pub mod ReadScripts
 pub mod Means
 pub mod Alike
 pub mod Laws

@@ -1,13 +1,14 @@
 -- What a command makes of its files, and of its disk.
 use Rattle.std.specs.Prelude.{◌≡◌, ℕ, Bool, true, false, List, [], ◌∷◌}
-use Rattle.acc_commands.specs.declared.words.Command.{Command}
-use Rattle.acc_commands.specs.declared.words.Command.TheVariants as command
+use Rattle.acc_inputs.specs.declared.words.Command.{Command}
+use Rattle.acc_inputs.specs.declared.words.Command.TheVariants as command
+use Rattle.acc_inputs.specs.Words.{is_journalled}
 use Rattle.acc_journalled.specs.declared.answers.Ending.TheVariants.{Done}
 use Rattle.acc_journalled.specs.declared.answers.Wanted.TheVariants.{Counts, Rows}
 use Rattle.acc_journalled.specs.Tellings.{Telling}
-use Rattle.acc_commands.specs.Text.{Said, Says}
+use Rattle.acc_inputs.specs.Text.{Said, Says}
 use Rattle.acc_commands.specs.Disks.{Seen, WithoutDisk}
-use Rattle.acc_commands.specs.Notes.{help_text, version_text}
+use Rattle.acc_inputs.specs.Notes.{help_text, version_text}
 use Rattle.acc_commands.specs.PlayFiles.{PlaysFiles}
 use Rattle.acc_commands.specs.ScheduleFiles.{SchedulesFiles}
 use Rattle.acc_commands.specs.PrintFiles.{PrintsFile}
@@ -16,14 +17,6 @@ use Rattle.acc_commands.specs.ProveFiles.{ProvesFile}
 use Rattle.acc_commands.specs.InitFiles.{InitsFile, InitLeaves}
 use Rattle.acc_commands.specs.RecoverFiles.{RecoversFiles, RecoverLeaves}
 use Rattle.acc_commands.specs.RunFiles.{RunsFiles, RunLeaves}
-
--- whether a command goes over a journal
-abbrev pub is_journalled : Command → Bool
-is_journalled command.Init = true
-is_journalled command.Sched = true
-is_journalled command.Recover = true
-is_journalled command.Dump = true
-is_journalled _ = false
 
 -- what a command without a journal makes of its files
 unfoldable pub MeansOfFiles : Command → List (List ℕ) → Said → Type 0

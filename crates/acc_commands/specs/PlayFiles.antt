@@ -6,9 +6,9 @@ use Rattle.acc_parse.specs.Texts.{IsDesignText}
 use Rattle.acc_form.specs.WellFormed.{IsWellFormed}
 use Rattle.acc_play.specs.Tells.{Tells}
 use Rattle.acc_journalled.specs.declared.answers.Ending.TheVariants.{Done}
-use Rattle.acc_commands.specs.Refusals.{RefusesDesign}
-use Rattle.acc_commands.specs.Scripts.{SaysOfScript}
-use Rattle.acc_commands.specs.Text.{Said}
+use Rattle.acc_inputs.specs.Refusals.{RefusesDesign}
+use Rattle.acc_inputs.specs.Scripts.{SaysOfScript}
+use Rattle.acc_inputs.specs.Text.{Said}
 
 -- the play of these calls in this order is told
 abbrev pub SaysPlay : Design → List Call → List ℕ → Said → Type 0

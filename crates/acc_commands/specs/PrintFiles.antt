@@ -5,8 +5,8 @@ use Rattle.acc_form.specs.WellFormed.{IsWellFormed}
 use Rattle.acc_parse.specs.Texts.{IsDesignText}
 use Rattle.acc_print.specs.Designs.{printed}
 use Rattle.acc_journalled.specs.declared.answers.Ending.TheVariants.{Done}
-use Rattle.acc_commands.specs.Text.{Said, Says}
-use Rattle.acc_commands.specs.Refusals.{RefusesDesign}
+use Rattle.acc_inputs.specs.Text.{Said, Says}
+use Rattle.acc_inputs.specs.Refusals.{RefusesDesign}
 
 -- The text is that of this design, which is well-formed. Its printed spelling is said, which is a text of the same design, and has
 -- at most 16 bytes for each byte that was read.

@@ -6,8 +6,8 @@ use Rattle.acc_parse.specs.Texts.{IsDesignText}
 use Rattle.acc_prove.specs.Provings.{IsCertified, IsOpen, IsWide}
 use Rattle.acc_journalled.specs.declared.answers.Ending.{Ending}
 use Rattle.acc_journalled.specs.declared.answers.Ending.TheVariants.{Done, DesignRefused, Open}
-use Rattle.acc_commands.specs.Text.{Said}
-use Rattle.acc_commands.specs.Refusals.{RefusesDesign}
+use Rattle.acc_inputs.specs.Text.{Said}
+use Rattle.acc_inputs.specs.Refusals.{RefusesDesign}
 
 -- Each search closes, and a certificate with which the design is accepted is said; or not each does, and the obligations that stay open are
 -- said, each with what ended its search; or a number of one is too large, and the first such is said.

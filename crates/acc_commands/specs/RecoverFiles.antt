@@ -11,7 +11,7 @@ use Rattle.acc_journalled.specs.declared.answers.Wanted.{Wanted}
 use Rattle.acc_journalled.specs.Recovering.{RecoversJournal, text_of}
 use Rattle.acc_journalled.specs.Tellings.{Telling}
 use Rattle.acc_commands.specs.Disks.{Seen, WithoutDisk}
-use Rattle.acc_commands.specs.Refusals.{RefusesDesign}
+use Rattle.acc_inputs.specs.Refusals.{RefusesDesign}
 use Rattle.acc_commands.specs.ScheduleFiles.{RefusesCertificate}
 
 -- the journal is recovered, or isn't for some cause

@@ -17,9 +17,9 @@ use Rattle.acc_running.specs.declared.answers.Said.{Said}
 use Rattle.acc_running.specs.Recorded.{telling_of}
 use Rattle.acc_running.specs.Running.{RunsJournal}
 use Rattle.acc_commands.specs.Disks.{Seen, WithoutDisk}
-use Rattle.acc_commands.specs.Refusals.{RefusesDesign}
+use Rattle.acc_inputs.specs.Refusals.{RefusesDesign}
 use Rattle.acc_commands.specs.ScheduleFiles.{RefusesCertificate}
-use Rattle.acc_commands.specs.Scripts.{RefusesScript, RefusesOrder}
+use Rattle.acc_inputs.specs.Scripts.{RefusesScript, RefusesOrder}
 
 -- these calls run in this order over the journal; or it isn't recovered, or breaks off
 abbrev pub RunsSeen : Design → List Call → List ℕ → Seen → Seen → Telling → Type 0

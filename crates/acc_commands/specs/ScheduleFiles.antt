@@ -10,9 +10,9 @@ use Rattle.acc_parse.specs.Texts.{IsDesignText}
 use Rattle.acc_schedule.specs.Schedules.{TellsSchedule}
 use Rattle.acc_journalled.specs.declared.answers.Ending.{Ending}
 use Rattle.acc_journalled.specs.declared.answers.Ending.TheVariants.{Done, DesignRefused, Unbegun}
-use Rattle.acc_commands.specs.Refusals.{RefusesDesign}
-use Rattle.acc_commands.specs.Scripts.{SaysOfScript}
-use Rattle.acc_commands.specs.Text.{Said}
+use Rattle.acc_inputs.specs.Refusals.{RefusesDesign}
+use Rattle.acc_inputs.specs.Scripts.{SaysOfScript}
+use Rattle.acc_inputs.specs.Text.{Said}
 
 -- all is done where each place has begun; else one couldn't, since the history is full
 abbrev pub ending_at : Bool → Ending

@@ -1,38 +1,36 @@
 //! What each command makes of its files.
 ghost use Rattle.std.specs.Prelude.{◌≡◌, ◌≢◌, ◌⊎◌, ◌≤◌, ◌^◌, true, false, [], All, map, length, IfOk};
 ghost use Rattle.acc_base.specs.Runnable.{IsRunnable};
-ghost use Rattle.acc_commands.specs.Words.{file_count};
-ghost use Rattle.acc_commands.specs.Means.{is_journalled, MeansOfFiles, MeansOverDisk, Means, LeavesOfFile};
+ghost use Rattle.acc_inputs.specs.Words.{file_count, is_journalled};
+ghost use Rattle.acc_commands.specs.Means.{MeansOfFiles, MeansOverDisk, Means, LeavesOfFile};
 ghost use Rattle.acc_commands.specs.Disks.{seen, Leaves, LeavesTold};
 ghost use Rattle.acc_commands.specs.RunFiles.{LeavesFronts, LeavesSettled};
-ghost use Rattle.acc_commands.specs.declared.words.Command.TheVariants.{Sched};
+ghost use Rattle.acc_inputs.specs.declared.words.Command.TheVariants.{Sched};
 ghost use Rattle.acc_disk.specs.Crashes.{IsCalm};
-ghost use Rattle.acc_commands.specs.Text.{Says, IsEarly, said_in};
+ghost use Rattle.acc_inputs.specs.Text.{Says, IsEarly, said_in};
 ghost use Rattle.acc_journalled.specs.declared.answers.Ending.TheVariants.{Done, DiskFailed};
-ghost use Rattle.acc_commands.specs.Responses.{said_of};
+ghost use Rattle.acc_inputs.specs.Responses.{said_of};
 ghost use Rattle.acc_journalled.specs.Tellings.{telling_of};
 ghost use Rattle.acc_play.specs.Stages.{AllFit};
-ghost use Rattle.acc_commands.specs.Scripts.{SaysOfScript, SaysOfOrder};
+ghost use Rattle.acc_inputs.specs.Scripts.{SaysOfScript, SaysOfOrder};
 ghost use Rattle.acc_commands.specs.PlayFiles.{PlaysFiles, SaysPlay};
 ghost use Rattle.acc_commands.specs.ScheduleFiles.{SchedulesFiles, SaysOfCertificate, SaysSchedule, ending_at};
 ghost use Rattle.acc_commands.specs.PrintFiles.{PrintsFile};
 ghost use Rattle.acc_commands.specs.CheckFiles.{ChecksFiles, ending_by};
 
-use crate::closings::unsettled;
-use crate::designs::{ReadDesign, read_design};
 use crate::journals::init_file;
-use crate::notes;
 use crate::provings::prove_file;
 use crate::recoveries::recover_files;
-use crate::responses::{Response, refused};
 use crate::runs::run_files;
-use crate::scripts::{ReadOrder, ReadScript, read_order, read_script};
-use crate::words::{Command, is_journalled};
 use acc_base::designs::Design;
 use acc_base::machines::Call;
 use acc_base::sequences::Seq;
 use acc_check::{Admission, Report, admit, check};
 use acc_disk::Disk;
+use acc_inputs::{
+    Command, ReadDesign, ReadOrder, ReadScript, Response, help_text, is_journalled, read_design,
+    read_order, read_script, refused, unsettled, version_text,
+};
 use acc_journalled::{Answer, Closed, Ending, Wanted};
 use acc_lift::Accepted;
 use acc_play::{Transcript, play};
@@ -245,7 +243,7 @@ fn note(alloc: Global, text: Vec<u8>) -> Response
 }
 
 /// The response of a command without a journal to its files.
-#[tactic(auto, unfolding(crate::specs::Words::file_count, crate::specs::Means::MeansOfFiles))]
+#[tactic(auto, unfolding(acc_inputs::specs::Words::file_count, crate::specs::Means::MeansOfFiles))]
 fn respond<P: Progress>(
     alloc: Global,
     command: Command,
@@ -264,8 +262,8 @@ fn respond<P: Progress>(
         (Command::Print, [design]) => print_file(alloc, design),
         (Command::Check, [design, certificate]) => check_files(alloc, design, certificate),
         (Command::Prove, [design]) => prove_file(alloc, design, progress),
-        (Command::Help, []) => Ok(note(alloc, notes::help_text(alloc)?)),
-        (Command::Version, []) => Ok(note(alloc, notes::version_text(alloc)?)),
+        (Command::Help, []) => Ok(note(alloc, help_text(alloc)?)),
+        (Command::Version, []) => Ok(note(alloc, version_text(alloc)?)),
         _ => unreachable!(),
     }
 }
@@ -314,7 +312,7 @@ fn answer_run<D: Disk, P: Progress>(
 }
 
 /// The answer of a command over a journal to its files and the disk.
-#[tactic(auto, unfolding(crate::specs::Words::file_count, crate::specs::Means::MeansOverDisk, crate::specs::Means::LeavesOfFile))]
+#[tactic(auto, unfolding(acc_inputs::specs::Words::file_count, crate::specs::Means::MeansOverDisk, crate::specs::Means::LeavesOfFile))]
 fn answer_over_disk<D: Disk, P: Progress>(
     alloc: Global,
     command: Command,

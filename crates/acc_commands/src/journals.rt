@@ -4,12 +4,11 @@ ghost use Rattle.acc_disk.specs.Crashes.{IsCalm};
 ghost use Rattle.acc_journalled.specs.Tellings.{telling_of};
 ghost use Rattle.acc_commands.specs.Disks.{seen, Leaves};
 ghost use Rattle.acc_commands.specs.InitFiles.{InitsFile, InitLeaves};
-ghost use Rattle.acc_commands.specs.Text.{IsEarly};
+ghost use Rattle.acc_inputs.specs.Text.{IsEarly};
 ghost use Rattle.acc_journalled.specs.declared.answers.Ending.TheVariants.{DiskFailed};
 
-use crate::closings::unsettled;
-use crate::designs::{ReadDesign, read_design};
 use acc_disk::Disk;
+use acc_inputs::{ReadDesign, read_design, unsettled};
 use acc_journalled::{Closed, init_journal};
 use std::alloc::Global;
 

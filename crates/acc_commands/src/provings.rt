@@ -2,11 +2,10 @@
 ghost use Rattle.std.specs.Prelude.{IfOk};
 ghost use Rattle.acc_form.specs.WellFormed.{IsWellFormed};
 ghost use Rattle.acc_commands.specs.ProveFiles.{SaysProving, ProvesFile};
-ghost use Rattle.acc_commands.specs.Responses.{said_of};
+ghost use Rattle.acc_inputs.specs.Responses.{said_of};
 
-use crate::designs::{ReadDesign, read_design};
-use crate::responses::{Response, ended};
 use acc_base::designs::Design;
+use acc_inputs::{ReadDesign, Response, ended, read_design};
 use acc_journalled::Ending;
 use acc_progress::Progress;
 use acc_prove::{Proving, prove};

@@ -4,15 +4,13 @@ ghost use Rattle.acc_disk.specs.Crashes.{IsCalm};
 ghost use Rattle.acc_journalled.specs.Tellings.{telling_of};
 ghost use Rattle.acc_commands.specs.Disks.{seen, Leaves};
 ghost use Rattle.acc_commands.specs.RecoverFiles.{RecoversSeen, RecoversCertified, RecoversFiles, LeavesAccepted, RecoverLeaves};
-ghost use Rattle.acc_commands.specs.Text.{IsEarly};
+ghost use Rattle.acc_inputs.specs.Text.{IsEarly};
 ghost use Rattle.acc_journalled.specs.declared.answers.Ending.TheVariants.{DiskFailed};
 
-use crate::closings::unsettled;
-use crate::designs::{ReadDesign, read_design};
-use crate::responses::refused;
 use acc_base::designs::Design;
 use acc_check::{Admission, admit};
 use acc_disk::Disk;
+use acc_inputs::{ReadDesign, read_design, refused, unsettled};
 use acc_journalled::{Closed, Wanted, recover_journal};
 use acc_progress::Progress;
 use std::alloc::Global;

@@ -11,17 +11,16 @@ ghost use Rattle.acc_running.specs.Crashes.{LeavesRun, LeavesDurable};
 ghost use Rattle.acc_commands.specs.Disks.{seen, Leaves, LeavesTold};
 ghost use Rattle.acc_commands.specs.RunFiles.{IsToldAs, RunsSeen, RunsOfOrder, RunsOfScript, RunsCertified, RunsFiles};
 ghost use Rattle.acc_commands.specs.RunFiles.{LeavesSomeRun, LeavesAcceptedRun, RunLeaves, IsUntouched, LeavesFronts, LeavesSettled};
-ghost use Rattle.acc_commands.specs.Text.{IsEarly};
+ghost use Rattle.acc_inputs.specs.Text.{IsEarly};
 
-use crate::closings::unsettled;
-use crate::designs::{ReadDesign, read_design};
-use crate::responses::refused;
-use crate::scripts::{ReadOrder, ReadScript, read_order, read_script};
 use acc_base::designs::Design;
 use acc_base::machines::{Call, Event};
 use acc_base::sequences::Seq;
 use acc_check::{Admission, admit};
 use acc_disk::Disk;
+use acc_inputs::{
+    ReadDesign, ReadOrder, ReadScript, read_design, read_order, read_script, refused, unsettled,
+};
 use acc_journalled::{Answer, Closed};
 use acc_lift::Accepted;
 use acc_progress::Progress;

@@ -1,9 +1,5 @@
 pub mod OwnWords
-pub mod ReadLaws
-pub mod ActionLaws
-pub mod TargetLaws
 pub mod EntryLaws
-pub mod StepLaws
 pub mod TypeLaws
 pub mod WholeLaws
 pub mod SpelledStatements

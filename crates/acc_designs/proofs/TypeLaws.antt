@@ -30,7 +30,7 @@ use Rattle.acc_syntax.proofs.TableLaws.{tables_exact, tables_end, NamesStatement
 use Rattle.acc_syntax.proofs.TableLaws.{names_skip}
 use Rattle.acc_syntax.proofs.ClauseLaws.{ClausesRun, clauses_exact, clauses_end, clauses_skip, VariantGoes, variant_exact, variant_ends}
 use Rattle.acc_designs.proofs.EntryLaws.{entries_exact, hints_exact}
-use Rattle.acc_designs.proofs.StepLaws.{StepGoes, step_exact, step_ends, side_exact}
+use Rattle.acc_step_words.proofs.StepLaws.{StepGoes, step_exact, step_ends, side_exact}
 
 -- ---- points
 

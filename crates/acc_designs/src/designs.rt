@@ -1,4 +1,4 @@
-//! Reading paths, steps, points, types and whole designs.
+//! Reading points, types and whole designs.
 ghost use Rattle.std.specs.Prelude.{◌≡◌, IsOkUnless};
 ghost use Rattle.acc_grammar.specs.Readers.{many};
 ghost use Rattle.acc_grammar.specs.Answers.{Gives};
@@ -6,21 +6,17 @@ ghost use Rattle.acc_syntax.specs.declared.trees.DesignTree.{DesignTree};
 ghost use Rattle.acc_syntax.specs.Spelling.{spelled_design};
 ghost use Rattle.acc_designs.specs.Texts.{Answers, IsSpelling};
 ghost use Rattle.acc_syntax.specs.WordReaders.{comes};
-ghost use Rattle.acc_designs.specs.DesignReaders.{path_at, step_at, side_at, point_head_at, point_at, limit_at, type_head_at, type_names_at};
+ghost use Rattle.acc_designs.specs.DesignReaders.{point_head_at, point_at, limit_at, type_head_at, type_names_at};
 ghost use Rattle.acc_designs.specs.DesignReaders.{type_clauses_at, type_points_at, type_at, design_at};
 
-use crate::actions::{actions, target};
 use crate::entries::{entries, hints};
 use crate::own_words::words_before_stray_self;
-use crate::reads::reads;
 use acc_base::sequences::{Seq, Text};
 use acc_grammar::faults::Fault;
 use acc_lex::words::{Sign, Word};
-use acc_syntax::boxes::Boxed;
+use acc_step_words::side;
 use acc_syntax::parsers::Parser;
-use acc_syntax::trees::{
-    ClauseTree, DesignTree, Names, PathTree, PointTree, StepTree, Sum, TypeTree,
-};
+use acc_syntax::trees::{ClauseTree, DesignTree, Names, PointTree, Sum, TypeTree};
 use std::alloc::Global;
 
 /// Why there is no tree of some words.
@@ -67,58 +63,6 @@ struct TypeClauses {
 struct TypePoints {
     first: PointTree,
     others: Seq<PointTree>,
-}
-
-#[tactic(auto, unfolding(crate::specs::DesignReaders::path_at))]
-fn path(parser: &mut Parser<'_>) -> Result<PathTree, Fault>
-    ensures { Gives result parser.new.words.now (path_at parser.old.words.now) }
-{
-    parser.sign(Sign::Path)?;
-    let guard = parser.guard()?;
-    parser.sign(Sign::End)?;
-    let actions = actions(parser)?;
-    let target = target(parser)?;
-    Ok(PathTree {
-        guard,
-        actions,
-        target,
-    })
-}
-
-fn paths(parser: &mut Parser<'_>) -> Result<Seq<PathTree>, Fault>
-    ensures { Gives result parser.new.words.now (many (comes Sign.Path) path_at parser.old.words.now) }
-{
-    let mut paths = Seq::new(parser.alloc);
-    while parser.comes(Sign::Path) {
-        let path = path(parser)?;
-        paths.push(path)?;
-    }
-    Ok(paths)
-}
-
-#[tactic(auto, unfolding(crate::specs::DesignReaders::step_at))]
-fn step(parser: &mut Parser<'_>) -> Result<Boxed<StepTree>, Fault>
-    ensures { Gives result parser.new.words.now (step_at parser.old.words.now) }
-{
-    let reads = reads(parser)?;
-    let first = path(parser)?;
-    let others = paths(parser)?;
-    let step = StepTree {
-        reads,
-        first,
-        others,
-    };
-    Ok(Boxed::new(parser.alloc, step)?)
-}
-
-/// `next` or `undo`, and its step.
-#[tactic(auto, unfolding(crate::specs::DesignReaders::side_at))]
-fn side(parser: &mut Parser<'_>, sign: Sign) -> Result<Boxed<StepTree>, Fault>
-    ensures { Gives result parser.new.words.now (side_at sign parser.old.words.now) }
-{
-    parser.sign(sign)?;
-    parser.sign(Sign::End)?;
-    step(parser)
 }
 
 #[tactic(auto, unfolding(crate::specs::DesignReaders::point_head_at))]

@@ -3,3 +3,4 @@ pub mod Weights
 pub mod Accepted
 pub mod Shown
 pub mod ReadOn
+pub mod Keepings

@@ -12,11 +12,10 @@ use Rattle.acc_base.specs.UnknownEquality.{is_bare_one}
 use Rattle.acc_systems.specs.declared.stops.Stop.{Stop}
 use Rattle.acc_systems.specs.declared.rows.Row.{Row}
 use Rattle.acc_systems.specs.Answers.{Computation, chain, steps, StoppedBy, Leaves}
-use Rattle.acc_systems.proofs.Chains.{stopped_chain, stopped_along}
+use Rattle.acc_systems.proofs.Chains.{stopped_chain, stopped_along, steps_append}
 use Rattle.acc_points.specs.Readings.{place_of, with_term, with_rel, unknowns_of, row_of, rows_from, Read, read_next}
 use Rattle.acc_points.specs.Searches.{found_by, searched}
 use Rattle.acc_solved.proofs.RowsStay.{rows_stay}
-use Rattle.acc_solved.proofs.Stages.{steps_append}
 use Rattle.acc_elim.specs.Readings.{unread, found_in}
 
 abbrev whole : List Rel → Computation Read
@@ -147,7 +146,7 @@ name_grown us t true c = ([], sym (append-nil us))
 name_grown us t false true = ([], sym (append-nil us))
 name_grown us t false false = (t.0 ∷ [], refl)
 
-names_grown : (ts : List (Unknown × ℤ)) (us : List Unknown) → (more : List Unknown) × (fold with_term us ts ≡ us ++ more)
+pub names_grown : (ts : List (Unknown × ℤ)) (us : List Unknown) → (more : List Unknown) × (fold with_term us ts ≡ us ++ more)
 names_grown [] us = ([], sym (append-nil us))
 names_grown (t ∷ ts) us =
     let here = name_grown us t (is_bare_one t.0) (is_some (place_of us t.0)) in

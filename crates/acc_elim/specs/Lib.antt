@@ -2,3 +2,4 @@ pub mod Causes
 pub mod Decisions
 pub mod Evidence
 pub mod Readings
+pub mod Keepings

@@ -105,7 +105,7 @@ pub fn ended(
 /// relations, whichever the elimination meets first; the numbers of the sum that shows a refutation come last. `Memory` where memory
 /// ran out, or where there are 2^32 relations or unknowns; it says nothing of the relations.
 ///
-/// Each relation of a first system is compared with those before it, and behind an equation with those that it changed; each that is made is
+/// Each relation of a first system is compared with those before it, and behind an equation with those that it changed; each made one is
 /// compared with all. The elimination may square the number of bounds with each unknown.
 pub fn decide(alloc: Global, rels: &[Rel]) -> Result<Verdict, ElimError>
     ensures value { IfOk result (λ v. decision rels.now ≡ Ok v) }

@@ -3,6 +3,7 @@
 #![tactic(auto)]
 
 pub mod deciding;
+mod keeping;
 mod reading;
 pub mod solver;
 pub mod verdicts;

@@ -5,7 +5,8 @@ ghost use Rattle.acc_elim.specs.Causes.{StoppedBy};
 ghost use Rattle.acc_elim.specs.Decisions.{ended, decision};
 
 use crate::deciding::ended;
-use crate::reading::{Reading, searched, searched_with, unknowns};
+use crate::keeping::{Kept, searched, searched_with};
+use crate::reading::unknowns;
 use crate::verdicts::{ElimError, Verdict};
 use acc_base::forms::{Rel, Unknown};
 use acc_base::sequences::Seq;
@@ -13,11 +14,12 @@ use acc_systems::stops::Stop;
 use std::alloc::{AllocError, Global};
 use std::marker::Model;
 
-/// Relations, one behind the other, and what was read of them. Each is read once, when it is first asked about.
+/// Relations, one behind the other, and what is kept of them. Each is read once, when it is first asked about; their equations are used
+/// once for all questions until one more comes.
 #[derive(Drop)]
 pub struct Solver {
     rels: Vec<Rel>,
-    reading: Reading,
+    kept: Kept,
 }
 
 impl Model for Solver {
@@ -26,11 +28,11 @@ impl Model for Solver {
 
     ghost Value = { List Rel };
 
-    ghost use Rattle.acc_elim.specs.Readings.{AreRead};
+    ghost use Rattle.acc_elim.specs.Keepings.{AreKept};
 
     ghost view = { λ s. s.rels.items };
 
-    ghost invariant = { λ s. AreRead s.rels.items s.reading };
+    ghost invariant = { λ s. AreKept s.rels.items s.kept };
 }
 
 /// What the end of a search decides where one more relation comes behind the others.
@@ -57,7 +59,7 @@ impl Solver {
     {
         Solver {
             rels,
-            reading: Reading::new(alloc),
+            kept: Kept::new(alloc),
         }
     }
 
@@ -80,7 +82,7 @@ impl Solver {
     pub fn unknowns(&self, alloc: Global) -> Result<Vec<Unknown>, AllocError>
         ensures { IfOk result (λ names. names.items ≡ unknowns_of self.now) }
     {
-        unknowns(alloc, &self.reading, self.rels.as_slice())
+        unknowns(alloc, &self.kept.reading, self.rels.as_slice())
     }
 
     /// Whether the relations hold at some point, as `decide` tells it.
@@ -89,7 +91,7 @@ impl Solver {
         ensures stops { IfErr result (λ e. StoppedBy e (decision self.old)) }
         ensures same { self.new ≡ self.old }
     {
-        let end = searched(alloc, &mut self.reading, self.rels.as_slice());
+        let end = searched(alloc, &mut self.kept, self.rels.as_slice());
         ended(alloc, self.rels.as_slice(), end)
     }
 
@@ -99,7 +101,7 @@ impl Solver {
         ensures stops { IfErr result (λ e. StoppedBy e (decision (self.old ++ last ∷ []))) }
         ensures same { self.new ≡ self.old }
     {
-        let end = searched_with(alloc, &mut self.reading, self.rels.as_slice(), &last);
+        let end = searched_with(alloc, &mut self.kept, self.rels.as_slice(), &last);
         ended_with(alloc, &mut self.rels, last, end)
     }
 }

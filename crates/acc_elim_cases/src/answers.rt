@@ -1,8 +1,9 @@
 //! The questions by name, and how verdicts are printed.
 use crate::made::{pairs, upper_bounds};
-use crate::spelled::{parted, relations};
+use crate::spelled::{parted, relation, relations};
 use acc_base::forms::Rel;
 use acc_elim::deciding::decide;
+use acc_elim::solver::Solver;
 use acc_elim::verdicts::{ElimError, Verdict};
 use std::alloc::{AllocError, Global};
 use std::fmt::Write;
@@ -23,8 +24,8 @@ fn push_point(out: &mut String, point: &[(i128, i128)]) -> Result<(), AllocError
     Ok(())
 }
 
-fn push_verdict(alloc: Global, out: &mut String, relations: &[Rel]) -> Result<(), AllocError> {
-    match decide(alloc, relations) {
+fn push_verdict(out: &mut String, verdict: Result<Verdict, ElimError>) -> Result<(), AllocError> {
+    match verdict {
         Ok(Verdict::Refuted(multipliers)) => push_multipliers(out, multipliers.of.as_slice()),
         Ok(Verdict::Solved(point)) => push_point(out, point.as_slice()),
         Err(ElimError::Wide) => out.push_str("wide"),
@@ -47,11 +48,29 @@ fn asked(alloc: Global, verb: &str, words: &str) -> Result<Vec<Rel>, AllocError>
     }
 }
 
+/// The verdicts of relations with each of these behind them, one after the other.
+fn push_verdicts(alloc: Global, out: &mut String, words: &str) -> Result<(), AllocError> {
+    let (known, lasts) = parted(words, " | ");
+    let mut solver = Solver::new(alloc, relations(alloc, known)?);
+    for last in lasts.split(" | ") {
+        if !out.is_empty() {
+            out.push_str(" | ")?;
+        }
+        let verdict = solver.decide_with(alloc, relation(alloc, last)?);
+        push_verdict(out, verdict)?;
+    }
+    Ok(())
+}
+
 /// What the question of a line answers.
 pub fn answer(alloc: Global, line: &str) -> Result<String, AllocError> {
     let mut out = String::new(alloc);
     let (verb, words) = parted(line, ": ");
+    if verb == "with" {
+        push_verdicts(alloc, &mut out, words)?;
+        return Ok(out);
+    }
     let relations = asked(alloc, verb, words)?;
-    push_verdict(alloc, &mut out, relations.as_slice())?;
+    push_verdict(&mut out, decide(alloc, relations.as_slice()))?;
     Ok(out)
 }

@@ -66,7 +66,7 @@ fn form(alloc: Global, words: &str) -> Result<Form, AllocError> {
 }
 
 /// The relation of those words, which end with `= 0` or with `<= 0`.
-fn relation(alloc: Global, words: &str) -> Result<Rel, AllocError> {
+pub fn relation(alloc: Global, words: &str) -> Result<Rel, AllocError> {
     let (equal, most) = (parted(words, " = 0").0, parted(words, " <= 0").0);
     let is_equal = equal.len() < most.len();
     let form = form(alloc, if is_equal { equal } else { most })?;

@@ -1,5 +1,5 @@
 //! Runs in which a call of the disk fails.
-use crate::runs::{Case, push_whole};
+use acc_case_engines::runs::{Case, push_whole};
 use acc_case_journals::recoveries::push_counts;
 use std::alloc::{AllocError, Global};
 use std::fmt::Write;

@@ -20,15 +20,11 @@
 //!   recovery makes of its bytes then.
 #![tactic(auto)]
 
-mod answers;
-mod calls;
 mod faults;
-mod items;
-mod runs;
 mod stops;
 
-use crate::runs::Case;
 use acc_case_designs::accepted_file;
+use acc_case_engines::runs::{self, Case};
 use acc_case_journals::{commands, files};
 use acc_case_words::words::{number, parted};
 use acc_lift::Accepted;

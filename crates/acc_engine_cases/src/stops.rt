@@ -1,5 +1,5 @@
 //! What recovery makes of the images that a crash leaves behind each call of a disk.
-use crate::runs::{Case, push_whole};
+use acc_case_engines::runs::{Case, push_whole};
 use acc_case_journals::recoveries::push_counts;
 use acc_disk::MemDisk;
 use acc_lift::Accepted;

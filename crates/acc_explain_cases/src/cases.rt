@@ -1,5 +1,6 @@
 //! The cases by their verbs.
 use crate::texts::{changed, with_feeds};
+use acc_case_commands::memory;
 use acc_cli::{acc, help_text};
 use acc_diagnose::{explain, found_line, replay_line, system_reason};
 use acc_disk::MemDisk;
@@ -11,15 +12,6 @@ use std::io;
 /// The script of the cases that try orders.
 const SCRIPT: &str = "fund 1 1 100\nfund 1 2 50\n";
 
-/// The words of a text.
-fn words_of(alloc: Global, text: &str) -> Result<Vec<String>, AllocError> {
-    let mut words = Vec::new(alloc);
-    for word in text.split_whitespace() {
-        words.push(String::from_str(alloc, word)?)?;
-    }
-    Ok(words)
-}
-
 /// A shelf with a design, a script and an order, of which the reads of these numbers fail.
 fn failing_shelf(
     alloc: Global,
@@ -28,10 +20,9 @@ fn failing_shelf(
     script: &str,
     order: &str,
 ) -> Result<MemShelf, AllocError> {
-    let mut shelf = MemShelf::new(alloc, fails).map_err(|_| AllocError)?;
+    let mut shelf = memory::empty_shelf(alloc, fails)?;
     hold(&mut shelf, "design", design)?;
-    hold(&mut shelf, "script", script)?;
-    hold(&mut shelf, "order", order)?;
+    memory::hold_run(&mut shelf, script, order)?;
     Ok(shelf)
 }
 
@@ -41,18 +32,13 @@ fn shelf(alloc: Global, design: &str, script: &str, order: &str) -> Result<MemSh
 }
 
 fn hold(shelf: &mut MemShelf, name: &str, text: &str) -> Result<(), AllocError> {
-    shelf.hold(name, text.as_bytes()).map_err(|_| AllocError)
+    memory::hold(shelf, name, text.as_bytes())
 }
 
 /// A sink whose first write fails, where that is asked for.
 fn sink(alloc: Global, is_failing: bool) -> Result<MemSink, AllocError> {
     let fails: &[u64] = if is_failing { &[1] } else { &[] };
-    MemSink::new(alloc, fails, &[]).map_err(|_| AllocError)
-}
-
-/// A disk with these bytes, of which all calls fail from that number on.
-fn disk(alloc: Global, bytes: &[u8], from: Option<u64>) -> Result<MemDisk, AllocError> {
-    MemDisk::new(alloc, bytes, &[], from).map_err(|_| AllocError)
+    memory::sink(alloc, fails, &[])
 }
 
 /// The status of a command line over a disk, what it prints, and what is told of it.
@@ -63,7 +49,7 @@ fn answered_over(
     out: &mut MemSink,
     disk: MemDisk,
 ) -> Result<String, AllocError> {
-    let words = words_of(alloc, line)?;
+    let words = memory::words(alloc, line)?;
     let status = acc(alloc, &words, shelf, out, disk, &mut Silent).status;
     let usage = help_text(alloc)?;
     let told = explain(alloc, status, &words, shelf, out.bytes(), &usage);
@@ -79,7 +65,7 @@ fn answered(
     line: &str,
     out: &mut MemSink,
 ) -> Result<String, AllocError> {
-    let disk = disk(alloc, &[], None)?;
+    let disk = memory::disk(alloc, &[], &[], None)?;
     answered_over(alloc, shelf, line, out, disk)
 }
 
@@ -119,15 +105,6 @@ fn check(alloc: Global, design: &str, certificate: &str) -> Result<String, Alloc
     answer_line(alloc, &mut shelf, "check design cert", false)
 }
 
-/// The bytes that a text spells, two digits each; a `-` is none.
-fn bytes_of(alloc: Global, text: &str) -> Vec<u8> {
-    let digits = if text == "-" { "" } else { text };
-    match hex::decode(alloc, digits) {
-        Ok(bytes) => bytes,
-        Err(_) => Vec::new(alloc),
-    }
-}
-
 /// Answers a command line over a design, its certificate without proofs and a journal, of which all calls fail from that number on.
 fn journal(
     alloc: Global,
@@ -138,7 +115,7 @@ fn journal(
     let (bytes, line) = rest.split_once(" ").unwrap_or((rest, ""));
     let mut shelf = shelf(alloc, design, "", "")?;
     hold(&mut shelf, "cert", "[]")?;
-    let disk = disk(alloc, &bytes_of(alloc, bytes), from)?;
+    let disk = memory::disk(alloc, &memory::bytes_of(alloc, bytes), &[], from)?;
     let mut out = sink(alloc, false)?;
     answered_over(alloc, &mut shelf, line, &mut out, disk)
 }
@@ -192,7 +169,7 @@ fn answer(alloc: Global, base: &str, verb: &str, rest: &str) -> Result<String, A
 
 /// Tells why the system doesn't give a file of these names in the program's folder.
 fn tell_reason(rt: &HostRuntime, names: &str) -> io::Result<()> {
-    let names = words_of(rt.alloc(), names)?;
+    let names = memory::words(rt.alloc(), names)?;
     let reason = system_reason(rt, rt.alloc(), &names)?;
     print!(rt; "{reason}")
 }

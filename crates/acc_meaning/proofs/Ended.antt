@@ -14,10 +14,11 @@ use Rattle.acc_limits.specs.Marks.{Mark, ending}
 use Rattle.acc_limits.specs.Faults.{placed}
 use Rattle.acc_limits.proofs.WordEndings.{endings}
 use Rattle.acc_limits.proofs.Ended.{AreEnded, EndsLast, under_more, ended_last, ended_nil, ended_append, last_end, last_behind}
-use Rattle.acc_meaning.specs.Scopes.{Scope}
+use Rattle.acc_clauses.specs.Scopes.{Scope}
 use Rattle.acc_meaning.specs.Designs.{outside}
 use Rattle.acc_meaning.specs.Types.{type_scope}
-use Rattle.acc_meaning.specs.Sizes.{clause_statement_sizes, path_sizes, step_sizes, point_sizes, names_sizes, type_sizes, table_sizes}
+use Rattle.acc_clauses.specs.Sizes.{clause_statement_sizes}
+use Rattle.acc_meaning.specs.Sizes.{path_sizes, step_sizes, point_sizes, names_sizes, type_sizes, table_sizes}
 use Rattle.acc_meaning.specs.Sizes.{entry_sizes, hint_sizes, design_sizes, size_faults}
 use Rattle.acc_meaning.proofs.Endings.{design_endings}
 

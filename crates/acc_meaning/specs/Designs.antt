@@ -18,9 +18,9 @@ use Rattle.acc_syntax.specs.declared.trees.EntryTree.{EntryTree}
 use Rattle.acc_syntax.specs.declared.trees.HintTree.{HintTree}
 use Rattle.acc_syntax.specs.declared.trees.DesignTree.{DesignTree}
 use Rattle.acc_names.specs.Scopes.{locals_of, point_names, type_named}
-use Rattle.acc_meaning.specs.Scopes.{Variables, Scope, fitted, number_of, variable_of}
-use Rattle.acc_meaning.specs.Values.{lin_of}
-use Rattle.acc_meaning.specs.Forms.{clause_of}
+use Rattle.acc_clauses.specs.Scopes.{Variables, Scope, fitted, number_of, variable_of}
+use Rattle.acc_clauses.specs.Values.{lin_of}
+use Rattle.acc_clauses.specs.Forms.{clause_of}
 use Rattle.acc_meaning.specs.Types.{type_of}
 
 abbrev pub table_of : TableTree → Table

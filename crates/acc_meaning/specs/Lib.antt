@@ -1,9 +1,4 @@
-pub mod Scopes
-pub mod Values
-pub mod Rows
-pub mod Forms
 pub mod Steps
 pub mod Types
 pub mod Designs
 pub mod Sizes
-pub mod Views

@@ -16,9 +16,9 @@ use Rattle.acc_syntax.specs.declared.trees.TargetTree.{TargetTree}
 use Rattle.acc_syntax.specs.declared.trees.TargetTree.TheVariants as target_tree
 use Rattle.acc_syntax.specs.declared.trees.PathTree.{PathTree}
 use Rattle.acc_syntax.specs.declared.trees.StepTree.{StepTree}
-use Rattle.acc_meaning.specs.Scopes.{Scope, fitted, number_of, variable_of, table_in, column_in}
-use Rattle.acc_meaning.specs.Values.{lin_of, values_of, guard_of, kept}
-use Rattle.acc_meaning.specs.Rows.{key_in}
+use Rattle.acc_clauses.specs.Scopes.{Scope, fitted, number_of, variable_of, table_in, column_in}
+use Rattle.acc_clauses.specs.Values.{lin_of, values_of, guard_of, kept}
+use Rattle.acc_clauses.specs.Rows.{key_in}
 
 -- ---- reads
 

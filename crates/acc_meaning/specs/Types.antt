@@ -9,9 +9,9 @@ use Rattle.acc_syntax.specs.declared.trees.PointTree.{PointTree}
 use Rattle.acc_syntax.specs.declared.trees.TypeTree.{TypeTree}
 use Rattle.acc_names.specs.Names.{listed_or_none}
 use Rattle.acc_names.specs.Scopes.{locals_of, points_in, point_names}
-use Rattle.acc_meaning.specs.Scopes.{Variables, Scope, fitted, number_of}
-use Rattle.acc_meaning.specs.Values.{lin_of}
-use Rattle.acc_meaning.specs.Forms.{clause_of}
+use Rattle.acc_clauses.specs.Scopes.{Variables, Scope, fitted, number_of}
+use Rattle.acc_clauses.specs.Values.{lin_of}
+use Rattle.acc_clauses.specs.Forms.{clause_of}
 use Rattle.acc_meaning.specs.Steps.{step_of}
 
 abbrev pub zero_lin : Lin

@@ -6,12 +6,12 @@ ghost use Rattle.acc_names.specs.Members.{members_of};
 ghost use Rattle.acc_limits.specs.Walks.{after};
 ghost use Rattle.acc_meaning.specs.Designs.{at_of, side_of, variables_at, pair_of, all_pairs, entry_of, hint_of};
 ghost use Rattle.acc_meaning.specs.Sizes.{entry_sizes, hint_sizes};
-ghost use Rattle.acc_meaning.specs.Views.{variables_in};
+ghost use Rattle.acc_clauses.specs.Views.{variables_in};
 
-use crate::scopes::{VariableNames, fitted, number_of, variable};
-use crate::values::lin;
 use acc_base::designs::{At, Entry, Hint, Side};
 use acc_base::sequences::Seq;
+use acc_clauses::scopes::{VariableNames, fitted, number_of, variable};
+use acc_clauses::values::lin;
 use acc_limits::Walk;
 use acc_names::{NameIndex, Types};
 use acc_syntax::trees::{EntryTree, HintTree, Pairs, PointName, SideTree};

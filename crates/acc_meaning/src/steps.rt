@@ -3,16 +3,16 @@ ghost use Rattle.std.specs.Prelude.{◌≡◌, ◌∷◌, ◌++◌, [], map, pos
 ghost use Rattle.std.specs.List.{flat_map};
 ghost use Rattle.acc_limits.specs.Walks.{after};
 ghost use Rattle.acc_meaning.specs.Steps.{read_of, action_of, target_of, path_of, all_paths, step_of};
-ghost use Rattle.acc_meaning.specs.Values.{kept};
+ghost use Rattle.acc_clauses.specs.Values.{kept};
 ghost use Rattle.acc_meaning.specs.Sizes.{read_words_sizes, read_sizes, action_words_sizes, action_sizes, path_sizes, step_sizes};
-ghost use Rattle.acc_meaning.specs.Views.{scope_in};
+ghost use Rattle.acc_clauses.specs.Views.{scope_in};
 
-use crate::rows::key;
-use crate::scopes::{Surroundings, column, fitted, number_of, table, variable};
-use crate::values::{guard, lin, values};
 use acc_base::bounds::LARGEST_NUMBER;
 use acc_base::sequences::Seq;
 use acc_base::steps::{Action, Path, Read, Step, Target};
+use acc_clauses::rows::key;
+use acc_clauses::scopes::{Surroundings, column, fitted, number_of, table, variable};
+use acc_clauses::values::{guard, lin, values};
 use acc_limits::Walk;
 use acc_names::NameIndex;
 use acc_syntax::trees::{ActionTree, PathTree, ReadTree, StepTree, TargetTree};

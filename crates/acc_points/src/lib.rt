@@ -3,6 +3,6 @@
 
 mod fractions;
 pub mod laws;
-mod points;
+pub mod points;
 pub mod readings;
 pub mod searching;

@@ -131,7 +131,7 @@ fn place(point: &mut Vec<(i128, i128)>, bound: &(u32, Seq<Row>)) -> Result<(), S
 }
 
 /// A value for the unknown, by the equation that was set aside for it.
-fn place_by(point: &mut Vec<(i128, i128)>, equation: &(u32, Row)) -> Result<(), Stop>
+pub fn place_by(point: &mut Vec<(i128, i128)>, equation: &(u32, Row)) -> Result<(), Stop>
     ensures { Leaves result point.new.items (placed_by point.old.items equation.now) }
 {
     let x = root(equation.0, point.as_slice(), &equation.1)?;

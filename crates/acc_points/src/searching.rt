@@ -14,7 +14,7 @@ use acc_systems::systems::{Eliminated, eliminate_all};
 use std::alloc::{AllocError, Global};
 
 /// A point at which every unknown is 0.
-fn zeros(alloc: Global, unknowns: u32) -> Result<Vec<(i128, i128)>, AllocError>
+pub fn zeros(alloc: Global, unknowns: u32) -> Result<Vec<(i128, i128)>, AllocError>
     ensures { IfOk result (λ v. v.items ≡ zeros unknowns) }
 {
     Vec::from_elem(alloc, (0, 1), unknowns as usize)

@@ -3,13 +3,14 @@ use Rattle.std.proofs.Common.{◌≡◌, ℕ, suc, ◌+◌, ◌<◌, ◌≤◌, 
 use Rattle.std.proofs.Common.{append_assoc, arith}
 use Rattle.std.proofs.Math.Seq.{drop-cons}
 use Rattle.std.proofs.Math.ListN.{drop_of_length-le}
-use Rattle.std.specs.Prelude.{◌≢◌, Result, IfOk, OnOk}
+use Rattle.std.specs.Prelude.{◌≢◌, IsTrue, Result, IfOk, OnOk}
 use Rattle.std.proofs.lemmas.List.{append-nil}
 use Rattle.acc_base.specs.declared.designs.Design.{Design}
 use Rattle.acc_base.specs.declared.sequents.Origin.{Origin}
 use Rattle.acc_base.specs.declared.sequents.Sequent.{Sequent}
 use Rattle.acc_axioms.specs.declared.nodes.Node.{Node}
 use Rattle.acc_axioms.specs.declared.nodes.Proof.{Proof}
+use Rattle.acc_cert_bounds.specs.InBounds.{nodes as are_in_bounds}
 use Rattle.acc_branch.specs.Courses.{Course}
 use Rattle.acc_branch.specs.declared.halts.Halt.{Halt}
 use Rattle.acc_prover.specs.declared.found.Found.{Found}
@@ -37,22 +38,23 @@ line_told d o (Err Wide) c other h = ap (open_line d o) (sym h)
 line_told d o (Err Many) c other h = ap (open_line d o) (sym h)
 line_told d o (Err Memory) c other h = absurd (other refl)
 
-closed_gives : (d : Design) (q : Sequent) (p : Proof) (c : Course (List Node)) → Closes c → IsProof d q p.nodes → Gives d q c (p ∷ [])
-closed_gives d q p (Ok nodes) h k = (p, refl, k)
-closed_gives d q p (Err e) h k = absurd h
+closed_gives : (d : Design) (q : Sequent) (p : Proof) (c : Course (List Node)) → Closes c → IsProof d q p.nodes
+    → IsTrue (are_in_bounds p.nodes) → Gives d q c (p ∷ [])
+closed_gives d q p (Ok nodes) h k b = (p, refl, k, b)
+closed_gives d q p (Err e) h k b = absurd h
 
 stopped_gives : (d : Design) (q : Sequent) (c : Course (List Node)) (e : Halt) → c ≡ Err e → Gives d q c []
 stopped_gives d q c e h = subst (λ x. Gives d q x []) (sym h) refl
 
 pub proofs_told :
     (d : Design) (q : Sequent) (r : Result Found SearchError) (c : Course (List Node)) → r ≢ Err Memory → Tells r c
-    → IfProved r (IsProof d q) → Gives d q c (found_proofs r)
-proofs_told d q (Ok (Proved p)) c other h k = closed_gives d q p c h k
-proofs_told d q (Ok (Unproved leaf point)) c other h k = stopped_gives d q c _ h
-proofs_told d q (Err Crowded) c other h k = stopped_gives d q c _ h
-proofs_told d q (Err Wide) c other h k = stopped_gives d q c _ h
-proofs_told d q (Err Many) c other h k = stopped_gives d q c _ h
-proofs_told d q (Err Memory) c other h k = absurd (other refl)
+    → IfProved r (IsProof d q) → IfProved r (λ nodes. IsTrue (are_in_bounds nodes)) → Gives d q c (found_proofs r)
+proofs_told d q (Ok (Proved p)) c other h k b = closed_gives d q p c h k b
+proofs_told d q (Ok (Unproved leaf point)) c other h k b = stopped_gives d q c _ h
+proofs_told d q (Err Crowded) c other h k b = stopped_gives d q c _ h
+proofs_told d q (Err Wide) c other h k b = stopped_gives d q c _ h
+proofs_told d q (Err Many) c other h k b = stopped_gives d q c _ h
+proofs_told d q (Err Memory) c other h k b = absurd (other refl)
 
 pub one_adds :
     (d : Design) (q : Sequent) (old new first : List Proof) → new ≡ old ++ first → Gives d q (searched d q) first
@@ -116,11 +118,11 @@ one_line d q found (Err e) old new h k other = tt
 
 pub one_proof : {T E : Type 0}
     (d : Design) (q : Sequent) (found : Result Found SearchError) (r : Result T E) (old new : List Proof) → Tells found (searched d q)
-    → IfProved found (IsProof d q) → OnOk r (new ≡ old ++ found_proofs found) → OnOk r (found ≢ Err Memory)
-    → OnOk r (AddsProofs d (q ∷ []) old new)
-one_proof d q found (Ok x) old new h k e other =
-    one_adds d q old new (found_proofs found) e (proofs_told d q found (searched d q) other h k)
-one_proof d q found (Err e) old new h k f other = tt
+    → IfProved found (IsProof d q) → IfProved found (λ nodes. IsTrue (are_in_bounds nodes)) → OnOk r (new ≡ old ++ found_proofs found)
+    → OnOk r (found ≢ Err Memory) → OnOk r (AddsProofs d (q ∷ []) old new)
+one_proof d q found (Ok x) old new h k b e other =
+    one_adds d q old new (found_proofs found) e (proofs_told d q found (searched d q) other h k b)
+one_proof d q found (Err e) old new h k b f other = tt
 
 pub all_proves : {E : Type 0}
     (d : Design) (qs : List Sequent) (first ps : List Proof) (old lines : List ℕ) (r : Result Proving E) → first ≡ [] → old ≡ []

@@ -1,7 +1,7 @@
 -- What is told of a design is what its obligations' searches say.
-use Rattle.std.proofs.Common.{◌≡◌, ℕ, zero, suc, List, [], ◌∷◌, ◌++◌, length, Ok, Err, Some, None, refl, sym, ap, subst, ◌∙◌}
-use Rattle.std.specs.Prelude.{Result, IfOk}
-use Rattle.std.specs.List.{AllByRecursion}
+use Rattle.std.proofs.Common.{◌≡◌, ℕ, true, zero, suc, List, [], ◌∷◌, ◌++◌, length, Ok, Err, Some, None, refl, sym, ap, subst, ◌∙◌}
+use Rattle.std.specs.Prelude.{IsTrue, Result, IfOk}
+use Rattle.std.specs.List.{AllByRecursion, list_all}
 use Rattle.std.proofs.lemmas.List.Elements.{All-from_recursion, recursion_from_All}
 use Rattle.acc_base.specs.declared.designs.Design.{Design}
 use Rattle.acc_base.specs.declared.sequents.Origin.{Origin}
@@ -9,6 +9,8 @@ use Rattle.acc_base.specs.declared.sequents.Sequent.{Sequent}
 use Rattle.acc_axioms.specs.declared.nodes.Node.{Node}
 use Rattle.acc_axioms.specs.declared.nodes.Proof.{Proof}
 use Rattle.acc_axioms.specs.declared.nodes.Cert.{Cert}
+use Rattle.acc_axioms.proofs.Tests.{both_true}
+use Rattle.acc_cert_bounds.specs.InBounds.{proof as is_in_bounds, cert as is_cert_in_bounds}
 use Rattle.acc_branch.specs.Courses.{Course}
 use Rattle.acc_form.specs.WellFormed.{IsWellFormed}
 use Rattle.acc_oblig.specs.Laws.{drafts_of, sequents_of}
@@ -59,7 +61,7 @@ module _ (d : Design) where
   -- ---- proofs
 
   one_proof : (q : Sequent) (c : Course (List Node)) (ps : List Proof) → Closes c → Gives d q c ps
-      → (p : Proof) × (ps ≡ p ∷ []) × IsProof d q p.nodes
+      → (p : Proof) × (ps ≡ p ∷ []) × IsProof d q p.nodes × IsTrue (is_in_bounds p)
   one_proof q (Ok nodes) ps h g = g
   one_proof q (Err e) ps h g = absurd h
 
@@ -69,20 +71,22 @@ module _ (d : Design) where
   in_front q qs p ps h k (suc n) r e = k n r e
 
   all_proved : (qs : List Sequent) (ps : List Proof) → AllByRecursion (λ q. Closes (searched d q)) qs → GivesAll d qs ps
-      → AreProved d qs ps × (length ps ≡ length qs)
-  all_proved [] ps h g = (λ n r e. absurd (none_some r e), ap length g)
+      → AreProved d qs ps × (length ps ≡ length qs) × (list_all is_in_bounds ps ≡ true)
+  all_proved [] ps h g = (λ n r e. absurd (none_some r e), ap length g, ap (list_all is_in_bounds) g)
   all_proved (q ∷ qs) ps h (first, rest, e, g, all) =
       let one = one_proof q (searched d q) first h.0 g in
       let more = all_proved qs rest h.1 all in
       let is : ps ≡ one.0 ∷ rest = e ∙ ap (λ xs. xs ++ rest) one.1 in (
         subst (AreProved d (q ∷ qs)) (sym is) (in_front q qs one.0 rest one.2 more.0),
         ap length is ∙ ap suc more.1,
+        ap (list_all is_in_bounds) is ∙ both_true (is_in_bounds one.0) (list_all is_in_bounds rest) one.3 more.2,
       )
 
   -- ---- the whole
 
   certified : (ps : List Proof) (text : List ℕ) → IsWellFormed d → first_wide (drafts_of d) ≡ None → GivesAll d (sequents_of d) ps
-      → open_lines d (sequents_of d) ≡ [] → IsWritten (record { proofs = ps }) text → IsCertified d text
+      → open_lines d (sequents_of d) ≡ [] → (IsTrue (is_cert_in_bounds (record { proofs = ps })) → IsWritten (record { proofs = ps }) text)
+      → IsCertified d text
   certified ps text formed narrow gives none written =
       let closes = no_lines_close (sequents_of d) none in
       let proved = all_proved (sequents_of d) ps closes gives in
@@ -95,7 +99,7 @@ module _ (d : Design) where
         whole = proved.1;
         accepts = accepts;
         sound = accepted_is_sound d c accepts;
-        written = written;
+        written = written proved.2;
       }
 
   told : (r : Proving) → IsWellFormed d → first_wide (drafts_of d) ≡ None → ProvesAll d (sequents_of d) r → Proves d r

@@ -9,9 +9,9 @@ use Rattle.serde_json.specs.Read.{read, of_json, max_depth}
 use Rattle.serde_json.specs.Written.{compact_text}
 use Rattle.acc_base.specs.Lines.{line}
 use Rattle.acc_axioms.specs.declared.nodes.Cert.{Cert}
+use Rattle.acc_cert_bounds.specs.InBounds.{cert as is_in_bounds}
 use Rattle.acc_cert_read.specs.Parts.{Part, Good, Off, and_then, given}
 use Rattle.acc_cert_read.specs.Certificates.{cert_in, cert_of}
-use Rattle.acc_cert_read.specs.InBounds.{cert as is_in_bounds}
 use Rattle.acc_cert_read.proofs.Texts.{of_text}
 use Rattle.acc_cert.specs.SpelledNodes.{cert}
 use Rattle.acc_prove.specs.Provings.{IsWritten}
@@ -42,14 +42,15 @@ cert_line text c is =
 
 pub written_line :
     (c : Cert) (text ended : List ℕ) → text ≡ compact_text (cert c) → (IsTrue (is_in_bounds c) → cert_in text ≡ Good c)
-    → ended ≡ line text → IsWritten c ended
-written_line c text ended says reads e = record {
+    → ended ≡ line text → IsTrue (is_in_bounds c) → IsWritten c ended
+written_line c text ended says reads e h = record {
   says = e ∙ ap line says;
-  reads = λ h. ap cert_in e ∙ cert_line text c (reads h);
+  reads = ap cert_in e ∙ cert_line text c (reads h);
 }
 
 pub written_if : {V E : Type 0}
     (items : V → List ℕ) (c : Cert) (text : List ℕ) (r : Result V E) → text ≡ compact_text (cert c)
-    → (IsTrue (is_in_bounds c) → cert_in text ≡ Good c) → IfOk r (λ v. items v ≡ line text) → IfOk r (λ v. IsWritten c (items v))
+    → (IsTrue (is_in_bounds c) → cert_in text ≡ Good c) → IfOk r (λ v. items v ≡ line text)
+    → IfOk r (λ v. IsTrue (is_in_bounds c) → IsWritten c (items v))
 written_if items c text (Ok v) says reads e = written_line c text (items v) says reads e
 written_if items c text (Err x) says reads e = tt

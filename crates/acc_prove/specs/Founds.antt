@@ -1,10 +1,12 @@
 -- What searches add to the proofs and to the lines, one after the other.
-use Rattle.std.specs.Prelude.{◌≡◌, ◌≢◌, ℕ, List, [], ◌∷◌, ◌++◌, Result, Ok, Err, codes}
+use Rattle.std.specs.Prelude.{◌≡◌, ◌≢◌, ℕ, IsTrue, List, [], ◌∷◌, ◌++◌, Result, Ok, Err, codes}
 use Rattle.acc_base.specs.declared.designs.Design.{Design}
 use Rattle.acc_base.specs.declared.sequents.Origin.{Origin}
 use Rattle.acc_base.specs.declared.sequents.Sequent.{Sequent}
 use Rattle.acc_axioms.specs.declared.nodes.Node.{Node}
 use Rattle.acc_axioms.specs.declared.nodes.Proof.{Proof}
+use Rattle.acc_axioms.specs.declared.nodes.Cert.{Cert}
+use Rattle.acc_cert_bounds.specs.InBounds.{proof as is_in_bounds, cert as is_cert_in_bounds}
 use Rattle.acc_branch.specs.Courses.{Course}
 use Rattle.acc_prover.specs.declared.found.Found.{Found}
 use Rattle.acc_prover.specs.declared.found.Found.TheVariants.{Proved, Unproved}
@@ -31,9 +33,9 @@ found_proofs (Ok (Proved p)) = p ∷ []
 found_proofs (Ok (Unproved leaf point)) = []
 found_proofs (Err e) = []
 
--- where all branches of a search are closed there is a proof of the obligation, and else none
+-- where all branches of a search are closed there is a proof of the obligation, whose numbers a certificate's file can hold; and else none
 abbrev pub Gives : Design → Sequent → Course (List Node) → List Proof → Type 0
-Gives d q (Ok nodes) ps = (p : Proof) × (ps ≡ p ∷ []) × IsProof d q p.nodes
+Gives d q (Ok nodes) ps = (p : Proof) × (ps ≡ p ∷ []) × IsProof d q p.nodes × IsTrue (is_in_bounds p)
 Gives d q (Err end) ps = ps ≡ []
 
 -- the proofs that the searches of obligations give, in their order
@@ -46,9 +48,10 @@ GivesAll d (q ∷ qs) ps =
 abbrev pub AddsProofs : Design → List Sequent → List Proof → List Proof → Type 0
 AddsProofs d qs old new = (ps : List Proof) × (new ≡ old ++ ps) × GivesAll d qs ps
 
--- without lines the proofs are a certificate, and else the lines are told
+-- without lines the proofs are a certificate, which is written if its file can hold their numbers; and else the lines are told
 abbrev pub Ends : List Proof → List ℕ → Proving → Type 0
-Ends ps lines (proving.Proved text) = (lines ≡ []) × IsWritten (record { proofs = ps }) text.items
+Ends ps lines (proving.Proved text) =
+    let c : Cert = record { proofs = ps } in (lines ≡ []) × (IsTrue (is_cert_in_bounds c) → IsWritten c text.items)
 Ends ps lines (proving.Open text) = (lines ≢ []) × (text.items ≡ lines)
 Ends ps lines (proving.Wide text) = ⊥
 

@@ -1,5 +1,5 @@
 -- What is told of a design whose obligations are to be proved.
-use Rattle.std.specs.Prelude.{◌≡◌, ℕ, All, IsTrue, List, ◌++◌, length, codes, Some, None}
+use Rattle.std.specs.Prelude.{◌≡◌, ℕ, All, List, ◌++◌, length, codes, Some, None}
 use Rattle.acc_base.specs.declared.designs.Design.{Design}
 use Rattle.acc_base.specs.declared.sequents.Origin.{Origin}
 use Rattle.acc_base.specs.declared.sequents.Sequent.{Sequent}
@@ -9,7 +9,6 @@ use Rattle.serde_json.specs.Written.{compact_text}
 use Rattle.acc_axioms.specs.declared.nodes.Cert.{Cert}
 use Rattle.acc_cert_read.specs.Parts.{Good}
 use Rattle.acc_cert_read.specs.Certificates.{cert_in}
-use Rattle.acc_cert_read.specs.InBounds.{cert as is_in_bounds}
 use Rattle.acc_cert.specs.SpelledNodes.{cert}
 use Rattle.acc_oblig.specs.Laws.{drafts_of, sequents_of}
 use Rattle.acc_obligations.specs.Causes.{first_wide}
@@ -24,10 +23,10 @@ use Rattle.acc_prove.specs.Lines.{searched, open_lines}
 abbrev pub AllClose : Design → List Sequent → Type 0
 AllClose d qs = All (λ q. Closes (searched d q)) qs
 
--- the text is a certificate as a line; where its numbers are within the bounds of the file, it is read as this certificate
+-- the text is a certificate as a line, and is read as this certificate
 pub record IsWritten (c : Cert) (text : List ℕ) : Type 0 where
   pub says : text ≡ line (compact_text (cert c))
-  pub reads : IsTrue (is_in_bounds c) → cert_in text ≡ Good c
+  pub reads : cert_in text ≡ Good c
 
 -- no number of an obligation is too large, and all are proved: the text is a certificate with one proof an obligation, in one line,
 -- and the design is accepted with it

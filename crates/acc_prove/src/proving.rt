@@ -1,8 +1,8 @@
 //! A design's obligations are proved, or it is told which aren't.
-ghost use Rattle.std.specs.Prelude.{◌≡◌, ◌≢◌, [], ◌∷◌, ◌++◌, codes, IfOk, OnOk, Err};
+ghost use Rattle.std.specs.Prelude.{◌≡◌, ◌≢◌, [], ◌∷◌, ◌++◌, codes, IsTrue, IfOk, OnOk, Err};
 ghost use Rattle.acc_base.specs.Lines.{line};
+ghost use Rattle.acc_cert_bounds.specs.InBounds.{nodes as are_in_bounds, cert as is_in_bounds};
 ghost use Rattle.acc_form.specs.WellFormed.{IsWellFormed};
-ghost use Rattle.acc_oblig.specs.Laws.{sequents_of};
 ghost use Rattle.acc_prover.specs.declared.found.SearchError.TheVariants.{Memory as OutOfMemory};
 ghost use Rattle.acc_prover.specs.Tellings.{Tells, IfProved, IsProof};
 ghost use Rattle.acc_check.specs.Origins.{origin_text};
@@ -42,6 +42,7 @@ pub fn searched(alloc: Global, d: &Design, q: &Sequent) -> Result<Found, SearchE
     requires { IsWellFormed d.now }
     ensures kind { Tells result (searched d.now q.now) }
     ensures proof { IfProved result (IsProof d.now q.now) }
+    ensures bounds { IfProved result (λ nodes. IsTrue (are_in_bounds nodes)) }
 {
     let hints = hints_of(alloc, d, q)?;
     search(alloc, d, q, hints.as_slice())
@@ -118,7 +119,7 @@ fn prove_each<P: Progress>(
 
 /// A certificate, as a line.
 fn certificate_line(alloc: Global, certificate: &Cert) -> Result<Vec<u8>, AllocError>
-    ensures { IfOk result (λ text. IsWritten certificate.now text.items) }
+    ensures { IfOk result (λ text. IsTrue (is_in_bounds certificate.now) → IsWritten certificate.now text.items) }
 {
     match write(alloc, certificate) {
         Ok(text) => ended_line(text),
@@ -176,10 +177,10 @@ fn wide_line(alloc: Global, d: &Design, origin: &Origin) -> Result<Vec<u8>, Allo
 
 /// Proves the obligations of a design, by a search for each, with the hints of its point and side.
 ///
-/// `Proved` where all branches of each search are closed; then the design is accepted with the certificate, and so it is sound. `Open`
-/// where some aren't: a line for each obligation that isn't proved, in their order, with what ended its search. `Wide` where a number
-/// of an obligation is too large. `AllocError` where memory ran out; nothing is told then. Behind each search `progress` is told how many
-/// obligations are done, and how many of these are open.
+/// `Proved` where all branches of each search are closed; then the design is accepted with the certificate, and so it is sound; and the
+/// line is read as this certificate. `Open` where some aren't: a line for each obligation that isn't proved, in their order, with what
+/// ended its search. `Wide` where a number of an obligation is too large. `AllocError` where memory ran out; nothing is told then. Behind
+/// each search `progress` is told how many obligations are done, and how many of these are open.
 ///
 /// Besides the searches it takes the time of the obligations' length, and of what is written.
 pub fn prove<P: Progress>(

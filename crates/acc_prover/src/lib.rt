@@ -4,6 +4,4 @@
 pub mod branches;
 pub mod found;
 mod passes;
-mod pruning;
-mod renumbering;
 pub mod searching;

@@ -11,7 +11,7 @@ use Rattle.std.proofs.lemmas.Option.{slice_get-map, slice_get_within}
 use Rattle.std.proofs.lemmas.Slice.Eq.{bytes_eq-Decides}
 use Rattle.acc_grammar.specs.Readers.{AllIn}
 use Rattle.acc_names.specs.Names.{stands_in, defines_again}
-use Rattle.acc_meaning.specs.Scopes.{fitted, number_of}
+use Rattle.acc_clauses.specs.Scopes.{fitted, number_of}
 use Rattle.acc_print.specs.Names.{name_at}
 use Rattle.acc_readback.specs.Printable.{AreNew}
 use Rattle.acc_readback.proofs.NamePlaces.{new_apart, place_new, fitted_small}

@@ -15,12 +15,12 @@ use Rattle.acc_terms.specs.declared.parts.Part.{Part}
 use Rattle.acc_syntax.specs.declared.trees.Operand.{Operand}
 use Rattle.acc_syntax.specs.declared.trees.FormTerm.TheVariants as form_terms
 use Rattle.acc_names.specs.Names.{listed_or_none}
-use Rattle.acc_meaning.specs.Scopes.{Scope as Surroundings}
-use Rattle.acc_meaning.specs.Values.{multiple, alone, signed, collected_by, compared}
-use Rattle.acc_meaning.specs.Forms.{atom_of, unknown_of, form_part, signed_form_part, form_parts, rel_terms, form_by, rel_of, all_form_rels}
-use Rattle.acc_meaning.specs.Forms.{with_own as with_own_names, clause_scope, clause_of}
-use Rattle.acc_meaning.specs.Sizes.{operand_sizes, form_term_sizes, signed_form_term_sizes, form_sizes, rel_sizes, clause_sizes}
-use Rattle.acc_meaning.specs.Sizes.{clause_statement_sizes}
+use Rattle.acc_clauses.specs.Scopes.{Scope as Surroundings}
+use Rattle.acc_clauses.specs.Values.{multiple, alone, signed, collected_by, compared}
+use Rattle.acc_clauses.specs.Forms.{atom_of, unknown_of, form_part, signed_form_part, form_parts, rel_terms, form_by, rel_of, all_form_rels}
+use Rattle.acc_clauses.specs.Forms.{with_own as with_own_names, clause_scope, clause_of}
+use Rattle.acc_clauses.specs.Sizes.{operand_sizes, form_term_sizes, signed_form_term_sizes, form_sizes, rel_sizes, clause_sizes}
+use Rattle.acc_clauses.specs.Sizes.{clause_statement_sizes}
 use Rattle.acc_print.specs.Sums.{is_negative}
 use Rattle.acc_print.specs.Names.{Scope, with_own}
 use Rattle.acc_readback.specs.Trees.{relation_tree, operand_tree, form_term_tree, signed_form_tree, form_constant_trees, form_sum_tree}

@@ -7,9 +7,9 @@ use Rattle.acc_grammar.specs.Readers.{AllIn}
 use Rattle.acc_base.specs.declared.tables.Table.{Table}
 use Rattle.acc_base.specs.declared.forms.Lin.{Lin}
 use Rattle.acc_syntax.specs.declared.trees.TableTree.{TableTree}
-use Rattle.acc_meaning.specs.Scopes.{Scope as Surroundings, number_of, table_names, table_in, column_in}
-use Rattle.acc_meaning.specs.Rows.{key_in}
-use Rattle.acc_meaning.specs.Sizes.{place_sizes}
+use Rattle.acc_clauses.specs.Scopes.{Scope as Surroundings, number_of, table_names, table_in, column_in}
+use Rattle.acc_clauses.specs.Rows.{key_in}
+use Rattle.acc_clauses.specs.Sizes.{place_sizes}
 use Rattle.acc_print.specs.Names.{Scope, name_at, table_name, column_name}
 use Rattle.acc_readback.specs.Trees.{place_tree, cell_tree}
 use Rattle.acc_readback.specs.TypeTrees.{table_tree}

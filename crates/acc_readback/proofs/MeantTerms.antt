@@ -12,7 +12,7 @@ use Rattle.acc_terms.specs.declared.collecting.Terms.{Terms}
 use Rattle.acc_terms.specs.Parts.{constant_in, constant_of, negated, difference}
 use Rattle.acc_terms.specs.Collected.{with_unknown, is_left, totals}
 use Rattle.acc_terms.proofs.Totals.{total-append}
-use Rattle.acc_meaning.specs.Values.{alone, collected_by, compared, is_equation}
+use Rattle.acc_clauses.specs.Values.{alone, collected_by, compared, is_equation}
 use Rattle.acc_readback.specs.Trees.{relation_tree}
 use Rattle.acc_readback.specs.Printable.{AreCollected}
 

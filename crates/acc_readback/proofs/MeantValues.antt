@@ -13,10 +13,10 @@ use Rattle.acc_base.specs.declared.forms.LinRel.{LinRel}
 use Rattle.acc_terms.specs.declared.parts.Part.{Part}
 use Rattle.acc_syntax.specs.declared.trees.Variable.{Variable}
 use Rattle.acc_syntax.specs.declared.trees.Term.TheVariants.{Plain, Product}
-use Rattle.acc_meaning.specs.Scopes.{Variables, variable_of}
-use Rattle.acc_meaning.specs.Values.{multiple, alone, part_of, signed, signed_part, parts_of, collected_by, kept, kept_term, lin_by}
-use Rattle.acc_meaning.specs.Values.{terms_of, lin_of, lins_of, values_of, compared, lin_rel_terms, lin_rel_of, guard_of}
-use Rattle.acc_meaning.specs.Sizes.{sum_sizes, sums_sizes, values_sizes, lin_rel_sizes, guard_sizes}
+use Rattle.acc_clauses.specs.Scopes.{Variables, variable_of}
+use Rattle.acc_clauses.specs.Values.{multiple, alone, part_of, signed, signed_part, parts_of, collected_by, kept, kept_term, lin_by}
+use Rattle.acc_clauses.specs.Values.{terms_of, lin_of, lins_of, values_of, compared, lin_rel_terms, lin_rel_of, guard_of}
+use Rattle.acc_clauses.specs.Sizes.{sum_sizes, sums_sizes, values_sizes, lin_rel_sizes, guard_sizes}
 use Rattle.acc_print.specs.Sums.{is_negative}
 use Rattle.acc_readback.specs.Trees.{variable_tree, term_tree, signed_tree, constant_trees, sum_tree, lin_tree, sums_tree, relation_tree}
 use Rattle.acc_readback.specs.Trees.{lin_rel_tree, guard_tree}

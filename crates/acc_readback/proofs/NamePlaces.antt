@@ -10,7 +10,7 @@ use Rattle.std.proofs.lemmas.Slice.Eq.{bytes_eq-Decides}
 use Rattle.acc_names.specs.Names.{stands_in, defines_again}
 use Rattle.acc_names.specs.Places.{place_of}
 use Rattle.acc_names.proofs.Placed.{placed_stands}
-use Rattle.acc_meaning.specs.Scopes.{fitted, number_of}
+use Rattle.acc_clauses.specs.Scopes.{fitted, number_of}
 use Rattle.acc_print.specs.Names.{name_at}
 use Rattle.acc_readback.specs.Printable.{IsName, AreNew}
 

@@ -21,8 +21,8 @@ use Rattle.acc_limits.specs.declared.limits.Limit.TheVariants as limit
 use Rattle.acc_limits.specs.Marks.{past, ending}
 use Rattle.acc_limits.specs.Words.{name_marks, names_marks, form_rel_marks, binder_marks, premises_marks, clause_marks}
 use Rattle.acc_limits.specs.Statements.{clause_statement_marks}
-use Rattle.acc_meaning.specs.Forms.{rel_of, all_form_rels, clause_of}
-use Rattle.acc_meaning.specs.Sizes.{rel_sizes, clause_sizes, clause_statement_sizes}
+use Rattle.acc_clauses.specs.Forms.{rel_of, all_form_rels, clause_of}
+use Rattle.acc_clauses.specs.Sizes.{rel_sizes, clause_sizes, clause_statement_sizes}
 use Rattle.acc_print.specs.Names.{names_within}
 use Rattle.acc_readback.specs.Printable.{IsName, AreNew, IsRelSaid, IsClauseSaid}
 use Rattle.acc_readback.proofs.ValueParts.{not_self}

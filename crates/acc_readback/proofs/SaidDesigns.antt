@@ -21,10 +21,11 @@ use Rattle.acc_limits.specs.declared.limits.Limit.TheVariants as limit
 use Rattle.acc_limits.specs.Marks.{counted}
 use Rattle.acc_limits.specs.Statements.{table_marks, clause_statement_marks, type_marks, entry_marks, hint_marks, design_marks}
 use Rattle.acc_limits.specs.Faults.{limit_faults}
-use Rattle.acc_meaning.specs.Forms.{clause_of}
+use Rattle.acc_clauses.specs.Forms.{clause_of}
 use Rattle.acc_meaning.specs.Types.{type_of}
 use Rattle.acc_meaning.specs.Designs.{table_of, outside, entry_of, hint_of, design_of}
-use Rattle.acc_meaning.specs.Sizes.{clause_statement_sizes, type_sizes, table_sizes, entry_sizes, hint_sizes, design_sizes, size_faults}
+use Rattle.acc_clauses.specs.Sizes.{clause_statement_sizes}
+use Rattle.acc_meaning.specs.Sizes.{type_sizes, table_sizes, entry_sizes, hint_sizes, design_sizes, size_faults}
 use Rattle.acc_parse.specs.Texts.{IsDesignText}
 use Rattle.acc_readback.specs.PrintableTypes.{IsTypeSaid, IsSaid}
 use Rattle.acc_readback.proofs.OnlyEnds.{AreEnds, IsEnd}

@@ -20,9 +20,9 @@ use Rattle.acc_names.specs.Faults.{operand_fault, form_term_fault, form_fault, f
 use Rattle.acc_limits.specs.Words.{number_marks, operand_marks, form_term_marks, signed_form_term_marks, form_marks, form_rel_marks}
 use Rattle.acc_terms.specs.declared.parts.Part.{Part}
 use Rattle.acc_terms.specs.declared.collecting.Terms.{Terms}
-use Rattle.acc_meaning.specs.Values.{compared, collected_by}
-use Rattle.acc_meaning.specs.Forms.{atom_of, form_part, signed_form_part, form_parts, rel_terms, rel_of}
-use Rattle.acc_meaning.specs.Sizes.{terms_sizes, operand_sizes, form_term_sizes, signed_form_term_sizes, form_sizes, rel_sizes}
+use Rattle.acc_clauses.specs.Values.{compared, collected_by}
+use Rattle.acc_clauses.specs.Forms.{atom_of, form_part, signed_form_part, form_parts, rel_terms, rel_of}
+use Rattle.acc_clauses.specs.Sizes.{terms_sizes, operand_sizes, form_term_sizes, signed_form_term_sizes, form_sizes, rel_sizes}
 use Rattle.acc_readback.specs.Printable.{IsAtomSaid, IsUnknownSaid, IsRelSaid}
 use Rattle.acc_readback.proofs.OnlyEnds.{AreEnds, IsEnd}
 use Rattle.acc_readback.proofs.SaidParts.{all_parts, all_joined, all_flat, all_map, all_by_two, all_by_four, none_false}

@@ -19,7 +19,7 @@ use Rattle.acc_limits.specs.declared.limits.Limit.TheVariants as limit
 use Rattle.acc_limits.specs.Marks.{past, ending}
 use Rattle.acc_limits.specs.Words.{name_marks, names_marks, small_number_marks}
 use Rattle.acc_limits.specs.Statements.{returns_marks, locals_marks, head_marks}
-use Rattle.acc_meaning.specs.Scopes.{number_of}
+use Rattle.acc_clauses.specs.Scopes.{number_of}
 use Rattle.acc_print.specs.Names.{name_at, names_within}
 use Rattle.acc_readback.specs.Printable.{IsName}
 use Rattle.acc_readback.proofs.OnlyEnds.{AreEnds, IsEnd}

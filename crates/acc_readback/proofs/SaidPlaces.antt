@@ -12,7 +12,7 @@ use Rattle.acc_grammar.specs.Readers.{AllIn}
 use Rattle.acc_names.specs.Names.{stands_in}
 use Rattle.acc_names.specs.Places.{place_of}
 use Rattle.acc_names.proofs.Placed.{placed_stands}
-use Rattle.acc_meaning.specs.Scopes.{fitted, number_of}
+use Rattle.acc_clauses.specs.Scopes.{fitted, number_of}
 
 -- a small number is itself
 pub fitted_same : (n : ℕ) → n < 2 ^ 32 → fitted n ≡ n

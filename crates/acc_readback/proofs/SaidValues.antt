@@ -22,10 +22,10 @@ use Rattle.acc_limits.specs.Words.{number_marks, variable_marks, term_marks, sig
 use Rattle.acc_terms.specs.declared.parts.Part.{Part}
 use Rattle.acc_terms.specs.declared.collecting.Terms.{Terms}
 use Rattle.acc_terms.specs.Parts.{negated}
-use Rattle.acc_meaning.specs.Scopes.{variable_of}
-use Rattle.acc_meaning.specs.Values.{part_of, signed, signed_part, parts_of, collected_by, kept, kept_term, lin_by, terms_of, lin_of}
-use Rattle.acc_meaning.specs.Values.{compared}
-use Rattle.acc_meaning.specs.Sizes.{size_mark, term_sizes, terms_sizes, sum_sizes}
+use Rattle.acc_clauses.specs.Scopes.{variable_of}
+use Rattle.acc_clauses.specs.Values.{part_of, signed, signed_part, parts_of, collected_by, kept, kept_term, lin_by, terms_of, lin_of}
+use Rattle.acc_clauses.specs.Values.{compared}
+use Rattle.acc_clauses.specs.Sizes.{size_mark, term_sizes, terms_sizes, sum_sizes}
 use Rattle.acc_print.specs.Names.{name_at}
 use Rattle.acc_readback.specs.Printable.{IsName, IsVariable, AreCollected, IsTermSaid, IsLinSaid}
 use Rattle.acc_readback.proofs.OnlyEnds.{AreEnds, IsEnd}

@@ -12,7 +12,7 @@ use Rattle.acc_syntax.specs.declared.trees.ClauseTree.{ClauseTree}
 use Rattle.acc_syntax.specs.Spelling.{just, name, names, further, form_rel, form_rels, binder, premises, clause, clause_statement}
 use Rattle.acc_names.specs.Names.{defines_again, listed_or_none}
 use Rattle.acc_names.specs.Faults.{form_rel_fault, premises_fault, clause_fault}
-use Rattle.acc_meaning.specs.Forms.{rel_of, all_form_rels, clause_of}
+use Rattle.acc_clauses.specs.Forms.{rel_of, all_form_rels, clause_of}
 use Rattle.acc_print.specs.Lists.{spaced, listed}
 use Rattle.acc_print.specs.Clauses.{rel_text, binder_text, guards_text, clause_text, clause_line}
 use Rattle.acc_readback.specs.Printable.{IsClauseSaid}

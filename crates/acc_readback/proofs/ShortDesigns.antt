@@ -19,8 +19,8 @@ use Rattle.acc_syntax.specs.Spelling.{just, name, number, clause_statement, tabl
 use Rattle.acc_names.specs.Scopes.{points_in}
 use Rattle.acc_names.specs.Faults.{clause_fault, tables_faults, types_faults, entry_fault, hint_fault, outside as known_outside}
 use Rattle.acc_names.specs.Faults.{statement_faults}
-use Rattle.acc_meaning.specs.Scopes.{fitted}
-use Rattle.acc_meaning.specs.Forms.{clause_of}
+use Rattle.acc_clauses.specs.Scopes.{fitted}
+use Rattle.acc_clauses.specs.Forms.{clause_of}
 use Rattle.acc_meaning.specs.Types.{type_scope, point_of, type_of}
 use Rattle.acc_meaning.specs.Designs.{table_of, outside, entry_of, hint_of, design_of}
 use Rattle.acc_parse.specs.Texts.{IsDesignText}

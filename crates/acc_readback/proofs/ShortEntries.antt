@@ -18,8 +18,8 @@ use Rattle.acc_syntax.specs.declared.trees.HintTree.{HintTree}
 use Rattle.acc_syntax.specs.declared.trees.DesignTree.{DesignTree}
 use Rattle.acc_syntax.specs.Spelling.{just, variable, further, sum, side_sign, point_name as point_words, pair, pairs, entry, hint}
 use Rattle.acc_names.specs.Faults.{variable_fault, sum_fault, point_name_fault, locals_at, pair_fault, pairs_fault, entry_fault, hint_fault}
-use Rattle.acc_meaning.specs.Scopes.{variable_of}
-use Rattle.acc_meaning.specs.Values.{lin_of}
+use Rattle.acc_clauses.specs.Scopes.{variable_of}
+use Rattle.acc_clauses.specs.Values.{lin_of}
 use Rattle.acc_meaning.specs.Designs.{at_of, side_of, pair_of, all_pairs, entry_of, hint_of, design_of}
 use Rattle.acc_print.specs.Lists.{spaced, listed}
 use Rattle.acc_print.specs.Names.{name_at}

@@ -21,8 +21,8 @@ use Rattle.acc_names.specs.Faults.{operand_fault, form_term_fault, form_fault, f
 use Rattle.acc_terms.specs.declared.parts.Part.{Part}
 use Rattle.acc_terms.specs.Parts.{constant_of}
 use Rattle.acc_terms.specs.Collected.{collected}
-use Rattle.acc_meaning.specs.Values.{compared, collected_by, is_equation}
-use Rattle.acc_meaning.specs.Forms.{atom_of, form_part, signed_form_part, form_parts, rel_of, form_by}
+use Rattle.acc_clauses.specs.Values.{compared, collected_by, is_equation}
+use Rattle.acc_clauses.specs.Forms.{atom_of, form_part, signed_form_part, form_parts, rel_of, form_by}
 use Rattle.acc_print.specs.Values.{comparison}
 use Rattle.acc_print.specs.Clauses.{atom_text, unknown_text, form_text, rel_text}
 use Rattle.acc_readback.proofs.SaidParts.{all_parts, none_false}

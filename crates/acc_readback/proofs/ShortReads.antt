@@ -16,9 +16,9 @@ use Rattle.acc_syntax.specs.declared.trees.ActionTree.{ActionTree}
 use Rattle.acc_syntax.specs.declared.trees.ActionTree.TheVariants as action
 use Rattle.acc_syntax.specs.Spelling.{just, number, variable, sum, place, cell, values, read_statement, action_statement}
 use Rattle.acc_names.specs.Faults.{variable_fault, sum_fault, values_fault, place_fault, cell_fault, read_fault, action_fault}
-use Rattle.acc_meaning.specs.Scopes.{variable_of, table_in, column_in}
-use Rattle.acc_meaning.specs.Values.{kept, lin_of, values_of}
-use Rattle.acc_meaning.specs.Rows.{key_in}
+use Rattle.acc_clauses.specs.Scopes.{variable_of, table_in, column_in}
+use Rattle.acc_clauses.specs.Values.{kept, lin_of, values_of}
+use Rattle.acc_clauses.specs.Rows.{key_in}
 use Rattle.acc_meaning.specs.Steps.{read_of, action_of}
 use Rattle.acc_print.specs.Lists.{spaced, listed}
 use Rattle.acc_print.specs.Names.{name_at}

@@ -15,7 +15,7 @@ use Rattle.acc_terms.specs.Sums.{with_term, with_part}
 use Rattle.acc_terms.proofs.Totals.{total-append, one_part}
 use Rattle.acc_syntax.specs.declared.trees.Relation.{Relation}
 use Rattle.acc_syntax.specs.declared.trees.Relation.TheVariants.{AtMost, AtLeast, Equal}
-use Rattle.acc_meaning.specs.Values.{signed, compared}
+use Rattle.acc_clauses.specs.Values.{signed, compared}
 use Rattle.acc_print.specs.Sums.{sign, factor, term, terms, constant_alone, constant_behind, sum_text}
 use Rattle.acc_readback.proofs.ShortNumbers.{digit_count, digit_count_none, number_size, digit_count_some, digit_count_total, decimal_short}
 

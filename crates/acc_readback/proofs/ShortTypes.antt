@@ -18,8 +18,8 @@ use Rattle.acc_syntax.specs.Spelling.{just, name, names, clause_statement, names
 use Rattle.acc_names.specs.Names.{stands_in, listed, listed_or_none}
 use Rattle.acc_names.specs.Scopes.{locals_of, points_in, point_names}
 use Rattle.acc_names.specs.Faults.{clause_fault, returns_faults, locals_faults, head_faults, point_faults, points_faults, type_faults}
-use Rattle.acc_meaning.specs.Scopes.{fitted, number_of}
-use Rattle.acc_meaning.specs.Forms.{clause_of}
+use Rattle.acc_clauses.specs.Scopes.{fitted, number_of}
+use Rattle.acc_clauses.specs.Forms.{clause_of}
 use Rattle.acc_meaning.specs.Types.{point_of, returned_of, type_of}
 use Rattle.acc_meaning.specs.Designs.{table_of}
 use Rattle.acc_print.specs.Lists.{spaced}

@@ -30,10 +30,10 @@ use Rattle.acc_names.specs.Faults.{term_fault, sum_fault, sums_fault, place_faul
 use Rattle.acc_terms.specs.declared.parts.Part.{Part}
 use Rattle.acc_terms.specs.Parts.{constant_of}
 use Rattle.acc_terms.specs.Collected.{collected}
-use Rattle.acc_meaning.specs.Scopes.{table_in, column_in}
-use Rattle.acc_meaning.specs.Values.{part_of, signed_part, parts_of, collected_by, kept, kept_term, lin_by, lin_of, lins_of, compared}
-use Rattle.acc_meaning.specs.Values.{is_equation, lin_rel_of, guard_of}
-use Rattle.acc_meaning.specs.Rows.{key_in}
+use Rattle.acc_clauses.specs.Scopes.{table_in, column_in}
+use Rattle.acc_clauses.specs.Values.{part_of, signed_part, parts_of, collected_by, kept, kept_term, lin_by, lin_of, lins_of, compared}
+use Rattle.acc_clauses.specs.Values.{is_equation, lin_rel_of, guard_of}
+use Rattle.acc_clauses.specs.Rows.{key_in}
 use Rattle.acc_print.specs.Lists.{listed}
 use Rattle.acc_print.specs.Names.{name_at, table_name, column_name}
 use Rattle.acc_print.specs.Values.{lin_text, row_text, cell_text, comparison, lin_rel_text}

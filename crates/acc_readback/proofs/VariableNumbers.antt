@@ -9,7 +9,7 @@ use Rattle.acc_grammar.specs.Readers.{AllIn}
 use Rattle.acc_syntax.specs.declared.trees.Variable.TheVariants.{Named, Oneself}
 use Rattle.acc_names.specs.Names.{stands_in}
 use Rattle.acc_names.specs.Places.{place_of}
-use Rattle.acc_meaning.specs.Scopes.{Variables, fitted, first_own, named, variable_of}
+use Rattle.acc_clauses.specs.Scopes.{Variables, fitted, first_own, named, variable_of}
 use Rattle.acc_print.specs.Names.{name_at}
 use Rattle.acc_readback.specs.Trees.{variable_named, variable_tree}
 use Rattle.acc_readback.specs.Printable.{IsName, IsVariable, AreNew}

@@ -13,7 +13,7 @@ use Rattle.acc_base.specs.Plays.{Play}
 use Rattle.acc_lift.proofs.Transactions.{got_within}
 use Rattle.acc_schedule.specs.Schedules.{TellsBegun, TellsScheduleFrom}
 use Rattle.acc_schedule.proofs.OneSchedule.{one_schedule}
-use Rattle.acc_settled.specs.Openings.{opening_at}
+use Rattle.acc_mentions.specs.Openings.{opening_at}
 use Rattle.acc_recover.specs.Recoveries.{IsRecovery}
 use Rattle.acc_recover.proofs.Single.{one_recovery}
 use Rattle.acc_journalled.specs.Tellings.{Telling}

@@ -21,8 +21,8 @@ use Rattle.acc_machine.specs.Kept.{IsKept}
 use Rattle.acc_engine.specs.Keeping.{Journalled, BeginsFrom}
 use Rattle.acc_schedule.specs.Schedules.{TellsScheduleFrom}
 use Rattle.acc_schedule.proofs.Closing.{idle_between}
-use Rattle.acc_settled.specs.Openings.{opening_at, IsFresh}
-use Rattle.acc_settled.specs.Runs.{GoesOn, IsAckedButOne}
+use Rattle.acc_mentions.specs.Openings.{opening_at, IsFresh}
+use Rattle.acc_mentions.specs.Runs.{GoesOn, IsAckedButOne}
 use Rattle.acc_settled.specs.Wholes.{IsAfterSchedule, IsFrontOfSchedule, TellsDurablePart}
 use Rattle.acc_running.specs.declared.answers.Said.{Said}
 use Rattle.acc_running.specs.Engines.{SaysAll, SaysFault, SaysRun, HandsOver}

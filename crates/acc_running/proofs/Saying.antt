@@ -8,7 +8,7 @@ use Rattle.acc_schedule.specs.Schedules.{TellsScheduleFrom}
 use Rattle.acc_settled.specs.declared.schedules.Scheduled.{Scheduled}
 use Rattle.acc_settled.specs.declared.schedules.Stopped.{Stopped}
 use Rattle.acc_settled.specs.declared.schedules.Stopped.TheVariants.{Disk, Memory}
-use Rattle.acc_settled.specs.Openings.{opening_at}
+use Rattle.acc_mentions.specs.Openings.{opening_at}
 use Rattle.acc_settled.specs.Schedules.{TellsStop, TellsPartOfSchedule}
 use Rattle.acc_recover.specs.declared.errors.RecoverError.{RecoverError}
 use Rattle.acc_recover.specs.declared.errors.RecoverError.TheVariants as recovery

@@ -10,7 +10,7 @@ use Rattle.acc_schedule.specs.Schedules.{TellsScheduleFrom}
 use Rattle.acc_settled.specs.declared.schedules.Scheduled.{Scheduled}
 use Rattle.acc_settled.specs.declared.schedules.Stopped.{Stopped}
 use Rattle.acc_settled.specs.declared.schedules.Stopped.TheVariants.{Disk, Memory}
-use Rattle.acc_settled.specs.Openings.{opening_at}
+use Rattle.acc_mentions.specs.Openings.{opening_at}
 use Rattle.acc_settled.specs.Stops.{AreNumbersOf, TellsSettled}
 use Rattle.acc_settled.specs.Wholes.{IsAfterSchedule, TellsDurablePart}
 use Rattle.acc_journalled.specs.declared.answers.Ending.{Ending}

@@ -4,8 +4,8 @@ ghost use Rattle.acc_wal.specs.Fronts.{CountsFront};
 ghost use Rattle.acc_machine.specs.Kept.{IsKept};
 ghost use Rattle.acc_engine.specs.Keeping.{BeginsFrom};
 ghost use Rattle.acc_script.specs.OrderLines.{IsPlace};
-ghost use Rattle.acc_settled.specs.Openings.{opening_at, IsFresh};
-ghost use Rattle.acc_settled.specs.Runs.{RunsOn, IsAckedButOne};
+ghost use Rattle.acc_mentions.specs.Openings.{opening_at, IsFresh};
+ghost use Rattle.acc_mentions.specs.Runs.{RunsOn, IsAckedButOne};
 ghost use Rattle.acc_settled.specs.Wholes.{IsFrontOfSchedule};
 ghost use Rattle.acc_running.specs.Engines.{ending_at, IsWithFault, SaysTold, SaysRun, HandsOver};
 

@@ -1,13 +1,5 @@
-pub mod Turned
-pub mod Acks
-pub mod Chains
-pub mod Settling
-pub mod Counts
-pub mod Marks
 pub mod Telling
 pub mod Lines
 pub mod BeginSizes
-pub mod Preceding
-pub mod Leading
 pub mod Remaining
 pub mod Fronts

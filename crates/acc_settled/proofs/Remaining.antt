@@ -14,9 +14,9 @@ use Rattle.acc_schedule.specs.Endings.{after_turn, TurnsEach, unfinished_numbers
 use Rattle.acc_schedule.specs.Passes.{Takes}
 use Rattle.acc_schedule.proofs.OneTurn.{locks_are_determined}
 use Rattle.acc_schedule.proofs.OnePlay.{Turned, turned, one_pass, Passed, Over, passed, one_mention, one_place}
-use Rattle.acc_settled.specs.Ways.{Precedes, PlayPrecedes, PrecedesEach, PlayPrecedesEach, IsAfterMention, IsAfterOrder}
-use Rattle.acc_settled.proofs.Preceding.{precedes_more, pass_precedes, ends_precede, play_precedes_more}
-use Rattle.acc_settled.proofs.Leading.{order_precedes, places_precede}
+use Rattle.acc_mentions.specs.Ways.{Precedes, PlayPrecedes, PrecedesEach, PlayPrecedesEach, IsAfterMention, IsAfterOrder}
+use Rattle.acc_mentions.proofs.Preceding.{precedes_more, pass_precedes, ends_precede, play_precedes_more}
+use Rattle.acc_mentions.proofs.Leading.{order_precedes, places_precede}
 
 module _ (d : Design) where
   -- ---- passes

@@ -11,13 +11,14 @@ use Rattle.acc_lift.proofs.Theorem.{lead_runs}
 use Rattle.acc_machine.specs.Kept.{IsKept}
 use Rattle.acc_engine.specs.Keeping.{Journalled}
 use Rattle.acc_engine.proofs.Tails.{between}
-use Rattle.acc_settled.specs.declared.errors.Stop.{Stop}
-use Rattle.acc_settled.specs.declared.errors.Stop.TheVariants.{Disk as DiskFails, Memory as NoMemory}
+use Rattle.acc_mentions.specs.declared.errors.Stop.{Stop}
+use Rattle.acc_mentions.specs.declared.errors.Stop.TheVariants.{Disk as DiskFails, Memory as NoMemory}
 use Rattle.acc_settled.specs.declared.schedules.Stopped.{Stopped}
 use Rattle.acc_settled.specs.declared.schedules.Stopped.TheVariants.{Disk, Memory}
 use Rattle.acc_settled.specs.Replies.{number_at, durable_line}
 use Rattle.acc_settled.specs.Schedules.{StopsSo, TellsStop}
-use Rattle.acc_settled.specs.Stops.{Stops, TellsSettled}
+use Rattle.acc_mentions.specs.Stops.{Stops}
+use Rattle.acc_settled.specs.Stops.{TellsSettled}
 
 -- the line of a place after the state that some events lead to, if they lead to one
 abbrev line_by : Option World → List (Option ℕ) → ℕ → List ℕ

@@ -9,9 +9,9 @@ use Rattle.acc_base.specs.Lines.{line}
 use Rattle.acc_base.specs.Plays.{Play}
 use Rattle.acc_engine.specs.Keeping.{Journalled}
 use Rattle.acc_schedule.specs.Schedules.{EndsWell, TellsBegun}
-use Rattle.acc_settled.specs.declared.boards.Board.{Board}
-use Rattle.acc_settled.specs.declared.errors.Stop.{Stop}
-use Rattle.acc_settled.specs.declared.errors.Stop.TheVariants.{Disk as DiskFails}
+use Rattle.acc_mentions.specs.declared.boards.Board.{Board}
+use Rattle.acc_mentions.specs.declared.errors.Stop.{Stop}
+use Rattle.acc_mentions.specs.declared.errors.Stop.TheVariants.{Disk as DiskFails}
 use Rattle.acc_settled.specs.declared.schedules.Stopped.{Stopped}
 use Rattle.acc_settled.specs.declared.schedules.Stopped.TheVariants.{Disk, Memory}
 use Rattle.acc_settled.specs.Replies.{line_after}

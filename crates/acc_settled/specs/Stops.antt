@@ -1,26 +1,10 @@
--- Why a schedule stops, and what is told then.
-use Rattle.std.specs.Prelude.{◌≡◌, ℕ, List, true, false, length, take, Option, Some, None, slice_get}
+-- What is told where a schedule stops.
+use Rattle.std.specs.Prelude.{◌≡◌, ℕ, List, false, length, take, Option, Some, None, slice_get}
 use Rattle.std.specs.List.{flat_map, range_with_len}
-use Rattle.acc_io.specs.Causes.{Rose}
 use Rattle.acc_base.specs.Lines.{settled_line}
 use Rattle.acc_base.specs.Machine.{World, world}
 use Rattle.acc_base.specs.Plays.{Play}
 use Rattle.acc_engine.specs.Keeping.{Journalled, is_begun}
-use Rattle.acc_engine.specs.declared.errors.EngineError.{EngineError}
-use Rattle.acc_engine.specs.declared.errors.EngineError.TheVariants.{Disk as DiskFails, Failed as HasFailed, Memory as NoMemory}
-use Rattle.acc_settled.specs.declared.errors.Stop.{Stop}
-use Rattle.acc_settled.specs.declared.errors.Stop.TheVariants.{Disk, Memory}
-
--- an engine has failed where its disk did
-abbrev pub stop_of : EngineError → Stop
-stop_of DiskFails = Disk
-stop_of HasFailed = Disk
-stop_of NoMemory = Memory
-
--- why a call of an engine that hadn't failed isn't done: its disk's faults rose, and it has failed; or memory ran out
-abbrev pub Stops : {D : Type 0} → (D → ℕ) → Stop → Journalled D → Journalled D → Type 0
-Stops count Disk old new = (new.failed ≡ true) × Rose (count old.disk) (count new.disk)
-Stops count Memory old new = new.failed ≡ false
 
 -- a line each place: its reply after the durable events, or that it is unsettled
 pub record TellsSettled {D : Type 0} (e : Journalled D) (p : Play) (text : List ℕ) : Type 0 where

@@ -9,18 +9,15 @@ ghost use Rattle.acc_script.specs.OrderLines.{IsPlace};
 ghost use Rattle.acc_schedule.specs.LockRules.{with_locks};
 ghost use Rattle.acc_schedule.specs.Endings.{TurnsEach, unfinished_numbers, EndsAll, EndsPlace, EndsPlaces};
 ghost use Rattle.acc_schedule.specs.Passes.{Takes, Moves};
-ghost use Rattle.acc_settled.specs.Boards.{play_of, IsBoardOf, IsUnbegun, KeepsBegun};
-ghost use Rattle.acc_settled.specs.Runs.{RunsOn, IsReadyAgain};
-ghost use Rattle.acc_settled.specs.Stops.{Stops};
-ghost use Rattle.acc_settled.specs.Ways.{PrecedesEach, PlayPrecedesEach};
+ghost use Rattle.acc_mentions.specs.Boards.{play_of, IsBoardOf, IsUnbegun, KeepsBegun};
+ghost use Rattle.acc_mentions.specs.Runs.{RunsOn, IsReadyAgain};
+ghost use Rattle.acc_mentions.specs.Stops.{Stops};
+ghost use Rattle.acc_mentions.specs.Ways.{PrecedesEach, PlayPrecedesEach};
 
-use crate::boards::Board;
-use crate::errors::Stop;
-use crate::mentions::number;
-use crate::turns::take;
 use acc_base::machines::Frame;
 use acc_disk::Disk;
 use acc_engine::Engine;
+use acc_mentions::{Board, Stop, number, take};
 use acc_store::Store;
 use std::alloc::{AllocError, Global};
 

@@ -4,7 +4,7 @@ ghost use Rattle.acc_disk.specs.Crashes.{IsCalm};
 ghost use Rattle.acc_script.specs.BeginSizes.{begins_size};
 ghost use Rattle.acc_engine.specs.Keeping.{CallsFit};
 ghost use Rattle.acc_engine.specs.Ready.{IsReady};
-ghost use Rattle.acc_settled.specs.Openings.{IsFresh};
+ghost use Rattle.acc_mentions.specs.Openings.{IsFresh};
 
 use acc_base::machines::Call;
 use acc_base::sequences::Seq;

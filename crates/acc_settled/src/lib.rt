@@ -2,14 +2,10 @@
 //! the next turn; and what is told of it.
 #![tactic(auto)]
 
-mod boards;
 mod endings;
 mod engines;
-mod errors;
-mod mentions;
 mod replies;
 mod schedules;
-mod turns;
 
 pub use engines::over_journal;
 pub use schedules::{Scheduled, Stopped, schedule};

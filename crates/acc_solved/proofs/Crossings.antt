@@ -28,7 +28,8 @@ use Rattle.acc_solved.proofs.Bounds.{worth_at, MetAt, ZeroAt, OnSide, Tight, Any
 use Rattle.acc_solved.proofs.Mixes.{Among, CrossedTo, crossing_gives, gone_at, lacks_both, form_mix}
 use Rattle.acc_solved.proofs.Admits.{MetBy, Met, Admits, admitted_holds, Adds, adds_steps}
 use Rattle.acc_solved.proofs.Asides.{Out, MeetsAt, all_stay}
-use Rattle.acc_solved.proofs.Stages.{steps_append, nothing_left, Apart}
+use Rattle.acc_systems.proofs.Chains.{steps_append}
+use Rattle.acc_solved.proofs.Stages.{nothing_left, Apart}
 
 -- ---- relations that are parted by the sign of a coefficient
 

@@ -7,6 +7,7 @@ use Rattle.std.proofs.lemmas.List.Elements.{All-nil, All-head, All-tail, All-con
 use Rattle.acc_systems.specs.declared.rows.Row.{Row}
 use Rattle.acc_systems.specs.declared.systems.Reduced.{Reduced}
 use Rattle.acc_systems.specs.Answers.{Computation, chain, steps}
+use Rattle.acc_systems.proofs.Chains.{steps_append}
 use Rattle.acc_systems.specs.Made.{Rises, Ordered, IsProper}
 use Rattle.acc_systems.specs.Sparse.{Sparse, at, no_numbers}
 use Rattle.acc_systems.specs.Systems.{is_constant, taken, replaced, set_aside, counted}
@@ -18,18 +19,6 @@ use Rattle.acc_solved.proofs.Mixes.{Among}
 use Rattle.acc_solved.proofs.Admits.{Met, Adds}
 use Rattle.acc_solved.proofs.Asides.{Out, out_front, MeetsAt, Fit, TakenFacts, TakenAll, taken_facts, taken_all, at_once, last_or, So}
 use Rattle.acc_solved.proofs.Asides.{all_replaced, placed_meets}
-
--- ---- steps backwards
-
-pub steps_append : {S X : Type 0} (step : S → X → Computation S) (xs ys : List X) (s : S)
-    → steps step s (xs ++ ys) ≡ chain (steps step s xs) (λ t. steps step t ys)
-steps_append step [] ys s = refl
-steps_append {S = S} step (x ∷ xs) ys s = by (λ t. steps_append step xs ys t) (step s x)
-  where
-    by : ((t : S) → steps step t (xs ++ ys) ≡ chain (steps step t xs) (λ t. steps step t ys)) → (o : Computation S)
-        → chain o (λ t. steps step t (xs ++ ys)) ≡ chain (chain o (λ t. steps step t xs)) (λ t. steps step t ys)
-    by again (Ok t) = again t
-    by again (Err e) = refl
 
 -- a constant, and no unknown
 pub nothing_left : (n : ℕ) (r : Row) → Ordered r → Among n r → is_constant r ≡ false → ((w : ℕ) → w < n → coef w r.terms ≡ pos 0) → ⊥

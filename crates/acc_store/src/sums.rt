@@ -1,4 +1,4 @@
-//! Sums over the rows of an ordered map below a key: how many there are, what a column adds up to, the least and the greatest part of a key.
+//! Sums over the rows of an ordered map below a key: how many there are, what a column adds up to, the least and greatest part of a key.
 ghost use Rattle.std.specs.Prelude.{◌≡◌, ◌≤◌, ◌<◌, ◌^◌, length, map, pos};
 ghost use Rattle.std.specs.Prelude.{◌+◌, ◌+ℤ◌, unsigned_abs};
 ghost use Rattle.std.specs.List.{sum_by};

@@ -12,20 +12,20 @@ use Rattle.acc_systems.specs.declared.systems.Reduced.{Reduced}
 use Rattle.acc_systems.specs.Answers.{Computation, chain, steps, Leaves}
 use Rattle.acc_systems.specs.Rows.{cleared}
 use Rattle.acc_systems.specs.Systems.{MOST, is_false, repeats, is_constant, admitted, is_equation_with, taken, replaced, set_aside}
-use Rattle.acc_systems.specs.Repetitions.{Differs, AreApart, TellsOf, StillTells, StillTellsOf}
+use Rattle.acc_systems.specs.Repetitions.{Differs, AreApart, TellsOf, StillTellsOf, GrowTogether}
 
 -- ---- what holds of a value that is computed
 
-any_ok : {A : Type 0} (o : Computation A) → IfOk o (λ _. Unit {0})
+pub any_ok : {A : Type 0} (o : Computation A) → IfOk o (λ _. Unit {0})
 any_ok (Ok x) = tt
 any_ok (Err e) = tt
 
-ok_chain : {A B : Type 0} (o : Computation A) (next : A → Computation B) (P : A → Type 0) (Q : B → Type 0) → IfOk o P
+pub ok_chain : {A B : Type 0} (o : Computation A) (next : A → Computation B) (P : A → Type 0) (Q : B → Type 0) → IfOk o P
     → ((x : A) → P x → IfOk (next x) Q) → IfOk (chain o next) Q
 ok_chain (Ok x) next P Q h k = k x h
 ok_chain (Err e) next P Q h k = tt
 
-ok_steps : {S X : Type 0} (step : S → X → Computation S) (P : S → Type 0) → ((s : S) (x : X) → P s → IfOk (step s x) P)
+pub ok_steps : {S X : Type 0} (step : S → X → Computation S) (P : S → Type 0) → ((s : S) (x : X) → P s → IfOk (step s x) P)
     → (xs : List X) (s : S) → P s → IfOk (steps step s xs) P
 ok_steps step P h [] s p = p
 ok_steps step P h (x ∷ xs) s p = ok_chain (step s x) (λ t. steps step t xs) P P (h s x p) (λ t q. ok_steps step P h xs t q)
@@ -117,6 +117,10 @@ any_skip : (p : Row → Bool) (xs : List Row) (x : Row) → p x ≡ false → li
 any_skip p [] x e = ap (λ b. b || false) e
 any_skip p (y ∷ ys) x e = ap (λ b. p y || b) (any_skip p ys x e)
 
+or_false : (b : Bool) → (b || false) ≡ b
+or_false true = refl
+or_false false = refl
+
 any_both : (p : Row → Bool) (xs ys : List Row) (x y : Row) → list_any p xs ≡ list_any p ys → p x ≡ p y
     → list_any p (xs ++ x ∷ []) ≡ list_any p (ys ++ y ∷ [])
 any_both p xs ys x y e f =
@@ -167,15 +171,33 @@ admitted_grows rows more r same =
     subst (λ o. IfOk o (Grows rows r)) same
     (grows_by rows r (is_constant r) (is_false r) (list_any (repeats r) rows) (nat_le MOST (length rows)))
 
-pub told_stayed : (some rows more : List Row) → more ≡ rows → StillTells some rows some more
-told_stayed some rows more same = λ other t. t ∙ ap (list_any (repeats other)) (sym same)
+pub told_stayed : (some rows more : List Row) → more ≡ rows → GrowTogether some rows some more
+told_stayed some rows more same = λ other. (
+  false,
+  sym (or_false (list_any (repeats other) some)),
+  ap (list_any (repeats other)) same
+      ∙ sym (or_false (list_any (repeats other) rows)),
+)
 
 -- one that was made is told of by its form
 pub told_grown : (some rows some' more : List Row) (r : Row) → some' ≡ some ++ (record r { by = [] }) ∷ [] → more ≡ rows ++ r ∷ []
-    → StillTells some rows some' more
-told_grown some rows some' more r made same =
-    λ other t. ap (list_any (repeats other)) made
-    ∙ (any_both (repeats other) some rows (record r { by = [] }) r t refl ∙ ap (list_any (repeats other)) (sym same))
+    → GrowTogether some rows some' more
+told_grown some rows some' more r made same = λ other. (
+  repeats other r || false,
+  ap (list_any (repeats other)) made
+      ∙ list_any-append (repeats other) some ((record r { by = [] }) ∷ []),
+  ap (list_any (repeats other)) same ∙ list_any-append (repeats other) rows (r ∷ []),
+)
+
+-- where the same is added to both, a relation that was told of still is
+pub together_told : (some rows some' rows' : List Row) (r : Row) → GrowTogether some rows some' rows' → StillTellsOf some rows some' rows' r
+together_told some rows some' rows' r grown other differs told =
+    let both = grown other in
+    both.1 ∙ (ap (λ b. b || both.0) told ∙ sym both.2)
+
+pub on_ok : {B : Type 0} (r : Result B Stop) (P Q : Type 0) → OnOk r P → (P → Q) → OnOk r Q
+on_ok (Ok x) P Q h k = k h
+on_ok (Err e) P Q h k = tt
 
 -- ---- over all relations
 

@@ -1,5 +1,5 @@
 -- Computations one after the other, where the first is known.
-use Rattle.std.proofs.Common.{◌≡◌, ℕ, ◌+◌, ◌<◌, ◌≤◌, List, ◌∷◌, length, get_or, drop, drop-cons, add-one, Result, Ok, Err, ap, sym, ◌∙◌}
+use Rattle.std.proofs.Common.{◌≡◌, ℕ, ◌+◌, ◌<◌, ◌≤◌, List, [], ◌∷◌, ◌++◌, refl, length, get_or, drop, drop-cons, add-one, Result, Ok, Err, ap, sym, ◌∙◌}
 use Rattle.std.proofs.Common.{subst}
 use Rattle.std.specs.Prelude.{IsErrAnd}
 use Rattle.std.proofs.lemmas.List.{drop_all}
@@ -35,6 +35,17 @@ leaves_handed r e x outcome h stopped =
     let p = err_from_is_err_and r h in
     let same : r ≡ Err e = p.1 ∙ ap Err p.2 in
     subst (λ y. Leaves y x outcome) (sym same) stopped
+
+-- steps, and more of them
+pub steps_append : {S X : Type 0} (step : S → X → Computation S) (xs ys : List X) (s : S)
+    → steps step s (xs ++ ys) ≡ chain (steps step s xs) (λ t. steps step t ys)
+steps_append step [] ys s = refl
+steps_append {S = S} step (x ∷ xs) ys s = by (λ t. steps_append step xs ys t) (step s x)
+  where
+    by : ((t : S) → steps step t (xs ++ ys) ≡ chain (steps step t xs) (λ t. steps step t ys)) → (o : Computation S)
+        → chain o (λ t. steps step t (xs ++ ys)) ≡ chain (chain o (λ t. steps step t xs)) (λ t. steps step t ys)
+    by again (Ok t) = again t
+    by again (Err e) = refl
 
 -- ---- a step of a loop
 

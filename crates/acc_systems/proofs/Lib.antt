@@ -3,6 +3,7 @@ pub mod SparseSteps
 pub mod DivisorSteps
 pub mod SystemSteps
 pub mod Apart
+pub mod Behind
 pub mod Worths
 pub mod Kept
 pub mod Divisions

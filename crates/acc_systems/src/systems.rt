@@ -1,9 +1,9 @@
 //! Systems of relations: what is dropped, and what ends an elimination.
-ghost use Rattle.std.specs.Prelude.{◌≡◌, ◌<◌, [], length, position, IfSome, IfOk, OnOk};
+ghost use Rattle.std.specs.Prelude.{◌≡◌, ◌<◌, [], length, position, Ok, IfSome, IfOk, OnOk, MatchResult};
 ghost use Rattle.std.specs.List.{list_any};
-ghost use Rattle.acc_systems.specs.Answers.{Answers, Leaves, steps};
+ghost use Rattle.acc_systems.specs.Answers.{Answers, Leaves, StoppedBy, steps};
 ghost use Rattle.acc_systems.specs.Systems.{is_false, is_equation_with, repeats, is_constant, admitted, Takes, replaced, set_aside, whole};
-ghost use Rattle.acc_systems.specs.Repetitions.{AreApart, TellsOf, StillTells, StillTellsOf};
+ghost use Rattle.acc_systems.specs.Repetitions.{AreApart, TellsOf, StillTellsOf, GrowTogether, StillBehind, TellBehind};
 ghost use Rattle.acc_systems.specs.Systems.{counted, IsParted, crossed_once, crossed_with, or_else, crossed, unbounded, eliminated};
 
 use crate::rows::{Row, cleared, crossing};
@@ -15,7 +15,7 @@ use std::alloc::{AllocError, Global};
 pub const MOST: usize = 4096;
 
 /// Whether a relation without unknowns is false.
-fn is_false(row: &Row) -> bool
+pub fn is_false(row: &Row) -> bool
     ensures { result ≡ is_false row.now }
 {
     if row.equal {
@@ -33,14 +33,14 @@ fn repeats(row: &Row, kept: &Row) -> bool
 }
 
 /// Whether a relation has no unknown.
-fn is_constant(row: &Row) -> bool
+pub fn is_constant(row: &Row) -> bool
     ensures { result ≡ is_constant row.now }
 {
     row.terms.is_empty()
 }
 
 /// Whether a relation repeats one of these.
-fn is_repetition(rows: &[Row], row: &Row) -> bool
+pub fn is_repetition(rows: &[Row], row: &Row) -> bool
     ensures { result ≡ list_any (repeats row.now) rows.now }
 {
     for kept in rows {
@@ -89,7 +89,7 @@ fn equation_place(rows: &[Row], unknown: u32) -> Option<usize>
 }
 
 /// The first equation that has the unknown is taken out of the relations; where there is none, they stay.
-fn take_equation(rows: &mut Vec<Row>, unknown: u32) -> Option<Row>
+pub fn take_equation(rows: &mut Vec<Row>, unknown: u32) -> Option<Row>
     ensures { Takes unknown rows.old.items rows.new.items result }
 {
     match equation_place(rows.as_slice(), unknown) {
@@ -99,7 +99,7 @@ fn take_equation(rows: &mut Vec<Row>, unknown: u32) -> Option<Row>
 }
 
 /// A relation by which repetitions of it are told: itself, without its multipliers.
-fn form_of(alloc: Global, row: &Row) -> Result<Row, AllocError>
+pub fn form_of(alloc: Global, row: &Row) -> Result<Row, AllocError>
     ensures { IfOk result (λ r. r ≡ record row.now { by = [] }) }
 {
     Ok(Row {
@@ -113,7 +113,7 @@ fn form_of(alloc: Global, row: &Row) -> Result<Row, AllocError>
 /// One more relation that has just been made.
 fn admit_made(alloc: Global, made: &mut Vec<Row>, kept: &mut Vec<Row>, row: Row) -> Result<(), Stop>
     ensures value { Leaves result kept.new.items (admitted kept.old.items row) }
-    ensures told { OnOk result (StillTells made.old.items kept.old.items made.new.items kept.new.items) }
+    ensures told { OnOk result (GrowTogether made.old.items kept.old.items made.new.items kept.new.items) }
 {
     let form = form_of(alloc, &row)?;
     let before = kept.len();
@@ -136,6 +136,7 @@ fn replace(
     requires { TellsOf made.old.items kept.old.items row }
     ensures value { Leaves result kept.new.items (replaced unknown equation.now kept.old.items row) }
     ensures told { OnOk result (StillTellsOf made.old.items kept.old.items made.new.items kept.new.items row) }
+    ensures behind { OnOk result (StillBehind unknown row made.old.items kept.old.items made.new.items kept.new.items) }
 {
     if !row.has(unknown) {
         let is_repeated = is_repetition(made.as_slice(), &row);
@@ -145,16 +146,25 @@ fn replace(
     admit_made(alloc, made, kept, row)
 }
 
+/// A system without an unknown, and those of its relations that were made for that, without their multipliers.
+#[derive(Drop)]
+pub struct Replaced {
+    pub rows: Seq<Row>,
+    pub made: Seq<Row>,
+}
+
 /// The relations one after the other, each without the unknown of the equation. The cost is that of comparing each with those that are
 /// made, and each of these with each.
-fn replace_all(
+pub fn replace_all(
     alloc: Global,
     unknown: u32,
     equation: &Row,
     rows: Vec<Row>,
-) -> Result<Seq<Row>, Stop>
+) -> Result<Replaced, Stop>
     requires { AreApart rows.items }
-    ensures { Answers result (steps (replaced unknown equation.now) [] rows.items) }
+    ensures value { MatchResult result (λ s. steps (replaced unknown equation.now) [] rows.items ≡ Ok s.rows)
+        (λ e. StoppedBy e (steps (replaced unknown equation.now) [] rows.items)) }
+    ensures told { IfOk result (TellBehind unknown rows.items) }
 {
     let mut kept = Vec::new(alloc);
     let mut made = Vec::new(alloc);
@@ -163,7 +173,10 @@ fn replace_all(
     while let Some(row) = rest.pop() {
         replace(alloc, unknown, equation, &mut made, &mut kept, row)?;
     }
-    Ok(Seq::from_vec(kept))
+    Ok(Replaced {
+        rows: Seq::from_vec(kept),
+        made: Seq::from_vec(made),
+    })
 }
 
 /// A system, the equations set aside, each for its unknown, and the unknowns that are left.
@@ -195,7 +208,7 @@ fn set_aside(alloc: Global, state: Reduced, unknown: u32) -> Result<Reduced, Sto
             })
         }
         Some(equation) => {
-            let rows = replace_all(alloc, unknown, &equation, rows)?;
+            let Replaced { rows, made: _ } = replace_all(alloc, unknown, &equation, rows)?;
             aside.push((unknown, equation))?;
             Ok(Reduced { rows, aside, left })
         }
@@ -318,7 +331,7 @@ fn cross_out(alloc: Global, state: Bounded, unknown: u32) -> Result<Bounded, Sto
 }
 
 /// The system without the unknowns, one after the other.
-fn cross_each(alloc: Global, unknowns: &[u32], rows: Seq<Row>) -> Result<Bounded, Stop>
+pub fn cross_each(alloc: Global, unknowns: &[u32], rows: Seq<Row>) -> Result<Bounded, Stop>
     ensures { Answers result (steps crossed (unbounded rows) unknowns.now) }
 {
     let mut state = Bounded {
@@ -332,7 +345,7 @@ fn cross_each(alloc: Global, unknowns: &[u32], rows: Seq<Row>) -> Result<Bounded
 }
 
 /// The relations one after the other, as a system.
-fn admit_all(alloc: Global, rows: Vec<Row>) -> Result<Seq<Row>, Stop>
+pub fn admit_all(alloc: Global, rows: Vec<Row>) -> Result<Seq<Row>, Stop>
     ensures { Answers result (steps admitted [] rows.items) }
 {
     let mut kept = Vec::new(alloc);

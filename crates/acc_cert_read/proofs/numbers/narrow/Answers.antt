@@ -1,6 +1,6 @@
 use Rattle.std.proofs.Common.{sym}
 use Rattle.std.specs.Int.{w64}
-use Rattle.acc_cert_read.specs.Spellings.{is_narrow}
+use Rattle.acc_cert_bounds.specs.InBounds.{is_narrow}
 use Rattle.acc_cert_read.proofs.Numerals.{no_number, narrow_holds}
 use Rattle.acc_cert_read.proofs.numbers.narrow.Goals as goal
 

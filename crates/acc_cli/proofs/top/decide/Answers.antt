@@ -3,13 +3,13 @@ use Rattle.std.proofs.Common.{string_bytes, sym}
 use Rattle.std.proofs.Common.{ap, subst, Vec, Global}
 use Rattle.std.specs.Prelude.{All}
 use Rattle.std.proofs.lemmas.List.{take-map, drop-map}
-use Rattle.acc_commands.specs.Words.{command_of, file_count, files_of}
-use Rattle.acc_commands.specs.Files.{AreFiles}
+use Rattle.acc_inputs.specs.Words.{command_of, file_count, files_of}
+use Rattle.acc_inputs.specs.Files.{AreFiles}
 use Rattle.acc_commands.specs.Means.{LeavesOfFile}
 use Rattle.std.proofs.lemmas.Option.{same_Some}
 use Rattle.std.proofs.lemmas.Result.{IfOk-weaker}
-use Rattle.acc_commands.specs.declared.words.Command.{Command}
-use Rattle.acc_commands.specs.declared.words.Command.TheVariants.{Sched}
+use Rattle.acc_inputs.specs.declared.words.Command.{Command}
+use Rattle.acc_inputs.specs.declared.words.Command.TheVariants.{Sched}
 use Rattle.acc_commands.specs.RunFiles.{LeavesFronts, LeavesSettled}
 use Rattle.acc_commands.proofs.Leaving.{leaves_weaker, told_weaker, told_nothing}
 use Rattle.acc_cli.specs.Replies.{Reply}

@@ -1,5 +1,5 @@
 use Rattle.std.proofs.Common.{inr, refl, subst}
-use Rattle.acc_commands.specs.ReadDesigns.{IsRead, Reads}
+use Rattle.acc_inputs.specs.ReadDesigns.{IsRead, Reads}
 use Rattle.acc_readback.proofs.ReadBack.{text_reads_back}
 use Rattle.acc_readback.proofs.ShortDesigns.{printed_is_short}
 use Rattle.acc_commands.proofs.commands.print_file.Goals as goal

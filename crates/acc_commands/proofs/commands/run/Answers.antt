@@ -1,6 +1,6 @@
 use Rattle.std.proofs.Common.{◌≡◌, ◌∙◌, ap, rules, map, sym, arith}
-use Rattle.acc_commands.specs.declared.words.Command.TheVariants.{Sched}
-use Rattle.acc_commands.specs.Words.{file_count}
+use Rattle.acc_inputs.specs.declared.words.Command.TheVariants.{Sched}
+use Rattle.acc_inputs.specs.Words.{file_count}
 use Rattle.acc_commands.specs.Means.{LeavesOfFile}
 use Rattle.acc_commands.proofs.Leaving.{leaves_nothing}
 use Rattle.acc_commands.proofs.Tables.{leaves_file}

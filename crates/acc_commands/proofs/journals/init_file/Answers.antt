@@ -5,7 +5,7 @@ use Rattle.acc_readback.proofs.ShortDesigns.{printed_is_short}
 use Rattle.acc_wal.specs.Creating.{LeavesNew}
 use Rattle.acc_wal.proofs.Moments.{weaker}
 use Rattle.acc_journalled.specs.Tellings.{telling_of}
-use Rattle.acc_commands.specs.ReadDesigns.{IsRead, Reads}
+use Rattle.acc_inputs.specs.ReadDesigns.{IsRead, Reads}
 use Rattle.acc_commands.specs.InitFiles.{InitLeaves}
 use Rattle.acc_commands.proofs.Leaving.{some_weaker}
 use Rattle.acc_commands.proofs.JournalEndings.{making_ends, over_late}

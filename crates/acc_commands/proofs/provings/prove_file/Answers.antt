@@ -1,6 +1,6 @@
 use Rattle.std.proofs.Common.{inr, subst}
 use Rattle.std.proofs.lemmas.Result.{IfOk-weaker}
-use Rattle.acc_commands.specs.ReadDesigns.{IsRead, Reads}
+use Rattle.acc_inputs.specs.ReadDesigns.{IsRead, Reads}
 use Rattle.acc_commands.proofs.provings.prove_file.Goals as goal
 
 pub returns-in-Read : goal.returns-in-Read

@@ -1,6 +1,6 @@
 use Rattle.std.proofs.Common.{inl, inr, subst, ⊎_elim}
 use Rattle.std.proofs.lemmas.Result.{IfOk-weaker}
-use Rattle.acc_commands.specs.ReadDesigns.{IsRead, Reads}
+use Rattle.acc_inputs.specs.ReadDesigns.{IsRead, Reads}
 use Rattle.acc_commands.specs.RecoverFiles.{LeavesAccepted, RecoverLeaves}
 use Rattle.acc_commands.proofs.Leaving.{leaves_weaker}
 use Rattle.acc_commands.proofs.recoveries.recover_files.Goals as goal

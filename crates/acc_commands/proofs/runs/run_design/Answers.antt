@@ -8,7 +8,7 @@ use Rattle.acc_commands.specs.RunFiles.{RunsOfScript, LeavesSomeRun, LeavesAccep
 use Rattle.acc_commands.proofs.Leaving.{leaves_weaker}
 use Rattle.acc_commands.proofs.OneRun.{certificate_refused}
 use Rattle.acc_running.specs.Crashes.{LeavesRun, LeavesDurable}
-use Rattle.acc_commands.specs.Text.{Said}
+use Rattle.acc_inputs.specs.Text.{Said}
 use Rattle.acc_commands.specs.RunFiles.{IsUntouched}
 use Rattle.acc_commands.proofs.Leaving.{told_weaker, told_nothing}
 use Rattle.acc_commands.proofs.runs.run_design.Goals as goal

@@ -1,13 +1,13 @@
 use Rattle.std.proofs.Common.{inl, inr, subst, ⊎_elim, ◌≡◌, ◌∙◌, ◌⊎◌, [], ◌∷◌, ap, refl, List, ℕ}
 use Rattle.std.proofs.lemmas.Result.{IfOk-weaker}
-use Rattle.acc_commands.specs.ReadDesigns.{IsRead, Reads}
+use Rattle.acc_inputs.specs.ReadDesigns.{IsRead, Reads}
 use Rattle.acc_commands.specs.RunFiles.{LeavesAcceptedRun, RunLeaves}
 use Rattle.acc_commands.proofs.Leaving.{leaves_weaker}
 use Rattle.acc_check.specs.Admissions.{IsAcceptedWith}
 use Rattle.acc_running.specs.Crashes.{LeavesRun, LeavesDurable}
 use Rattle.acc_journalled.specs.Tellings.{telling_of}
-use Rattle.acc_commands.specs.Responses.{said_of}
-use Rattle.acc_commands.specs.Text.{Said}
+use Rattle.acc_inputs.specs.Responses.{said_of}
+use Rattle.acc_inputs.specs.Text.{Said}
 use Rattle.acc_commands.specs.RunFiles.{IsUntouched, LeavesFronts, LeavesSettled}
 use Rattle.acc_commands.proofs.Leaving.{told_weaker, told_nothing}
 use Rattle.acc_commands.proofs.JournalEndings.{refusal_tells_none}

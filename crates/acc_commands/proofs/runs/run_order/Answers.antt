@@ -5,11 +5,11 @@ use Rattle.acc_base.specs.declared.machines.Call.{Call}
 use Rattle.acc_script.specs.OrderLines.{IsPlace}
 use Rattle.acc_journalled.specs.Tellings.{telling_of}
 use Rattle.acc_running.specs.Crashes.{LeavesRun, LeavesDurable}
-use Rattle.acc_commands.specs.Text.{Said}
+use Rattle.acc_inputs.specs.Text.{Said}
 use Rattle.acc_commands.proofs.Leaving.{told_nothing}
-use Rattle.acc_commands.specs.declared.scripts.ReadOrder.TheVariants as order
+use Rattle.acc_inputs.specs.declared.scripts.ReadOrder.TheVariants as order
 use Rattle.acc_commands.specs.Disks.{seen}
-use Rattle.acc_commands.specs.ReadScripts.{ReadsOrder}
+use Rattle.acc_inputs.specs.ReadScripts.{ReadsOrder}
 use Rattle.acc_commands.specs.RunFiles.{RunsSeen}
 use Rattle.acc_commands.proofs.runs.run_order.Goals as goal
 

@@ -3,11 +3,11 @@ use Rattle.std.proofs.lemmas.Result.{IfOk-weaker}
 use Rattle.acc_base.specs.declared.designs.Design.{Design}
 use Rattle.acc_journalled.specs.Tellings.{telling_of}
 use Rattle.acc_running.specs.Crashes.{LeavesRun, LeavesDurable}
-use Rattle.acc_commands.specs.Text.{Said}
+use Rattle.acc_inputs.specs.Text.{Said}
 use Rattle.acc_commands.proofs.Leaving.{told_nothing}
-use Rattle.acc_commands.specs.declared.scripts.ReadScript.TheVariants as script
+use Rattle.acc_inputs.specs.declared.scripts.ReadScript.TheVariants as script
 use Rattle.acc_commands.specs.Disks.{seen}
-use Rattle.acc_commands.specs.ReadScripts.{ReadsScript}
+use Rattle.acc_inputs.specs.ReadScripts.{ReadsScript}
 use Rattle.acc_commands.proofs.runs.run_script.Goals as goal
 
 pub run_order-requires : goal.run_order-requires

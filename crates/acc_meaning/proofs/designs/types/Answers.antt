@@ -1,7 +1,7 @@
 use Rattle.std.proofs.Common.{◌∙◌, ◌++◌, ◌∷◌, [], ap}
 use Rattle.acc_meaning.specs.Types.{type_of}
 use Rattle.acc_meaning.specs.Sizes.{type_sizes}
-use Rattle.acc_meaning.proofs.Walked.{made_next, walked_next}
+use Rattle.acc_clauses.proofs.Walked.{made_next, walked_next}
 use Rattle.acc_meaning.proofs.designs.types.Goals as goal
 
 pub loop-i-preserved : goal.loop-i-preserved

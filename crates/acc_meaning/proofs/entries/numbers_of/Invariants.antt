@@ -1,6 +1,6 @@
 use Rattle.std.proofs.Common.{◌≡◌, ◌++◌, map, take}
 use Rattle.acc_meaning.specs.Designs.{pair_of}
-use Rattle.acc_meaning.specs.Views.{variables_in}
+use Rattle.acc_clauses.specs.Views.{variables_in}
 use Rattle.acc_meaning.proofs.entries.numbers_of.Given as goal
 
 -- what has come so far

@@ -3,7 +3,7 @@ use Rattle.std.specs.List.{flat_map}
 use Rattle.acc_limits.specs.Walks.{after}
 use Rattle.acc_meaning.specs.Steps.{read_of}
 use Rattle.acc_meaning.specs.Sizes.{read_sizes}
-use Rattle.acc_meaning.specs.Views.{scope_in}
+use Rattle.acc_clauses.specs.Views.{scope_in}
 use Rattle.acc_meaning.proofs.steps.reads.Given as goal
 
 -- what has come so far

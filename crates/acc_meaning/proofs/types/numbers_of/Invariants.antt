@@ -1,5 +1,5 @@
 use Rattle.std.proofs.Common.{◌≡◌, ◌++◌, map, take}
-use Rattle.acc_meaning.specs.Scopes.{number_of}
+use Rattle.acc_clauses.specs.Scopes.{number_of}
 use Rattle.acc_meaning.proofs.types.numbers_of.Given as goal
 
 -- what has come so far

@@ -1,8 +1,8 @@
 use Rattle.std.proofs.Common.{◌≡◌, ◌∙◌, true, List, ℕ, length, map, ap, rules}
 use Rattle.acc_names.specs.Names.{listed_or_none}
 use Rattle.acc_names.specs.Scopes.{locals_of, points_in, point_names}
-use Rattle.acc_meaning.specs.Scopes.{Scope, fitted, number_of}
-use Rattle.acc_meaning.specs.Forms.{clause_of}
+use Rattle.acc_clauses.specs.Scopes.{Scope, fitted, number_of}
+use Rattle.acc_clauses.specs.Forms.{clause_of}
 use Rattle.acc_meaning.specs.Types.{point_of, returned_of, type_scope}
 use Rattle.acc_meaning.proofs.types.type_of.Goals as goal
 

@@ -9,4 +9,5 @@ returns-clause-lines c =
 pub returns-clause-proofs : goal.returns-clause-proofs
 returns-clause-proofs c =
     one_proof c.args.d.now c.args.q.now c.searched-found.result c.add_found.result c.args.proofs.now.items c.add_found.new.proofs.items
-    c.searched-found.ensures.kind c.searched-found.ensures.proof c.add_found.ensures.proofs c.add_found.ensures.other
+    c.searched-found.ensures.kind c.searched-found.ensures.proof c.searched-found.ensures.bounds c.add_found.ensures.proofs
+    c.add_found.ensures.other

@@ -14,6 +14,7 @@ returns c =
     record {
       kind = kind;
       accepted = proof;
+      bounds = c.found.ensures.bounds;
       law = truth_told d q result proof;
       leaf = leaf_told d q hints result kind;
     }

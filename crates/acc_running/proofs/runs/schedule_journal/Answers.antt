@@ -13,7 +13,7 @@ use Rattle.acc_wal.specs.Journals.{Counts}
 use Rattle.acc_wal.proofs.Moments.{calm_of, if_some, read_left}
 use Rattle.acc_recover.specs.Recoveries.{LeavesRecovery}
 use Rattle.acc_engine.specs.Keeping.{CallsFit}
-use Rattle.acc_settled.specs.Openings.{opening_at}
+use Rattle.acc_mentions.specs.Openings.{opening_at}
 use Rattle.acc_settled.specs.Wholes.{IsFrontOfSchedule}
 use Rattle.acc_journalled.specs.declared.answers.Ending.TheVariants.{DiskFailed}
 use Rattle.acc_journalled.proofs.Endings.{recovering, was_of_bytes}

@@ -5,9 +5,9 @@ use Rattle.acc_base.specs.Machine.{unfinished}
 use Rattle.acc_schedule.specs.LockRules.{with_locks}
 use Rattle.acc_schedule.specs.Endings.{TurnsEach, unfinished_numbers}
 use Rattle.acc_schedule.proofs.Ends.{ends_more, all_ended}
-use Rattle.acc_settled.proofs.Chains.{runs_more, again_more}
-use Rattle.acc_settled.specs.Ways.{PrecedesEach}
-use Rattle.acc_settled.proofs.Fronts.{if_stopped}
+use Rattle.acc_mentions.proofs.Chains.{runs_more, again_more}
+use Rattle.acc_mentions.specs.Ways.{PrecedesEach}
+use Rattle.acc_mentions.proofs.Fronts.{if_stopped}
 use Rattle.acc_settled.proofs.Remaining.{leaves_ends, stops_ends}
 use Rattle.acc_settled.proofs.endings.end_all.Goals as goal
 

@@ -1,7 +1,7 @@
 use Rattle.std.proofs.Common.{◌≡◌, ◌≤◌, ◌-◌, ◌+◌, length}
 use Rattle.acc_schedule.specs.LockRules.{with_locks}
 use Rattle.acc_schedule.proofs.Ends.{EndsSoFar, most_ever}
-use Rattle.acc_settled.specs.Runs.{RunsOn, IsReadyAgain}
+use Rattle.acc_mentions.specs.Runs.{RunsOn, IsReadyAgain}
 use Rattle.acc_settled.proofs.Remaining.{LeavesEnds}
 use Rattle.acc_settled.proofs.endings.end_all.Given as goal
 

@@ -5,11 +5,12 @@ use Rattle.acc_play.proofs.Orders.{on_ok}
 use Rattle.acc_schedule.specs.LockRules.{with_locks}
 use Rattle.acc_schedule.specs.Endings.{EndsAll}
 use Rattle.acc_schedule.proofs.Ends.{begun_ends}
-use Rattle.acc_settled.specs.Boards.{play_of}
-use Rattle.acc_settled.proofs.Chains.{runs_more, again_more}
-use Rattle.acc_settled.proofs.Marks.{unnumbered}
-use Rattle.acc_settled.specs.Ways.{PrecedesEach}
-use Rattle.acc_settled.proofs.Fronts.{on_err, if_stopped, front_place, front_ended}
+use Rattle.acc_mentions.specs.Boards.{play_of}
+use Rattle.acc_mentions.proofs.Chains.{runs_more, again_more}
+use Rattle.acc_mentions.proofs.Marks.{unnumbered}
+use Rattle.acc_mentions.specs.Ways.{PrecedesEach}
+use Rattle.acc_mentions.proofs.Fronts.{on_err, if_stopped}
+use Rattle.acc_settled.proofs.Fronts.{front_place, front_ended}
 use Rattle.acc_settled.proofs.endings.end_place.Goals as goal
 
 pub returns-in-Some-clause-ends : goal.returns-in-Some-clause-ends

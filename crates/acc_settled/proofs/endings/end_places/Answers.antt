@@ -12,10 +12,10 @@ use Rattle.acc_play.proofs.Orders.{range_more}
 use Rattle.acc_schedule.specs.LockRules.{with_locks}
 use Rattle.acc_schedule.specs.Endings.{EndsPlace, EndsPlaces}
 use Rattle.acc_schedule.proofs.Ends.{places_more}
-use Rattle.acc_settled.specs.Boards.{play_of, IsUnbegun}
-use Rattle.acc_settled.proofs.Chains.{runs_more, again_more, grows}
-use Rattle.acc_settled.specs.Ways.{PlayPrecedesEach}
-use Rattle.acc_settled.proofs.Fronts.{if_stopped}
+use Rattle.acc_mentions.specs.Boards.{play_of, IsUnbegun}
+use Rattle.acc_mentions.proofs.Chains.{runs_more, again_more, grows}
+use Rattle.acc_mentions.specs.Ways.{PlayPrecedesEach}
+use Rattle.acc_mentions.proofs.Fronts.{if_stopped}
 use Rattle.acc_settled.proofs.Remaining.{LeavesPlaces, leaves_places, stops_places, range_from}
 use Rattle.acc_settled.proofs.endings.end_places.Goals as goal
 

@@ -4,8 +4,8 @@ use Rattle.acc_base.specs.declared.bounds.TheConstants.{MOST_EVENTS}
 use Rattle.acc_base.specs.Machine.{unfinished}
 use Rattle.acc_schedule.specs.LockRules.{with_locks}
 use Rattle.acc_schedule.specs.Endings.{EndsPlaces}
-use Rattle.acc_settled.specs.Boards.{play_of, IsBoardOf, IsUnbegun}
-use Rattle.acc_settled.specs.Runs.{RunsOn, IsReadyAgain}
+use Rattle.acc_mentions.specs.Boards.{play_of, IsBoardOf, IsUnbegun}
+use Rattle.acc_mentions.specs.Runs.{RunsOn, IsReadyAgain}
 use Rattle.acc_settled.proofs.Remaining.{LeavesPlaces}
 use Rattle.acc_settled.proofs.endings.end_places.Given as goal
 

@@ -11,10 +11,10 @@ use Rattle.acc_schedule.specs.Endings.{unfinished_numbers, TurnsEach}
 use Rattle.acc_schedule.specs.Passes.{Takes, Moves}
 use Rattle.acc_schedule.proofs.Ends.{TurnsSoFar, turns_more, all_turned}
 use Rattle.acc_schedule.proofs.Waiting.{passes_more, pass_goes_on, frame_of, as_many}
-use Rattle.acc_settled.proofs.Chains.{runs_more, again_more}
-use Rattle.acc_settled.specs.Ways.{PrecedesEach}
-use Rattle.acc_settled.proofs.Fronts.{if_stopped}
-use Rattle.acc_settled.proofs.Preceding.{pass_precedes}
+use Rattle.acc_mentions.proofs.Chains.{runs_more, again_more}
+use Rattle.acc_mentions.specs.Ways.{PrecedesEach}
+use Rattle.acc_mentions.proofs.Fronts.{if_stopped}
+use Rattle.acc_mentions.proofs.Preceding.{pass_precedes}
 use Rattle.acc_settled.proofs.Remaining.{LeavesTurns, leaves_turns, stops_turns, split_at}
 use Rattle.acc_settled.proofs.endings.pass.Goals as goal
 

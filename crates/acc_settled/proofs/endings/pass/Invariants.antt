@@ -3,7 +3,7 @@ use Rattle.acc_base.specs.Machine.{unfinished}
 use Rattle.acc_schedule.specs.LockRules.{with_locks}
 use Rattle.acc_schedule.proofs.Ends.{TurnsSoFar}
 use Rattle.acc_schedule.proofs.Waiting.{Passes}
-use Rattle.acc_settled.specs.Runs.{RunsOn, IsReadyAgain}
+use Rattle.acc_mentions.specs.Runs.{RunsOn, IsReadyAgain}
 use Rattle.acc_settled.proofs.Remaining.{LeavesTurns}
 use Rattle.acc_settled.proofs.endings.pass.Given as goal
 

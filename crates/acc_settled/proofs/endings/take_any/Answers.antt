@@ -2,7 +2,8 @@ use Rattle.std.proofs.Common.{refl, rules}
 use Rattle.std.specs.Prelude.{Some}
 use Rattle.acc_plain.specs.Turned.{IsUnfinished}
 use Rattle.acc_schedule.proofs.Waiting.{turn_moves}
-use Rattle.acc_settled.proofs.Fronts.{if_stopped, front_taken}
+use Rattle.acc_mentions.proofs.Fronts.{if_stopped}
+use Rattle.acc_settled.proofs.Fronts.{front_taken}
 use Rattle.acc_settled.proofs.endings.take_any.Goals as goal
 
 pub returns-clause-takes : goal.returns-clause-takes

@@ -4,10 +4,10 @@ use Rattle.acc_base.specs.declared.machines.Call.{Call}
 use Rattle.acc_play.proofs.Orders.{IsPlayedSoFar, opens_play, played_more}
 use Rattle.acc_schedule.specs.LockRules.{with_locks}
 use Rattle.acc_schedule.proofs.Closing.{played}
-use Rattle.acc_settled.specs.Boards.{play_of, IsMentioned}
-use Rattle.acc_settled.proofs.Chains.{runs_more, again_more, runs_none, again_none}
-use Rattle.acc_settled.specs.Ways.{PlayPrecedesEach, IsAfterMention}
-use Rattle.acc_settled.proofs.Fronts.{if_stopped}
+use Rattle.acc_mentions.specs.Boards.{play_of, IsMentioned}
+use Rattle.acc_mentions.proofs.Chains.{runs_more, again_more, runs_none, again_none}
+use Rattle.acc_mentions.specs.Ways.{PlayPrecedesEach, IsAfterMention}
+use Rattle.acc_mentions.proofs.Fronts.{if_stopped}
 use Rattle.acc_settled.proofs.Remaining.{LeavesPlay, leaves_play, stops_play}
 use Rattle.acc_settled.proofs.schedules.mention_all.Goals as goal
 

@@ -1,8 +1,8 @@
 use Rattle.std.proofs.Common.{drop}
 use Rattle.acc_play.proofs.Orders.{IsPlayedSoFar}
 use Rattle.acc_schedule.specs.LockRules.{with_locks}
-use Rattle.acc_settled.specs.Boards.{play_of, IsBoardOf}
-use Rattle.acc_settled.specs.Runs.{RunsOn, IsReadyAgain}
+use Rattle.acc_mentions.specs.Boards.{play_of, IsBoardOf}
+use Rattle.acc_mentions.specs.Runs.{RunsOn, IsReadyAgain}
 use Rattle.acc_settled.proofs.Remaining.{LeavesPlay}
 use Rattle.acc_settled.proofs.schedules.mention_all.Given as goal
 

@@ -7,11 +7,12 @@ use Rattle.acc_schedule.specs.Endings.{EndsAll, EndsPlaces}
 use Rattle.acc_schedule.specs.LockRules.{with_locks}
 use Rattle.acc_schedule.specs.Schedules.{EndsWell}
 use Rattle.acc_schedule.proofs.Closing.{tells_from, ending_text_is}
-use Rattle.acc_settled.specs.Boards.{play_of}
+use Rattle.acc_mentions.specs.Boards.{play_of}
 use Rattle.acc_settled.specs.Replies.{line_after}
-use Rattle.acc_settled.specs.Ways.{PrecedesEach, PlayPrecedesEach}
-use Rattle.acc_settled.proofs.Chains.{runs_more, again_more}
-use Rattle.acc_settled.proofs.Fronts.{if_stopped, front_order, front_passes, front_places, behind_places}
+use Rattle.acc_mentions.specs.Ways.{PrecedesEach, PlayPrecedesEach}
+use Rattle.acc_mentions.proofs.Chains.{runs_more, again_more}
+use Rattle.acc_mentions.proofs.Fronts.{if_stopped}
+use Rattle.acc_settled.proofs.Fronts.{front_order, front_passes, front_places, behind_places}
 use Rattle.acc_settled.proofs.schedules.run.Goals as goal
 
 pub returns-in_err-end_all-clause-runs : goal.returns-in_err-end_all-clause-runs

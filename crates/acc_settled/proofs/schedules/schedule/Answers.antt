@@ -1,7 +1,7 @@
 use Rattle.std.proofs.Common.{subst}
 use Rattle.acc_base.specs.Plays.{Play}
-use Rattle.acc_settled.specs.Boards.{play_of}
-use Rattle.acc_settled.specs.Openings.{opening_at}
+use Rattle.acc_mentions.specs.Boards.{play_of}
+use Rattle.acc_mentions.specs.Openings.{opening_at}
 use Rattle.acc_settled.specs.Wholes.{IsFrontOfSchedule}
 use Rattle.acc_settled.proofs.Fronts.{before_schedule, front_of_schedule, whole_is_front}
 use Rattle.acc_settled.proofs.schedules.schedule.Goals as goal

@@ -1,5 +1,5 @@
 use Rattle.std.proofs.Common.{refl}
-use Rattle.acc_settled.specs.Boards.{play_of}
+use Rattle.acc_mentions.specs.Boards.{play_of}
 use Rattle.acc_settled.proofs.Fronts.{tells_part}
 use Rattle.acc_settled.proofs.Telling.{tells_settled}
 use Rattle.acc_settled.proofs.schedules.told_of.Goals as goal

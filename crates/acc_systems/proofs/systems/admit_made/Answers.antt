@@ -1,6 +1,5 @@
-use Rattle.std.proofs.Common.{◌<◌, ◌≤◌, ◌++◌, ◌∷◌, [], length, arith, ◌∙◌, ap}
-use Rattle.std.specs.List.{list_any}
-use Rattle.acc_systems.specs.Systems.{repeats}
+use Rattle.std.proofs.Common.{◌<◌, ◌≤◌, ◌++◌, ◌∷◌, [], length, arith, ◌∙◌, ap, sym, subst}
+use Rattle.acc_systems.specs.Repetitions.{GrowTogether}
 use Rattle.acc_systems.proofs.Apart.{admitted_grows, told_stayed, told_grown}
 use Rattle.acc_systems.proofs.systems.admit_made.Goals as goal
 use Rattle.acc_systems.proofs.systems.admit_made.Goals.{then-before-len+in_ok-push, else-before-len}
@@ -17,6 +16,6 @@ returns-clause-told c =
           (ap (λ v. v.items) w.made-is ∙ (w.in_ok-push.ensures.items ∙ ap (λ r. some ++ r ∷ []) c.in_ok-form.ensures)) (grows.grown longer)
       | else-before-len w ↦ let within : length c.admit.new.rows.items ≤ length rows = omega
           (arith, w.if-before-len.false, c.len-before.ensures, c.len.ensures) in
-          λ other t. ap (λ v. list_any (repeats other) v.items) w.made-is
-          ∙ told_stayed some rows c.admit.new.rows.items (grows.stayed within) other t
+          subst (λ v. GrowTogether some rows v c.admit.new.rows.items) (sym (ap (λ v. v.items) w.made-is))
+          (told_stayed some rows c.admit.new.rows.items (grows.stayed within))
     ]

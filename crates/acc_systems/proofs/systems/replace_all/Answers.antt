@@ -1,8 +1,8 @@
-use Rattle.std.proofs.Common.{◌≡◌, ◌∷◌, [], ◌∙◌, ap, subst}
+use Rattle.std.proofs.Common.{◌≡◌, ◌∷◌, [], ◌∙◌, ap, sym, subst}
 use Rattle.std.specs.Prelude.{All, reverse}
 use Rattle.std.proofs.lemmas.List.{reverse-append}
 use Rattle.std.proofs.lemmas.List.Elements.{All-tail}
-use Rattle.acc_systems.specs.Repetitions.{AreApart, TellsOf}
+use Rattle.acc_systems.specs.Repetitions.{AreApart, TellsOf, told_behind}
 use Rattle.acc_systems.specs.Systems.{replaced}
 use Rattle.acc_systems.proofs.Apart.{step_taken, tells_on}
 use Rattle.acc_systems.proofs.systems.replace_all.Goals as goal
@@ -24,4 +24,6 @@ loop-row-preserved c =
       apart = apart.1;
       told = tells_on made kept c.replace.new.made.items c.replace.new.kept.items row c.in_ok-replace.ensures.told rest apart.0
           (All-tail (TellsOf made kept) row rest told);
+      behind = λ r some. c.in_ok-replace.ensures.behind r c.args.rows.items rest some
+          (ap (λ rs. told_behind c.args.unknown kept rs r) (sym same) ∙ c.loop-row.invariant.behind r some);
     }

@@ -1,0 +1,7 @@
+//! Command lines answered in memory, designs whose obligations are to be proved, and texts with a piece exchanged, for programs that
+//! play cases of command lines.
+#![tactic(auto)]
+
+pub mod memory;
+pub mod proofs;
+pub mod texts;

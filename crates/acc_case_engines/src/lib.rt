@@ -1,0 +1,8 @@
+//! Runs of an engine over a journal on a disk in memory, for programs that play cases over them: the calls of a script, and the calls of
+//! the engine and the questions about it, item by item.
+#![tactic(auto)]
+
+mod answers;
+mod calls;
+mod items;
+pub mod runs;

@@ -1,0 +1,7 @@
+//! Whether the numbers of proofs are within the bounds of a certificate's file.
+#![tactic(auto)]
+
+pub mod bounded;
+pub mod nodes;
+pub mod numbers;
+pub mod values;

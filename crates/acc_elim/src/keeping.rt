@@ -1,0 +1,146 @@
+//! Relations that are read once, and whose stage of equations is kept, for many searches.
+ghost use Rattle.std.specs.Prelude.{◌≡◌, ◌≤◌, ◌∷◌, ◌++◌, [], None, length, IfOk, IsOkAnd, IfErr, IfSome};
+ghost use Rattle.acc_systems.specs.Answers.{Answers, Leaves, StoppedBy, steps};
+ghost use Rattle.acc_points.specs.Readings.{read_next};
+ghost use Rattle.acc_points.specs.Searches.{searched};
+ghost use Rattle.acc_stages.specs.Ends.{IsKnown};
+ghost use Rattle.acc_elim.specs.Readings.{unread, read_of, found_in};
+ghost use Rattle.acc_elim.specs.Keepings.{IsKept, AreKept};
+
+use crate::reading::{Reading, counted};
+use acc_base::forms::Rel;
+use acc_base::sequences::Seq;
+use acc_points::readings::read_next;
+use acc_stages::copies::copied_rows;
+use acc_stages::known::{Known, found, found_anew, found_with, known_of};
+use acc_systems::rows::Row;
+use acc_systems::stops::Stop;
+use std::alloc::Global;
+
+/// What was read, and what is kept of its elimination, once it was asked about.
+#[derive(Drop)]
+pub struct Kept {
+    pub reading: Reading,
+    pub known: Option<Known>,
+}
+
+impl Kept {
+    /// Nothing is read.
+    pub fn new(alloc: Global) -> Self
+        ensures read { read_of result.reading ≡ unread }
+        ensures count { result.reading.count ≡ 0 }
+        ensures known { result.known ≡ None }
+    {
+        Kept {
+            reading: Reading::new(alloc),
+            known: None,
+        }
+    }
+
+    /// Forgets all.
+    fn forget(&mut self)
+        ensures read { read_of self.new.reading ≡ unread }
+        ensures count { self.new.reading.count ≡ 0 }
+        ensures known { self.new.known ≡ None }
+    {
+        self.reading.forget();
+        self.known = None;
+    }
+
+    /// Reads the relations that aren't read yet. Where there are some, what was kept of the others' elimination goes.
+    fn catch_up(&mut self, alloc: Global, rels: &[Rel]) -> Result<(), Stop>
+        requires { AreKept rels.now self.old }
+        ensures kept { AreKept rels.now self.new }
+        ensures all { Leaves result (read_of self.new.reading) (steps read_next unread rels.now) }
+    {
+        if self.reading.count < rels.len() {
+            self.known = None;
+            return self.reading.catch_up(alloc, rels);
+        }
+        Ok(())
+    }
+}
+
+/// What is kept of the elimination is taken out; it is made where it isn't there.
+fn taken(alloc: Global, kept: &mut Option<Known>, reading: &Reading) -> Result<Known, Stop>
+    requires { IfSome kept.old (IsKept reading.now) }
+    ensures value { IfOk result (IsKept reading.now) }
+    ensures gone { kept.new ≡ None }
+    ensures stops { IfErr result (λ e. StoppedBy e (found_in (read_of reading.now))) }
+{
+    match kept.take() {
+        Some(known) => Ok(known),
+        None => {
+            let unknowns = counted(reading.names.len())?;
+            let rows = copied_rows(alloc, reading.rows.as_slice())?;
+            known_of(alloc, unknowns, rows)
+        }
+    }
+}
+
+/// The point at which relations hold, or what stops the search. They are read only once, and their point is found only once.
+pub fn searched(alloc: Global, kept: &mut Kept, rels: &[Rel]) -> Result<Seq<(i128, i128)>, Stop>
+    requires { AreKept rels.now kept.old }
+    ensures kept { AreKept rels.now kept.new }
+    ensures value { Answers result (searched rels.now) }
+{
+    kept.catch_up(alloc, rels)?;
+    let mut known = taken(alloc, &mut kept.known, &kept.reading)?;
+    let end = found(alloc, &mut known);
+    kept.known = Some(known);
+    end
+}
+
+/// The point of what was read with one more row behind it, whose unknowns were read. What is kept of the others comes back.
+fn found_last(
+    alloc: Global,
+    slot: &mut Option<Known>,
+    known: Result<Known, Stop>,
+    reading: &Reading,
+    row: Row,
+) -> Result<Seq<(i128, i128)>, Stop>
+    requires known { IfOk known (λ k. IsKnown reading.now.rows.items k.unknowns k) }
+    requires within { IfOk known (λ k. k.unknowns ≤ length reading.now.names.items) }
+    requires gone { slot.old ≡ None }
+    ensures kept { IfSome slot.new (λ k. IsOkAnd known (λ j. IsKnown reading.now.rows.items j.unknowns k)) }
+    ensures value { Answers result (found_in (reading.now.names.items, reading.now.rows.items ++ row ∷ [])) }
+{
+    let unknowns = counted(reading.names.len())?;
+    let rows = reading.rows.as_slice();
+    match known {
+        Err(_) => found_anew(alloc, rows, unknowns, row),
+        Ok(mut known) => {
+            let end = found_with(alloc, &mut known, rows, unknowns, row);
+            *slot = Some(known);
+            end
+        }
+    }
+}
+
+/// The same where one more relation, which isn't kept, comes behind the others.
+pub fn searched_with(
+    alloc: Global,
+    kept: &mut Kept,
+    rels: &[Rel],
+    last: &Rel,
+) -> Result<Seq<(i128, i128)>, Stop>
+    requires { AreKept rels.now kept.old }
+    ensures kept { AreKept rels.now kept.new }
+    ensures value { Answers result (searched (rels.now ++ last.now ∷ [])) }
+{
+    kept.catch_up(alloc, rels)?;
+    let known = taken(alloc, &mut kept.known, &kept.reading);
+    let count = kept.reading.names.len();
+    let place = counted(kept.reading.rows.len())?;
+    match read_next(alloc, &mut kept.reading.names, place, last) {
+        Err(stop) => {
+            kept.forget();
+            Err(stop)
+        }
+        Ok(row) => {
+            let end = found_last(alloc, &mut kept.known, known, &kept.reading, row);
+            kept.reading.names.truncate(count);
+            end
+        }
+    }
+}

@@ -1,0 +1,9 @@
+pub mod Words
+pub mod Files
+pub mod Text
+pub mod Refusals
+pub mod ReadDesigns
+pub mod Notes
+pub mod Scripts
+pub mod Responses
+pub mod ReadScripts

@@ -1,0 +1,19 @@
+//! What commands are given: the words that name one, the files that they name, the design, script and order in these, and what is answered
+//! where one is refused.
+#![tactic(auto)]
+
+mod closings;
+mod designs;
+mod files;
+mod notes;
+mod responses;
+mod scripts;
+mod words;
+
+pub use closings::unsettled;
+pub use designs::{ReadDesign, read_design};
+pub use files::{Refusal, read_all};
+pub use notes::{help_text, version_text};
+pub use responses::{Response, ended, one_line, refused};
+pub use scripts::{ReadOrder, ReadScript, read_order, read_script};
+pub use words::{Command, asks_journal, command_of, file_count, is_journalled};

@@ -1,0 +1,34 @@
+//! What the program says of itself.
+ghost use Rattle.std.specs.Prelude.{◌≡◌, IfOk};
+ghost use Rattle.acc_inputs.specs.Notes.{help_text, version_text};
+
+use std::alloc::{AllocError, Global};
+
+/// Each command, and where the documents are. Each line ends with a line feed.
+#[tactic(auto, unfolding(crate::specs::Notes::help_text))]
+pub fn help_text(alloc: Global) -> Result<Vec<u8>, AllocError>
+    ensures { IfOk result (λ text. text.items ≡ help_text) }
+{
+    b"acc play DESIGN SCRIPT ORDER                plays the script in the order's turns, and prints the turns and the replies
+acc rehearse DESIGN CERT SCRIPT ORDER       the same by the rules of locks, if the certificate proves it sound; ends the rest
+acc print DESIGN                            prints the design in its one spelling
+acc check DESIGN CERT                       tells whether the certificate proves that the design is sound, and else why not
+acc prove DESIGN                            makes such a certificate, or tells which obligations stay open
+acc init DESIGN JOURNAL                     makes JOURNAL a journal of the design without events, if it isn't one already
+acc sched DESIGN CERT SCRIPT ORDER JOURNAL  recovers the journal, and goes on as `rehearse`; each end is kept in it
+acc recover DESIGN CERT JOURNAL             ends what its events left unfinished, and tells how many events there are then
+acc dump DESIGN CERT JOURNAL                does the same, and prints the rows that its events lead to
+acc --help                                  prints these lines
+acc --version                               prints the version of acc, and of the toolchain that proved it
+README.md tells what acc is for, and docs/DESIGN-LANGUAGE.md how a design is written and how to mend one that is refused.
+"
+        .to_vec(alloc)
+}
+
+/// The version of the program, and the line by which the toolchain that it was proved with names itself.
+#[tactic(auto, unfolding(crate::specs::Notes::version_text))]
+pub fn version_text(alloc: Global) -> Result<Vec<u8>, AllocError>
+    ensures { IfOk result (λ text. text.items ≡ version_text) }
+{
+    b"acc 0.1.0\nrattle-kit-13f logic dac8208d650f15bf\n".to_vec(alloc)
+}

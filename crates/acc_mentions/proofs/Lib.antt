@@ -1,0 +1,9 @@
+pub mod Turned
+pub mod Acks
+pub mod Chains
+pub mod Settling
+pub mod Counts
+pub mod Marks
+pub mod Preceding
+pub mod Leading
+pub mod Fronts

@@ -1,0 +1,5 @@
+pub mod Runs
+pub mod Boards
+pub mod Openings
+pub mod Stops
+pub mod Ways

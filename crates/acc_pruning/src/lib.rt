@@ -1,0 +1,5 @@
+//! Proofs without the instances and axioms that nothing behind them uses.
+#![tactic(auto)]
+
+pub mod pruning;
+mod renumbering;

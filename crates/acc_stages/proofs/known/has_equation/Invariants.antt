@@ -1,0 +1,7 @@
+use Rattle.std.proofs.Common.{◌≡◌, drop}
+use Rattle.std.specs.List.{list_any}
+use Rattle.acc_stages.specs.Ends.{is_equation}
+use Rattle.acc_stages.proofs.known.has_equation.Given as goal
+
+abbrev pub invariant-loop-row : goal.invariant-loop-row
+invariant-loop-row l = list_any is_equation (drop l.row-index l.rows) ≡ list_any is_equation l.rows

@@ -1,0 +1,46 @@
+-- What is left of a relation that comes behind others, in their stage of equations.
+use Rattle.std.specs.Prelude.{ℕ, nat_le, Bool, ◌&&◌, ◌||◌, if◌then◌else◌, List, [], ◌∷◌, length, Option, Some, None, Ok, Err}
+use Rattle.std.specs.List.{list_any}
+use Rattle.acc_systems.specs.declared.stops.Stop.TheVariants.{Refuted, Many}
+use Rattle.acc_systems.specs.declared.rows.Row.{Row}
+use Rattle.acc_systems.specs.Answers.{Computation, chain, steps}
+use Rattle.acc_systems.specs.Rows.{cleared}
+use Rattle.acc_systems.specs.Systems.{MOST, is_false, repeats, is_constant, is_without}
+use Rattle.acc_stages.specs.declared.stages.Step.{Step}
+use Rattle.acc_stages.specs.declared.stages.Stage.{Stage}
+
+abbrev pub listed : Option Row → List Row
+listed None = []
+listed (Some r) = r ∷ []
+
+-- what is left of one more relation of a system of so many, where it is known whether it repeats one
+abbrev pub left_of : Bool → ℕ → Row → Computation (Option Row)
+left_of is_repeated count r =
+    if is_constant r then (if is_false r then Err (Refuted r) else Ok None)
+    else (if is_repeated then Ok None else (if nat_le MOST count then Err Many else Ok (Some r)))
+
+-- whether a relation repeats one of the system behind steps, of which the last comes first: it repeats one that was made there, or
+-- lacks the unknown and repeats one of the system before
+abbrev pub told : List Row → List Step → Row → Bool
+told first [] r = list_any (repeats r) first
+told first (s ∷ earlier) r = list_any (repeats r) s.made || (is_without s.aside.0 r && told first earlier r)
+
+-- what is left behind a step
+abbrev pub followed_at : List Row → List Step → Step → Option Row → Computation (Option Row)
+followed_at first earlier s None = Ok None
+followed_at first earlier s (Some r) =
+    chain (cleared s.aside.0 s.aside.1 r) (λ m. left_of (told first (s ∷ earlier) m) s.count m)
+
+-- the steps so far, the last first, and what is left behind them
+abbrev pub Following : Type 0
+Following = List Step × Option Row
+
+abbrev pub followed : List Row → Following → Step → Computation Following
+followed first x s = chain (followed_at first x.0 s x.1) (λ o. Ok (s ∷ x.0, o))
+
+-- what is left behind all steps
+abbrev pub followed_all : Stage → Option Row → Computation (Option Row)
+followed_all g o = chain (steps (followed g.first) ([], o) g.steps) (λ x. Ok x.1)
+
+abbrev pub through : Stage → Row → Computation (Option Row)
+through g r = chain (left_of (list_any (repeats r) g.first) (length g.first) r) (followed_all g)

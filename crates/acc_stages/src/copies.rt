@@ -1,0 +1,28 @@
+//! The same relations again.
+ghost use Rattle.std.specs.Prelude.{◌≡◌, IfOk};
+
+use acc_base::sequences::copied;
+use acc_systems::rows::Row;
+use std::alloc::{AllocError, Global};
+
+fn copied_row(row: &Row) -> Result<Row, AllocError>
+    ensures { IfOk result (λ r. r ≡ row.now) }
+{
+    Ok(Row {
+        terms: copied(&row.terms)?,
+        constant: row.constant,
+        equal: row.equal,
+        by: copied(&row.by)?,
+    })
+}
+
+/// The same relations again.
+pub fn copied_rows(alloc: Global, rows: &[Row]) -> Result<Vec<Row>, AllocError>
+    ensures { IfOk result (λ v. v.items ≡ rows.now) }
+{
+    let mut again = Vec::new(alloc);
+    for row in rows {
+        again.push(copied_row(row)?)?;
+    }
+    Ok(again)
+}

@@ -1,0 +1,91 @@
+//! The rest of an elimination, from a stage of equations that is kept.
+ghost use Rattle.std.specs.Prelude.{◌≡◌, ◌-◌, ◌++◌, reverse, IfOk};
+ghost use Rattle.acc_systems.specs.Answers.{Answers, steps};
+ghost use Rattle.acc_systems.specs.Systems.{counted};
+ghost use Rattle.acc_stages.specs.Followed.{listed};
+ghost use Rattle.acc_stages.specs.Stages.{aside_of};
+ghost use Rattle.acc_stages.specs.Ends.{placed_at, found_from, found_behind};
+
+use crate::copies::copied_rows;
+use crate::stages::{Stage, Step};
+use acc_base::sequences::{Seq, copied};
+use acc_points::points::{place_all, place_by};
+use acc_points::searching::zeros;
+use acc_systems::rows::Row;
+use acc_systems::stops::Stop;
+use acc_systems::systems::{Bounded, cross_each};
+use std::alloc::{AllocError, Global};
+
+/// Values for the unknowns by the equations of steps, the last first.
+fn place_by_steps(mut point: Vec<(i128, i128)>, walked: &[Step]) -> Result<Seq<(i128, i128)>, Stop>
+    ensures { Answers result (steps placed_at point.items (reverse walked.now)) }
+{
+    let mut left = walked.len();
+    while left > 0 {
+        left -= 1;
+        place_by(&mut point, &walked[left].aside)?;
+    }
+    Ok(Seq::from_vec(point))
+}
+
+/// The point of this many unknowns, from the system behind steps and the unknowns that are left on.
+fn found_from(
+    alloc: Global,
+    unknowns: u32,
+    rows: Seq<Row>,
+    walked: &[Step],
+    left: &[u32],
+) -> Result<Seq<(i128, i128)>, Stop>
+    ensures { Answers result (found_from unknowns rows (aside_of walked.now) left.now) }
+{
+    let Bounded { rows: _, bounds } = cross_each(alloc, left, rows)?;
+    let zeros = zeros(alloc, unknowns)?;
+    let point = place_all(zeros, bounds.as_slice())?;
+    place_by_steps(point.into_vec(), walked)
+}
+
+/// The unknowns that are left, and those from `known` on behind them.
+fn left_with(left: &Seq<u32>, known: u32, unknowns: u32) -> Result<Vec<u32>, AllocError>
+    ensures { IfOk result (λ all. all.items ≡ left.now ++ counted known (unknowns - known)) }
+{
+    let mut all = copied(left)?.into_vec();
+    for unknown in known..unknowns {
+        all.push(unknown)?;
+    }
+    Ok(all)
+}
+
+/// The relations, and one more behind them where one is left.
+fn rows_with(alloc: Global, rows: &[Row], rest: Option<Row>) -> Result<Seq<Row>, AllocError>
+    ensures { IfOk result (λ all. all ≡ rows.now ++ listed rest) }
+{
+    let mut all = copied_rows(alloc, rows)?;
+    match rest {
+        None => Ok(Seq::from_vec(all)),
+        Some(row) => {
+            all.push(row)?;
+            Ok(Seq::from_vec(all))
+        }
+    }
+}
+
+/// The point behind a stage of `known` unknowns, with one more relation, where one is left, and this many unknowns.
+pub fn found_behind(
+    alloc: Global,
+    stage: &Stage,
+    known: u32,
+    rest: Option<Row>,
+    unknowns: u32,
+) -> Result<Seq<(i128, i128)>, Stop>
+    ensures { Answers result (found_behind stage.now known rest unknowns) }
+{
+    let rows = rows_with(alloc, stage.rows.as_slice(), rest)?;
+    let left = left_with(&stage.left, known, unknowns)?;
+    found_from(
+        alloc,
+        unknowns,
+        rows,
+        stage.steps.as_slice(),
+        left.as_slice(),
+    )
+}

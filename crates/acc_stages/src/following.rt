@@ -1,0 +1,122 @@
+//! What is left of one more relation in a stage of equations that is kept.
+ghost use Rattle.std.specs.Prelude.{◌≡◌, ◌∷◌, false, reverse, Some, IfOk, IfSome};
+ghost use Rattle.std.specs.List.{list_any};
+ghost use Rattle.acc_systems.specs.Answers.{Answers};
+ghost use Rattle.acc_systems.specs.Systems.{repeats};
+ghost use Rattle.acc_stages.specs.Followed.{left_of, told, followed_at, followed_all, through};
+
+use crate::stages::{Stage, Step};
+use acc_systems::rows::{Row, cleared};
+use acc_systems::stops::Stop;
+use acc_systems::systems::{MOST, is_constant, is_false, is_repetition};
+use std::alloc::Global;
+
+/// What is left of one more relation of a system of `count`, where it is known whether it repeats one.
+fn left_of(row: Row, is_repeated: bool, count: usize) -> Result<Option<Row>, Stop>
+    ensures { Answers result (left_of is_repeated count row) }
+{
+    if is_constant(&row) {
+        if is_false(&row) {
+            return Err(Stop::Refuted(row));
+        }
+        return Ok(None);
+    }
+    if is_repeated {
+        return Ok(None);
+    }
+    if count >= MOST {
+        return Err(Stop::Many);
+    }
+    Ok(Some(row))
+}
+
+/// Whether a relation repeats one of the system behind steps. The cost is at most that of comparing it with each that ever stood there.
+fn is_told(first: &[Row], steps: &[Step], row: &Row) -> bool
+    ensures { result ≡ told first.now (reverse steps.now) row.now }
+{
+    let mut left = steps.len();
+    while left > 0 {
+        left -= 1;
+        if is_repetition(steps[left].made.as_slice(), row) {
+            return true;
+        }
+        if row.has(steps[left].aside.0) {
+            return false;
+        }
+    }
+    is_repetition(first, row)
+}
+
+/// The same behind one step more.
+fn is_told_at(first: &[Row], earlier: &[Step], step: &Step, row: &Row) -> bool
+    ensures { result ≡ told first.now (step.now ∷ reverse earlier.now) row.now }
+{
+    if is_repetition(step.made.as_slice(), row) {
+        return true;
+    }
+    if row.has(step.aside.0) {
+        return false;
+    }
+    is_told(first, earlier, row)
+}
+
+/// What is left of a relation behind a step. Where it lacks the unknown, it can only repeat one of those that were made there.
+fn follow_row(
+    alloc: Global,
+    first: &[Row],
+    earlier: &[Step],
+    step: &Step,
+    row: Row,
+) -> Result<Option<Row>, Stop>
+    requires { told first.now (reverse earlier.now) row ≡ false }
+    ensures { Answers result (followed_at first.now (reverse earlier.now) step.now (Some row)) }
+{
+    if !row.has(step.aside.0) {
+        let is_repeated = is_repetition(step.made.as_slice(), &row);
+        return left_of(row, is_repeated, step.count);
+    }
+    let row = cleared(alloc, step.aside.0, &step.aside.1, row)?;
+    let is_repeated = is_told_at(first, earlier, step, &row);
+    left_of(row, is_repeated, step.count)
+}
+
+/// What is left behind a step.
+fn follow_step(
+    alloc: Global,
+    first: &[Row],
+    earlier: &[Step],
+    step: &Step,
+    rest: Option<Row>,
+) -> Result<Option<Row>, Stop>
+    requires { IfSome rest (λ row. told first.now (reverse earlier.now) row ≡ false) }
+    ensures value { Answers result (followed_at first.now (reverse earlier.now) step.now rest) }
+    ensures untold { IfOk result (λ left. IfSome left (λ row. told first.now (step.now ∷ reverse earlier.now) row ≡ false)) }
+{
+    match rest {
+        None => Ok(None),
+        Some(row) => follow_row(alloc, first, earlier, step, row),
+    }
+}
+
+/// What is left behind all steps.
+fn follow_all(alloc: Global, stage: &Stage, rest: Option<Row>) -> Result<Option<Row>, Stop>
+    requires { IfSome rest (λ row. list_any (repeats row) stage.now.first ≡ false) }
+    ensures { Answers result (followed_all stage.now rest) }
+{
+    let first = stage.first.as_slice();
+    let steps = stage.steps.as_slice();
+    let mut left = rest;
+    for place in 0..steps.len() {
+        left = follow_step(alloc, first, &steps[..place], &steps[place], left)?;
+    }
+    Ok(left)
+}
+
+/// What is left of one more relation behind the stage, or what stops it. An equation isn't led through rightly: it may be set aside.
+pub fn follow(alloc: Global, stage: &Stage, row: Row) -> Result<Option<Row>, Stop>
+    ensures { Answers result (through stage.now row) }
+{
+    let is_repeated = is_repetition(stage.first.as_slice(), &row);
+    let rest = left_of(row, is_repeated, stage.first.len())?;
+    follow_all(alloc, stage, rest)
+}

@@ -1,0 +1,8 @@
+//! Systems of which the stage of equations is kept, and asked again and again about one more relation.
+#![tactic(auto)]
+
+pub mod copies;
+mod ending;
+mod following;
+pub mod known;
+pub mod stages;

@@ -1,0 +1,4 @@
+pub mod ReadLaws
+pub mod ActionLaws
+pub mod TargetLaws
+pub mod StepLaws

@@ -1,0 +1,3 @@
+pub mod ActionReaders
+pub mod ReadReaders
+pub mod StepReaders
