@@ -78,3 +78,14 @@ pub fn has_line(text: &str, line: &str) -> bool {
     }
     false
 }
+
+/// The numbers with commas between them; a `-` is none.
+pub fn numbers(alloc: Global, text: &str) -> Result<Vec<u64>, AllocError> {
+    let mut numbers = Vec::new(alloc);
+    for word in text.split(',') {
+        if let Ok(number) = word.parse() {
+            numbers.push(number)?;
+        }
+    }
+    Ok(numbers)
+}

@@ -1,6 +1,8 @@
 //! Accepted designs, for programs that play cases over them.
 #![tactic(auto)]
 
+pub mod lines;
+
 use acc_accept::accept;
 use acc_cert_read::certificates::read;
 use acc_lift::Accepted;

@@ -1,11 +1,14 @@
 //! The cases by their verbs.
 use crate::{designs, journals};
+use acc_case_answers::answers::{answer_at_once, answer_into, tell_lines};
+use acc_case_answers::faults::{shelf, sink};
+use acc_case_answers::folders::hold_files;
+use acc_case_answers::runs::{play_texts, sched_last, sched_texts};
 use acc_case_commands::texts::{self, Change, first_word};
 use acc_case_commands::{memory, proofs};
 use acc_cli::acc;
-use acc_io::{FolderShelf, MemShelf, MemSink, StdSink};
+use acc_io::{FolderShelf, StdSink};
 use acc_progress::Silent;
-use std::alloc::{AllocError, Global};
 use std::rt::Files;
 use std::{fs, io};
 
@@ -19,47 +22,11 @@ fn run<R: Files + Print + AllocGlobal>(rt: &R, line: &str) -> io::Result<()> {
     println!(rt; "status {}", done.status)
 }
 
-/// Answers a command line over a shelf in memory, printed at once, and tells the status and how many events there were.
-fn answer_at_once<R: Print + AllocGlobal>(
-    rt: &R,
-    line: &str,
-    shelf: &mut MemShelf,
-) -> io::Result<()> {
-    let mut out = StdSink::new(rt);
-    let (status, events) = memory::answer(rt.alloc(), line, shelf, &mut out)?;
-    println!(rt; "status {status}, {events} events")
-}
-
-/// Plays a design, a script and an order.
-fn play_texts<R: Print + AllocGlobal>(
-    rt: &R,
-    design: &str,
-    script: &str,
-    order: &str,
-) -> io::Result<()> {
-    let mut shelf = memory::shelf(rt.alloc(), design)?;
-    memory::hold_run(&mut shelf, script, order)?;
-    answer_at_once(rt, "play design script order", &mut shelf)
-}
-
 /// `play DESIGN SCRIPT -> ORDER`: a play of a design of the folder, with the script and the order that stand there.
 fn play<R: Files + Print + AllocGlobal>(rt: &R, name: &str, rest: &str) -> io::Result<()> {
     let design = fs::read_to_string(rt, name)?;
     let (script, order) = rest.split_once(" -> ").unwrap_or((rest, ""));
     play_texts(rt, design.as_str(), script, order)
-}
-
-/// Schedules a script in an order over a design and a certificate.
-fn sched_texts<R: Print + AllocGlobal>(
-    rt: &R,
-    design: &str,
-    certificate: &str,
-    rest: &str,
-) -> io::Result<()> {
-    let (script, order) = rest.split_once(" -> ").unwrap_or((rest, ""));
-    let mut shelf = memory::certified_shelf(rt.alloc(), design, certificate)?;
-    memory::hold_run(&mut shelf, script, order)?;
-    answer_at_once(rt, memory::SCHED, &mut shelf)
 }
 
 /// `sched DESIGN CERT SCRIPT -> ORDER`: a schedule over a design and a certificate of the folder, with the script and the order that
@@ -69,38 +36,6 @@ fn sched<R: Files + Print + AllocGlobal>(rt: &R, name: &str, rest: &str) -> io::
     let design = fs::read_to_string(rt, name)?;
     let certificate = fs::read_to_string(rt, certificate)?;
     sched_texts(rt, design.as_str(), certificate.as_str(), rest)
-}
-
-/// Prints the last two lines of a text.
-fn tell_last<R: Print>(rt: &R, text: &str) -> io::Result<()> {
-    let count = text.lines().count();
-    for line in text.lines().skip(count.saturating_sub(2)) {
-        println!(rt; "{line}")?;
-    }
-    Ok(())
-}
-
-/// Answers a command line over a shelf in memory, and tells the last two lines, the status and how many events there were.
-fn answer_last<R: Print + AllocGlobal>(rt: &R, line: &str, shelf: &mut MemShelf) -> io::Result<()> {
-    let mut out = memory::sink(rt.alloc(), &[], &[])?;
-    let (status, events) = memory::answer(rt.alloc(), line, shelf, &mut out)?;
-    tell_last(
-        rt,
-        String::from_utf8_lossy(rt.alloc(), out.bytes())?.as_str(),
-    )?;
-    println!(rt; "status {status}, {events} events")
-}
-
-/// Schedules a script without an order over a design and a certificate, and tells how that ends.
-fn sched_last<R: Print + AllocGlobal>(
-    rt: &R,
-    design: &str,
-    certificate: &str,
-    script: &str,
-) -> io::Result<()> {
-    let mut shelf = memory::certified_shelf(rt.alloc(), design, certificate)?;
-    memory::hold_run(&mut shelf, script, "")?;
-    answer_last(rt, memory::SCHED, &mut shelf)
 }
 
 /// `many DESIGN CERT COUNT LINE`: a schedule over a design and a certificate of the folder, with so many lines for a script and no order;
@@ -140,70 +75,6 @@ fn proved<R: Files + Print + AllocGlobal>(rt: &R, name: &str) -> io::Result<()> 
     proofs::tell(rt, design.as_str())
 }
 
-/// The numbers with commas between them; a `-` is none.
-pub fn numbers(alloc: Global, text: &str) -> Result<Vec<u64>, AllocError> {
-    let mut numbers = Vec::new(alloc);
-    for word in text.split(',') {
-        if let Ok(number) = word.parse() {
-            numbers.push(number)?;
-        }
-    }
-    Ok(numbers)
-}
-
-/// A shelf some of whose reads fail.
-fn shelf(alloc: Global, reads: &str) -> Result<MemShelf, AllocError> {
-    let reads = numbers(alloc, reads)?;
-    memory::empty_shelf(alloc, &reads)
-}
-
-/// A sink; the writes of the first list fail, and the others take no more than the second says.
-pub fn sink(alloc: Global, writes: &str, takes: &str) -> Result<MemSink, AllocError> {
-    let writes = numbers(alloc, writes)?;
-    let takes = numbers(alloc, takes)?;
-    memory::sink(alloc, &writes, &takes)
-}
-
-/// Puts a file of the folder on the shelf, if there is one.
-fn hold_file<R: Files + AllocGlobal>(
-    rt: &R,
-    shelf: &mut MemShelf,
-    name: &str,
-) -> Result<(), AllocError> {
-    match fs::read(rt, name) {
-        Ok(bytes) => memory::hold(shelf, name, &bytes),
-        Err(_) => Ok(()),
-    }
-}
-
-/// Puts the folder's files that the words name on the shelf, but for one.
-pub fn hold_files<R: Files + AllocGlobal>(
-    rt: &R,
-    shelf: &mut MemShelf,
-    words: &str,
-    absent: &str,
-) -> Result<(), AllocError> {
-    for name in words.split_whitespace() {
-        if name != absent {
-            hold_file(rt, shelf, name)?;
-        }
-    }
-    Ok(())
-}
-
-/// Answers a command line over a shelf in memory, and tells what was written, as a text with quotes, the status and how
-/// many events there were.
-fn answer_into<R: Print + AllocGlobal>(
-    rt: &R,
-    line: &str,
-    shelf: &mut MemShelf,
-    out: &mut MemSink,
-) -> io::Result<()> {
-    let (status, events) = memory::answer(rt.alloc(), line, shelf, out)?;
-    let text = String::from_utf8_lossy(rt.alloc(), out.bytes())?;
-    println!(rt; "{:?}\nstatus {status}, {events} events", text.as_str())
-}
-
 /// `fails ABSENT READS WRITES TAKES WORDS`: a command line over a shelf in memory that lacks a file and some of whose reads
 /// fail, and over a sink in memory some of whose writes fail or take less.
 fn fails<R: Files + Print + AllocGlobal>(rt: &R, text: &str) -> io::Result<()> {
@@ -215,17 +86,6 @@ fn fails<R: Files + Print + AllocGlobal>(rt: &R, text: &str) -> io::Result<()> {
     hold_files(rt, &mut shelf, words, absent)?;
     let mut out = sink(rt.alloc(), writes, takes)?;
     answer_into(rt, words, &mut shelf, &mut out)
-}
-
-/// Prints what is shown of a changed design: a refusal, or the lines that aren't shown of the unchanged one; then the status.
-fn tell_lines<R: Print>(rt: &R, shown: &str, before: &str) -> io::Result<()> {
-    for line in shown.lines() {
-        let always = line.starts_with("refused") || line.starts_with("status");
-        if always || !texts::has_line(before, line) {
-            println!(rt; "{line}")?;
-        }
-    }
-    Ok(())
 }
 
 /// Shows a design.

@@ -10,14 +10,14 @@ use Rattle.acc_base.specs.declared.forms.Form.{Form}
 use Rattle.acc_cert_read.specs.declared.words.AtomWord.{AtomWord}
 use Rattle.acc_cert_read.specs.declared.words.AtomWord.TheVariants as word
 use Rattle.acc_cert_read.specs.Parts.{Part, Off, and_then, gives, given, field, ends, one, two, three, list_of}
-use Rattle.acc_cert_read.specs.Spellings.{wide_number, narrow_number, index}
+use Rattle.acc_cert_read.specs.Spellings.{near_number, narrow_number, index}
 use Rattle.acc_cert_read.specs.Words.{atom_word}
 
 abbrev pub index_of : Data → Part ℕ
 index_of d = given (index d)
 
 abbrev pub wide_of : Data → Part ℤ
-wide_of d = given (wide_number d)
+wide_of d = given (near_number d)
 
 abbrev pub narrow_of : Data → Part ℤ
 narrow_of d = given (narrow_number d)

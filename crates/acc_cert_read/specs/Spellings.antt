@@ -13,8 +13,8 @@ abbrev pub number_within : (ℤ → Bool) → List ℕ → Option ℤ
 number_within fits s =
     let z = signed_digits_value 10 s in if fits z && bytes_eq (signed_decimal z) s then Some z else None
 
-abbrev pub wide_number : Data → Option ℤ
-wide_number d = option_and_then (number_within is_near) (as_str d)
+abbrev pub near_number : Data → Option ℤ
+near_number d = option_and_then (number_within is_near) (as_str d)
 
 abbrev pub narrow_number : Data → Option ℤ
 narrow_number d = option_and_then (number_within is_narrow) (as_str d)

@@ -1,6 +1,6 @@
 //! What the program answers.
-use crate::journals::Journals;
 use acc_case_commands::memory;
+use acc_case_documents::journals::Journals;
 use acc_cli::{acc, asks_journal};
 use acc_disk::MemDisk;
 use acc_io::{FolderShelf, Shelf};

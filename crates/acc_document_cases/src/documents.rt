@@ -1,38 +1,15 @@
 //! The commands and rows of a document, with what each shows.
 use crate::answers::answer;
-use crate::journals::Journals;
-use crate::rows::{Row, of_change, of_script, row_of};
+use crate::rows::{of_change, of_script};
+use acc_case_documents::blocks::{block, lines_of};
+use acc_case_documents::journals::Journals;
+use acc_case_documents::rows::{Row, row_of};
 use std::alloc::{AllocError, Global};
 use std::rt::Files;
 use std::{fs, io};
 
 /// The design of which a row shows a change.
 const DESIGN: &str = "examples/wallet.design";
-
-/// What a block is indented by.
-const INDENT: &str = "    ";
-
-/// The lines of a text.
-fn lines_of(alloc: Global, text: &str) -> Result<Vec<&str>, AllocError> {
-    let mut lines = Vec::new(alloc);
-    for line in text.split('\n') {
-        lines.push(line)?;
-    }
-    Ok(lines)
-}
-
-/// The lines of a block up to its end, without what they are indented by.
-fn block(alloc: Global, lines: &[&str]) -> Result<String, AllocError> {
-    let mut text = String::new(alloc);
-    for line in lines {
-        let Some(shown) = line.strip_prefix(INDENT) else {
-            return Ok(text);
-        };
-        text.push_str(shown)?;
-        text.push_str("\n")?;
-    }
-    Ok(text)
-}
 
 /// Tells whether an answer is the one that is shown.
 fn tell_answer<R: Print + AllocGlobal>(

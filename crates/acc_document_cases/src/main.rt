@@ -11,7 +11,6 @@
 
 mod answers;
 mod documents;
-mod journals;
 mod rows;
 
 use std::io;

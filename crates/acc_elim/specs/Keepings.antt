@@ -1,5 +1,5 @@
 -- What is kept of relations that were read.
-use Rattle.std.specs.Prelude.{length, List, IfSome}
+use Rattle.std.specs.Prelude.{◌≤◌, ℕ, length, take, List, IfSome}
 use Rattle.acc_base.specs.declared.forms.Rel.{Rel}
 use Rattle.acc_stages.specs.declared.known.Known.{Known}
 use Rattle.acc_stages.specs.Ends.{IsKnown}
@@ -10,6 +10,11 @@ use Rattle.acc_elim.specs.Readings.{AreRead}
 -- this is kept of the elimination of what was read
 abbrev pub IsKept : Reading → Known → Type 0
 IsKept r k = IsKnown r.rows.items (length r.names.items) k
+
+-- this is kept of what was read, where the other is kept of so many first rows
+abbrev pub IsCarriedTo : Reading → ℕ → Known → Known → Type 0
+IsCarriedTo r before k l =
+    (n : ℕ) → n ≤ length r.names.items → IsKnown (take before r.rows.items) n k → IsKept r l
 
 -- the first relations were read, and this is kept of them
 pub record AreKept (rels : List Rel) (k : Kept) : Type 0 where

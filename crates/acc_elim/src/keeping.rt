@@ -1,21 +1,21 @@
 //! Relations that are read once, and whose stage of equations is kept, for many searches.
-ghost use Rattle.std.specs.Prelude.{◌≡◌, ◌≤◌, ◌∷◌, ◌++◌, [], None, length, IfOk, IsOkAnd, IfErr, IfSome};
-ghost use Rattle.acc_systems.specs.Answers.{Answers, Leaves, StoppedBy, steps};
+ghost use Rattle.std.specs.Prelude.{◌≡◌, ◌≤◌, ◌∷◌, ◌++◌, [], ℕ, None, length, IfOk, IfSome};
+ghost use Rattle.acc_systems.specs.Answers.{Answers, Leaves, steps};
 ghost use Rattle.acc_points.specs.Readings.{read_next};
 ghost use Rattle.acc_points.specs.Searches.{searched};
-ghost use Rattle.acc_stages.specs.Ends.{IsKnown};
-ghost use Rattle.acc_elim.specs.Readings.{unread, read_of, found_in};
-ghost use Rattle.acc_elim.specs.Keepings.{IsKept, AreKept};
+ghost use Rattle.acc_stages.specs.Ends.{IsKnown, IsKnownWithin};
+ghost use Rattle.acc_elim.specs.Readings.{unread, read_of, found_in, AreRead};
+ghost use Rattle.acc_elim.specs.Keepings.{IsKept, IsCarriedTo, AreKept};
 
 use crate::reading::{Reading, counted};
 use acc_base::forms::Rel;
 use acc_base::sequences::Seq;
 use acc_points::readings::read_next;
 use acc_stages::copies::copied_rows;
-use acc_stages::known::{Known, found, found_anew, found_with, known_of};
+use acc_stages::known::{Known, carried_on, found, found_with, known_of};
 use acc_systems::rows::Row;
 use acc_systems::stops::Stop;
-use std::alloc::Global;
+use std::alloc::{AllocError, Global};
 
 /// What was read, and what is kept of its elimination, once it was asked about.
 #[derive(Drop)]
@@ -47,26 +47,52 @@ impl Kept {
         self.known = None;
     }
 
-    /// Reads the relations that aren't read yet. Where there are some, what was kept of the others' elimination goes.
+    /// Reads the relations that aren't read yet, and carries them along in what is kept of the others' elimination.
+    fn carry(&mut self, alloc: Global, known: Known, rels: &[Rel]) -> Result<(), Stop>
+        requires read { AreRead rels.now self.old.reading }
+        requires known { IsKept self.old.reading known }
+        requires gone { self.old.known ≡ None }
+        ensures kept { AreKept rels.now self.new }
+        ensures all { Leaves result (read_of self.new.reading) (steps read_next unread rels.now) }
+    {
+        let before = self.reading.rows.len();
+        self.reading.catch_up(alloc, rels)?;
+        self.known = carried(alloc, known, before, &self.reading);
+        Ok(())
+    }
+
+    /// Reads the relations that aren't read yet.
     fn catch_up(&mut self, alloc: Global, rels: &[Rel]) -> Result<(), Stop>
         requires { AreKept rels.now self.old }
         ensures kept { AreKept rels.now self.new }
         ensures all { Leaves result (read_of self.new.reading) (steps read_next unread rels.now) }
     {
-        if self.reading.count < rels.len() {
-            self.known = None;
-            return self.reading.catch_up(alloc, rels);
+        if self.reading.count >= rels.len() {
+            return Ok(());
         }
-        Ok(())
+        match self.known.take() {
+            None => self.reading.catch_up(alloc, rels),
+            Some(known) => self.carry(alloc, known, rels),
+        }
+    }
+}
+
+/// What is kept of the first rows with the others of a reading behind them; `None` where nothing can be kept.
+fn carried(alloc: Global, known: Known, before: usize, reading: &Reading) -> Option<Known>
+    requires { before ≤ length reading.now.rows.items }
+    ensures { IfSome result (IsCarriedTo reading.now before known) }
+{
+    match counted(reading.names.len()) {
+        Err(_) => None,
+        Ok(unknowns) => carried_on(alloc, known, unknowns, &reading.rows.as_slice()[before..]),
     }
 }
 
 /// What is kept of the elimination is taken out; it is made where it isn't there.
-fn taken(alloc: Global, kept: &mut Option<Known>, reading: &Reading) -> Result<Known, Stop>
+fn taken(alloc: Global, kept: &mut Option<Known>, reading: &Reading) -> Result<Known, AllocError>
     requires { IfSome kept.old (IsKept reading.now) }
     ensures value { IfOk result (IsKept reading.now) }
     ensures gone { kept.new ≡ None }
-    ensures stops { IfErr result (λ e. StoppedBy e (found_in (read_of reading.now))) }
 {
     match kept.take() {
         Some(known) => Ok(known),
@@ -95,26 +121,20 @@ pub fn searched(alloc: Global, kept: &mut Kept, rels: &[Rel]) -> Result<Seq<(i12
 fn found_last(
     alloc: Global,
     slot: &mut Option<Known>,
-    known: Result<Known, Stop>,
+    mut known: Known,
     reading: &Reading,
     row: Row,
 ) -> Result<Seq<(i128, i128)>, Stop>
-    requires known { IfOk known (λ k. IsKnown reading.now.rows.items k.unknowns k) }
-    requires within { IfOk known (λ k. k.unknowns ≤ length reading.now.names.items) }
+    requires known { IsKnownWithin reading.now.rows.items (length reading.now.names.items) known }
     requires gone { slot.old ≡ None }
-    ensures kept { IfSome slot.new (λ k. IsOkAnd known (λ j. IsKnown reading.now.rows.items j.unknowns k)) }
+    ensures kept { IfSome slot.new (λ k. (n : ℕ) → IsKnown reading.now.rows.items n known → IsKnown reading.now.rows.items n k) }
     ensures value { Answers result (found_in (reading.now.names.items, reading.now.rows.items ++ row ∷ [])) }
 {
     let unknowns = counted(reading.names.len())?;
     let rows = reading.rows.as_slice();
-    match known {
-        Err(_) => found_anew(alloc, rows, unknowns, row),
-        Ok(mut known) => {
-            let end = found_with(alloc, &mut known, rows, unknowns, row);
-            *slot = Some(known);
-            end
-        }
-    }
+    let end = found_with(alloc, &mut known, rows, unknowns, row);
+    *slot = Some(known);
+    end
 }
 
 /// The same where one more relation, which isn't kept, comes behind the others.
@@ -129,7 +149,7 @@ pub fn searched_with(
     ensures value { Answers result (searched (rels.now ++ last.now ∷ [])) }
 {
     kept.catch_up(alloc, rels)?;
-    let known = taken(alloc, &mut kept.known, &kept.reading);
+    let known = taken(alloc, &mut kept.known, &kept.reading)?;
     let count = kept.reading.names.len();
     let place = counted(kept.reading.rows.len())?;
     match read_next(alloc, &mut kept.reading.names, place, last) {

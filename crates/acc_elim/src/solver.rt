@@ -15,7 +15,7 @@ use std::alloc::{AllocError, Global};
 use std::marker::Model;
 
 /// Relations, one behind the other, and what is kept of them. Each is read once, when it is first asked about; their equations are used
-/// once for all questions until one more comes.
+/// once for all questions until another equation comes, and also where they stop the elimination.
 #[derive(Drop)]
 pub struct Solver {
     rels: Vec<Rel>,

@@ -48,6 +48,23 @@ fn asked(alloc: Global, verb: &str, words: &str) -> Result<Vec<Rel>, AllocError>
     }
 }
 
+/// The verdict of relations with this one behind them. Behind `also ` it stays there.
+fn push_verdict_with(
+    alloc: Global,
+    out: &mut String,
+    solver: &mut Solver,
+    words: &str,
+) -> Result<(), AllocError> {
+    let (only, also) = parted(words, "also ");
+    let last = if also.is_empty() { only } else { also };
+    let verdict = solver.decide_with(alloc, relation(alloc, last)?);
+    push_verdict(out, verdict)?;
+    if !also.is_empty() {
+        solver.push(relation(alloc, last)?)?;
+    }
+    Ok(())
+}
+
 /// The verdicts of relations with each of these behind them, one after the other.
 fn push_verdicts(alloc: Global, out: &mut String, words: &str) -> Result<(), AllocError> {
     let (known, lasts) = parted(words, " | ");
@@ -56,8 +73,7 @@ fn push_verdicts(alloc: Global, out: &mut String, words: &str) -> Result<(), All
         if !out.is_empty() {
             out.push_str(" | ")?;
         }
-        let verdict = solver.decide_with(alloc, relation(alloc, last)?);
-        push_verdict(out, verdict)?;
+        push_verdict_with(alloc, out, &mut solver, last)?;
     }
     Ok(())
 }

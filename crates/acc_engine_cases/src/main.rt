@@ -23,7 +23,7 @@
 mod faults;
 mod stops;
 
-use acc_case_designs::accepted_file;
+use acc_case_designs::lines::answer_lines;
 use acc_case_engines::runs::{self, Case};
 use acc_case_journals::{commands, files};
 use acc_case_words::words::{number, parted};
@@ -63,39 +63,6 @@ fn push_answer(
     }
 }
 
-/// What a line answers.
-fn answer(alloc: Global, design: Option<&Accepted>, line: &str) -> Result<String, AllocError> {
-    let mut out = String::new(alloc);
-    match design {
-        Some(design) => push_answer(alloc, &mut out, design, line)?,
-        None => out.push_str("no design")?,
-    }
-    Ok(out)
-}
-
-/// Answers a line, and prints both; a line with '#' is a remark.
-fn play(rt: &impl Print, alloc: Global, design: Option<&Accepted>, line: &str) -> io::Result<()> {
-    if line.is_empty() || line.starts_with('#') || line.starts_with("design ") {
-        return rt.println(line);
-    }
-    let said = answer(alloc, design, line)?;
-    println!(rt; "{line} -> {said}")
-}
-
-/// Takes the design that a line gives, or answers the line.
-fn take(rt: &HostRuntime, design: &mut Option<Accepted>, line: &str) -> io::Result<()> {
-    if let Some(files) = line.strip_prefix("design ") {
-        let (text, certificate) = parted(files, " ");
-        *design = accepted_file(rt, text, certificate)?;
-    }
-    play(rt, rt.alloc(), design.as_ref(), line)
-}
-
 fn main(rt: HostRuntime) -> io::Result<()> {
-    let mut design = None;
-    for line in rt.lines(rt.alloc()) {
-        let line = line?;
-        take(&rt, &mut design, &line)?;
-    }
-    Ok(())
+    answer_lines(&rt, push_answer)
 }

@@ -1,5 +1,5 @@
 -- What a walk over a design keeps of the marks that it met.
--- Only the code that meets limits speaks of this, here and in acc_meaning; Statements and Faults say what they are.
+-- Only the code that meets limits speaks of this, here, in acc_clauses and in acc_meaning; Statements and Faults say what they are.
 use Rattle.std.specs.Prelude.{◌+◌, ◌-◌, ◌^◌, Bool, ◌&&◌, List, if◌then◌else◌, nat_lt, nat_le, fold}
 use Rattle.acc_base.specs.Leasts.{better}
 use Rattle.acc_limits.specs.declared.walks.Walk.{Walk}

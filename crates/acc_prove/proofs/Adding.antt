@@ -17,7 +17,8 @@ use Rattle.acc_prover.specs.declared.found.Found.{Found}
 use Rattle.acc_prover.specs.declared.found.Found.TheVariants.{Proved, Unproved}
 use Rattle.acc_prover.specs.declared.found.SearchError.{SearchError}
 use Rattle.acc_prover.specs.declared.found.SearchError.TheVariants.{Crowded, Wide, Many, Memory}
-use Rattle.acc_prover.specs.Tellings.{Closes, Tells, IfProved, IsProof}
+use Rattle.acc_searched.specs.Courses.{IsProof}
+use Rattle.acc_prover.specs.Tellings.{Closes, Tells, IfProved}
 use Rattle.acc_prove.specs.declared.proving.Proving.{Proving}
 use Rattle.acc_prove.specs.Lines.{searched, open_line, open_lines}
 use Rattle.acc_prove.specs.Founds.{found_line, found_proofs, Gives, GivesAll, AddsProofs, Ends, ProvesAll}

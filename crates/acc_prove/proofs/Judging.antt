@@ -17,7 +17,8 @@ use Rattle.acc_oblig.specs.Laws.{drafts_of, sequents_of}
 use Rattle.acc_obligations.specs.Causes.{first_wide}
 use Rattle.acc_accept.specs.Accepting.{IsProved, AreProved, Accepts}
 use Rattle.acc_accept.proofs.Soundness.{accepted_is_sound}
-use Rattle.acc_prover.specs.Tellings.{Closes, IsProof}
+use Rattle.acc_searched.specs.Courses.{IsProof}
+use Rattle.acc_prover.specs.Tellings.{Closes}
 use Rattle.acc_prove.specs.declared.proving.Proving.{Proving}
 use Rattle.acc_prove.specs.declared.proving.Proving.TheVariants.{Proved, Open, Wide}
 use Rattle.acc_prove.specs.Lines.{searched, open_line, open_lines}

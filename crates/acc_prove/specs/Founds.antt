@@ -12,7 +12,7 @@ use Rattle.acc_prover.specs.declared.found.Found.{Found}
 use Rattle.acc_prover.specs.declared.found.Found.TheVariants.{Proved, Unproved}
 use Rattle.acc_prover.specs.declared.found.SearchError.{SearchError}
 use Rattle.acc_prover.specs.declared.found.SearchError.TheVariants.{Crowded, Wide, Many, Memory}
-use Rattle.acc_prover.specs.Tellings.{IsProof}
+use Rattle.acc_searched.specs.Courses.{IsProof}
 use Rattle.acc_prove.specs.declared.proving.Proving.{Proving}
 use Rattle.acc_prove.specs.declared.proving.Proving.TheVariants as proving
 use Rattle.acc_prove.specs.Lines.{searched, point_text, line_of, open_lines}

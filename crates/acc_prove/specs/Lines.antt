@@ -12,7 +12,7 @@ use Rattle.acc_axioms.specs.declared.nodes.Node.{Node}
 use Rattle.acc_branch.specs.declared.halts.Halt.{Halt}
 use Rattle.acc_branch.specs.declared.halts.Halt.TheVariants.{Open, Crowded, Wide, Many, Memory}
 use Rattle.acc_branch.specs.Courses.{Course}
-use Rattle.acc_prover.specs.Searches.{course}
+use Rattle.acc_course.specs.Searches.{course}
 use Rattle.acc_check.specs.Origins.{origin_text}
 use Rattle.acc_prove.specs.Hints.{hints_of}
 

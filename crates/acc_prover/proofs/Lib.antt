@@ -1,10 +1,1 @@
-pub mod Good
-pub mod Showing
-pub mod Nodes
-pub mod Instances
-pub mod Trying
-pub mod Closing
 pub mod Searched
-pub mod Solutions
-pub mod Guards
-pub mod Clashes

@@ -1,4 +1,1 @@
-pub mod Passes
-pub mod Searches
 pub mod Tellings
-pub mod OpenLeaves

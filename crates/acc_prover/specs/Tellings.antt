@@ -5,9 +5,9 @@ use Rattle.acc_base.specs.declared.forms.Rel.{Rel}
 use Rattle.acc_base.specs.declared.sequents.Sequent.{Sequent}
 use Rattle.acc_points.specs.Points.{Point}
 use Rattle.acc_axioms.specs.declared.nodes.Node.{Node}
-use Rattle.acc_proof.specs.Proofs as proofs
 use Rattle.acc_branch.specs.declared.halts.Halt.TheVariants as halt
 use Rattle.acc_branch.specs.Courses.{Course}
+use Rattle.acc_searched.specs.Courses.{IsProof}
 use Rattle.acc_prover.specs.declared.found.Found.{Found}
 use Rattle.acc_prover.specs.declared.found.Found.TheVariants.{Proved, Unproved}
 use Rattle.acc_prover.specs.declared.found.SearchError.{SearchError}
@@ -39,9 +39,6 @@ IfUnproved (Ok (Unproved leaf point)) P = P leaf point
 IfUnproved (Err e) P = Unit {0}
 
 -- where the nodes with which a search ends are a proof, so are those of an answer
-abbrev pub IsProof : Design → Sequent → List Node → Type 0
-IsProof d q nodes = proofs.verdict d q nodes ≡ proofs.Proved
-
 abbrev pub KeepsProof : Design → Sequent → Course (List Node) → Result Found SearchError → Type 0
 KeepsProof d q (Ok nodes) r = IsProof d q nodes → IfProved r (IsProof d q)
 KeepsProof d q (Err e) r = Unit {0}

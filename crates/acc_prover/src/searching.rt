@@ -1,93 +1,25 @@
 //! The search for a proof of a sequent.
-ghost use Rattle.std.specs.Prelude.{◌≡◌, Ok, map, IsTrue, IfOk, MatchResult};
+ghost use Rattle.std.specs.Prelude.{◌≡◌, IsTrue, IfOk};
 ghost use Rattle.acc_base.specs.TrueSequents.{SequentTrue};
 ghost use Rattle.acc_cert_bounds.specs.InBounds.{nodes as are_in_bounds};
-ghost use Rattle.acc_inst.specs.Making.{instance_of};
-ghost use Rattle.acc_inst.specs.Lists.{lists_of};
-ghost use Rattle.acc_branch.specs.Courses.{Answers, StoppedBy};
-ghost use Rattle.acc_branch.specs.Known.{known_of};
-ghost use Rattle.acc_prover.specs.Searches.{of_lists, starting, started, course};
-ghost use Rattle.acc_prover.specs.Tellings.{Tells, IfProved, IfUnproved, IsProof, KeepsProof};
-ghost use Rattle.acc_prover.specs.OpenLeaves.{IsOpenLeaf};
+ghost use Rattle.acc_course.specs.Searches.{course};
+ghost use Rattle.acc_searched.specs.Courses.{IsProof};
+ghost use Rattle.acc_searched.specs.OpenLeaves.{IsOpenLeaf};
+ghost use Rattle.acc_prover.specs.Tellings.{Tells, IfProved, IfUnproved, KeepsProof};
 
-use crate::branches::branch;
 use crate::found::{Found, SearchError};
 use acc_axioms::nodes::{Node, Proof};
 use acc_base::designs::Design;
-use acc_base::forms::{Form, Lin, Rel};
+use acc_base::forms::Lin;
 use acc_base::sequences::Seq;
 use acc_base::sequents::Sequent;
-use acc_branch::copies::copied_rels;
 use acc_branch::halts::Halt;
-use acc_branch::known::{Branch, above};
 use acc_cert_bounds::bounded::Bounded;
-use acc_elim::solver::Solver;
-use acc_inst::listing::InstError;
-use acc_inst::lists::{Made, made_lists};
-use acc_inst::making::Instance;
+use acc_course::courses::course;
 use acc_proof::checks::proves;
 use acc_proof::errors::ProofError;
 use acc_pruning::pruning::pruned;
 use std::alloc::{AllocError, Global};
-
-/// The lists of a sequent with what its instances say.
-fn listed(alloc: Global, sequent: &Sequent, hints: &[Lin]) -> Result<Made, Halt>
-    ensures value { MatchResult result (λ m. of_lists (lists_of sequent.now hints.now) ≡ Ok m.listed)
-        (λ e. StoppedBy e (of_lists (lists_of sequent.now hints.now))) }
-    ensures made { IfOk result (λ m. m.made ≡ map (instance_of sequent.now) m.listed.insts) }
-{
-    match made_lists(alloc, sequent, hints) {
-        Ok(made) => Ok(made),
-        Err(InstError::Crowded) => Err(Halt::Crowded),
-        Err(InstError::Wide) => Err(Halt::Wide),
-        Err(InstError::Memory) => Err(Halt::Memory),
-    }
-}
-
-/// A branch that knows the relations of a sequent, and that its goal isn't met.
-fn starting(alloc: Global, sequent: &Sequent, contrary: Rel) -> Result<Branch, AllocError>
-    ensures { IfOk result (λ b. known_of b ≡ starting sequent.now contrary) }
-{
-    let mut rels = copied_rels(alloc, sequent.rels.as_slice())?;
-    rels.push(contrary)?;
-    Ok(Branch {
-        rels: Solver::new(alloc, rels),
-        insts: Vec::new(alloc),
-        axioms: Vec::new(alloc),
-    })
-}
-
-/// The nodes of the search, where these are the instances and the splits.
-fn started(
-    alloc: Global,
-    design: &Design,
-    sequent: &Sequent,
-    made: &[Instance],
-    splits: &[Form],
-) -> Result<Seq<Node>, Halt>
-    ensures { Answers result (started design.now sequent.now made.now splits.now) }
-{
-    let contrary = above(alloc, &sequent.goal)?;
-    let known = starting(alloc, sequent, contrary)?;
-    let mut nodes = Vec::new(alloc);
-    branch(alloc, design, sequent, made, known, &mut nodes, splits)?;
-    Ok(Seq::from_vec(nodes))
-}
-
-/// The nodes of the search, or what ends it.
-fn course(
-    alloc: Global,
-    design: &Design,
-    sequent: &Sequent,
-    hints: &[Lin],
-) -> Result<Seq<Node>, Halt>
-    ensures { Answers result (course design.now sequent.now hints.now) }
-{
-    let lists = listed(alloc, sequent, hints)?;
-    let made = lists.made.as_slice();
-    let splits = lists.listed.splits.as_slice();
-    started(alloc, design, sequent, made, splits)
-}
 
 /// The proof that has these nodes. `AllocError` where they have a number that no certificate's file can hold.
 fn whole(nodes: Seq<Node>) -> Result<Proof, AllocError>

@@ -1,27 +1,25 @@
 -- What an elimination ends with is what its stage of equations ends with, and the rest from there.
-use Rattle.std.proofs.Common.{◌≡◌, ◌≤◌, ◌+◌, ◌-◌, ℕ, zero, suc, Bool, true, false, List, [], ◌∷◌, ◌++◌, Option, Some, None, Ok, Err, refl, ap}
-use Rattle.std.proofs.Common.{sym, ◌∙◌, subst, arith, append-nil, append_assoc, ◌||◌, ◌⊎◌, inl, inr}
-use Rattle.std.specs.Prelude.{Result, IfOk, IfErr, IsErrAnd, IfSome, reverse}
-use Rattle.std.proofs.lemmas.Result.{err_from_is_err_and}
+use Rattle.std.proofs.Common.{◌≡◌, ◌≤◌, ◌+◌, ◌-◌, ℕ, zero, suc, Bool, true, false, List, [], ◌∷◌, ◌++◌, Option, Some, None}
+use Rattle.std.proofs.Common.{Ok, Err, refl, ap}
+use Rattle.std.proofs.Common.{sym, ◌∙◌, arith, append-nil, append_assoc, ◌||◌, ◌⊎◌, inl, inr}
+use Rattle.std.specs.Prelude.{IfOk, IfSome, reverse}
 use Rattle.std.specs.List.{list_any}
 use Rattle.std.proofs.lemmas.List.{reverse-append}
 use Rattle.std.proofs.lemmas.List.Folds.{list_any-append}
-use Rattle.acc_systems.specs.declared.stops.Stop.{Stop}
 use Rattle.acc_systems.specs.declared.rows.Row.{Row}
 use Rattle.acc_systems.specs.declared.systems.Reduced.{Reduced}
 use Rattle.acc_systems.specs.declared.systems.Bounded.{Bounded}
-use Rattle.acc_systems.specs.Answers.{Computation, chain, steps, StoppedBy}
+use Rattle.acc_systems.specs.Answers.{Computation, chain, steps}
 use Rattle.acc_systems.specs.Systems.{admitted, taken, whole, set_aside, counted, crossed, unbounded}
-use Rattle.acc_systems.proofs.Chains.{stopped_chain, stopped_along}
 use Rattle.acc_points.specs.Points.{Point, placed, placed_by, zeros, point_of}
 use Rattle.acc_points.specs.Searches.{found_by}
 use Rattle.acc_stages.specs.declared.stages.Step.{Step}
 use Rattle.acc_stages.specs.declared.stages.Stage.{Stage}
 use Rattle.acc_stages.specs.Followed.{listed, through}
-use Rattle.acc_stages.specs.Stages.{begun, aside_of, reduced, with_last, IsStage}
+use Rattle.acc_stages.specs.Stages.{begun, aside_of, reduced, with_last}
 use Rattle.acc_stages.specs.Ends.{placed_at, found_from, found_behind, is_equation}
 use Rattle.acc_stages.proofs.Lefts.{not_taken, through_same}
-use Rattle.acc_stages.proofs.Extended.{begun_append, aside_is}
+use Rattle.acc_stages.proofs.Extended.{Laws, begun_append, aside_is}
 
 abbrev pub rest : ℕ → Reduced → Computation Point
 rest n r = found_from n r.rows r.aside r.left
@@ -66,20 +64,10 @@ counted_split n m h =
     let f : 0 + n ≡ n = omega arith in
     ap (counted 0) e ∙ (counted_append n (m - n) 0 ∙ ap (λ j. counted 0 n ++ counted j (m - n)) f)
 
-begun_more : (rows : List Row) (n m : ℕ) → n ≤ m → begun rows m ≡ chain (begun rows n) (λ s. steps set_aside s (counted n (m - n)))
+pub begun_more : (rows : List Row) (n m : ℕ) → n ≤ m → begun rows m ≡ chain (begun rows n) (λ s. steps set_aside s (counted n (m - n)))
 begun_more rows n m h =
     ap (λ us. chain (steps admitted [] rows) (λ system. steps set_aside (whole system) us)) (counted_split n m h)
     ∙ begun_append rows (counted n (m - n)) (counted 0 n)
-
-pub begun_stopped_on : (rows : List Row) (n m : ℕ) (s : Reduced) (e : Stop) → suc n ≤ m → begun rows n ≡ Ok s
-    → StoppedBy e (set_aside s n) → StoppedBy e (begun rows m)
-begun_stopped_on rows n m s e within is stopped =
-    let less : n ≤ m = omega (arith, within) in
-    let one : m - n ≡ suc (m - suc n) = omega (arith, within) in
-    stopped_along e _ _
-    (sym (begun_more rows n m less
-    ∙ (ap (λ o. chain o (λ s. steps set_aside s (counted n (m - n)))) is ∙ ap (λ k. steps set_aside s (counted n k)) one)))
-    (stopped_chain e (set_aside s n) (λ t. steps set_aside t (counted (suc n) (m - suc n))) stopped)
 
 -- ---- relations of which none is an equation
 
@@ -87,7 +75,7 @@ first_none : (a b : Bool) → (a || b) ≡ false → (a ≡ false) × (b ≡ fal
 first_none false b e = (refl, e)
 first_none true b e = absurd (cc)
 
-none_taken : (u : ℕ) (rows : List Row) → list_any is_equation rows ≡ false → taken u rows ≡ None
+pub none_taken : (u : ℕ) (rows : List Row) → list_any is_equation rows ≡ false → taken u rows ≡ None
 none_taken u [] e = refl
 none_taken u (r ∷ rs) e =
     let both = first_none r.equal (list_any is_equation rs) e in
@@ -109,13 +97,13 @@ all_left (suc k) n rows aside left none =
 
 -- ---- with one more relation
 
-module _ (rows : List Row) (n m : ℕ) (g : Stage) (is : IsStage rows n g) (within : n ≤ m) where
+module _ (rows : List Row) (n m : ℕ) (g : Stage) (is : Laws rows n g) (within : n ≤ m) where
   pub found_alone : found_by n rows ≡ found_behind g n None n
   found_alone =
       let none : n - n ≡ 0 = omega arith in
       found_parts n rows
       ∙ (ap (λ o. chain o (rest n)) is.alone
-      ∙ (λ i. found_from n (sym (append-nil g.rows) i) (aside_of g.steps)
+      ∙ (λ i. found_from n (sym (append-nil g.rows) i) (aside_of g.path.steps)
       ((sym (append-nil g.left) ∙ ap (λ k. g.left ++ counted n k) (sym none)) i)))
 
   module _ (t : Row) (equal : t.equal ≡ false)
@@ -126,22 +114,22 @@ module _ (rows : List Row) (n m : ℕ) (g : Stage) (is : IsStage rows n g) (with
 
     more_left : (o : Option Row) → IfSome o (λ r. r.equal ≡ false) → (n ≡ m) ⊎ (list_any is_equation g.rows ≡ false)
         → steps set_aside (with_last (reduced g) o) (counted n (m - n))
-        ≡ Ok (record { rows = g.rows ++ listed o; aside = aside_of g.steps; left = g.left ++ counted n (m - n) })
+        ≡ Ok (record { rows = g.rows ++ listed o; aside = aside_of g.path.steps; left = g.left ++ counted n (m - n) })
     more_left o h (inl e) =
         let none : m - n ≡ 0 = omega (arith, e) in
         ap (λ k. steps set_aside (with_last (reduced g) o) (counted n k)) none
-        ∙ ap (λ us. Ok (record { rows = g.rows ++ listed o; aside = aside_of g.steps; left = us }))
+        ∙ ap (λ us. Ok (record { rows = g.rows ++ listed o; aside = aside_of g.path.steps; left = us }))
         (sym (append-nil g.left) ∙ ap (λ k. g.left ++ counted n k) (sym none))
     more_left o h (inr e) =
-        all_left (m - n) n (g.rows ++ listed o) (aside_of g.steps) g.left
+        all_left (m - n) n (g.rows ++ listed o) (aside_of g.path.steps) g.left
         (list_any-append is_equation g.rows (listed o) ∙ (λ i. e i || none_listed o h i))
 
-    pub found_more : found_by m (rows ++ t ∷ []) ≡ chain (through g t) (λ o. found_behind g n o m)
+    pub found_more : found_by m (rows ++ t ∷ []) ≡ chain (through g.path t) (λ o. found_behind g n o m)
     found_more =
         found_parts m (rows ++ t ∷ [])
         ∙ (ap (λ o. chain o (rest m)) (begun_more (rows ++ t ∷ []) n m within
         ∙ ap (λ o. chain o (λ s. steps set_aside s (counted n (m - n)))) (is.after t equal))
-        ∙ by (through g t) (through_same false g t equal))
+        ∙ by (through g.path t) (through_same false g.path t equal))
       where
         by : (c : Computation (Option Row)) → IfOk c (λ o. IfSome o (λ r. r.equal ≡ false))
             → chain (chain (chain c (λ o. Ok (with_last (reduced g) o))) (λ s. steps set_aside s (counted n (m - n)))) (rest m)
@@ -149,7 +137,7 @@ module _ (rows : List Row) (n m : ℕ) (g : Stage) (is : IsStage rows n g) (with
         by (Ok o) h = ap (λ c. chain c (rest m)) (more_left o h settled)
         by (Err e) h = refl
 
-    pub found_left : (o : Option Row) → through g t ≡ Ok o → found_by m (rows ++ t ∷ []) ≡ found_behind g n o m
+    pub found_left : (o : Option Row) → through g.path t ≡ Ok o → found_by m (rows ++ t ∷ []) ≡ found_behind g n o m
     found_left o e = found_more ∙ ap (λ c. chain c (λ o. found_behind g n o m)) e
 
 -- ---- the values by the equations of the steps
@@ -162,7 +150,8 @@ aside_reverse : (ss : List Step) → aside_of (reverse ss) ≡ reverse (aside_of
 aside_reverse [] = refl
 aside_reverse (s ∷ ss) =
     ap aside_of (reverse-append (s ∷ []) ss)
-    ∙ (aside_append (reverse ss) (s ∷ []) ∙ (ap (λ xs. xs ++ s.aside ∷ []) (aside_reverse ss) ∙ sym (reverse-append (s.aside ∷ []) (aside_of ss))))
+    ∙ (aside_append (reverse ss) (s ∷ [])
+    ∙ (ap (λ xs. xs ++ s.aside ∷ []) (aside_reverse ss) ∙ sym (reverse-append (s.aside ∷ []) (aside_of ss))))
 
 placed_along : (ss : List Step) (point : Point) → steps placed_at point ss ≡ steps placed_by point (aside_of ss)
 placed_along [] point = refl
@@ -182,12 +171,3 @@ pub found_to : (n : ℕ) (rows : List Row) (ss : List Step) (left : List ℕ) (b
 found_to n rows ss left b point e f =
     ap (λ o. chain o (λ b. point_of n (record { aside = aside_of ss; bounds = b.bounds }))) e
     ∙ (ap (λ o. chain o (λ p. steps placed_by p (reverse (aside_of ss)))) f ∙ sym (placed_back ss point))
-
--- ---- what stops a callee
-
-pub stops_handed : {A T : Type 0} (r : Result T Stop) (e : Stop) (o : Computation A) → IsErrAnd r (λ y. y ≡ e) → StoppedBy e o
-    → IfErr r (λ y. StoppedBy y o)
-stops_handed r e o h stopped =
-    let p = err_from_is_err_and r h in
-    let same : r ≡ Err e = p.1 ∙ ap Err p.2 in
-    subst (λ y. IfErr y (λ z. StoppedBy z o)) (sym same) stopped

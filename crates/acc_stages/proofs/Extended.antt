@@ -1,23 +1,23 @@
 -- The stage of equations, unknown by unknown, alone and with one more inequality behind the others.
 use Rattle.std.proofs.Common.{◌≡◌, ◌+◌, ℕ, zero, suc, false, List, [], ◌∷◌, ◌++◌, length, map, Option, Some, None, Ok, Err, refl, ap, Bool}
-use Rattle.std.proofs.Common.{sym, ◌∙◌, arith, ◌||◌}
+use Rattle.std.proofs.Common.{sym, ◌∙◌, subst, arith, ◌||◌}
 use Rattle.std.specs.Prelude.{option_map, reverse, IfOk, IfSome}
 use Rattle.std.specs.List.{list_any}
 use Rattle.std.proofs.lemmas.List.{reverse-append, length-map}
-use Rattle.acc_systems.specs.declared.stops.Stop.{Stop}
 use Rattle.acc_systems.specs.declared.rows.Row.{Row}
 use Rattle.acc_systems.specs.declared.systems.Reduced.{Reduced}
 use Rattle.acc_systems.specs.declared.systems.Replaced.{Replaced}
-use Rattle.acc_systems.specs.Answers.{Computation, chain, steps, StoppedBy}
-use Rattle.acc_systems.specs.Systems.{repeats, admitted, taken, replaced, whole, set_aside, counted}
-use Rattle.acc_systems.specs.Repetitions.{TellBehind}
+use Rattle.acc_systems.specs.Answers.{Computation, chain, steps}
+use Rattle.acc_systems.specs.Systems.{repeats, is_constant, admitted, taken, replaced, whole, set_aside, counted}
+use Rattle.acc_systems.specs.Repetitions.{AreApart, TellBehind}
 use Rattle.acc_systems.proofs.Apart.{system_apart, aside_apart}
-use Rattle.acc_systems.proofs.Chains.{steps_append, stopped_chain}
+use Rattle.acc_systems.proofs.Chains.{steps_append}
 use Rattle.acc_stages.specs.declared.stages.Step.{Step}
 use Rattle.acc_stages.specs.declared.stages.Stage.{Stage}
-use Rattle.acc_stages.specs.Followed.{listed, left_of, told, followed_at, followed, through}
-use Rattle.acc_stages.specs.Stages.{form, begun, aside_of, reduced, with_last, IsStage, Extends}
-use Rattle.acc_stages.proofs.Lefts.{chain_ok, admitted_left, left_same, taken_with, listed_not_taken, step_tells, step_left, one_more, through_same}
+use Rattle.acc_stages.specs.Followed.{listed, left_first, told, followed_at, followed, through}
+use Rattle.acc_stages.specs.Stages.{form, begun, aside_of, reduced, with_last, first_stage, with_left, with_aside, FollowsBy, IsStage}
+use Rattle.acc_stages.proofs.Lefts.{chain_ok, admitted_left, left_same, taken_with, listed_not_taken, step_tells, step_left}
+use Rattle.acc_stages.proofs.Lefts.{one_more, through_same}
 
 -- ---- one unknown more
 
@@ -62,7 +62,7 @@ aside_by s u o =
 pub aside_is : (s : Reduced) (u : ℕ) (o : Option (Row × List Row)) → taken u s.rows ≡ o → set_aside s u ≡ aside_by s u o
 aside_is s u o e = ap (aside_by s u) e
 
-with_taken : (s : Reduced) (u : ℕ) (o : Option Row) (t : Option (Row × List Row)) → IfSome o (λ r. r.equal ≡ false) → taken u s.rows ≡ t
+pub with_taken : (s : Reduced) (u : ℕ) (o : Option Row) (t : Option (Row × List Row)) → IfSome o (λ r. r.equal ≡ false) → taken u s.rows ≡ t
     → taken u (with_last s o).rows ≡ option_map (λ t. (t.0, t.1 ++ listed o)) t
 with_taken s u o t h e = taken_with u (listed o) (listed_not_taken u o h) s.rows ∙ ap (option_map (λ t. (t.0, t.1 ++ listed o))) e
 
@@ -72,16 +72,23 @@ left_with s u o h none = aside_is (with_last s o) u None (with_taken s u o None 
 
 -- ---- the stage
 
+-- where a stage ends, that its path tells which relations are repeated behind it, and what becomes of one more inequality
+pub record Laws (rows : List Row) (n : ℕ) (g : Stage) : Type 0 where
+  pub alone : begun rows n ≡ Ok (reduced g)
+  pub apart : AreApart g.rows
+  pub tells : (r : Row) → is_constant r ≡ false → told g.path.first (reverse g.path.steps) r ≡ list_any (repeats r) g.rows
+  pub after : (t : Row) → t.equal ≡ false → begun (rows ++ t ∷ []) n ≡ chain (through g.path t) (λ o. Ok (with_last (reduced g) o))
+
 -- one more unknown with one more relation behind the others
-module _ (rows : List Row) (n : ℕ) (g h : Stage) (t : Row) (equal : t.equal ≡ false) (is : IsStage rows n g) where
-  pub after_by : (next : Option Row → Computation (Option Row)) → through h t ≡ chain (through g t) next
+module _ (rows : List Row) (n : ℕ) (g h : Stage) (t : Row) (equal : t.equal ≡ false) (is : Laws rows n g) where
+  pub after_by : (next : Option Row → Computation (Option Row)) → through h.path t ≡ chain (through g.path t) next
       → ((o : Option Row) → IfSome o (λ r. r.equal ≡ false)
       → set_aside (with_last (reduced g) o) n ≡ chain (next o) (λ o. Ok (with_last (reduced h) o)))
-      → begun (rows ++ t ∷ []) (suc n) ≡ chain (through h t) (λ o. Ok (with_last (reduced h) o))
+      → begun (rows ++ t ∷ []) (suc n) ≡ chain (through h.path t) (λ o. Ok (with_last (reduced h) o))
   after_by next all one =
       begun_next (rows ++ t ∷ []) n
       ∙ (ap (λ o. chain o (λ s. set_aside s n)) (is.after t equal)
-      ∙ (by (through g t) (through_same false g t equal) ∙ ap (λ o. chain o (λ o. Ok (with_last (reduced h) o))) (sym all)))
+      ∙ (by (through g.path t) (through_same false g.path t equal) ∙ ap (λ o. chain o (λ o. Ok (with_last (reduced h) o))) (sym all)))
     where
       by : (c : Computation (Option Row)) → IfOk c (λ o. IfSome o (λ r. r.equal ≡ false))
           → chain (chain c (λ o. Ok (with_last (reduced g) o))) (λ s. set_aside s n)
@@ -89,23 +96,21 @@ module _ (rows : List Row) (n : ℕ) (g h : Stage) (t : Row) (equal : t.equal �
       by (Ok o) same = one o same
       by (Err e) same = refl
 
-alone_by : (rows : List Row) (n : ℕ) (g h : Stage) → IsStage rows n g → set_aside (reduced g) n ≡ Ok (reduced h)
+alone_by : (rows : List Row) (n : ℕ) (g h : Stage) → Laws rows n g → set_aside (reduced g) n ≡ Ok (reduced h)
     → begun rows (suc n) ≡ Ok (reduced h)
 alone_by rows n g h is e = begun_next rows n ∙ (ap (λ o. chain o (λ s. set_aside s n)) is.alone ∙ e)
 
 -- an unknown is left
 module _ (g : Stage) (u : ℕ) (none : taken u g.rows ≡ None) where
-  abbrev left : Stage
-  left = record { first = g.first; steps = g.steps; rows = g.rows; left = g.left ++ u ∷ [] }
-
-  pub extends_left : Extends g u left
-  extends_left rows is =
+  left_laws : (rows : List Row) → Laws rows u g → Laws rows (suc u) (with_left g u)
+  left_laws rows is =
       record {
-        alone = alone_by rows u g left is (aside_is (reduced g) u None none);
+        alone = alone_by rows u g (with_left g u) is (aside_is (reduced g) u None none);
         apart = is.apart;
         tells = is.tells;
         after = λ t equal.
-            after_by rows u g left t equal is (λ o. Ok o) (sym (chain_ok (through g t))) (λ o same. left_with (reduced g) u o same none);
+            after_by rows u g (with_left g u) t equal is (λ o. Ok o) (sym (chain_ok (through g.path t)))
+            (λ o same. left_with (reduced g) u o same none);
       }
 
 -- an equation is set aside
@@ -115,70 +120,67 @@ module _ (g : Stage) (u : ℕ) (e : Row) (others : List Row) (system : Replaced)
   one_step = record { aside = (u, e); made = system.made; count = length system.rows }
 
   abbrev aside : Stage
-  aside = record { first = g.first; steps = g.steps ++ one_step ∷ []; rows = system.rows; left = g.left }
+  aside = with_aside g u e system
 
-  last_first : reverse aside.steps ≡ one_step ∷ reverse g.steps
-  last_first = reverse-append g.steps (one_step ∷ [])
+  last_first : reverse aside.path.steps ≡ one_step ∷ reverse g.path.steps
+  last_first = reverse-append g.path.steps (one_step ∷ [])
 
-  aside_push : aside_of aside.steps ≡ aside_of g.steps ++ (u, e) ∷ []
-  aside_push = by g.steps
+  aside_push : aside_of aside.path.steps ≡ aside_of g.path.steps ++ (u, e) ∷ []
+  aside_push = by g.path.steps
     where
       by : (ss : List Step) → aside_of (ss ++ one_step ∷ []) ≡ aside_of ss ++ (u, e) ∷ []
       by [] = refl
       by (s ∷ ss) = ap (λ xs. s.aside ∷ xs) (by ss)
 
-  same_reduced : record { rows = system.rows; aside = aside_of g.steps ++ (u, e) ∷ []; left = g.left } ≡ reduced aside
+  same_reduced : record { rows = system.rows; aside = aside_of g.path.steps ++ (u, e) ∷ []; left = g.left } ≡ reduced aside
   same_reduced = λ i. record { rows = system.rows; aside = sym aside_push i; left = g.left }
 
   set_alone : set_aside (reduced g) u ≡ Ok (reduced aside)
   set_alone =
       aside_is (reduced g) u (Some (e, others)) taken_is
-      ∙ (ap (λ o. chain o (λ rows. Ok (record { rows = rows; aside = aside_of g.steps ++ (u, e) ∷ []; left = g.left }))) replaced_is
+      ∙ (ap (λ o. chain o (λ rows. Ok (record { rows = rows; aside = aside_of g.path.steps ++ (u, e) ∷ []; left = g.left }))) replaced_is
       ∙ ap Ok same_reduced)
 
-  module _ (rows : List Row) (is : IsStage rows u g) where
+  module _ (rows : List Row) (is : Laws rows u g) where
     set_with : (o : Option Row) → IfSome o (λ r. r.equal ≡ false)
         → set_aside (with_last (reduced g) o) u
-        ≡ chain (followed_at g.first (reverse g.steps) one_step o) (λ o. Ok (with_last (reduced aside) o))
+        ≡ chain (followed_at g.path.first (reverse g.path.steps) one_step o) (λ o. Ok (with_last (reduced aside) o))
     set_with o same =
         aside_is (with_last (reduced g) o) u (Some (e, others ++ listed o)) (with_taken (reduced g) u o (Some (e, others)) same taken_is)
         ∙ (ap (λ c. chain c end) (steps_append (replaced u e) others (listed o) []
         ∙ (ap (λ c. chain c (λ rs. steps (replaced u e) rs (listed o))) replaced_is
-        ∙ step_left g.first (reverse g.steps) u e g.rows others system taken_is is.tells behind o))
-        ∙ by (followed_at g.first (reverse g.steps) one_step o))
+        ∙ step_left g.path.first (reverse g.path.steps) u e g.rows others system taken_is is.tells behind o))
+        ∙ by (followed_at g.path.first (reverse g.path.steps) one_step o))
       where
         end : List Row → Computation Reduced
-        end rs = Ok (record { rows = rs; aside = aside_of g.steps ++ (u, e) ∷ []; left = g.left })
+        end rs = Ok (record { rows = rs; aside = aside_of g.path.steps ++ (u, e) ∷ []; left = g.left })
 
         by : (c : Computation (Option Row)) → chain (chain c (λ o. Ok (system.rows ++ listed o))) end
             ≡ chain c (λ o. Ok (with_last (reduced aside) o))
         by (Err d) = refl
         by (Ok o) = ap (λ s. Ok (with_last s o)) same_reduced
 
-    pub extends_aside_to : IsStage rows (suc u) aside
-    extends_aside_to =
+    aside_laws : Laws rows (suc u) aside
+    aside_laws =
         record {
           alone = alone_by rows u g aside is set_alone;
           apart = aside_apart (reduced g) (reduced aside) u set_alone is.apart;
-          tells = λ r some. ap (λ ss. told g.first ss r) last_first
-              ∙ step_tells g.first (reverse g.steps) u e g.rows others system taken_is is.tells behind r some;
+          tells = λ r some. ap (λ ss. told g.path.first ss r) last_first
+              ∙ step_tells g.path.first (reverse g.path.steps) u e g.rows others system taken_is is.tells behind r some;
           after = λ t equal.
-              after_by rows u g aside t equal is (followed_at g.first (reverse g.steps) one_step) (all t)
+              after_by rows u g aside t equal is (followed_at g.path.first (reverse g.path.steps) one_step) (all t)
               (λ o same. set_with o same);
         }
       where
-        all : (t : Row) → through aside t ≡ chain (through g t) (followed_at g.first (reverse g.steps) one_step)
-        all t = by (left_of (list_any (repeats t) g.first) (length g.first) t)
+        all : (t : Row) → through aside.path t ≡ chain (through g.path t) (followed_at g.path.first (reverse g.path.steps) one_step)
+        all t = by (left_first g.path.first t)
           where
             by : (c : Computation (Option Row))
-                → chain c (λ o. chain (steps (followed g.first) ([], o) (g.steps ++ one_step ∷ [])) (λ x. Ok x.1))
-                ≡ chain (chain c (λ o. chain (steps (followed g.first) ([], o) g.steps) (λ x. Ok x.1)))
-                (followed_at g.first (reverse g.steps) one_step)
+                → chain c (λ o. chain (steps (followed g.path.first) ([], o) (g.path.steps ++ one_step ∷ [])) (λ x. Ok x.1))
+                ≡ chain (chain c (λ o. chain (steps (followed g.path.first) ([], o) g.path.steps) (λ x. Ok x.1)))
+                (followed_at g.path.first (reverse g.path.steps) one_step)
             by (Err d) = refl
-            by (Ok o) = one_more g.first g.steps one_step o
-
-  pub extends_aside : Extends g u aside
-  extends_aside rows is = extends_aside_to rows is
+            by (Ok o) = one_more g.path.first g.path.steps one_step o
 
 -- ---- the first system
 
@@ -189,19 +191,23 @@ forms_any p h (r ∷ rows) = λ i. h r i || forms_any p h rows i
 pub forms_tell : (r : Row) (rows : List Row) → list_any (repeats r) (map form rows) ≡ list_any (repeats r) rows
 forms_tell r rows = forms_any (repeats r) (λ k. refl) rows
 
-pub stage_begun : (rows system : List Row) → steps admitted [] rows ≡ Ok system
-    → IsStage rows 0 (record { first = map form system; steps = []; rows = system; left = [] })
-stage_begun rows system e =
+-- one more relation of the first system
+pub first_more : (rows system : List Row) (t : Row) → steps admitted [] rows ≡ Ok system
+    → steps admitted [] (rows ++ t ∷ []) ≡ chain (left_first (map form system) t) (λ o. Ok (system ++ listed o))
+first_more rows system t e =
+    steps_append admitted rows (t ∷ []) []
+    ∙ (ap (λ o. chain o (λ s. steps admitted s (t ∷ []))) e ∙ (chain_ok (admitted system t) ∙ (admitted_left system t
+    ∙ ap (λ o. chain o (λ o. Ok (system ++ listed o)))
+    (left_same _ _ _ _ t (λ some. sym (forms_tell t system)) (sym (length-map system form))))))
+
+first_laws : (rows system : List Row) → steps admitted [] rows ≡ Ok system → Laws rows 0 (first_stage system)
+first_laws rows system e =
     record {
       alone = ap (λ o. chain o (λ system. Ok (whole system))) e;
       apart = system_apart rows system e;
       tells = λ r some. forms_tell r system;
       after = λ t equal.
-          ap (λ o. chain o (λ system. Ok (whole system))) (steps_append admitted rows (t ∷ []) []
-          ∙ (ap (λ o. chain o (λ s. steps admitted s (t ∷ []))) e ∙ (chain_ok (admitted system t) ∙ (admitted_left system t
-          ∙ ap (λ o. chain o (λ o. Ok (system ++ listed o)))
-          (left_same _ _ _ _ t (λ some. sym (forms_tell t system)) (sym (length-map system form)))))))
-          ∙ by (left_of (list_any (repeats t) (map form system)) (length (map form system)) t);
+          ap (λ o. chain o (λ system. Ok (whole system))) (first_more rows system t e) ∙ by (left_first (map form system) t);
     }
   where
     by : (c : Computation (Option Row)) → chain (chain c (λ o. Ok (system ++ listed o))) (λ system. Ok (whole system))
@@ -209,7 +215,14 @@ stage_begun rows system e =
     by (Ok o) = refl
     by (Err d) = refl
 
--- ---- what stops the stage
+-- ---- all unknowns
 
-pub begun_stopped : (rows : List Row) (n : ℕ) (e : Stop) → StoppedBy e (steps admitted [] rows) → StoppedBy e (begun rows n)
-begun_stopped rows n e h = stopped_chain e (steps admitted [] rows) (λ system. steps set_aside (whole system) (counted 0 n)) h
+follows_laws : (rows : List Row) (n : ℕ) (g h : Stage) → Laws rows n g → (o : Option (Row × List Row)) → taken n g.rows ≡ o
+    → FollowsBy g n h o → Laws rows (suc n) h
+follows_laws rows n g h is None e next = subst (Laws rows (suc n)) (sym next) (left_laws g n e rows is)
+follows_laws rows n g h is (Some t) e next =
+    subst (Laws rows (suc n)) (sym next.stage) (aside_laws g n t.0 t.1 next.system e next.rows next.tells rows is)
+
+pub laws : (n : ℕ) (rows : List Row) (g : Stage) → IsStage rows n g → Laws rows n g
+laws zero rows g is = subst (Laws rows 0) (sym is.stage) (first_laws rows is.system is.admitted)
+laws (suc n) rows h is = follows_laws rows n is.0 h (laws n rows is.0 is.1) (taken n is.0.rows) refl is.2

@@ -1,5 +1,6 @@
 -- What is left of a relation behind others: what the system says of it, and what tells it.
-use Rattle.std.proofs.Common.{◌≡◌, ℕ, Bool, true, false, List, [], ◌∷◌, ◌++◌, length, Option, Some, None, Ok, Err, refl, ap, sym, ◌∙◌, subst}
+use Rattle.std.proofs.Common.{◌≡◌, ℕ, Bool, true, false, List, [], ◌∷◌, ◌++◌, length, Option, Some, None, Ok, Err}
+use Rattle.std.proofs.Common.{refl, ap, sym, ◌∙◌, subst}
 use Rattle.std.proofs.Common.{if◌then◌else◌, ◌||◌, ◌&&◌, not, append-nil, append_assoc}
 use Rattle.std.specs.Prelude.{Result, nat_le, nat_lt, option_map, reverse, IfOk, IfSome}
 use Rattle.std.specs.List.{list_any}
@@ -19,7 +20,7 @@ use Rattle.acc_systems.proofs.Apart.{any_ok, ok_chain, ok_steps}
 use Rattle.acc_systems.proofs.Behind.{has_as}
 use Rattle.acc_systems.proofs.Chains.{steps_append}
 use Rattle.acc_stages.specs.declared.stages.Step.{Step}
-use Rattle.acc_stages.specs.declared.stages.Stage.{Stage}
+use Rattle.acc_stages.specs.declared.stages.Path.{Path}
 use Rattle.acc_stages.specs.Followed.{listed, left_of, told, followed_at, Following, followed, followed_all, through}
 
 -- ---- one more relation of a system
@@ -134,7 +135,8 @@ others_tell u rows others e m same = by (is_without u m) refl
 -- ---- one step
 
 module _ (first : List Row) (earlier : List Step) (u : ℕ) (e : Row) (rows others : List Row) (system : Replaced)
-    (taken_is : taken u rows ≡ Some (e, others)) (tells : (r : Row) → is_constant r ≡ false → told first earlier r ≡ list_any (repeats r) rows)
+    (taken_is : taken u rows ≡ Some (e, others))
+    (tells : (r : Row) → is_constant r ≡ false → told first earlier r ≡ list_any (repeats r) rows)
     (behind : TellBehind u others system) where
   abbrev pub step : Step
   step = record { aside = (u, e); made = system.made; count = length system.rows }
@@ -175,7 +177,8 @@ module _ (first : List Row) where
 
       by : ((p : Option Row) → IfOk (steps (followed first) (s ∷ earlier, p) ss) (λ x. x.0 ≡ reverse ss ++ s ∷ earlier))
           → (c : Computation (Option Row))
-          → IfOk (chain {B = Following} (chain {B = Following} c (λ o. Ok (s ∷ earlier, o))) (λ x. steps (followed first) x ss)) (λ x. x.0 ≡ reverse (s ∷ ss) ++ earlier)
+          → IfOk (chain {B = Following} (chain {B = Following} c (λ o. Ok (s ∷ earlier, o))) (λ x. steps (followed first) x ss))
+          (λ x. x.0 ≡ reverse (s ∷ ss) ++ earlier)
       by again (Err e) = tt
       by again (Ok p) = weaker (steps (followed first) (s ∷ earlier, p) ss) (again p)
 
@@ -224,21 +227,21 @@ module _ (equal : Bool) where
           ok_chain (mixed p q r.by e.by) _ (λ _. Unit {0}) Same (any_ok (mixed p q r.by e.by)) (λ by _.
           lowest_same (record { terms = terms; constant = constant; equal = r.equal; by = by }) h)))))
 
-  at_same : (first : List Row) (earlier : List Step) (s : Step) (o : Option Row) → IfSome o Same
+  pub at_same : (first : List Row) (earlier : List Step) (s : Step) (o : Option Row) → IfSome o Same
       → IfOk (followed_at first earlier s o) (λ o. IfSome o Same)
   at_same first earlier s None h = tt
   at_same first earlier s (Some r) h =
       ok_chain (cleared s.aside.0 s.aside.1 r) _ Same (λ o. IfSome o Same) (cleared_same s.aside.0 s.aside.1 r h)
       (λ m same. left_untold (told first (s ∷ earlier) m) s.count m Same (λ _. same))
 
-  all_same : (g : Stage) (o : Option Row) → IfSome o Same → IfOk (followed_all g o) (λ o. IfSome o Same)
+  all_same : (g : Path) (o : Option Row) → IfSome o Same → IfOk (followed_all g o) (λ o. IfSome o Same)
   all_same g o h =
       ok_chain (steps (followed g.first) ([], o) g.steps) _ (λ x. IfSome x.1 Same) (λ o. IfSome o Same)
       (ok_steps (followed g.first) (λ x. IfSome x.1 Same) (λ x s p.
       ok_chain (followed_at g.first x.0 s x.1) _ (λ o. IfSome o Same) (λ x. IfSome x.1 Same) (at_same g.first x.0 s x.1 p) (λ o q. q))
       g.steps ([], o) h) (λ x p. p)
 
-  pub through_same : (g : Stage) (r : Row) → Same r → IfOk (through g r) (λ o. IfSome o Same)
+  pub through_same : (g : Path) (r : Row) → Same r → IfOk (through g r) (λ o. IfSome o Same)
   through_same g r h =
       ok_chain (left_of (list_any (repeats r) g.first) (length g.first) r) (followed_all g) (λ o. IfSome o Same) (λ o. IfSome o Same)
       (left_untold (list_any (repeats r) g.first) (length g.first) r Same (λ _. h)) (λ o p. all_same g o p)

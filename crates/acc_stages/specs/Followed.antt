@@ -7,7 +7,7 @@ use Rattle.acc_systems.specs.Answers.{Computation, chain, steps}
 use Rattle.acc_systems.specs.Rows.{cleared}
 use Rattle.acc_systems.specs.Systems.{MOST, is_false, repeats, is_constant, is_without}
 use Rattle.acc_stages.specs.declared.stages.Step.{Step}
-use Rattle.acc_stages.specs.declared.stages.Stage.{Stage}
+use Rattle.acc_stages.specs.declared.stages.Path.{Path}
 
 abbrev pub listed : Option Row → List Row
 listed None = []
@@ -39,8 +39,13 @@ abbrev pub followed : List Row → Following → Step → Computation Following
 followed first x s = chain (followed_at first x.0 s x.1) (λ o. Ok (s ∷ x.0, o))
 
 -- what is left behind all steps
-abbrev pub followed_all : Stage → Option Row → Computation (Option Row)
-followed_all g o = chain (steps (followed g.first) ([], o) g.steps) (λ x. Ok x.1)
+abbrev pub followed_all : Path → Option Row → Computation (Option Row)
+followed_all p o = chain (steps (followed p.first) ([], o) p.steps) (λ x. Ok x.1)
 
-abbrev pub through : Stage → Row → Computation (Option Row)
-through g r = chain (left_of (list_any (repeats r) g.first) (length g.first) r) (followed_all g)
+-- what is left of one more relation of the first system
+abbrev pub left_first : List Row → Row → Computation (Option Row)
+left_first first r = left_of (list_any (repeats r) first) (length first) r
+
+-- and what is left of it behind all steps
+abbrev pub through : Path → Row → Computation (Option Row)
+through p r = chain (left_first p.first r) (followed_all p)

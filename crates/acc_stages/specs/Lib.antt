@@ -1,3 +1,4 @@
 pub mod Followed
 pub mod Stages
+pub mod Carried
 pub mod Ends

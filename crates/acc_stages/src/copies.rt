@@ -1,11 +1,13 @@
-//! The same relations again.
+//! The same relations, and the same stop, again.
 ghost use Rattle.std.specs.Prelude.{◌≡◌, IfOk};
 
 use acc_base::sequences::copied;
 use acc_systems::rows::Row;
+use acc_systems::stops::Stop;
 use std::alloc::{AllocError, Global};
 
-fn copied_row(row: &Row) -> Result<Row, AllocError>
+/// The same relation again.
+pub fn copied_row(row: &Row) -> Result<Row, AllocError>
     ensures { IfOk result (λ r. r ≡ row.now) }
 {
     Ok(Row {
@@ -25,4 +27,16 @@ pub fn copied_rows(alloc: Global, rows: &[Row]) -> Result<Vec<Row>, AllocError>
         again.push(copied_row(row)?)?;
     }
     Ok(again)
+}
+
+/// The same stop again.
+pub fn copied_stop(stop: &Stop) -> Result<Stop, AllocError>
+    ensures { IfOk result (λ s. s ≡ stop.now) }
+{
+    match stop {
+        Stop::Refuted(row) => Ok(Stop::Refuted(copied_row(row)?)),
+        Stop::Wide => Ok(Stop::Wide),
+        Stop::Many => Ok(Stop::Many),
+        Stop::Memory => Ok(Stop::Memory),
+    }
 }

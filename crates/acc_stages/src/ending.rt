@@ -45,7 +45,7 @@ fn found_from(
 }
 
 /// The unknowns that are left, and those from `known` on behind them.
-fn left_with(left: &Seq<u32>, known: u32, unknowns: u32) -> Result<Vec<u32>, AllocError>
+pub fn left_with(left: &Seq<u32>, known: u32, unknowns: u32) -> Result<Vec<u32>, AllocError>
     ensures { IfOk result (λ all. all.items ≡ left.now ++ counted known (unknowns - known)) }
 {
     let mut all = copied(left)?.into_vec();
@@ -55,18 +55,14 @@ fn left_with(left: &Seq<u32>, known: u32, unknowns: u32) -> Result<Vec<u32>, All
     Ok(all)
 }
 
-/// The relations, and one more behind them where one is left.
-fn rows_with(alloc: Global, rows: &[Row], rest: Option<Row>) -> Result<Seq<Row>, AllocError>
-    ensures { IfOk result (λ all. all ≡ rows.now ++ listed rest) }
+/// The relations, and one more behind them where there is one.
+pub fn rows_with(mut rows: Seq<Row>, more: Option<Row>) -> Result<Seq<Row>, AllocError>
+    ensures { IfOk result (λ all. all ≡ rows ++ listed more) }
 {
-    let mut all = copied_rows(alloc, rows)?;
-    match rest {
-        None => Ok(Seq::from_vec(all)),
-        Some(row) => {
-            all.push(row)?;
-            Ok(Seq::from_vec(all))
-        }
+    if let Some(row) = more {
+        rows.push(row)?;
     }
+    Ok(rows)
 }
 
 /// The point behind a stage of `known` unknowns, with one more relation, where one is left, and this many unknowns.
@@ -79,13 +75,14 @@ pub fn found_behind(
 ) -> Result<Seq<(i128, i128)>, Stop>
     ensures { Answers result (found_behind stage.now known rest unknowns) }
 {
-    let rows = rows_with(alloc, stage.rows.as_slice(), rest)?;
+    let rows = copied_rows(alloc, stage.rows.as_slice())?;
+    let rows = rows_with(Seq::from_vec(rows), rest)?;
     let left = left_with(&stage.left, known, unknowns)?;
     found_from(
         alloc,
         unknowns,
         rows,
-        stage.steps.as_slice(),
+        stage.path.steps.as_slice(),
         left.as_slice(),
     )
 }

@@ -3,9 +3,9 @@ ghost use Rattle.std.specs.Prelude.{◌≡◌, ◌∷◌, false, reverse, Some, 
 ghost use Rattle.std.specs.List.{list_any};
 ghost use Rattle.acc_systems.specs.Answers.{Answers};
 ghost use Rattle.acc_systems.specs.Systems.{repeats};
-ghost use Rattle.acc_stages.specs.Followed.{left_of, told, followed_at, followed_all, through};
+ghost use Rattle.acc_stages.specs.Followed.{left_of, left_first, told, followed_at, followed_all, through};
 
-use crate::stages::{Stage, Step};
+use crate::stages::{Path, Step};
 use acc_systems::rows::{Row, cleared};
 use acc_systems::stops::Stop;
 use acc_systems::systems::{MOST, is_constant, is_false, is_repetition};
@@ -81,7 +81,7 @@ fn follow_row(
 }
 
 /// What is left behind a step.
-fn follow_step(
+pub fn follow_step(
     alloc: Global,
     first: &[Row],
     earlier: &[Step],
@@ -98,13 +98,22 @@ fn follow_step(
     }
 }
 
-/// What is left behind all steps.
-fn follow_all(alloc: Global, stage: &Stage, rest: Option<Row>) -> Result<Option<Row>, Stop>
-    requires { IfSome rest (λ row. list_any (repeats row) stage.now.first ≡ false) }
-    ensures { Answers result (followed_all stage.now rest) }
+/// What is left of one more relation of the first system.
+pub fn left_first(first: &[Row], row: Row) -> Result<Option<Row>, Stop>
+    ensures value { Answers result (left_first first.now row) }
+    ensures untold { IfOk result (λ rest. IfSome rest (λ r. list_any (repeats r) first.now ≡ false)) }
 {
-    let first = stage.first.as_slice();
-    let steps = stage.steps.as_slice();
+    let is_repeated = is_repetition(first, &row);
+    left_of(row, is_repeated, first.len())
+}
+
+/// What is left behind all steps.
+fn follow_all(alloc: Global, path: &Path, rest: Option<Row>) -> Result<Option<Row>, Stop>
+    requires { IfSome rest (λ row. list_any (repeats row) path.now.first ≡ false) }
+    ensures { Answers result (followed_all path.now rest) }
+{
+    let first = path.first.as_slice();
+    let steps = path.steps.as_slice();
     let mut left = rest;
     for place in 0..steps.len() {
         left = follow_step(alloc, first, &steps[..place], &steps[place], left)?;
@@ -112,11 +121,10 @@ fn follow_all(alloc: Global, stage: &Stage, rest: Option<Row>) -> Result<Option<
     Ok(left)
 }
 
-/// What is left of one more relation behind the stage, or what stops it. An equation isn't led through rightly: it may be set aside.
-pub fn follow(alloc: Global, stage: &Stage, row: Row) -> Result<Option<Row>, Stop>
-    ensures { Answers result (through stage.now row) }
+/// What is left of one more relation behind the path, or what stops it. An equation isn't led through rightly: it may be set aside.
+pub fn follow(alloc: Global, path: &Path, row: Row) -> Result<Option<Row>, Stop>
+    ensures { Answers result (through path.now row) }
 {
-    let is_repeated = is_repetition(stage.first.as_slice(), &row);
-    let rest = left_of(row, is_repeated, stage.first.len())?;
-    follow_all(alloc, stage, rest)
+    let rest = left_first(path.first.as_slice(), row)?;
+    follow_all(alloc, path, rest)
 }

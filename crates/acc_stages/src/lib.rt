@@ -1,6 +1,7 @@
 //! Systems of which the stage of equations is kept, and asked again and again about one more relation.
 #![tactic(auto)]
 
+mod carrying;
 pub mod copies;
 mod ending;
 mod following;

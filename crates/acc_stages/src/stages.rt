@@ -1,15 +1,16 @@
 //! The stage of equations of a system, kept so that one more relation can be led through it.
-ghost use Rattle.std.specs.Prelude.{◌≡◌, ◌∷◌, ◌++◌, [], map, IfOk, IfErr};
+ghost use Rattle.std.specs.Prelude.{◌≡◌, map, IfOk, IfErr, OnOk, OnErr, [], ◌∷◌, ◌++◌};
 ghost use Rattle.acc_systems.specs.Answers.{StoppedBy, steps};
 ghost use Rattle.acc_systems.specs.Repetitions.{AreApart};
 ghost use Rattle.acc_systems.specs.Systems.{admitted, set_aside};
-ghost use Rattle.acc_stages.specs.Stages.{form, reduced, begun, IsStage, Extends};
+ghost use Rattle.acc_stages.specs.Stages.{form, reduced, IsFirst, Follows};
 
 use acc_base::sequences::Seq;
 use acc_systems::rows::Row;
 use acc_systems::stops::Stop;
 use acc_systems::systems::{Replaced, admit_all, form_of, replace_all, take_equation};
 use std::alloc::{AllocError, Global};
+use std::mem;
 
 /// An equation that was set aside for its unknown, the relations that were made without the unknown, less their multipliers, and how
 /// many the system then had.
@@ -20,11 +21,17 @@ pub struct Step {
     pub count: usize,
 }
 
-/// The relations of the first system, less their multipliers, the steps, the system behind them, and the unknowns that are left.
+/// What one more relation is led through: the relations of the first system, less their multipliers, and the steps.
 #[derive(Drop)]
-pub struct Stage {
+pub struct Path {
     pub first: Seq<Row>,
     pub steps: Seq<Step>,
+}
+
+/// The path, the system behind it, and the unknowns that are left.
+#[derive(Drop)]
+pub struct Stage {
+    pub path: Path,
     pub rows: Seq<Row>,
     pub left: Seq<u32>,
 }
@@ -41,68 +48,43 @@ fn forms_of(alloc: Global, rows: &[Row]) -> Result<Seq<Row>, AllocError>
 }
 
 /// The stage before its first step.
-fn begin(alloc: Global, rows: Vec<Row>) -> Result<Stage, Stop>
-    ensures value { IfOk result (IsStage rows.items 0) }
+pub fn begin(alloc: Global, rows: Vec<Row>) -> Result<Stage, Stop>
+    ensures value { IfOk result (IsFirst rows.items) }
     ensures stops { IfErr result (λ e. StoppedBy e (steps admitted [] rows.items)) }
 {
     let rows = admit_all(alloc, rows)?;
     let first = forms_of(alloc, rows.as_slice())?;
+    let steps = Seq::new(alloc);
     Ok(Stage {
-        first,
-        steps: Seq::new(alloc),
+        path: Path { first, steps },
         rows,
         left: Seq::new(alloc),
     })
 }
 
-/// The system without the unknown where an equation has it; else the unknown is left.
-fn set_aside(alloc: Global, stage: Stage, unknown: u32) -> Result<Stage, Stop>
-    requires { AreApart stage.rows }
-    ensures value { IfOk result (Extends stage unknown) }
-    ensures stops { IfErr result (λ e. StoppedBy e (set_aside (reduced stage) unknown)) }
+/// The system without the unknown where an equation has it; else the unknown is left. What stops that leaves the path as it was.
+pub fn set_aside(alloc: Global, stage: &mut Stage, unknown: u32) -> Result<(), Stop>
+    requires { AreApart stage.old.rows }
+    ensures value { OnOk result (Follows stage.old unknown stage.new) }
+    ensures path { OnErr result (stage.new.path ≡ stage.old.path) }
+    ensures stops { IfErr result (λ e. StoppedBy e (set_aside (reduced stage.old) unknown)) }
 {
-    let Stage {
-        first,
-        mut steps,
-        rows,
-        mut left,
-    } = stage;
-    let mut rows = rows.into_vec();
+    let mut rows = mem::replace(&mut stage.rows, Seq::new(alloc)).into_vec();
     match take_equation(&mut rows, unknown) {
         None => {
-            left.push(unknown)?;
-            Ok(Stage {
-                first,
-                steps,
-                rows: Seq::from_vec(rows),
-                left,
-            })
+            stage.rows = Seq::from_vec(rows);
+            stage.left.push(unknown)?;
+            Ok(())
         }
         Some(equation) => {
             let Replaced { rows, made } = replace_all(alloc, unknown, &equation, rows)?;
-            steps.push(Step {
+            stage.path.steps.push(Step {
                 aside: (unknown, equation),
                 made,
                 count: rows.len(),
             })?;
-            Ok(Stage {
-                first,
-                steps,
-                rows,
-                left,
-            })
+            stage.rows = rows;
+            Ok(())
         }
     }
-}
-
-/// The stage of equations of relations between this many unknowns, or what stops it.
-pub fn staged(alloc: Global, unknowns: u32, rows: Vec<Row>) -> Result<Stage, Stop>
-    ensures value { IfOk result (IsStage rows.items unknowns) }
-    ensures stops { IfErr result (λ e. StoppedBy e (begun rows.items unknowns)) }
-{
-    let mut stage = begin(alloc, rows)?;
-    for unknown in 0..unknowns {
-        stage = set_aside(alloc, stage, unknown)?;
-    }
-    Ok(stage)
 }

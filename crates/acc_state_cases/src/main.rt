@@ -6,22 +6,18 @@
 //!
 //! - `state ITEM; ITEM ..` makes calls of a fresh state, and asks about it. `begin CALL` gives the new number, `full` or `crowd`, for a
 //!   call as scripts spell it; `turn T` and `crash T` what they answer, or that there is no such transaction; `take EVENT` whether the
-//!   event is taken; `stuck`, `events`, `unfinished`, `is_unfinished T`, `reply T`, `dump` and questions about rows their answers. `fill N
-//! CALL`
-//!   begins a call N times; `spend N CALL` begins it and turns it to its end, until there are at least N events.
+//!   event is taken; `stuck`, `events`, `unfinished`, `is_unfinished T`, `reply T`, `dump` and questions about rows their answers.
+//!   `fill N CALL` begins a call N times; `spend N CALL` begins it and turns it to its end, until there are at least N events.
 //! - `replay EVENT; EVENT ..` does events again: how many there are then, and the rows; or which of them, from 0, isn't lawful.
 //! - `compatible TYPE POINT LOCALS TYPE POINT LOCALS` tells by which entry two places aren't compatible.
 //! - `forbids TYPE POINT LOCALS SIDE TYPE POINT LOCALS` tells by which entry the first place forbids a step at the second.
 #![tactic(auto)]
 
-mod begins;
-mod dumps;
 mod entries;
 mod replays;
-mod states;
-mod turns;
 
-use acc_case_designs::accepted_file;
+use acc_case_designs::lines::answer_lines;
+use acc_case_states::states::push_answers;
 use acc_case_words::words::parted;
 use acc_lift::Accepted;
 use std::alloc::{AllocError, Global};
@@ -36,7 +32,7 @@ fn push_answer(
 ) -> Result<(), AllocError> {
     let (verb, rest) = parted(question, " ");
     match verb {
-        "state" => states::push_answers(alloc, out, design, rest),
+        "state" => push_answers(alloc, out, design, rest),
         "replay" => replays::push_replayed(alloc, out, design, rest),
         "compatible" => entries::push_clash(alloc, out, design, rest),
         "forbids" => entries::push_forbidding(alloc, out, design, rest),
@@ -44,35 +40,6 @@ fn push_answer(
     }
 }
 
-/// What a question answers.
-fn answer(alloc: Global, design: Option<&Accepted>, question: &str) -> Result<String, AllocError> {
-    let mut out = String::new(alloc);
-    match design {
-        Some(design) => push_answer(alloc, &mut out, design, question)?,
-        None => out.push_str("no design")?,
-    }
-    Ok(out)
-}
-
-/// Answers a question, and prints both; a line with '#' is a remark.
-fn play(rt: &impl Print, alloc: Global, design: Option<&Accepted>, line: &str) -> io::Result<()> {
-    if line.is_empty() || line.starts_with('#') || line.starts_with("design ") {
-        return rt.println(line);
-    }
-    let said = answer(alloc, design, line)?;
-    println!(rt; "{line} -> {said}")
-}
-
 fn main(rt: HostRuntime) -> io::Result<()> {
-    let alloc = rt.alloc();
-    let mut design = None;
-    for line in rt.lines(alloc) {
-        let line = line?;
-        if let Some(files) = line.strip_prefix("design ") {
-            let (text, certificate) = parted(files, " ");
-            design = accepted_file(&rt, text, certificate)?;
-        }
-        play(&rt, alloc, design.as_ref(), &line)?;
-    }
-    Ok(())
+    answer_lines(&rt, push_answer)
 }

@@ -14,7 +14,8 @@ use Rattle.acc_syntax.specs.declared.trees.Cell.{Cell}
 use Rattle.acc_syntax.specs.declared.trees.ReadTree.{ReadTree}
 use Rattle.acc_syntax.specs.declared.trees.ReadTree.TheVariants as read
 use Rattle.acc_syntax.specs.Spelling.{just, variable, place, cell, read_statement}
-use Rattle.acc_step_words.specs.ReadReaders.{assigned_at, row_read_at, cell_read_at, let_at, get_at, has_at, count_at, sum_read_at, least_at}
+use Rattle.acc_step_words.specs.ReadReaders.{assigned_at, row_read_at, cell_read_at, let_at, get_at, has_at, count_at, sum_read_at}
+use Rattle.acc_step_words.specs.ReadReaders.{least_at}
 use Rattle.acc_step_words.specs.ReadReaders.{greatest_at, take_at, mul_at, div_at, read_at, starts_read}
 use Rattle.acc_syntax.proofs.Following.{CanFollow, is_own}
 use Rattle.acc_syntax.proofs.Combinators.{made_free, all_in}

@@ -1,5 +1,6 @@
 -- Relations of which none repeats an earlier one: what an elimination by equations keeps so, and what tells of repetitions.
-use Rattle.std.proofs.Common.{◌≡◌, ◌≤◌, ◌<◌, ℕ, Bool, true, false, List, [], ◌∷◌, ◌++◌, length, Option, Some, None, Ok, Err, refl, ap, sym, ◌∙◌}
+use Rattle.std.proofs.Common.{◌≡◌, ◌≤◌, ◌<◌, ℕ, Bool, true, false, List, [], ◌∷◌, ◌++◌, length, Option, Some, None, Ok, Err}
+use Rattle.std.proofs.Common.{refl, ap, sym, ◌∙◌}
 use Rattle.std.proofs.Common.{subst, if◌then◌else◌, ◌||◌, arith, length-append}
 use Rattle.std.specs.Prelude.{All, Result, option_map, nat_le, IfOk, IfSome, OnOk}
 use Rattle.std.specs.List.{list_any}
@@ -67,7 +68,8 @@ system_apart rows system e =
 -- ---- by equations
 
 taken_all_by : (P : Row → Type 0) (r : Row) (rs : List Row) (b : Bool) → P r → All P rs → (o : Option (Row × List Row))
-    → IfSome o (λ t. All P t.1) → IfSome {T = Row × List Row} (if b then Some (r, rs) else option_map (λ t. (t.0, r ∷ t.1)) o) (λ t. All P t.1)
+    → IfSome o (λ t. All P t.1)
+    → IfSome {T = Row × List Row} (if b then Some (r, rs) else option_map (λ t. (t.0, r ∷ t.1)) o) (λ t. All P t.1)
 taken_all_by P r rs true p all o h = all
 taken_all_by P r rs false p all None h = tt
 taken_all_by P r rs false p all (Some t) h = All-cons P r t.1 p h

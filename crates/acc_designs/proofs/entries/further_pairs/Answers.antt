@@ -12,8 +12,9 @@ use Rattle.acc_designs.proofs.entries.further_pairs.Goals as goal
 pub returns-in_err-pair : goal.returns-in_err-pair
 returns-in_err-pair c =
     let p = err_from_is_err_and c.from_residual.result c.from_residual.ensures.1 in
-    rw (p.1, p.2) (ends_so (comes sign.Comma) (further_at pair_at) refl c.in_err-pair.field-0.0 c.loop-parser.pairs c.loop-parser.parser.words.now
-    c.further_pair.new.parser.words.now (many (comes sign.Comma) (further_at pair_at) c.args.parser.now.words.now)
+    rw (p.1, p.2) (ends_so (comes sign.Comma) (further_at pair_at) refl c.in_err-pair.field-0.0 c.loop-parser.pairs
+    c.loop-parser.parser.words.now c.further_pair.new.parser.words.now
+    (many (comes sign.Comma) (further_at pair_at) c.args.parser.now.words.now)
     (sym c.comes.ensures ∙ c.loop-parser-test.true) c.in_err-pair.ensures c.loop-parser.invariant)
 
 pub loop-parser-smaller : goal.loop-parser-smaller

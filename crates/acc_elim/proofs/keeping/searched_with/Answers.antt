@@ -1,19 +1,20 @@
-use Rattle.std.proofs.Common.{◌≡◌, ◌++◌, ◌∷◌, [], length, take, Ok, ap, sym, ◌∙◌}
+use Rattle.std.proofs.Common.{◌≡◌, ◌++◌, ◌∷◌, [], length, take, Ok, ap, sym, ◌∙◌, arith}
 use Rattle.acc_systems.proofs.Chains.{answers_handed, answers_along}
 use Rattle.acc_elim.specs.Readings.{read_of, found_in}
 use Rattle.acc_elim.proofs.ReadOn.{first_stopped, last_stopped, last_found, names_kept}
-use Rattle.acc_elim.proofs.Keepings.{known_within, came_back}
+use Rattle.acc_elim.proofs.Keepings.{names_longer, came_back}
 use Rattle.acc_elim.proofs.keeping.searched_with.Goals as goal
 
 pub returns-in_err-catch_up-clause-value : goal.returns-in_err-catch_up-clause-value
 returns-in_err-catch_up-clause-value c =
     answers_handed _ _ _ c.from_residual.ensures.1 (first_stopped c.args.rels.now c.args.last.now _ c.in_err-catch_up.ensures.all)
 
-pub found_last-end-requires-clause-within : goal.found_last-end-requires-clause-within
-found_last-end-requires-clause-within c =
+pub found_last-end-requires-clause-known : goal.found_last-end-requires-clause-known
+found_last-end-requires-clause-known c =
     let reading = c.catch_up.new.self.reading in
-    known_within reading.rows.items reading.names.items c.read_next.new.names.items c.args.last.now c.taken-known.result
-    c.in-Ok.ensures.names c.taken-known.ensures.value
+    let few = names_longer reading.names.items c.args.last.now in
+    let long = ap length c.in-Ok.ensures.names in
+    (length reading.names.items, omega (arith, few, long), c.in_ok-known.ensures.value)
 
 pub returns-in-Err-clause-value : goal.returns-in-Err-clause-value
 returns-in-Err-clause-value c =
@@ -35,8 +36,8 @@ returns-in-Ok-clause-kept c =
         first = c.in_ok-catch_up.ensures.kept.read.first
             ∙ ap (λ us. Ok (us, reading.rows.items)) (sym same);
       };
-      known = came_back reading.rows.items (length names) (length c.truncate.new.self.items) c.taken-known.result c.found_last-end.new.slot
-          (ap length (sym same)) c.taken-known.ensures.value c.found_last-end.ensures.kept;
+      known = came_back reading.rows.items (length names) (length c.truncate.new.self.items) c.in_ok-known.known c.found_last-end.new.slot
+          (ap length (sym same)) c.in_ok-known.ensures.value c.found_last-end.ensures.kept;
     }
 
 pub returns-in-Ok-clause-value : goal.returns-in-Ok-clause-value

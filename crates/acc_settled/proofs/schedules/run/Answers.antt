@@ -153,8 +153,8 @@ returns-in_err-end_places-clause-front g c =
     let d1 : e1.design ≡ d = on1.design ∙ c.requires.design in
     let ends = subst (λ (x : Design). EndsAll (with_locks x) e1.state e2.state) d1 c.in_ok-end_all.ensures.ends in
     if_stopped c.from_residual-in_err-end_places.result
-    (front_places d e0.calls c.args.order.now (play_of e0.state c.args.board.now) b1.text.items p c.in_ok-mention_all.ensures.played e2.state
-    now ends
+    (front_places d e0.calls c.args.order.now (play_of e0.state c.args.board.now) b1.text.items p c.in_ok-mention_all.ensures.played
+    e2.state now ends
     (subst (λ (cs : List Call). PlayPrecedesEach now (EndsPlaces (with_locks d) cs q (range_with_len 1 (length cs))))
     (on2.calls ∙ on1.calls)
     (subst (λ (x : Design). PlayPrecedesEach now (EndsPlaces (with_locks x) e2.calls q (range_with_len 1 (length e2.calls))))

@@ -1,29 +1,22 @@
-use Rattle.std.proofs.Common.{◌≡◌, ◌⊎◌, false, sym, rules}
-use Rattle.std.specs.List.{list_any}
-use Rattle.acc_systems.proofs.Chains.{answers_handed, answers_along, stopped_along, stopped_chain}
-use Rattle.acc_stages.specs.Followed.{through}
-use Rattle.acc_stages.specs.Ends.{found_behind, is_equation}
-use Rattle.acc_stages.proofs.Ended.{found_more, found_left}
+use Rattle.std.proofs.Common.{◌≡◌, ◌++◌, ◌∷◌, [], false, subst, sym, rules}
+use Rattle.acc_systems.proofs.Chains.{answers_along}
+use Rattle.acc_stages.specs.Ends.{IsKnown, IsStopped}
+use Rattle.acc_stages.proofs.Knowns.{found_stopped_with, found_unbegun, unbegun_with, stopped_by}
 use Rattle.acc_stages.proofs.known.found_with.Goals as goal
 
-pub returns-in_err-rest-clause-value : goal.returns-in_err-rest-clause-value
-returns-in_err-rest-clause-value c =
-    let k = c.args.known.now in
+pub returns-in-Stopped-clause-value : goal.returns-in-Stopped-clause-value
+returns-in-Stopped-clause-value c =
     let rows = c.args.rows.now in
-    let row = c.args.row in
-    let equal : row.equal ≡ false = search rules in
-    let settled : (k.unknowns ≡ c.args.unknowns) ⊎ (list_any is_equation k.stage.rows ≡ false) = c.is_settled.ensures (search rules) in
-    answers_handed _ _ _ c.from_residual.ensures.1
-    (stopped_along _ _ _ (sym (found_more rows k.unknowns c.args.unknowns k.stage c.requires.known.stage c.requires.within row equal settled))
-    (stopped_chain _ (through k.stage row) (λ o. found_behind k.stage k.unknowns o c.args.unknowns) c.in_err-rest.ensures))
+    let s = c.in-Stopped.stopped in
+    let equal : c.args.row.equal ≡ false = search rules in
+    let is : IsStopped rows c.requires.0 s = subst (IsKnown rows c.requires.0) c.in-Stopped.is c.requires.2 in
+    answers_along c.stop_with.result _ _
+    (sym (found_stopped_with rows c.requires.0 c.args.unknowns s c.args.row is c.requires.1 equal)) c.stop_with.ensures
 
-pub returns-clause-value : goal.returns-clause-value
-returns-clause-value c =
-    let k = c.args.known.now in
+pub returns-in_ok-copied_stop-in-Unbegun-clause-value : goal.returns-in_ok-copied_stop-in-Unbegun-clause-value
+returns-in_ok-copied_stop-in-Unbegun-clause-value c =
     let rows = c.args.rows.now in
-    let row = c.args.row in
-    let equal : row.equal ≡ false = search rules in
-    let settled : (k.unknowns ≡ c.args.unknowns) ⊎ (list_any is_equation k.stage.rows ≡ false) = c.is_settled.ensures (search rules) in
-    answers_along c.found_left.result _ _
-    (sym (found_left rows k.unknowns c.args.unknowns k.stage c.requires.known.stage c.requires.within row equal settled c.in_ok-rest.rest
-    c.in_ok-rest.ensures)) c.found_left.ensures.value
+    let stop = c.in-Unbegun.stop in
+    let is = subst (IsKnown rows c.requires.0) c.in-Unbegun.is c.requires.2 in
+    stopped_by _ stop _ c.in_ok-copied_stop-in-Unbegun.ensures
+    (found_unbegun (rows ++ c.args.row ∷ []) c.args.unknowns stop (unbegun_with rows c.args.row stop is))

@@ -3,5 +3,5 @@ use Rattle.std.specs.List.{list_any}
 use Rattle.acc_stages.specs.Ends.{is_equation}
 use Rattle.acc_stages.proofs.known.has_equation.Given as goal
 
-abbrev pub invariant-loop-row : goal.invariant-loop-row
-invariant-loop-row l = list_any is_equation (drop l.row-index l.rows) ≡ list_any is_equation l.rows
+abbrev pub invariant-loop-one : goal.invariant-loop-one
+invariant-loop-one l = list_any is_equation (drop l.one-index l.rows) ≡ list_any is_equation l.rows

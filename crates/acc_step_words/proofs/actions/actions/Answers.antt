@@ -15,7 +15,8 @@ returns-in_err-action c =
     (sym c.starts_action.ensures ∙ c.loop-parser-test.true) c.in_err-action.ensures c.loop-parser.invariant)
 
 pub loop-parser-smaller : goal.loop-parser-smaller
-loop-parser-smaller c = action_shrinks c.loop-parser.parser.words.now c.in_ok-action.action c.action.new.parser.words.now c.in_ok-action.ensures
+loop-parser-smaller c =
+    action_shrinks c.loop-parser.parser.words.now c.in_ok-action.action c.action.new.parser.words.now c.in_ok-action.ensures
 
 pub loop-parser-preserved : goal.loop-parser-preserved
 loop-parser-preserved c =
@@ -24,5 +25,7 @@ loop-parser-preserved c =
     (sym c.starts_action.ensures ∙ c.loop-parser-test.true) c.in_ok-action.ensures c.loop-parser.invariant)
 
 pub returns : goal.returns
-returns c = is_done starts_action action_at c.loop-parser.actions c.loop-parser.parser.words.now
-    (many starts_action action_at c.args.parser.now.words.now) (sym c.starts_action.ensures ∙ c.loop-parser-test.false) c.loop-parser.invariant
+returns c =
+    is_done starts_action action_at c.loop-parser.actions c.loop-parser.parser.words.now
+    (many starts_action action_at c.args.parser.now.words.now) (sym c.starts_action.ensures ∙ c.loop-parser-test.false)
+    c.loop-parser.invariant

@@ -19,10 +19,11 @@ loop-parser-smaller c = read_shrinks c.loop-parser.parser.words.now c.in_ok-read
 
 pub loop-parser-preserved : goal.loop-parser-preserved
 loop-parser-preserved c =
-    rw c.in_ok-push.ensures.ok (goes_on starts_read read_at read_shrinks refl c.loop-parser.reads c.loop-parser.parser.words.now c.in_ok-read.read
-    c.read.new.parser.words.now (many starts_read read_at c.args.parser.now.words.now) (sym c.starts_read.ensures ∙ c.loop-parser-test.true)
-    c.in_ok-read.ensures c.loop-parser.invariant)
+    rw c.in_ok-push.ensures.ok (goes_on starts_read read_at read_shrinks refl c.loop-parser.reads c.loop-parser.parser.words.now
+    c.in_ok-read.read c.read.new.parser.words.now (many starts_read read_at c.args.parser.now.words.now)
+    (sym c.starts_read.ensures ∙ c.loop-parser-test.true) c.in_ok-read.ensures c.loop-parser.invariant)
 
 pub returns : goal.returns
-returns c = is_done starts_read read_at c.loop-parser.reads c.loop-parser.parser.words.now (many starts_read read_at c.args.parser.now.words.now)
+returns c =
+    is_done starts_read read_at c.loop-parser.reads c.loop-parser.parser.words.now (many starts_read read_at c.args.parser.now.words.now)
     (sym c.starts_read.ensures ∙ c.loop-parser-test.false) c.loop-parser.invariant

@@ -11,7 +11,8 @@ returns-then-not-has-clause-told c =
 pub returns-then-not-has-clause-behind : goal.returns-then-not-has-clause-behind
 returns-then-not-has-clause-behind c =
     let none : has c.args.unknown c.args.row ≡ false = search rules in
-    kept_behind c.keep.result c.args.unknown c.args.made.now.items c.args.kept.now.items c.keep.new.rows.items c.args.row none c.keep.ensures
+    kept_behind c.keep.result c.args.unknown c.args.made.now.items c.args.kept.now.items c.keep.new.rows.items c.args.row none
+    c.keep.ensures
 
 pub returns-clause-told : goal.returns-clause-told
 returns-clause-told c =
@@ -22,5 +23,5 @@ pub returns-clause-behind : goal.returns-clause-behind
 returns-clause-behind c =
     let there : has c.args.unknown c.args.row ≡ true = search rules in
     on_ok c.admit_made.result _ _ c.admit_made.ensures.told
-    (made_behind c.args.unknown c.args.made.now.items c.args.kept.now.items c.admit_made.new.made.items c.admit_made.new.kept.items c.args.row
-    there)
+    (made_behind c.args.unknown c.args.made.now.items c.args.kept.now.items c.admit_made.new.made.items c.admit_made.new.kept.items
+    c.args.row there)

@@ -18,7 +18,8 @@ loop-row-preserved c =
     let apart : AreApart (row ∷ rest) = subst AreApart same c.loop-row.invariant.apart in
     let told : All (TellsOf made kept) (row ∷ rest) = subst (All (TellsOf made kept)) same c.loop-row.invariant.told in
     record {
-      so_far = step_taken (replaced c.args.unknown c.args.equation.now) kept c.replace.new.kept.items row (reverse c.loop-row.rest.items) rest
+      so_far = step_taken (replaced c.args.unknown c.args.equation.now) kept c.replace.new.kept.items row
+          (reverse c.loop-row.rest.items) rest
           same c.in_ok-replace.ensures.value
           ∙ c.loop-row.invariant.so_far;
       apart = apart.1;

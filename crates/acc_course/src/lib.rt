@@ -1,0 +1,6 @@
+//! The course of a search for a proof of a sequent.
+#![tactic(auto)]
+
+mod branches;
+pub mod courses;
+mod passes;

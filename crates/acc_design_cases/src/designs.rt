@@ -1,0 +1,13 @@
+//! Designs that are read.
+use acc_base::designs::Design;
+use acc_parse::{ParseError, parse};
+use std::alloc::{AllocError, Global};
+
+/// The design of a text, if it is one.
+pub fn read(alloc: Global, text: &str) -> Result<Option<Design>, AllocError> {
+    match parse(alloc, text.as_bytes()) {
+        Ok(design) => Ok(Some(design)),
+        Err(ParseError::Memory) => Err(AllocError),
+        Err(_) => Ok(None),
+    }
+}

@@ -1,0 +1,10 @@
+pub mod Good
+pub mod Showing
+pub mod Nodes
+pub mod Instances
+pub mod Trying
+pub mod Closing
+pub mod Solutions
+pub mod Guards
+pub mod Clashes
+pub mod Ends

@@ -1,0 +1,2 @@
+pub mod OpenLeaves
+pub mod Courses

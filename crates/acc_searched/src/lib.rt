@@ -1,0 +1,4 @@
+//! What the end of a search shows.
+#![tactic(auto)]
+
+pub mod laws;
