@@ -20,7 +20,7 @@ const SELF: u32 = 4;
 
 /// What is changed.
 #[derive(Clone, Copy)]
-enum Change {
+enum Edited {
     Nothing,
     HintOfNoPoint,
     SelfInAHint,
@@ -31,15 +31,15 @@ enum Change {
 }
 
 /// The change of that name.
-fn change_of(name: &str) -> Option<Change> {
+fn edited_of(name: &str) -> Option<Edited> {
     match name {
-        "nothing" => Some(Change::Nothing),
-        "hint-of-no-point" => Some(Change::HintOfNoPoint),
-        "self-in-a-hint" => Some(Change::SelfInAHint),
-        "one-in-a-clause" => Some(Change::OneInAClause),
-        "no-path" => Some(Change::NoPath),
-        "empty-prefix" => Some(Change::EmptyPrefix),
-        "large-number" => Some(Change::LargeNumber),
+        "nothing" => Some(Edited::Nothing),
+        "hint-of-no-point" => Some(Edited::HintOfNoPoint),
+        "self-in-a-hint" => Some(Edited::SelfInAHint),
+        "one-in-a-clause" => Some(Edited::OneInAClause),
+        "no-path" => Some(Edited::NoPath),
+        "empty-prefix" => Some(Edited::EmptyPrefix),
+        "large-number" => Some(Edited::LargeNumber),
         _ => None,
     }
 }
@@ -109,23 +109,23 @@ fn put_large(alloc: Global, point: &mut Point) -> Result<(), AllocError> {
     Ok(())
 }
 
-fn change_mid(alloc: Global, point: &mut Point, change: Change) -> Result<(), AllocError> {
+fn change_mid(alloc: Global, point: &mut Point, change: Edited) -> Result<(), AllocError> {
     match change {
-        Change::NoPath => point.undo.paths = Seq::new(alloc),
+        Edited::NoPath => point.undo.paths = Seq::new(alloc),
         _ => point.next.reads = one(alloc, Read::Count(Q, 0, Seq::new(alloc)))?,
     }
     Ok(())
 }
 
-fn change_points(alloc: Global, points: &mut [Point], change: Change) -> Result<(), AllocError> {
+fn change_points(alloc: Global, points: &mut [Point], change: Edited) -> Result<(), AllocError> {
     match (change, points) {
-        (Change::LargeNumber, [start, ..]) => put_large(alloc, start),
+        (Edited::LargeNumber, [start, ..]) => put_large(alloc, start),
         (_, [_, mid]) => change_mid(alloc, mid, change),
         _ => Ok(()),
     }
 }
 
-fn change_types(alloc: Global, types: &mut [TxType], change: Change) -> Result<(), AllocError> {
+fn change_types(alloc: Global, types: &mut [TxType], change: Edited) -> Result<(), AllocError> {
     let Some(ty) = types.first_mut() else {
         return Ok(());
     };
@@ -135,20 +135,20 @@ fn change_types(alloc: Global, types: &mut [TxType], change: Change) -> Result<(
     done
 }
 
-fn change_steps(alloc: Global, design: &mut Design, change: Change) -> Result<(), AllocError> {
+fn change_steps(alloc: Global, design: &mut Design, change: Edited) -> Result<(), AllocError> {
     let mut types = mem::replace(&mut design.types, Seq::new(alloc)).into_vec();
     let done = change_types(alloc, &mut types, change);
     design.types = Seq::from_vec(types);
     done
 }
 
-fn make(alloc: Global, design: &mut Design, change: Change) -> Result<(), AllocError> {
+fn make(alloc: Global, design: &mut Design, change: Edited) -> Result<(), AllocError> {
     match change {
-        Change::Nothing => {}
-        Change::HintOfNoPoint => design.hints = hint(alloc, 2, A)?,
-        Change::SelfInAHint => design.hints = hint(alloc, 1, SELF)?,
-        Change::OneInAClause => design.always = clause(alloc)?,
-        Change::NoPath | Change::EmptyPrefix | Change::LargeNumber => {
+        Edited::Nothing => {}
+        Edited::HintOfNoPoint => design.hints = hint(alloc, 2, A)?,
+        Edited::SelfInAHint => design.hints = hint(alloc, 1, SELF)?,
+        Edited::OneInAClause => design.always = clause(alloc)?,
+        Edited::NoPath | Edited::EmptyPrefix | Edited::LargeNumber => {
             change_steps(alloc, design, change)?;
         }
     }
@@ -165,7 +165,7 @@ fn judged(alloc: Global, design: &Design) -> Result<String, AllocError> {
 }
 
 /// Whether a design keeps them with a change.
-fn judged_with(alloc: Global, design: Design, change: Change) -> Result<String, AllocError> {
+fn judged_with(alloc: Global, design: Design, change: Edited) -> Result<String, AllocError> {
     let mut design = design;
     make(alloc, &mut design, change)?;
     judged(alloc, &design)
@@ -173,7 +173,7 @@ fn judged_with(alloc: Global, design: Design, change: Change) -> Result<String, 
 
 /// What is said of the design of a text with the change of that name.
 fn said(alloc: Global, text: &str, name: &str) -> Result<String, AllocError> {
-    let Some(change) = change_of(name) else {
+    let Some(change) = edited_of(name) else {
         return String::from_str(alloc, "no such change");
     };
     match read(alloc, text)? {
