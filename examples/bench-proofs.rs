@@ -1,6 +1,6 @@
 //! The checker of proofs once more, in plain Rust and without any proof: what `bench-proofs` compares with.
 //!
-//! Its input is that of `crates/acc_cert_cases`, of which it answers the lines `proves`, `certificate` and `next`.
+//! Its input is that of `crates/acc_search_cases`, of which it answers the lines `proves`, `certificate` and `next`.
 use std::collections::BTreeMap;
 use std::io::{BufRead, BufWriter, Write};
 

@@ -1,10 +1,15 @@
-//! Answers of command lines over a disk in memory.
-use acc_case_commands::disks::spelled_behind;
+//! Command lines over a disk in memory.
+use crate::faults::sink;
+use crate::folders::hold_files;
+use acc_case_commands::disks::{base, disk, file, spelled_behind};
 use acc_case_commands::memory;
+use acc_case_commands::texts::first_word;
 use acc_cli::Done;
 use acc_disk::MemDisk;
 use acc_io::{MemShelf, MemSink};
+use std::alloc::{AllocError, Global};
 use std::io;
+use std::rt::Files;
 
 /// Tells what was written, how the program ended, and what the disk holds after how many calls, and how many syncs among them.
 fn tell<R: Print + AllocGlobal>(
@@ -30,7 +35,7 @@ fn tell<R: Print + AllocGlobal>(
 }
 
 /// Answers a command line over a disk, tells how it ended, and hands the disk back.
-pub fn answer<R: Print + AllocGlobal>(
+fn answer<R: Print + AllocGlobal>(
     rt: &R,
     base: &[u8],
     words: &str,
@@ -41,4 +46,83 @@ pub fn answer<R: Print + AllocGlobal>(
     let done = memory::answer_over(rt.alloc(), words, shelf, out, disk)?;
     tell(rt, base, &done, out.bytes())?;
     Ok(done.disk)
+}
+
+/// A disk's bytes, the calls of it that fail, the one from which on all fail, the writes of the sink that fail, and the command line.
+#[derive(Clone, Copy)]
+struct Case<'a> {
+    bytes: &'a str,
+    fails: &'a str,
+    from: &'a str,
+    writes: &'a str,
+    words: &'a str,
+}
+
+/// The case that is written `BYTES FAILS FROM WRITES WORDS`.
+fn case_of(text: &str) -> Case<'_> {
+    let (bytes, rest) = first_word(text);
+    let (fails, rest) = first_word(rest);
+    let (from, rest) = first_word(rest);
+    let (writes, words) = first_word(rest);
+    Case {
+        bytes,
+        fails,
+        from,
+        writes,
+        words,
+    }
+}
+
+/// A shelf with the folder's files that the words name.
+fn shelf_of<R: Files + AllocGlobal>(rt: &R, words: &str) -> Result<MemShelf, AllocError> {
+    let mut shelf = memory::empty_shelf(rt.alloc(), &[])?;
+    hold_files(rt, &mut shelf, words, "-")?;
+    Ok(shelf)
+}
+
+/// The disk of a case, whose bytes stand behind a base.
+fn disk_of(alloc: Global, base: &[u8], case: Case<'_>) -> Result<MemDisk, AllocError> {
+    let file = file(alloc, base, case.bytes)?;
+    disk(alloc, &file, case.fails, case.from)
+}
+
+/// Answers a case over a shelf.
+fn over_shelf<R: Print + AllocGlobal>(
+    rt: &R,
+    case: Case<'_>,
+    shelf: &mut MemShelf,
+) -> io::Result<()> {
+    let mut out = sink(rt.alloc(), case.writes, "-")?;
+    let base = base(rt.alloc(), shelf, case.bytes, case.words)?;
+    let disk = disk_of(rt.alloc(), &base, case)?;
+    answer(rt, &base, case.words, shelf, &mut out, disk)?;
+    Ok(())
+}
+
+/// `disk BYTES FAILS FROM WRITES WORDS`: a command line over the folder's files, a disk in memory and a sink some of whose writes fail.
+/// Behind a `+` the bytes stand in the place of the last byte of the journal that `init` makes of the design.
+pub fn over_disk<R: Files + Print + AllocGlobal>(rt: &R, text: &str) -> io::Result<()> {
+    let case = case_of(text);
+    let mut shelf = shelf_of(rt, case.words)?;
+    over_shelf(rt, case, &mut shelf)
+}
+
+/// Answers a command line twice, the second time over the disk that the first hands back.
+fn answer_twice<R: Print + AllocGlobal>(
+    rt: &R,
+    words: &str,
+    shelf: &mut MemShelf,
+    out: &mut MemSink,
+) -> io::Result<()> {
+    let disk = disk(rt.alloc(), &[], "-", "-")?;
+    let disk = answer(rt, &[], words, shelf, out, disk)?;
+    answer(rt, &[], words, shelf, out, disk)?;
+    Ok(())
+}
+
+/// `twice WORDS`: a command line over the folder's files and an empty disk in memory, and again over the disk that it hands back.
+pub fn twice<R: Files + Print + AllocGlobal>(rt: &R, words: &str) -> io::Result<()> {
+    let mut shelf = shelf_of(rt, words)?;
+    let mut out = sink(rt.alloc(), "-", "-")?;
+    answer_twice(rt, words, &mut shelf, &mut out)
 }

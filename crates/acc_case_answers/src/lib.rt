@@ -2,6 +2,7 @@
 #![tactic(auto)]
 
 pub mod answers;
+pub mod designs;
 pub mod faults;
 pub mod folders;
 pub mod journals;

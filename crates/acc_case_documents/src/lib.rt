@@ -1,6 +1,9 @@
-//! What documents show: blocks of commands, rows of tables, and the journals that commands name.
+//! What documents show: blocks of commands, rows of tables, and the journals that commands name; and whether the program answers so.
 #![tactic(auto)]
 
-pub mod blocks;
-pub mod journals;
-pub mod rows;
+mod answers;
+mod blocks;
+pub mod documents;
+mod journals;
+mod refusals;
+mod rows;

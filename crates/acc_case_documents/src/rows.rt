@@ -13,16 +13,41 @@ pub struct Row {
 }
 
 /// The code of a cell that is code alone.
-fn code(alloc: Global, cell: Option<&str>) -> Result<Option<String>, AllocError> {
-    let Some(cell) = cell else {
-        return Ok(None);
-    };
-    let Some(open) = cell.trim().strip_prefix("`") else {
-        return Ok(None);
-    };
-    match open.strip_suffix("`") {
-        Some(code) => Ok(Some(code.replace(alloc, BAR, "|")?)),
-        None => Ok(None),
+fn code(cell: Option<&str>) -> Option<&str> {
+    cell?.trim().strip_prefix("`")?.strip_suffix("`")
+}
+
+/// A text with its bars.
+fn with_bars(alloc: Global, text: &str) -> Result<String, AllocError> {
+    text.replace(alloc, BAR, "|")
+}
+
+/// The row with the code of these cells.
+fn row_of_codes(
+    alloc: Global,
+    first: &str,
+    second: &str,
+    refusal: &str,
+) -> Result<Row, AllocError> {
+    Ok(Row {
+        first: with_bars(alloc, first)?,
+        second: with_bars(alloc, second)?,
+        refusal: with_bars(alloc, refusal)?,
+    })
+}
+
+/// The row of three cells, if all are code and the third is a refusal.
+fn row_of_cells(
+    alloc: Global,
+    first: Option<&str>,
+    second: Option<&str>,
+    third: Option<&str>,
+) -> Result<Option<Row>, AllocError> {
+    match (code(first), code(second), code(third)) {
+        (Some(first), Some(second), Some(refusal)) if refusal.starts_with("refused ") => {
+            Ok(Some(row_of_codes(alloc, first, second, refusal)?))
+        }
+        _ => Ok(None),
     }
 }
 
@@ -30,21 +55,6 @@ fn code(alloc: Global, cell: Option<&str>) -> Result<Option<String>, AllocError>
 pub fn row_of(alloc: Global, line: &str) -> Result<Option<Row>, AllocError> {
     let line = line.replace(alloc, "\\|", BAR)?;
     let mut cells = line.as_str().split('|');
-    if cells.next().is_none() {
-        return Ok(None);
-    }
-    let Some(first) = code(alloc, cells.next())? else {
-        return Ok(None);
-    };
-    let Some(second) = code(alloc, cells.next())? else {
-        return Ok(None);
-    };
-    match code(alloc, cells.next())? {
-        Some(refusal) if refusal.as_str().starts_with("refused ") => Ok(Some(Row {
-            first,
-            second,
-            refusal,
-        })),
-        _ => Ok(None),
-    }
+    cells.next();
+    row_of_cells(alloc, cells.next(), cells.next(), cells.next())
 }

@@ -1,7 +1,7 @@
 //! The calls of a script.
-ghost use Rattle.std.specs.Prelude.{◌<◌, ◌^◌, map, length, IfOk, IfSome};
-ghost use Rattle.acc_wal.specs.Spellings.{body};
-ghost use Rattle.acc_engine.specs.Keeping.{CallsFit, begin_of};
+ghost use Rattle.std.specs.Prelude.{◌<◌, ◌^◌, IfOk, IfSome};
+ghost use Rattle.acc_script.specs.BeginSizes.{begins_size};
+ghost use Rattle.acc_engine.specs.Keeping.{CallsFit};
 
 use acc_base::machines::Call;
 use acc_base::sequences::Seq;
@@ -35,7 +35,7 @@ fn lines(alloc: Global, script: &str) -> Result<Vec<u8>, AllocError> {
 /// The calls of a script in its bytes, if they are one of the design's.
 fn calls_in(alloc: Global, design: &Accepted, script: &[u8]) -> Option<Seq<Call>>
     ensures fits { IfSome result (CallsFit design.now) }
-    ensures few { IfSome result (λ asked. length (body (map begin_of asked)) < 2 ^ 31) }
+    ensures few { IfSome result (λ asked. begins_size asked < 2 ^ 31) }
 {
     if script.len() > LONGEST {
         return None;
@@ -53,7 +53,7 @@ pub fn asked(
     script: &str,
 ) -> Result<Option<Seq<Call>>, AllocError>
     ensures fits { IfOk result (λ asked. IfSome asked (CallsFit design.now)) }
-    ensures few { IfOk result (λ asked. IfSome asked (λ calls. length (body (map begin_of calls)) < 2 ^ 31)) }
+    ensures few { IfOk result (λ asked. IfSome asked (λ calls. begins_size calls < 2 ^ 31)) }
 {
     let script = lines(alloc, script)?;
     Ok(calls_in(alloc, design, &script))

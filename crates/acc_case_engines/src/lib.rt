@@ -3,6 +3,6 @@
 #![tactic(auto)]
 
 mod answers;
-mod calls;
+pub mod calls;
 mod items;
 pub mod runs;

@@ -1,7 +1,7 @@
 //! Runs of an engine over a journal on a disk.
-ghost use Rattle.std.specs.Prelude.{◌≡◌, ◌<◌, ◌^◌, [], false, map, length};
-ghost use Rattle.acc_wal.specs.Spellings.{body};
-ghost use Rattle.acc_engine.specs.Keeping.{CallsFit, begin_of};
+ghost use Rattle.std.specs.Prelude.{◌≡◌, ◌<◌, ◌^◌, [], false};
+ghost use Rattle.acc_script.specs.BeginSizes.{begins_size};
+ghost use Rattle.acc_engine.specs.Keeping.{CallsFit};
 
 use crate::calls::asked;
 use crate::items::push_items;
@@ -11,10 +11,10 @@ use acc_case_journals::answers::{push_recover_error, push_wal_error};
 use acc_case_journals::files::create;
 use acc_case_journals::recoveries::{self, fresh};
 use acc_disk::MemDisk;
-use acc_engine::Engine;
 use acc_lift::Accepted;
 use acc_progress::Silent;
 use acc_recover::{Recovered, recover};
+use acc_settled::over_journal;
 use acc_store::MapStore;
 use acc_wal::Wal;
 use std::alloc::{AllocError, Global};
@@ -54,14 +54,14 @@ fn push_engine(
     requires settled { recovered.wal.tail ≡ [] }
     requires unspent { recovered.wal.spent ≡ false }
     requires fits { CallsFit recovered.state.design calls }
-    requires few { length (body (map begin_of calls)) < 2 ^ 31 }
+    requires few { begins_size calls < 2 ^ 31 }
 {
     let Recovered {
         state,
         wal,
         compensated: _,
     } = recovered;
-    let mut engine = Engine::new(alloc, state, wal, calls);
+    let mut engine = over_journal(alloc, state, wal, calls);
     push_items(alloc, out, &mut engine, case.items)?;
     let (_, wal) = engine.give_back();
     push_lists(out, &wal)?;
@@ -77,7 +77,7 @@ fn push_opened(
     disk: MemDisk,
 ) -> Result<MemDisk, AllocError>
     requires fits { CallsFit case.now.design.now calls }
-    requires few { length (body (map begin_of calls)) < 2 ^ 31 }
+    requires few { begins_size calls < 2 ^ 31 }
 {
     match recover(alloc, case.design, MapStore::new(alloc), disk, &mut Silent) {
         Ok(recovered) => push_engine(alloc, out, case, recovered, calls),
@@ -99,7 +99,7 @@ fn push_made(
     disk: MemDisk,
 ) -> Result<MemDisk, AllocError>
     requires fits { CallsFit case.now.design.now calls }
-    requires few { length (body (map begin_of calls)) < 2 ^ 31 }
+    requires few { begins_size calls < 2 ^ 31 }
 {
     match create(alloc, case.design.design(), disk) {
         Ok(disk) => push_opened(alloc, out, case, calls, disk),

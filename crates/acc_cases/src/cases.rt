@@ -1,11 +1,13 @@
 //! The cases by their verbs.
-use crate::{designs, journals};
-use acc_case_answers::answers::{answer_at_once, answer_into, tell_lines};
+use acc_case_answers::answers::{answer_at_once, answer_into};
+use acc_case_answers::designs::show;
 use acc_case_answers::faults::{shelf, sink};
 use acc_case_answers::folders::hold_files;
+use acc_case_answers::journals;
 use acc_case_answers::runs::{play_texts, sched_last, sched_texts};
-use acc_case_commands::texts::{self, Change, first_word};
+use acc_case_commands::texts::{self, first_word};
 use acc_case_commands::{memory, proofs};
+use acc_case_documents::documents;
 use acc_cli::acc;
 use acc_io::{FolderShelf, StdSink};
 use acc_progress::Silent;
@@ -88,70 +90,53 @@ fn fails<R: Files + Print + AllocGlobal>(rt: &R, text: &str) -> io::Result<()> {
     answer_into(rt, words, &mut shelf, &mut out)
 }
 
-/// Shows a design.
-fn show_whole<R: Print + AllocGlobal>(rt: &R, verb: &str, design: &str) -> io::Result<()> {
-    let shown = designs::shown(rt.alloc(), verb, design)?;
-    tell_lines(rt, shown.as_str(), "")
-}
-
-/// Shows a changed design beside what is shown of the unchanged one.
-fn show_beside<R: Print + AllocGlobal>(
-    rt: &R,
-    verb: &str,
-    design: &str,
-    changed: &str,
-) -> io::Result<()> {
-    let before = designs::shown(rt.alloc(), verb, design)?;
-    let shown = designs::shown(rt.alloc(), verb, changed)?;
-    tell_lines(rt, shown.as_str(), before.as_str())
-}
-
-/// Shows a changed design.
-fn show_changed<R: Print + AllocGlobal>(
-    rt: &R,
-    verb: &str,
-    design: &str,
-    change: Change<'_>,
-) -> io::Result<()> {
-    match texts::changed(rt.alloc(), design, change)? {
-        Some(changed) => show_beside(rt, verb, design, changed.as_str()),
-        None => println!(rt; "not in the design"),
-    }
-}
-
-/// `change`, `spell` or `judge`, with `DESIGN` or `DESIGN CHANGE`: what is shown of a design of the folder, or of the changed one.
-fn show<R: Files + Print + AllocGlobal>(rt: &R, verb: &str, rest: &str) -> io::Result<()> {
-    let (name, change) = first_word(rest);
-    let design = fs::read_to_string(rt, name)?;
-    match texts::change_of(change) {
-        Some(change) => show_changed(rt, verb, design.as_str(), change),
-        None => show_whole(rt, verb, design.as_str()),
-    }
-}
-
-/// Answers a case without escapes.
-fn answer_plain<R: Files + Print + AllocGlobal>(rt: &R, line: &str) -> io::Result<()> {
-    let (verb, rest) = first_word(line);
+/// Answers a case of a design of the folder.
+fn answer_design<R: Files + Print + AllocGlobal>(rt: &R, verb: &str, rest: &str) -> io::Result<()> {
     let (name, behind) = first_word(rest);
     match verb {
-        "" | "#" => Ok(()),
-        "run" => run(rt, rest),
         "play" => play(rt, name, behind),
         "sched" => sched(rt, name, behind),
         "many" => many(rt, name, behind),
-        "print" => print(rt, rest),
-        "check" => check(rt, rest),
-        "prove" => prove(rt, rest),
-        "proved" => proved(rt, rest),
-        "fails" => fails(rt, rest),
-        "disk" => journals::over_disk(rt, rest),
-        "twice" => journals::twice(rt, rest),
+        "proved" => proved(rt, name),
         _ => show(rt, verb, rest),
     }
 }
 
-/// Answers a case.
-pub fn answer<R: Files + Print + AllocGlobal>(rt: &R, line: &str) -> io::Result<()> {
+/// Answers a case of a command line or of texts, or another of a design.
+fn answer_words<R: Files + Print + AllocGlobal>(rt: &R, verb: &str, rest: &str) -> io::Result<()> {
+    match verb {
+        "run" => run(rt, rest),
+        "print" => print(rt, rest),
+        "check" => check(rt, rest),
+        "prove" => prove(rt, rest),
+        "fails" => fails(rt, rest),
+        "disk" => journals::over_disk(rt, rest),
+        "twice" => journals::twice(rt, rest),
+        _ => answer_design(rt, verb, rest),
+    }
+}
+
+/// Answers a case without escapes.
+fn answer_plain<R: Files + Print + AllocGlobal>(
+    rt: &R,
+    base: &mut String,
+    line: &str,
+) -> io::Result<()> {
+    let (verb, rest) = first_word(line);
+    match verb {
+        "" | "#" => Ok(()),
+        "document" => documents::tell(rt, rest),
+        "explain" => acc_case_explanations::tell(rt, base, rest),
+        _ => answer_words(rt, verb, rest),
+    }
+}
+
+/// Answers a case. One of what is told may give the design of those behind it.
+pub fn answer<R: Files + Print + AllocGlobal>(
+    rt: &R,
+    base: &mut String,
+    line: &str,
+) -> io::Result<()> {
     let line = texts::with_feeds(rt.alloc(), line)?;
-    answer_plain(rt, line.as_str())
+    answer_plain(rt, base, line.as_str())
 }

@@ -2,16 +2,30 @@
 #![tactic(auto)]
 
 mod cases;
-mod designs;
-mod journals;
 
 use std::io;
+use std::rt::Files;
 
-fn main(rt: HostRuntime) -> io::Result<()> {
+/// Prints a line, and what it answers.
+fn play<R: Files + Print + AllocGlobal>(
+    rt: &R,
+    base: &mut String,
+    line: io::Result<String>,
+) -> io::Result<()> {
+    let line = line?;
+    println!(rt; "{line}")?;
+    cases::answer(rt, base, &line)
+}
+
+/// Plays each line of the input.
+fn play_all<R: Input + Files + Print + AllocGlobal>(rt: &R, base: &mut String) -> io::Result<()> {
     for line in rt.lines(rt.alloc()) {
-        let line = line?;
-        println!(rt; "{line}")?;
-        cases::answer(&rt, line.as_str())?;
+        play(rt, base, line)?;
     }
     Ok(())
+}
+
+fn main(rt: HostRuntime) -> io::Result<()> {
+    let mut base = String::new(rt.alloc());
+    play_all(&rt, &mut base)
 }

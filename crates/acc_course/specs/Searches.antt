@@ -20,6 +20,8 @@ use Rattle.acc_branch.specs.declared.halts.Halt.{Halt}
 use Rattle.acc_branch.specs.declared.halts.Halt.TheVariants.{Open, Crowded, Wide, Memory}
 use Rattle.acc_branch.specs.Courses.{Course, chain}
 use Rattle.acc_branch.specs.Known.{Known, State, below, above, verdict}
+use Rattle.acc_course.specs.declared.branches.Sign.{Sign}
+use Rattle.acc_course.specs.declared.branches.Sign.TheVariants.{Below, Zero, Above}
 use Rattle.acc_course.specs.Passes.{passes}
 
 -- one more relation is known
@@ -50,25 +52,21 @@ split_end split (s, Some point) = split s
 
 -- ---- the three branches of a split, one after the other
 
-abbrev pub under_below : Known → Form → Course Known
-under_below s e = chain (below e) (λ r. Ok (knowing s r))
+abbrev pub relation : Sign → Form → Course Rel
+relation Below e = below e
+relation Zero e = Ok (is_zero e)
+relation Above e = above e
 
-abbrev pub under_above : Known → Form → Course Known
-under_above s e = chain (above e) (λ r. Ok (knowing s r))
+abbrev pub under : Sign → Known → Form → Course Known
+under sign s e = chain (relation sign e) (λ r. Ok (knowing s r))
 
-abbrev pub branch_below : (State → Course (List Node)) → Form → State → Course (List Node)
-branch_below branch e s = chain (under_below s.0 e) (λ low. branch (low, s.1))
-
-abbrev pub branch_zero : (State → Course (List Node)) → Form → State → Course (List Node)
-branch_zero branch e s = branch (knowing s.0 (is_zero e), s.1)
-
-abbrev pub branch_above : (State → Course (List Node)) → Form → State → Course (List Node)
-branch_above branch e s = chain (under_above s.0 e) (λ high. branch (high, s.1))
+abbrev pub branch_under : (State → Course (List Node)) → Sign → Form → State → Course (List Node)
+branch_under branch sign e s = chain (under sign s.0 e) (λ known. branch (known, s.1))
 
 abbrev pub three : (State → Course (List Node)) → Form → State → Course (List Node)
 three branch e s =
-    chain (branch_below branch e (s.0, s.1 ++ Split e ∷ [])) (λ nodes.
-    chain (branch_zero branch e (s.0, nodes)) (λ more. branch_above branch e (s.0, more)))
+    chain (branch_under branch Below e (s.0, s.1 ++ Split e ∷ [])) (λ nodes.
+    chain (branch_under branch Zero e (s.0, nodes)) (λ more. branch_under branch Above e (s.0, more)))
 
 module _ (d : Design) (q : Sequent) (made : List Instance) where
   -- what is known after both passes, and a point where that isn't refuted

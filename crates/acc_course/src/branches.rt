@@ -4,8 +4,8 @@ ghost use Rattle.acc_axioms.specs.Axioms.{is_zero};
 ghost use Rattle.acc_axioms.specs.declared.nodes.Node.TheVariants.{Split};
 ghost use Rattle.acc_branch.specs.Courses.{Answers, Leaves, LeavesWith, StoppedBy};
 ghost use Rattle.acc_branch.specs.Known.{known_of};
-ghost use Rattle.acc_course.specs.Searches.{knowing, point_in, nodes_ended, ended, tried, closing, under_below, under_above, leaf_end};
-ghost use Rattle.acc_course.specs.Searches.{branch_below, branch_zero, branch_above, three, branch};
+ghost use Rattle.acc_course.specs.Searches.{knowing, point_in, nodes_ended, ended, tried, closing, relation, under, leaf_end};
+ghost use Rattle.acc_course.specs.Searches.{branch_under, three, branch};
 
 use crate::passes::passes;
 use acc_axioms::nodes::Node;
@@ -21,6 +21,14 @@ use acc_elim::solver::Solver;
 use acc_elim::verdicts::Verdict;
 use acc_inst::making::Instance;
 use std::alloc::{AllocError, Global};
+
+/// The sign of a split's form in one of its branches.
+#[derive(Clone, Copy)]
+pub enum Sign {
+    Below,
+    Zero,
+    Above,
+}
 
 /// A branch that knows one more relation.
 fn knowing(alloc: Global, known: &Branch, rel: Rel) -> Result<Branch, AllocError>
@@ -90,29 +98,25 @@ fn closing(
     }
 }
 
-fn under_below(alloc: Global, known: &Branch, form: &Form) -> Result<Branch, Halt>
-    ensures { MatchResult result (λ b. under_below (known_of known.now) form.now ≡ Ok (known_of b))
-        (λ e. StoppedBy e (under_below (known_of known.now) form.now)) }
+/// That a form has a sign.
+fn relation(alloc: Global, sign: Sign, form: &Form) -> Result<Rel, Halt>
+    ensures { Answers result (relation sign form.now) }
 {
-    let rel = below(alloc, form)?;
-    let branch = knowing(alloc, known, rel)?;
-    Ok(branch)
+    match sign {
+        Sign::Below => below(alloc, form),
+        Sign::Zero => Ok(is_zero(copied(form)?)),
+        Sign::Above => above(alloc, form),
+    }
 }
 
-fn under_above(alloc: Global, known: &Branch, form: &Form) -> Result<Branch, Halt>
-    ensures { MatchResult result (λ b. under_above (known_of known.now) form.now ≡ Ok (known_of b))
-        (λ e. StoppedBy e (under_above (known_of known.now) form.now)) }
+/// What is known in the branch where a form has a sign.
+fn under(alloc: Global, known: &Branch, sign: Sign, form: &Form) -> Result<Branch, Halt>
+    ensures { MatchResult result (λ b. under sign (known_of known.now) form.now ≡ Ok (known_of b))
+        (λ e. StoppedBy e (under sign (known_of known.now) form.now)) }
 {
-    let rel = above(alloc, form)?;
+    let rel = relation(alloc, sign, form)?;
     let branch = knowing(alloc, known, rel)?;
     Ok(branch)
-}
-
-fn under_zero(alloc: Global, known: &Branch, form: &Form) -> Result<Branch, AllocError>
-    ensures { IfOk result (λ b. known_of b ≡ knowing (known_of known.now) (is_zero form.now)) }
-{
-    let form = copied(form)?;
-    knowing(alloc, known, is_zero(form))
 }
 
 fn open(alloc: Global, known: &Branch, nodes: &[Node], point: Seq<(i128, i128)>) -> Halt
@@ -148,61 +152,24 @@ fn add_split(nodes: &mut Vec<Node>, form: &Form) -> Result<(), AllocError>
     Ok(())
 }
 
-/// The branch of a split where its form is below 0.
+/// The branch of a split where its form has a sign.
 #[cycle(branch)]
-fn branch_below(
+fn branch_under(
     alloc: Global,
     design: &Design,
     sequent: &Sequent,
     made: &[Instance],
     known: &Branch,
     nodes: &mut Vec<Node>,
+    sign: Sign,
     form: &Form,
     rest: &[Form],
 ) -> Result<(), Halt>
     ensures { Leaves result nodes.new.items
-        (branch_below (branch design.now sequent.now made.now rest.now) form.now (known_of known.now, nodes.old.items)) }
+        (branch_under (branch design.now sequent.now made.now rest.now) sign form.now (known_of known.now, nodes.old.items)) }
 {
-    let mut low = under_below(alloc, known, form)?;
-    branch(alloc, design, sequent, made, &mut low, nodes, rest)
-}
-
-/// The branch of a split where its form is 0.
-#[cycle(branch)]
-fn branch_zero(
-    alloc: Global,
-    design: &Design,
-    sequent: &Sequent,
-    made: &[Instance],
-    known: &Branch,
-    nodes: &mut Vec<Node>,
-    form: &Form,
-    rest: &[Form],
-) -> Result<(), Halt>
-    ensures { Leaves result nodes.new.items
-        (branch_zero (branch design.now sequent.now made.now rest.now) form.now (known_of known.now, nodes.old.items)) }
-{
-    let mut zero = under_zero(alloc, known, form)?;
-    branch(alloc, design, sequent, made, &mut zero, nodes, rest)
-}
-
-/// The branch of a split where its form is above 0.
-#[cycle(branch)]
-fn branch_above(
-    alloc: Global,
-    design: &Design,
-    sequent: &Sequent,
-    made: &[Instance],
-    known: &Branch,
-    nodes: &mut Vec<Node>,
-    form: &Form,
-    rest: &[Form],
-) -> Result<(), Halt>
-    ensures { Leaves result nodes.new.items
-        (branch_above (branch design.now sequent.now made.now rest.now) form.now (known_of known.now, nodes.old.items)) }
-{
-    let mut high = under_above(alloc, known, form)?;
-    branch(alloc, design, sequent, made, &mut high, nodes, rest)
+    let mut under = under(alloc, known, sign, form)?;
+    branch(alloc, design, sequent, made, &mut under, nodes, rest)
 }
 
 /// The branches of a split, one after the other, with the splits behind it left.
@@ -221,9 +188,39 @@ fn three(
         (three (branch design.now sequent.now made.now rest.now) form.now (known_of known.now, nodes.old.items)) }
 {
     add_split(nodes, form)?;
-    branch_below(alloc, design, sequent, made, known, nodes, form, rest)?;
-    branch_zero(alloc, design, sequent, made, known, nodes, form, rest)?;
-    branch_above(alloc, design, sequent, made, known, nodes, form, rest)
+    branch_under(
+        alloc,
+        design,
+        sequent,
+        made,
+        known,
+        nodes,
+        Sign::Below,
+        form,
+        rest,
+    )?;
+    branch_under(
+        alloc,
+        design,
+        sequent,
+        made,
+        known,
+        nodes,
+        Sign::Zero,
+        form,
+        rest,
+    )?;
+    branch_under(
+        alloc,
+        design,
+        sequent,
+        made,
+        known,
+        nodes,
+        Sign::Above,
+        form,
+        rest,
+    )
 }
 
 /// A branch with these splits left: closed, with its nodes in preorder behind the others, or what ends the search.

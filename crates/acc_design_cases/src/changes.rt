@@ -1,13 +1,12 @@
 //! Changes of a design that break a form rule and that no text spells.
-use crate::designs::read;
+use crate::designs::{no_design, read};
 use acc_base::designs::{At, Design, Hint, Point, Side, TxType};
 use acc_base::forms::{Atom, Clause, Form, Lin, Rel, Unknown};
 use acc_base::sequences::Seq;
 use acc_base::steps::{Action, Path, Read};
 use acc_form::{FormError, well_formed};
 use std::alloc::{AllocError, Global};
-use std::rt::Files;
-use std::{fs, io, mem};
+use std::mem;
 
 /// The parameter.
 const A: u32 = 0;
@@ -65,32 +64,44 @@ fn one<T: Drop>(alloc: Global, item: T) -> Result<Seq<T>, AllocError> {
     Ok(items)
 }
 
-fn hint(alloc: Global, point: u32, x: u32) -> Result<Seq<Hint>, AllocError> {
+/// Makes that local's value the only hint, for the first type's point of that number.
+fn set_hint(alloc: Global, design: &mut Design, point: u32, x: u32) -> Result<(), AllocError> {
     let lin = variable(alloc, x)?;
     let at = At { ty: 0, point };
     let side = Side::Next;
-    one(alloc, Hint { at, side, lin })
+    design.hints = one(alloc, Hint { at, side, lin })?;
+    Ok(())
 }
 
 /// The clause that 1 is at most 0, with the 1 as an unknown.
-fn clause(alloc: Global) -> Result<Seq<Clause>, AllocError> {
+fn clause(alloc: Global) -> Result<Clause, AllocError> {
     let under = Seq::new(alloc);
     let atom = Atom::One;
     let terms = one(alloc, (Unknown { under, atom }, 1))?;
     let form = Form { terms, constant: 0 };
-    let clause = Clause {
+    Ok(Clause {
         vars: Seq::new(alloc),
         guards: Seq::new(alloc),
         rel: Rel { form, equal: false },
-    };
-    one(alloc, clause)
+    })
+}
+
+fn set_clause(alloc: Global, design: &mut Design) -> Result<(), AllocError> {
+    design.always = one(alloc, clause(alloc)?)?;
+    Ok(())
+}
+
+/// The key of the private rows.
+fn key(alloc: Global) -> Result<Seq<Lin>, AllocError> {
+    let mut key = one(alloc, variable(alloc, A)?)?;
+    key.push(variable(alloc, SELF)?)?;
+    Ok(key)
 }
 
 /// The put of a private row with a number that is too large.
 fn large_put(alloc: Global) -> Result<Seq<Action>, AllocError> {
-    let mut key = one(alloc, variable(alloc, A)?)?;
-    key.push(variable(alloc, SELF)?)?;
     let values = one(alloc, number(alloc, (1 << 45) + 1))?;
+    let key = key(alloc)?;
     one(alloc, Action::Put(1, key, values))
 }
 
@@ -144,48 +155,38 @@ fn change_steps(alloc: Global, design: &mut Design, change: Edited) -> Result<()
 
 fn make(alloc: Global, design: &mut Design, change: Edited) -> Result<(), AllocError> {
     match change {
-        Edited::Nothing => {}
-        Edited::HintOfNoPoint => design.hints = hint(alloc, 2, A)?,
-        Edited::SelfInAHint => design.hints = hint(alloc, 1, SELF)?,
-        Edited::OneInAClause => design.always = clause(alloc)?,
+        Edited::Nothing => Ok(()),
+        Edited::HintOfNoPoint => set_hint(alloc, design, 2, A),
+        Edited::SelfInAHint => set_hint(alloc, design, 1, SELF),
+        Edited::OneInAClause => set_clause(alloc, design),
         Edited::NoPath | Edited::EmptyPrefix | Edited::LargeNumber => {
-            change_steps(alloc, design, change)?;
+            change_steps(alloc, design, change)
         }
     }
-    Ok(())
 }
 
 /// Whether a design keeps the form rules.
 fn judged(alloc: Global, design: &Design) -> Result<String, AllocError> {
     match well_formed(design) {
-        Ok(()) => String::from_str(alloc, "formed"),
-        Err(FormError::Bad(rule, line)) => format!(in alloc; "rule {rule}, line {line}"),
+        Ok(()) => String::from_str(alloc, "formed\n"),
+        Err(FormError::Bad(rule, line)) => format!(in alloc; "rule {rule}, line {line}\n"),
         Err(FormError::Memory) => Err(AllocError),
     }
 }
 
 /// Whether a design keeps them with a change.
-fn judged_with(alloc: Global, design: Design, change: Edited) -> Result<String, AllocError> {
-    let mut design = design;
-    make(alloc, &mut design, change)?;
-    judged(alloc, &design)
+fn judged_with(alloc: Global, design: &mut Design, change: Edited) -> Result<String, AllocError> {
+    make(alloc, design, change)?;
+    judged(alloc, design)
 }
 
-/// What is said of the design of a text with the change of that name.
-fn said(alloc: Global, text: &str, name: &str) -> Result<String, AllocError> {
+/// Whether the design of a text keeps the form rules with the change of that name, or which it breaks on which line.
+pub fn changed(alloc: Global, text: &str, name: &str) -> Result<String, AllocError> {
     let Some(change) = edited_of(name) else {
-        return String::from_str(alloc, "no such change");
+        return String::from_str(alloc, "no such change\n");
     };
     match read(alloc, text)? {
-        Some(design) => judged_with(alloc, design, change),
-        None => String::from_str(alloc, "no design"),
+        Some(mut design) => judged_with(alloc, &mut design, change),
+        None => no_design(alloc),
     }
-}
-
-/// `changed FILE CHANGE`: whether the design of a file keeps the form rules with a change, or which it breaks on which line.
-pub fn tell<R: Files + Print + AllocGlobal>(rt: &R, rest: &str) -> io::Result<()> {
-    let (file, name) = rest.split_once(' ').unwrap_or((rest, ""));
-    let text = fs::read_to_string(rt, file)?;
-    let said = said(rt.alloc(), text.as_str(), name)?;
-    println!(rt; "{said}")
 }

@@ -11,3 +11,8 @@ pub fn read(alloc: Global, text: &str) -> Result<Option<Design>, AllocError> {
         Err(_) => Ok(None),
     }
 }
+
+/// What is said where a text is no design.
+pub fn no_design(alloc: Global) -> Result<String, AllocError> {
+    String::from_str(alloc, "no design\n")
+}

@@ -1,36 +1,60 @@
-//! Asks about designs that no text spells, a question a line of the input, and prints the line and what is answered.
+//! Asks about the designs of files, and about designs that no text spells: a question a line of the input, with the answer. A line with
+//! '#' is a remark.
 //!
-//! - `changed FILE CHANGE` tells whether the design of a file keeps the form rules with a change, or the lowest rule that it breaks and the
-//!   first line that breaks it, of the design as it is printed.
-//! - `printed FILE` prints the design of a file whose last entry has other pairs: the first parameter with itself, and the first local with
-//!   the number of the transaction.
-//! - `no path` tells whether a step of a runnable design that has no path is out of range, and looks so, on both sides.
+//! - `changed FILE CHANGE` answers whether the design of a file keeps the form rules with a change, or the lowest rule that it breaks and
+//!   the first line that breaks it, of the design as it is printed.
+//! - `printed FILE` answers the print of the design of a file whose last entry has other pairs: the first parameter with itself, and the
+//!   first local with the number of the transaction.
+//! - `no path` answers whether a step of a runnable design that has no path is out of range, and looks so, on both sides.
+//! - `prove FILE` answers the lines of the obligations that aren't proved, as they are told of the design of that file; or, where all are
+//!   proved, how many proofs the certificate has, and what is told of the design with it.
+//! - `certificate FILE` answers the certificate itself.
+//! - `kinds FILE` answers what `prove` does, each line without the numbers of its point.
 #![tactic(auto)]
 
 mod changes;
 mod designs;
 mod prints;
+mod proofs;
 mod steps;
 
-use std::io;
-use std::rt::Files;
+use std::alloc::{AllocError, Global};
+use std::{fs, io};
 
-/// Answers a line; one with '#' is a remark.
-fn answer<R: Files + Print + AllocGlobal>(rt: &R, line: &str) -> io::Result<()> {
+/// What a question answers of the design of a text.
+fn answered(alloc: Global, verb: &str, text: &str, change: &str) -> Result<String, AllocError> {
+    match verb {
+        "changed" => changes::changed(alloc, text, change),
+        "printed" => prints::printed(alloc, text),
+        "prove" => proofs::proved(alloc, text),
+        "certificate" => proofs::certificate_of(alloc, text),
+        "kinds" => proofs::kinds_of(alloc, text),
+        _ => String::from_str(alloc, "no question\n"),
+    }
+}
+
+/// Answers a question about the design of a file.
+fn answer_of_file(rt: &HostRuntime, verb: &str, rest: &str) -> io::Result<()> {
+    let (file, change) = rest.split_once(' ').unwrap_or((rest, ""));
+    let text = fs::read_to_string(rt, file)?;
+    let said = answered(rt.alloc(), verb, &text, change)?;
+    print!(rt; "{said}")
+}
+
+/// Prints a line, and behind it what it answers.
+fn answer(rt: &HostRuntime, line: &str) -> io::Result<()> {
+    rt.println(line)?;
     let (verb, rest) = line.split_once(' ').unwrap_or((line, ""));
     match verb {
-        "changed" => changes::tell(rt, rest),
-        "printed" => prints::tell(rt, rest),
+        "#" => Ok(()),
         "no" => steps::tell(rt),
-        _ => Ok(()),
+        _ => answer_of_file(rt, verb, rest),
     }
 }
 
 fn main(rt: HostRuntime) -> io::Result<()> {
     for line in rt.lines(rt.alloc()) {
-        let line = line?;
-        println!(rt; "{line}")?;
-        answer(&rt, line.as_str())?;
+        answer(&rt, &line?)?;
     }
     Ok(())
 }

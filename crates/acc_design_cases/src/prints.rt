@@ -1,11 +1,10 @@
 //! The print of designs that no text spells.
-use crate::designs::read;
+use crate::designs::{no_design, read};
 use acc_base::designs::{Design, Entry};
 use acc_base::sequences::Seq;
 use acc_print::{PrintError, print};
 use std::alloc::{AllocError, Global};
-use std::rt::Files;
-use std::{fs, io, mem};
+use std::mem;
 
 /// The pairs of the entry: the parameter with itself, and the first local with the number of the transaction, behind the
 /// three locals.
@@ -26,27 +25,23 @@ fn change_entry(alloc: Global, design: &mut Design) -> Result<(), AllocError> {
 }
 
 /// The print of a design.
-fn printed(alloc: Global, design: &Design) -> Result<String, AllocError> {
+fn text_of(alloc: Global, design: &Design) -> Result<String, AllocError> {
     match print(alloc, design) {
         Ok(text) => String::from_utf8_lossy(alloc, &text),
         Err(PrintError::Memory) => Err(AllocError),
     }
 }
 
-/// The print of the design of a text whose last entry has these pairs.
-fn said(alloc: Global, text: &str) -> Result<String, AllocError> {
-    match read(alloc, text)? {
-        Some(mut design) => {
-            change_entry(alloc, &mut design)?;
-            printed(alloc, &design)
-        }
-        None => String::from_str(alloc, "no design"),
-    }
+/// The print of a design whose last entry has these pairs.
+fn printed_with(alloc: Global, design: &mut Design) -> Result<String, AllocError> {
+    change_entry(alloc, design)?;
+    text_of(alloc, design)
 }
 
-/// `printed FILE`: the print of the design of a file whose last entry has these pairs.
-pub fn tell<R: Files + Print + AllocGlobal>(rt: &R, file: &str) -> io::Result<()> {
-    let text = fs::read_to_string(rt, file)?;
-    let said = said(rt.alloc(), text.as_str())?;
-    print!(rt; "{said}")
+/// The print of the design of a text whose last entry has these pairs.
+pub fn printed(alloc: Global, text: &str) -> Result<String, AllocError> {
+    match read(alloc, text)? {
+        Some(mut design) => printed_with(alloc, &mut design),
+        None => no_design(alloc),
+    }
 }

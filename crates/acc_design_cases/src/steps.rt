@@ -116,12 +116,7 @@ fn looks_out(alloc: Global, design: &Design, side: Side) -> bool
 }
 
 /// Tells how the step of a side does and looks.
-fn tell_side<R: Print + AllocGlobal>(
-    rt: &R,
-    name: &str,
-    design: &Design,
-    side: Side,
-) -> io::Result<()>
+fn tell_side(rt: &HostRuntime, name: &str, design: &Design, side: Side) -> io::Result<()>
     requires { IsRunnable design.now }
 {
     let is_out = is_out(rt.alloc(), design, side);
@@ -129,9 +124,15 @@ fn tell_side<R: Print + AllocGlobal>(
     println!(rt; "{name}: out of range {is_out}, looks so {looks_out}")
 }
 
+fn tell_sides(rt: &HostRuntime, design: &Design) -> io::Result<()>
+    requires { IsRunnable design.now }
+{
+    tell_side(rt, "next", design, Side::Next)?;
+    tell_side(rt, "undo", design, Side::Undo)
+}
+
 /// `no path`: how a step without a path does and looks, on both sides.
-pub fn tell<R: Print + AllocGlobal>(rt: &R) -> io::Result<()> {
+pub fn tell(rt: &HostRuntime) -> io::Result<()> {
     let design = design(rt.alloc())?;
-    tell_side(rt, "next", &design, Side::Next)?;
-    tell_side(rt, "undo", &design, Side::Undo)
+    tell_sides(rt, &design)
 }

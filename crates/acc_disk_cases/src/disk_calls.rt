@@ -1,14 +1,16 @@
 //! The calls of a disk by name.
 use crate::images;
-use crate::words::{bytes, ended, number, numbers, said};
+use crate::words::{bytes, ended, number, numbers, said, split};
 use acc_disk::{Disk, MemDisk};
 use acc_io::Failed;
 use std::alloc::{AllocError, Global};
 
-/// A disk with those bytes; the calls of the list fail, and all from the number `from` on.
-pub fn fresh(alloc: Global, held: &str, fails: &str, from: &str) -> Result<MemDisk, AllocError> {
+/// A disk with the bytes of the first word; the calls of the list behind it fail, and all from the last number on.
+pub fn fresh(alloc: Global, words: &str) -> Result<MemDisk, AllocError> {
+    let (held, rest) = split(words);
+    let (fails, from) = split(rest);
     let fails = numbers(alloc, fails)?;
-    MemDisk::new(alloc, bytes(held), fails.as_slice(), from.parse().ok()).map_err(|_| AllocError)
+    MemDisk::new(alloc, bytes(held), &fails, from.parse().ok()).map_err(|_| AllocError)
 }
 
 fn read(alloc: Global, disk: &mut MemDisk, at: u64) -> Result<String, AllocError> {
@@ -19,11 +21,18 @@ fn read(alloc: Global, disk: &mut MemDisk, at: u64) -> Result<String, AllocError
     }
 }
 
-fn write(alloc: Global, disk: &mut MemDisk, at: u64, bytes: &[u8]) -> Result<String, AllocError> {
+fn renew(alloc: Global, disk: &mut MemDisk, words: &str) -> Result<String, AllocError> {
+    *disk = fresh(alloc, words)?;
+    said(alloc, "fresh")
+}
+
+fn write(alloc: Global, disk: &mut MemDisk, words: &str) -> Result<String, AllocError> {
+    let (at, bytes) = split(words);
+    let at = number(at);
     if at > disk.bytes().len() as u64 {
         return said(alloc, "past the end");
     }
-    ended(alloc, disk.write_at(at, bytes).is_ok())
+    ended(alloc, disk.write_at(at, bytes.as_bytes()).is_ok())
 }
 
 fn cut(alloc: Global, disk: &mut MemDisk, to: u64) -> Result<String, AllocError> {
@@ -50,19 +59,28 @@ fn counts(alloc: Global, disk: &MemDisk) -> Result<String, AllocError> {
 }
 
 /// What the call of those words answers.
-pub fn answer(alloc: Global, disk: &mut MemDisk, words: &[&str]) -> Result<String, AllocError> {
-    match words {
-        ["new", held, fails, from] => {
-            *disk = fresh(alloc, held, fails, from)?;
-            said(alloc, "fresh")
-        }
-        ["len"] => length(alloc, disk),
-        ["read", at] => read(alloc, disk, number(at)),
-        ["write", at, bytes] => write(alloc, disk, number(at), bytes.as_bytes()),
-        ["cut", to] => cut(alloc, disk, number(to)),
-        ["sync"] => ended(alloc, disk.sync().is_ok()),
-        ["bytes"] => format!(in alloc; "{:?}", disk.bytes()),
-        ["counts"] => counts(alloc, disk),
-        _ => images::answer(alloc, disk, words),
+pub fn answer(alloc: Global, disk: &mut MemDisk, words: &str) -> Result<String, AllocError> {
+    let (name, rest) = split(words);
+    match name {
+        "new" => renew(alloc, disk, rest),
+        "len" => length(alloc, disk),
+        "read" => read(alloc, disk, number(rest)),
+        "write" => write(alloc, disk, rest),
+        "cut" => cut(alloc, disk, number(rest)),
+        "sync" => ended(alloc, disk.sync().is_ok()),
+        _ => told(alloc, disk, words),
+    }
+}
+
+/// What the question of those words answers.
+fn told(alloc: Global, disk: &MemDisk, words: &str) -> Result<String, AllocError> {
+    let (name, rest) = split(words);
+    match name {
+        "bytes" => format!(in alloc; "{:?}", disk.bytes()),
+        "counts" => counts(alloc, disk),
+        "image" => images::one(alloc, disk, rest),
+        "picked" => images::picked(alloc, disk, rest),
+        "drawn" => images::drawn(alloc, disk, rest),
+        _ => said(alloc, "no call"),
     }
 }

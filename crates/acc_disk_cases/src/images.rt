@@ -1,5 +1,5 @@
 //! What a crash may have left, one image or all of them.
-use crate::words::{bytes, number, said};
+use crate::words::{bytes, number, said, split};
 use acc_disk::MemDisk;
 use std::alloc::{AllocError, Global};
 
@@ -17,8 +17,10 @@ fn image(disk: &MemDisk, after: u64, pick: u64) -> Result<Option<Vec<u8>>, Alloc
     }
 }
 
-fn one(alloc: Global, disk: &MemDisk, after: u64, pick: u64) -> Result<String, AllocError> {
-    match image(disk, after, pick)? {
+/// The image of a number after so many calls.
+pub fn one(alloc: Global, disk: &MemDisk, words: &str) -> Result<String, AllocError> {
+    let (after, pick) = split(words);
+    match image(disk, number(after), number(pick))? {
         Some(image) => format!(in alloc; "{:?}", image.as_slice()),
         None => said(alloc, "fewer calls"),
     }
@@ -29,8 +31,7 @@ fn picks(disk: &MemDisk, after: u64, pick: u64, bytes: &[u8]) -> Result<bool, Al
     Ok(image(disk, after, pick)?.is_some_and(|image| image.as_slice() == bytes))
 }
 
-/// How many of the numbers below that count pick those bytes.
-fn picked(disk: &MemDisk, after: u64, count: u64, bytes: &[u8]) -> Result<u64, AllocError> {
+fn count_picks(disk: &MemDisk, after: u64, count: u64, bytes: &[u8]) -> Result<u64, AllocError> {
     let mut same: u64 = 0;
     for pick in 0..count {
         if picks(disk, after, pick, bytes)? {
@@ -38,6 +39,14 @@ fn picked(disk: &MemDisk, after: u64, count: u64, bytes: &[u8]) -> Result<u64, A
         }
     }
     Ok(same)
+}
+
+/// How many of the numbers below a count pick those bytes after so many calls.
+pub fn picked(alloc: Global, disk: &MemDisk, words: &str) -> Result<String, AllocError> {
+    let (after, rest) = split(words);
+    let (count, held) = split(rest);
+    let same = count_picks(disk, number(after), number(count), bytes(held))?;
+    format!(in alloc; "{same}")
 }
 
 /// The place of some bytes in the list of all bytes, the shorter ones first.
@@ -92,38 +101,26 @@ fn mark_all(
 }
 
 fn count(marks: Option<&[bool]>) -> usize {
-    marks.map_or(0, |marks| marks.iter().filter(|mark| **mark).count())
+    let marks = marks.unwrap_or(&[]);
+    marks.iter().filter(|mark| **mark).count()
 }
 
-/// How many of no byte, of one and of two stand between front and end in some image, and how many images are others.
-fn drawn(
-    alloc: Global,
-    disk: &MemDisk,
-    numbers: u64,
-    front: &[u8],
-    end: &[u8],
-) -> Result<String, AllocError> {
-    let mut marks = vec![in alloc; false; MARKS]?;
-    let others = mark_all(disk, numbers, front, end, &mut marks)?;
-    let lengths = [
+/// How many marks there are for no byte, for one and for two.
+fn counts(marks: &[bool]) -> [usize; 3] {
+    [
         count(marks.get(..1)),
         count(marks.get(1..257)),
         count(marks.get(257..)),
-    ];
-    format!(in alloc; "{lengths:?}, {others} others")
+    ]
 }
 
-/// What the question of those words answers.
-pub fn answer(alloc: Global, disk: &MemDisk, words: &[&str]) -> Result<String, AllocError> {
-    match words {
-        ["image", after, pick] => one(alloc, disk, number(after), number(pick)),
-        ["picked", after, count, held] => {
-            let same = picked(disk, number(after), number(count), bytes(held))?;
-            format!(in alloc; "{same}")
-        }
-        ["drawn", count, front, end] => {
-            drawn(alloc, disk, number(count), bytes(front), bytes(end))
-        }
-        _ => said(alloc, "no call"),
-    }
+/// How many of no byte, of one and of two stand between front and end in some image of the numbers below that count, and how
+/// many images are others.
+pub fn drawn(alloc: Global, disk: &MemDisk, words: &str) -> Result<String, AllocError> {
+    let (numbers, rest) = split(words);
+    let (front, end) = split(rest);
+    let mut marks = vec![in alloc; false; MARKS]?;
+    let others = mark_all(disk, number(numbers), bytes(front), bytes(end), &mut marks)?;
+    let lengths = counts(&marks);
+    format!(in alloc; "{lengths:?}, {others} others")
 }

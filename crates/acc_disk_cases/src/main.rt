@@ -23,38 +23,40 @@ struct Devices {
 /// Devices without a byte.
 fn fresh(alloc: Global) -> Result<Devices, AllocError> {
     Ok(Devices {
-        disk: disk_calls::fresh(alloc, "-", "-", "-")?,
+        disk: disk_calls::fresh(alloc, "- - -")?,
         shelf: shelf_calls::fresh(alloc, "-")?,
-        sink: sink_calls::fresh(alloc, "-", "-")?,
+        sink: sink_calls::fresh(alloc, "- -")?,
     })
 }
 
 /// What a call answers: its first word is the device.
-fn answer(alloc: Global, on: &mut Devices, words: &[&str]) -> Result<String, AllocError> {
-    match words {
-        ["disk", call @ ..] => disk_calls::answer(alloc, &mut on.disk, call),
-        ["shelf", call @ ..] => shelf_calls::answer(alloc, &mut on.shelf, call),
-        ["sink", call @ ..] => sink_calls::answer(alloc, &mut on.sink, call),
+fn answer(alloc: Global, on: &mut Devices, words: &str) -> Result<String, AllocError> {
+    let (device, call) = words::split(words);
+    match device {
+        "disk" => disk_calls::answer(alloc, &mut on.disk, call),
+        "shelf" => shelf_calls::answer(alloc, &mut on.shelf, call),
+        "sink" => sink_calls::answer(alloc, &mut on.sink, call),
         _ => words::said(alloc, "no call"),
     }
 }
 
 /// Makes the call of a line, and prints both; a line with '#' is a remark.
-fn play(rt: &impl Print, alloc: Global, on: &mut Devices, line: &str) -> io::Result<()> {
+fn play(rt: &HostRuntime, on: &mut Devices, line: &str) -> io::Result<()> {
     if line.starts_with('#') {
         return rt.println(line);
     }
-    let words: Vec<&str> = line.split(' ').collect(alloc)?;
-    let said = answer(alloc, on, words.as_slice())?;
+    let said = answer(rt.alloc(), on, line)?;
     println!(rt; "{line}: {said}")
 }
 
-fn main(rt: HostRuntime) -> io::Result<()> {
-    let alloc = rt.alloc();
-    let mut devices = fresh(alloc)?;
-    for line in rt.lines(alloc) {
-        let line = line?;
-        play(&rt, alloc, &mut devices, &line)?;
+fn play_all(rt: &HostRuntime, on: &mut Devices) -> io::Result<()> {
+    for line in rt.lines(rt.alloc()) {
+        play(rt, on, &line?)?;
     }
     Ok(())
+}
+
+fn main(rt: HostRuntime) -> io::Result<()> {
+    let mut devices = fresh(rt.alloc())?;
+    play_all(&rt, &mut devices)
 }

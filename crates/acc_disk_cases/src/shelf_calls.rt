@@ -1,5 +1,5 @@
 //! The calls of a shelf by name, and the counting of reads.
-use crate::words::{ended, numbers, said};
+use crate::words::{ended, numbers, said, split};
 use acc_io::{Counts, MemShelf, Shelf, ShelfError};
 use std::alloc::{AllocError, Global};
 
@@ -31,31 +31,39 @@ fn answer_of(alloc: Global, word: &str) -> Result<Vec<u8>, ShelfError> {
 }
 
 /// The counts of reads with those answers.
-fn counted(alloc: Global, answers: &[&str]) -> Counts {
+fn counted(alloc: Global, answers: &str) -> Counts {
     let mut counts = Counts::none();
-    for word in answers {
+    for word in answers.split_whitespace() {
         counts.add(&answer_of(alloc, word));
     }
     counts
 }
 
-fn counts(alloc: Global, counts: Counts) -> Result<String, AllocError> {
+fn counts(alloc: Global, counts: &Counts) -> Result<String, AllocError> {
     format!(in alloc;
         "{} reads, {} faults, {} absences, last fault {}, last absence {}",
         counts.reads, counts.faults, counts.absences, counts.last_fault, counts.last_absence
     )
 }
 
+fn hold(alloc: Global, shelf: &mut MemShelf, words: &str) -> Result<String, AllocError> {
+    let (name, bytes) = split(words);
+    ended(alloc, shelf.hold(name, bytes.as_bytes()).is_ok())
+}
+
+fn renew(alloc: Global, shelf: &mut MemShelf, fails: &str) -> Result<String, AllocError> {
+    *shelf = fresh(alloc, fails)?;
+    said(alloc, "fresh")
+}
+
 /// What the call of those words answers.
-pub fn answer(alloc: Global, shelf: &mut MemShelf, words: &[&str]) -> Result<String, AllocError> {
-    match words {
-        ["new", fails] => {
-            *shelf = fresh(alloc, fails)?;
-            said(alloc, "fresh")
-        }
-        ["hold", name, bytes] => ended(alloc, shelf.hold(name, bytes.as_bytes()).is_ok()),
-        ["read", name] => read(alloc, shelf, name),
-        ["count", answers @ ..] => counts(alloc, counted(alloc, answers)),
+pub fn answer(alloc: Global, shelf: &mut MemShelf, words: &str) -> Result<String, AllocError> {
+    let (name, rest) = split(words);
+    match name {
+        "new" => renew(alloc, shelf, rest),
+        "hold" => hold(alloc, shelf, rest),
+        "read" => read(alloc, shelf, rest),
+        "count" => counts(alloc, &counted(alloc, rest)),
         _ => said(alloc, "no call"),
     }
 }

@@ -1,13 +1,19 @@
 //! The calls of a sink by name.
-use crate::words::{bytes, ended, numbers, said};
+use crate::words::{bytes, ended, numbers, said, split};
 use acc_io::{Failed, MemSink, Sink, write_all};
 use std::alloc::{AllocError, Global};
 
 /// A sink without a byte; the writes of the first list fail, and the second says how much each takes at most.
-pub fn fresh(alloc: Global, fails: &str, takes: &str) -> Result<MemSink, AllocError> {
+pub fn fresh(alloc: Global, lists: &str) -> Result<MemSink, AllocError> {
+    let (fails, takes) = split(lists);
     let fails = numbers(alloc, fails)?;
     let takes = numbers(alloc, takes)?;
-    MemSink::new(alloc, fails.as_slice(), takes.as_slice()).map_err(|_| AllocError)
+    MemSink::new(alloc, &fails, &takes).map_err(|_| AllocError)
+}
+
+fn renew(alloc: Global, sink: &mut MemSink, lists: &str) -> Result<String, AllocError> {
+    *sink = fresh(alloc, lists)?;
+    said(alloc, "fresh")
 }
 
 fn write(alloc: Global, sink: &mut MemSink, piece: &[u8]) -> Result<String, AllocError> {
@@ -18,16 +24,14 @@ fn write(alloc: Global, sink: &mut MemSink, piece: &[u8]) -> Result<String, Allo
 }
 
 /// What the call of those words answers.
-pub fn answer(alloc: Global, sink: &mut MemSink, words: &[&str]) -> Result<String, AllocError> {
-    match words {
-        ["new", fails, takes] => {
-            *sink = fresh(alloc, fails, takes)?;
-            said(alloc, "fresh")
-        }
-        ["write", piece] => write(alloc, sink, bytes(piece)),
-        ["all", text] => ended(alloc, write_all(sink, bytes(text)).is_ok()),
-        ["bytes"] => format!(in alloc; "{:?}", sink.bytes()),
-        ["refused"] => format!(in alloc; "{}", sink.refused()),
+pub fn answer(alloc: Global, sink: &mut MemSink, words: &str) -> Result<String, AllocError> {
+    let (name, rest) = split(words);
+    match name {
+        "new" => renew(alloc, sink, rest),
+        "write" => write(alloc, sink, bytes(rest)),
+        "all" => ended(alloc, write_all(sink, bytes(rest)).is_ok()),
+        "bytes" => format!(in alloc; "{:?}", sink.bytes()),
+        "refused" => format!(in alloc; "{}", sink.refused()),
         _ => said(alloc, "no call"),
     }
 }

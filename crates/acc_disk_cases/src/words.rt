@@ -11,6 +11,11 @@ pub fn ended(alloc: Global, ended_well: bool) -> Result<String, AllocError> {
     said(alloc, if ended_well { "ok" } else { "failed" })
 }
 
+/// The first word, and what stands behind it.
+pub fn split(words: &str) -> (&str, &str) {
+    words.split_once(' ').unwrap_or((words, ""))
+}
+
 /// The number that a word spells; else one that no disk reaches.
 pub fn number(word: &str) -> u64 {
     word.parse().unwrap_or(u64::MAX)

@@ -1,5 +1,5 @@
-//! Recovery and the engine over a disk in memory, for designs that are accepted with a certificate: prints each line of the input, and
-//! what it answers.
+//! Recovery, the engine, and schedules over a disk in memory, for designs that are accepted with a certificate: prints each line of the
+//! input, and what it answers.
 //!
 //! `design FILE CERTIFICATE` gives the design of the lines behind it, by two files of the folder; a line with '#' is a remark. A script
 //! has '/' for a line feed, and `N*CALL` for a line N times. A run makes a journal of the design's text on an empty disk and recovers
@@ -18,9 +18,19 @@
 //! - `command NAME BYTES N` tells what `init`, `recover` or `dump` answers of a disk with these bytes, whose call number N fails, and none
 //!   for 0: how it ended, its lines, how many events it tells and how many of them are durable, how many calls the disk has had, and what
 //!   recovery makes of its bytes then.
+//! - `schedule SCRIPT -> ORDER` makes a journal of the design's text on an empty disk, and lets the script's calls run over it in the
+//!   order. It tells the lines that are said, how the run ended, how many events are durable, of how many, and how many calls the disk has
+//!   had; and what recovery makes of its bytes. `schedule_fails N SCRIPT -> ORDER` does the same on a disk whose calls fail from number N
+//!   on.
+//! - `again SCRIPT -> ORDER | SCRIPT -> ORDER` lets the second run on a new disk with the bytes that the first left, and `crash N ..` does
+//!   the same behind a first disk whose calls fail from number N on.
+//! - `over BYTES SCRIPT -> ORDER` runs on a disk with these bytes; a `+` before them stands as in `recover`.
 #![tactic(auto)]
 
+mod disks;
 mod faults;
+mod lines;
+mod schedules;
 mod stops;
 
 use acc_case_designs::lines::answer_lines;
@@ -59,7 +69,7 @@ fn push_answer(
         "faults" => faults::push_faults(alloc, out, &case(design, rest)),
         "recover" => files::push_file(alloc, out, design, rest),
         "command" => commands::push_command(alloc, out, design, rest),
-        _ => out.push_str("no question"),
+        _ => schedules::push_schedule(alloc, out, design, verb, rest),
     }
 }
 

@@ -8,12 +8,18 @@ use acc_parse::{ParseError, parse};
 use std::alloc::{AllocError, Global};
 
 /// The design of a text, if it is one.
-pub fn read(alloc: Global, text: &str) -> Result<Option<Design>, AllocError> {
+fn read(alloc: Global, text: &str) -> Result<Option<Design>, AllocError> {
     match parse(alloc, text.as_bytes()) {
         Ok(design) => Ok(Some(design)),
         Err(ParseError::Memory) => Err(AllocError),
         Err(_) => Ok(None),
     }
+}
+
+/// Takes the design of a text in place of what was there.
+pub fn renew(alloc: Global, design: &mut Option<Design>, text: &str) -> Result<(), AllocError> {
+    *design = read(alloc, text)?;
+    Ok(())
 }
 
 /// Whether a design keeps the form rules, so that it can be run.

@@ -1,9 +1,9 @@
 //! Single lines of a play.
 use acc_base::designs::{At, Design};
-use acc_base::machines::{Outcome, Reply, Turn};
+use acc_base::machines::{Cause, Outcome, Reply, Turn};
 use acc_base::sequences::Seq;
 use acc_case_words::causes::cause;
-use acc_case_words::words::{list, number, small};
+use acc_case_words::words::{list, number, parted, small};
 use acc_script::{
     push_events, push_full, push_over, push_reply, push_stuck, push_turn, push_unbegun,
     push_unfinished, push_unsettled,
@@ -14,34 +14,58 @@ use std::fmt::Write;
 /// The places of two transactions, by number from 1.
 const PLACES: [u64; 2] = [9, 7];
 
-fn at(ty: &str, point: &str) -> At {
+fn at(words: &str) -> At {
+    let (ty, point) = parted(words, " ");
     At {
         ty: small(ty),
         point: small(point),
     }
 }
 
-/// The turn of those words.
-fn turn(words: &[&str]) -> Option<Turn> {
-    match words {
-        ["stepped", ty, point] => Some(Turn::Stepped(at(ty, point))),
-        ["back", ty, point] => Some(Turn::Back(at(ty, point))),
-        ["blocked", t, entry] => Some(Turn::Blocked(number(t), small(entry))),
-        ["turned", of] => Some(Turn::Turned(cause(of, 0))),
-        ["turned", of, by] => Some(Turn::Turned(cause(of, small(by)))),
-        ["ended"] => Some(Turn::Ended),
+fn blocked(words: &str) -> Turn {
+    let (t, entry) = parted(words, " ");
+    Turn::Blocked(number(t), small(entry))
+}
+
+/// The cause of a word, and of the number of a refusal behind it.
+fn cause_of(words: &str) -> Cause {
+    let (of, by) = parted(words, " ");
+    cause(of, small(by))
+}
+
+/// The turn of a word and of those behind it.
+fn turn(word: &str, rest: &str) -> Option<Turn> {
+    match word {
+        "stepped" => Some(Turn::Stepped(at(rest))),
+        "back" => Some(Turn::Back(at(rest))),
+        "blocked" => Some(blocked(rest)),
+        "turned" => Some(Turn::Turned(cause_of(rest))),
+        "ended" => Some(Turn::Ended),
         _ => None,
     }
 }
 
-/// The outcome of those words.
-fn outcome(alloc: Global, words: &[&str]) -> Result<Outcome, AllocError> {
-    Ok(match words {
-        ["committed", values] => Outcome::Committed(Seq::from_vec(list(alloc, values)?)),
-        ["compensated", of, by] => Outcome::Compensated(cause(of, small(by))),
-        ["compensated", of] => Outcome::Compensated(cause(of, 0)),
-        _ => Outcome::Committed(Seq::new(alloc)),
-    })
+/// The outcome of a word and of those behind it.
+fn outcome(alloc: Global, word: &str, rest: &str) -> Result<Outcome, AllocError> {
+    if word == "compensated" {
+        return Ok(Outcome::Compensated(cause_of(rest)));
+    }
+    Ok(Outcome::Committed(Seq::from_vec(list(alloc, rest)?)))
+}
+
+/// Pushes the reply line of a place.
+fn push_outcome(
+    alloc: Global,
+    out: &mut Vec<u8>,
+    place: u64,
+    word: &str,
+    rest: &str,
+) -> Result<(), AllocError> {
+    let reply = Reply {
+        t: place,
+        outcome: outcome(alloc, word, rest)?,
+    };
+    push_reply(out, place, &reply)
 }
 
 fn push_plain(out: &mut Vec<u8>, word: &str, place: u64) -> Result<(), AllocError> {
@@ -62,59 +86,27 @@ fn push_line(
     out: &mut Vec<u8>,
     design: &Design,
     place: u64,
-    words: &[&str],
+    words: &str,
 ) -> Result<(), AllocError> {
-    if let Some(turn) = turn(words) {
+    let (word, rest) = parted(words, " ");
+    if let Some(turn) = turn(word, rest) {
         return push_turn(out, design, &PLACES, place, turn);
     }
-    match words {
-        [word] => push_plain(out, word, place),
-        _ => push_outcome(alloc, out, place, words),
+    match word {
+        "committed" | "compensated" => push_outcome(alloc, out, place, word, rest),
+        _ => push_plain(out, word, place),
     }
 }
 
-/// Pushes the reply line of a place.
-fn push_outcome(
-    alloc: Global,
-    out: &mut Vec<u8>,
-    place: u64,
-    words: &[&str],
-) -> Result<(), AllocError> {
-    let reply = Reply {
-        t: place,
-        outcome: outcome(alloc, words)?,
-    };
-    push_reply(out, place, &reply)
-}
-
-/// Pushes the line of those words.
-fn push_told(
-    alloc: Global,
-    out: &mut Vec<u8>,
-    design: &Design,
-    words: &[&str],
-) -> Result<(), AllocError> {
-    match words {
-        [place, rest @ ..] => push_line(alloc, out, design, number(place), rest),
-        [] => Ok(()),
-    }
-}
-
-/// The line of those words.
-fn told(alloc: Global, design: &Design, words: &str) -> Result<Vec<u8>, AllocError> {
-    let words: Vec<&str> = words.split(' ').collect(alloc)?;
-    let mut line = Vec::new(alloc);
-    push_told(alloc, &mut line, design, words.as_slice())?;
-    Ok(line)
-}
-
-/// Pushes the line of those words, in quotation marks.
+/// Pushes the line of a place and of the words behind it, in quotation marks.
 pub fn push_line_of(
     alloc: Global,
     out: &mut String,
     design: &Design,
     words: &str,
 ) -> Result<(), AllocError> {
-    let line = told(alloc, design, words)?;
+    let (place, rest) = parted(words, " ");
+    let mut line = Vec::new(alloc);
+    push_line(alloc, &mut line, design, number(place), rest)?;
     write!(out, "{:?}", std::str::from_utf8(line.as_slice()).ok())
 }

@@ -12,7 +12,7 @@ mod scripts;
 mod steps;
 
 use acc_base::designs::Design;
-use acc_case_words::words::parted;
+use acc_case_words::words::{parted, said};
 use std::alloc::{AllocError, Global};
 use std::io;
 
@@ -26,8 +26,7 @@ fn push_answer(
     let (verb, rest) = parted(question, " ");
     match verb {
         "events" => events::push_answers(alloc, out, design, rest),
-        "effect" => steps::push_effect_of(alloc, out, design, rest),
-        "look" => steps::push_look_of(alloc, out, design, rest),
+        "effect" | "look" => steps::push_answer(alloc, out, design, verb, rest),
         "script" => scripts::push_script(alloc, out, design, rest),
         "order" => scripts::push_order(alloc, out, rest),
         "play" => scripts::push_play(alloc, out, design),
@@ -38,32 +37,34 @@ fn push_answer(
 
 /// What a question answers.
 fn answer(alloc: Global, design: Option<&Design>, question: &str) -> Result<String, AllocError> {
+    let Some(design) = design else {
+        return said(alloc, "no design");
+    };
     let mut out = String::new(alloc);
-    match design {
-        Some(design) => push_answer(alloc, &mut out, design, question)?,
-        None => out.push_str("no design")?,
-    }
+    push_answer(alloc, &mut out, design, question)?;
     Ok(out)
 }
 
 /// Answers a question, and prints both; a line with '#' is a remark.
-fn play(rt: &impl Print, alloc: Global, design: Option<&Design>, line: &str) -> io::Result<()> {
-    if line.is_empty() || line.starts_with('#') || line.starts_with("design ") {
+fn play(rt: &HostRuntime, design: &mut Option<Design>, line: &str) -> io::Result<()> {
+    if line.is_empty() || line.starts_with('#') {
         return rt.println(line);
     }
-    let said = answer(alloc, design, line)?;
+    if let Some(text) = line.strip_prefix("design ") {
+        designs::renew(rt.alloc(), design, text)?;
+        return rt.println(line);
+    }
+    let said = answer(rt.alloc(), design.as_ref(), line)?;
     println!(rt; "{line} -> {said}")
 }
 
-fn main(rt: HostRuntime) -> io::Result<()> {
-    let alloc = rt.alloc();
-    let mut design = None;
-    for line in rt.lines(alloc) {
-        let line = line?;
-        if let Some(text) = line.strip_prefix("design ") {
-            design = designs::read(alloc, text)?;
-        }
-        play(&rt, alloc, design.as_ref(), &line)?;
+fn play_all(rt: &HostRuntime, design: &mut Option<Design>) -> io::Result<()> {
+    for line in rt.lines(rt.alloc()) {
+        play(rt, design, &line?)?;
     }
     Ok(())
+}
+
+fn main(rt: HostRuntime) -> io::Result<()> {
+    play_all(&rt, &mut None)
 }

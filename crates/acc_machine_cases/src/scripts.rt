@@ -11,12 +11,13 @@ use std::fmt::Write;
 
 /// Pushes a call: its type, its parameters, its tape, and when it is asked to turn.
 fn push_call(out: &mut String, call: &Call) -> Result<(), AllocError> {
-    let (ty, ask) = (call.ty, call.ask);
     write!(
         out,
-        " ({ty} {:?} {:?} {ask:?})",
+        " ({} {:?} {:?} {:?})",
+        call.ty,
         call.params.as_slice(),
-        call.tape.as_slice()
+        call.tape.as_slice(),
+        call.ask
     )
 }
 

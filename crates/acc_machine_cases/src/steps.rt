@@ -12,7 +12,7 @@ use acc_base::machines::Frame;
 use acc_base::sequences::Seq;
 use acc_base::tables::{Key, Row};
 use acc_case_words::rows::push_row;
-use acc_case_words::words::{list, small};
+use acc_case_words::words::{list, parted, small};
 use acc_step::{StepEffect, StepError, effect, look};
 use acc_store::{MapStore, Store, StoreError, Write as RowWrite};
 use std::alloc::{AllocError, Global};
@@ -95,13 +95,13 @@ fn push_write(out: &mut String, write: &RowWrite) -> Result<(), AllocError> {
 }
 
 fn push_effect(out: &mut String, effect: &StepEffect) -> Result<(), AllocError> {
-    let path = effect.path;
-    let target = effect.target;
-    let pos = effect.pos;
     write!(
         out,
-        "path {path}, {target:?}, locals {:?}, tape {pos}",
-        effect.locals.as_slice()
+        "path {}, {:?}, locals {:?}, tape {}",
+        effect.path,
+        effect.target,
+        effect.locals.as_slice(),
+        effect.pos
     )?;
     for write in effect.writes.as_slice() {
         push_write(out, write)?;
@@ -125,23 +125,6 @@ fn side(word: &str) -> Side {
     }
 }
 
-/// Pushes what a step does over a store of that word.
-fn push_effect_over(
-    alloc: Global,
-    out: &mut String,
-    design: &Design,
-    frame: &Frame,
-    value: &str,
-) -> Result<(), AllocError>
-    requires runnable { IsRunnable design.now }
-    requires fits { IsSmallFrame frame.now }
-{
-    match store(alloc, value) {
-        Ok(store) => push_ended(out, effect(alloc, design, frame, frame.side, &store)),
-        Err(StoreError::Memory) => Err(AllocError),
-    }
-}
-
 /// Pushes how a step looks over a store, and the locals after its reads with two places more, which held 7.
 fn push_look(
     out: &mut String,
@@ -160,66 +143,51 @@ fn push_look(
     write!(out, "{outlook:?}, {shown:?}")
 }
 
-/// Pushes how a step looks over a store of that word.
-fn push_look_over(
+/// Pushes what a step does over a store of that word, or how it looks.
+fn push_over(
     alloc: Global,
     out: &mut String,
     design: &Design,
     frame: &Frame,
+    verb: &str,
     value: &str,
 ) -> Result<(), AllocError>
     requires runnable { IsRunnable design.now }
     requires fits { IsSmallFrame frame.now }
 {
-    match store(alloc, value) {
-        Ok(store) => push_look(out, design, frame, &store),
-        Err(StoreError::Memory) => Err(AllocError),
-    }
-}
-
-/// The frame of those words, if they are one's, and the word of the store.
-fn asked<'a>(alloc: Global, words: &'a str) -> Result<Option<(Frame, &'a str)>, AllocError>
-    ensures { IfOk result (λ found. IfSome found (λ pair. IsSmallFrame pair.0)) }
-{
-    let words: Vec<&str> = words.split(' ').collect(alloc)?;
-    let [on, point, value, locals] = words.as_slice() else {
-        return Ok(None);
+    let Ok(store) = store(alloc, value) else {
+        return Err(AllocError);
     };
+    match verb {
+        "effect" => push_ended(out, effect(alloc, design, frame, frame.side, &store)),
+        _ => push_look(out, design, frame, &store),
+    }
+}
+
+/// The frame of a side, of a point and of locals in words, if it is one.
+fn frame_of(alloc: Global, on: &str, point: &str, locals: &str) -> Result<Option<Frame>, AllocError>
+    ensures { IfOk result (λ found. IfSome found IsSmallFrame) }
+{
     let locals = list(alloc, locals)?;
-    match frame(alloc, small(point), side(on), locals) {
-        Some(frame) => Ok(Some((frame, *value))),
-        None => Ok(None),
-    }
+    Ok(frame(alloc, small(point), side(on), locals))
 }
 
-/// Pushes what the step of those words does.
-pub fn push_effect_of(
+/// Pushes what the step of those words does, or, by another verb than `effect`, how it looks.
+pub fn push_answer(
     alloc: Global,
     out: &mut String,
     design: &Design,
+    verb: &str,
     words: &str,
 ) -> Result<(), AllocError> {
     if !is_formed(design) {
         return out.push_str("no design");
     }
-    match asked(alloc, words)? {
-        Some((frame, value)) => push_effect_over(alloc, out, design, &frame, value),
-        None => out.push_str("no frame"),
-    }
-}
-
-/// Pushes how the step of those words looks.
-pub fn push_look_of(
-    alloc: Global,
-    out: &mut String,
-    design: &Design,
-    words: &str,
-) -> Result<(), AllocError> {
-    if !is_formed(design) {
-        return out.push_str("no design");
-    }
-    match asked(alloc, words)? {
-        Some((frame, value)) => push_look_over(alloc, out, design, &frame, value),
+    let (on, rest) = parted(words, " ");
+    let (point, rest) = parted(rest, " ");
+    let (value, locals) = parted(rest, " ");
+    match frame_of(alloc, on, point, locals)? {
+        Some(frame) => push_over(alloc, out, design, &frame, verb, value),
         None => out.push_str("no frame"),
     }
 }

@@ -86,19 +86,33 @@ fn push_unknowns(out: &mut String, terms: &Terms<Unknown>) -> Result<(), AllocEr
     write!(out, "{constant}")
 }
 
+/// Pushes what terms of variables are collected to.
+fn push_parts(alloc: Global, out: &mut String, parts: &[Part<u32>]) -> Result<(), AllocError>
+    requires { All IsTermSized parts.now }
+{
+    push_variables(out, &collected_variables(alloc, parts)?)
+}
+
 /// Pushes the collected terms of variables.
 pub fn push_collected(alloc: Global, out: &mut String, words: &str) -> Result<(), AllocError> {
     let parts = variables(alloc, words)?;
-    push_variables(out, &collected_variables(alloc, parts.as_slice())?)
+    push_parts(alloc, out, parts.as_slice())
+}
+
+/// The terms of the left side, and those of the right side with their signs changed.
+fn sides(alloc: Global, words: &str) -> Result<Seq<Part<u32>>, AllocError>
+    ensures { IfOk result (λ ps. All IsTermSized ps) }
+{
+    let (left, right) = parted(words, " minus ");
+    difference(variables(alloc, left)?, variables(alloc, right)?)
 }
 
 /// Pushes the number of the terms on both sides, and the collected terms of the difference.
 pub fn push_difference(alloc: Global, out: &mut String, words: &str) -> Result<(), AllocError> {
-    let (left, right) = parted(words, " minus ");
-    let parts = difference(variables(alloc, left)?, variables(alloc, right)?)?;
+    let parts = sides(alloc, words)?;
     let count = parts.len();
     write!(out, "{count} terms, ")?;
-    push_variables(out, &collected_variables(alloc, parts.as_slice())?)
+    push_parts(alloc, out, parts.as_slice())
 }
 
 /// Pushes the collected terms of unknowns.

@@ -1,5 +1,5 @@
-//! How forms are printed: as they are spelled.
-use acc_base::forms::{Atom, Form, Lin, Unknown};
+//! How forms and relations are printed: as they are spelled.
+use acc_base::forms::{Atom, Form, Lin, Rel, Unknown};
 use std::alloc::AllocError;
 use std::fmt::Write;
 
@@ -65,4 +65,10 @@ pub fn push_form(out: &mut String, form: &Form) -> Result<(), AllocError> {
     }
     let constant = form.constant;
     write!(out, "{constant}")
+}
+
+/// A form, and how it is to 0.
+pub fn push_relation(out: &mut String, relation: &Rel) -> Result<(), AllocError> {
+    push_form(out, &relation.form)?;
+    out.push_str(if relation.equal { " = 0" } else { " <= 0" })
 }

@@ -1,18 +1,8 @@
 //! Multipliers that refute relations.
-use crate::spelled::{parted, relation};
-use acc_base::forms::Rel;
+use crate::spelled::{parted, relations};
 use acc_farkas::errors::FarkasError;
 use acc_farkas::refuting::refutes;
 use std::alloc::{AllocError, Global};
-
-/// The relations of those words, with `; ` between two.
-fn relations(alloc: Global, words: &str) -> Result<Vec<Rel>, AllocError> {
-    let mut relations = Vec::new(alloc);
-    for one in words.split("; ") {
-        relations.push(relation(alloc, one)?)?;
-    }
-    Ok(relations)
-}
 
 /// The places and multipliers of those words, each as `0:-1`.
 fn multipliers(alloc: Global, words: &str) -> Result<Vec<(u32, i128)>, AllocError> {

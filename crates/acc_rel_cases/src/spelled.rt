@@ -13,8 +13,11 @@ fn variable(name: &str) -> u32 {
     parted(name, "v").1.parse().unwrap_or(0)
 }
 
-/// A variable, or none, and its number.
+/// A variable, or none, and its number: `v1` is `1*v1`.
 pub fn piece(word: &str) -> (Option<u32>, i64) {
+    if word.starts_with('v') {
+        return (Some(variable(word)), 1);
+    }
     let (number, name) = parted(word, "*");
     let of = if name.is_empty() {
         None
@@ -48,16 +51,24 @@ fn lins(alloc: Global, list: &str, end: &str) -> Result<Seq<Lin>, AllocError> {
     Ok(lins)
 }
 
+/// Whether the row of that key is there, or what it holds; or how many rows are under it, or their sum.
+fn row_atom(kind: &str, key: Seq<Lin>) -> Atom {
+    match kind {
+        "has" => Atom::Has(0, key),
+        "col" => Atom::Col(0, key, 0),
+        "count" => Atom::Count(0, key),
+        _ => Atom::Sum(0, key, 0),
+    }
+}
+
 fn atom(alloc: Global, word: &str) -> Result<Atom, AllocError> {
-    let (kind, list) = parted(word, "[");
-    Ok(match kind {
-        "one" => Atom::One,
-        "has" => Atom::Has(0, lins(alloc, list, "]")?),
-        "col" => Atom::Col(0, lins(alloc, list, "]")?, 0),
-        "count" => Atom::Count(0, lins(alloc, list, "]")?),
-        "sum" => Atom::Sum(0, lins(alloc, list, "]")?, 0),
-        _ => Atom::Var(variable(kind)),
-    })
+    if word == "one" {
+        return Ok(Atom::One);
+    }
+    match word.split_once('[') {
+        Some((kind, list)) => Ok(row_atom(kind, lins(alloc, list, "]")?)),
+        None => Ok(Atom::Var(variable(word))),
+    }
 }
 
 /// What has to be 0 for a term to count.
@@ -107,6 +118,18 @@ pub fn relation(alloc: Global, words: &str) -> Result<Rel, AllocError> {
         form,
         equal: is_equal,
     })
+}
+
+/// The relations of those words, with `; ` between two; none of `nothing`.
+pub fn relations(alloc: Global, words: &str) -> Result<Vec<Rel>, AllocError> {
+    let mut relations = Vec::new(alloc);
+    if words == "nothing" {
+        return Ok(relations);
+    }
+    for one in words.split("; ") {
+        relations.push(relation(alloc, one)?)?;
+    }
+    Ok(relations)
 }
 
 /// A change of the row of that key; none of a word that names no action.

@@ -1,42 +1,70 @@
-//! Searches for proofs of sequents: a question a line of the input, with the answers.
+//! Lists the splits and instances of sequents, searches for proofs, asks whether a proof proves a sequent, and reads and writes
+//! certificates: a question a line of the input, with the answers.
 //!
 //! `design JSON`, `sequent JSON` and `hints JSON` give the design, the sequent and the hints of the questions behind them, as
-//! `acc_case_sequents` says. `search` answers whether the sequent is proved, and whether the proof is accepted; or the point and the
+//! `acc_case_sequents` says. `lists` answers the splits and then the instances, as nodes of a certificate without multipliers; `counts`
+//! answers how many there are. `search` answers whether the sequent is proved, and whether the proof is accepted; or the point and the
 //! relations of an open leaf, as forms of splits, each with `<=` or `=` before them all; or why nothing is found. `proof` answers the
 //! nodes of the proof.
+//!
+//! `read TEXT` answers what a certificate is written as, and `proves JSON` whether its first proof is one of the sequent. `certificate
+//! JSON` gives a certificate, and each `next` behind it asks whether the next of its proofs is one of the sequent.
 #![tactic(auto)]
 
-mod answers;
+mod certificates;
+mod judged;
+mod listed;
+mod searched;
+mod texts;
+mod told;
 
-use acc_case_sequents::given::Given;
 use std::alloc::{AllocError, Global};
 use std::io;
+use told::Told;
 
-/// What a question answers.
-fn answer(alloc: Global, given: &Given, question: &str) -> Result<String, AllocError> {
-    match question {
-        "search" => answers::search_of(alloc, given),
-        "proof" => answers::proof_of(alloc, given),
-        _ => String::from_str(alloc, "no question"),
+/// Pushes what a question answers.
+fn push_answer(
+    alloc: Global,
+    out: &mut String,
+    told: &Told,
+    question: &str,
+) -> Result<(), AllocError> {
+    let (verb, text) = question.split_once(' ').unwrap_or((question, ""));
+    match verb {
+        "lists" => listed::push_lists(alloc, out, &told.given),
+        "counts" => listed::push_counts(alloc, out, &told.given),
+        "search" => searched::push_end(alloc, out, &told.given),
+        "proof" => searched::push_proof(alloc, out, &told.given),
+        "read" => certificates::push_read(alloc, out, text),
+        "proves" => certificates::push_proved(alloc, out, &told.given, text),
+        "certificate" => certificates::push_count(out, told.cert.as_ref()),
+        "next" => judged::push_judged(alloc, out, &told.given, told.proof(), "a proof"),
+        _ => out.push_str("no question"),
     }
 }
 
 /// Answers a question, and prints both; a line with '#' is a remark.
-fn play(rt: &impl Print, alloc: Global, given: &Given, line: &str) -> io::Result<()> {
-    if given.is_told(line) {
+fn play(rt: &impl Print, alloc: Global, told: &Told, line: &str) -> io::Result<()> {
+    if told.given.is_told(line) {
         return rt.println(line);
     }
-    let said = answer(alloc, given, line)?;
+    let mut said = String::new(alloc);
+    push_answer(alloc, &mut said, told, line)?;
     println!(rt; "{line} -> {said}")
+}
+
+/// Plays all lines.
+fn play_all(rt: &HostRuntime, alloc: Global, told: &mut Told) -> io::Result<()> {
+    for line in rt.lines(alloc) {
+        let line = line?;
+        told.take(alloc, &line)?;
+        play(rt, alloc, told, &line)?;
+    }
+    Ok(())
 }
 
 fn main(rt: HostRuntime) -> io::Result<()> {
     let alloc = rt.alloc();
-    let mut given = Given::new(alloc);
-    for line in rt.lines(alloc) {
-        let line = line?;
-        given.take(alloc, &line)?;
-        play(&rt, alloc, &given, &line)?;
-    }
-    Ok(())
+    let mut told = Told::new(alloc);
+    play_all(&rt, alloc, &mut told)
 }

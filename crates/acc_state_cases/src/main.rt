@@ -1,5 +1,5 @@
-//! Single calls of the machine with locks, and questions about entries, over designs that are accepted with a certificate: prints each
-//! line of the input, and what it answers.
+//! Single calls of the machine with locks, schedules, and questions about entries, over designs that are accepted with a certificate:
+//! prints each line of the input, and what it answers.
 //!
 //! `design FILE CERTIFICATE` gives the design of the lines behind it, by two files of the folder; a line with '#' is a remark. A number
 //! stands for a type, a point or a table, from 0 on, or for a transaction; a list has commas, and '-' is none.
@@ -9,12 +9,15 @@
 //!   event is taken; `stuck`, `events`, `unfinished`, `is_unfinished T`, `reply T`, `dump` and questions about rows their answers.
 //!   `fill N CALL` begins a call N times; `spend N CALL` begins it and turns it to its end, until there are at least N events.
 //! - `replay EVENT; EVENT ..` does events again: how many there are then, and the rows; or which of them, from 0, isn't lawful.
+//! - `schedule SCRIPT -> ORDER` lets the script's calls run in the order, and tells the schedule's lines, or what isn't as it should be. In
+//!   a script ';' is a line feed.
 //! - `compatible TYPE POINT LOCALS TYPE POINT LOCALS` tells by which entry two places aren't compatible.
 //! - `forbids TYPE POINT LOCALS SIDE TYPE POINT LOCALS` tells by which entry the first place forbids a step at the second.
 #![tactic(auto)]
 
 mod entries;
 mod replays;
+mod schedules;
 
 use acc_case_designs::lines::answer_lines;
 use acc_case_states::states::push_answers;
@@ -34,6 +37,7 @@ fn push_answer(
     match verb {
         "state" => push_answers(alloc, out, design, rest),
         "replay" => replays::push_replayed(alloc, out, design, rest),
+        "schedule" => schedules::push_schedule(alloc, out, design, rest),
         "compatible" => entries::push_clash(alloc, out, design, rest),
         "forbids" => entries::push_forbidding(alloc, out, design, rest),
         _ => out.push_str("no question"),

@@ -1,0 +1,49 @@
+//! How the answer of a schedule over a journal is spelled.
+use acc_disk::MemDisk;
+use acc_journalled::Ending;
+use acc_running::{Run, Said};
+use std::alloc::AllocError;
+use std::fmt::Write;
+
+/// How a run ended, in a word.
+fn word(ending: Ending) -> &'static str {
+    match ending {
+        Ending::Done => "done",
+        Ending::Unbegun => "unbegun",
+        Ending::JournalRefused => "refused",
+        Ending::DiskFailed => "failed",
+        _ => "otherwise",
+    }
+}
+
+/// Pushes lines, with ` / ` behind each.
+fn push_lines(out: &mut String, text: &[u8]) -> Result<(), AllocError> {
+    for byte in text {
+        match *byte {
+            b'\n' => out.push_str(" / ")?,
+            byte => out.push(byte as char)?,
+        }
+    }
+    Ok(())
+}
+
+/// Pushes the lines that were said, and how the run ended.
+fn push_said(out: &mut String, said: &Said) -> Result<(), AllocError> {
+    push_lines(out, &said.text)?;
+    out.push_str(word(said.ending))
+}
+
+/// Pushes what a run answered, how many events are durable, of how many, and how many calls the disk has had.
+pub fn push_run(out: &mut String, run: &Run<MemDisk>) -> Result<(), AllocError> {
+    match &run.said {
+        Ok(said) => push_said(out, said)?,
+        Err(_) => out.push_str("memory")?,
+    }
+    let all = run.history.len();
+    write!(
+        out,
+        ", durable {} of {all}, {} calls / ",
+        run.settled,
+        run.disk.calls()
+    )
+}
