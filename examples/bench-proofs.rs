@@ -1,6 +1,6 @@
 //! The checker of proofs once more, in plain Rust and without any proof: what `bench-proofs` compares with.
 //!
-//! Its input is that of `crates/acc_search_cases`, of which it answers the lines `proves`, `certificate` and `next`.
+//! Its input has the lines of `crates/acc_cases` of the kind `search`, of which it answers `proves`, `certificate` and `next`.
 use std::collections::BTreeMap;
 use std::io::{BufRead, BufWriter, Write};
 
@@ -932,7 +932,8 @@ fn main() -> std::io::Result<()> {
     let mut out = BufWriter::new(std::io::stdout().lock());
     for line in std::io::stdin().lock().lines() {
         let line = line?;
-        let (verb, text) = line.split_once(' ').unwrap_or((&line, ""));
+        let question = line.strip_prefix("search ").unwrap_or(&line);
+        let (verb, text) = question.split_once(' ').unwrap_or((question, ""));
         match given.answer(verb, text) {
             Some(said) => writeln!(out, "{line} -> {said}")?,
             None => writeln!(out, "{line}")?,

@@ -6,11 +6,11 @@ use Rattle.acc_base.specs.declared.sequents.Sequent.{Sequent}
 use Rattle.acc_form.specs.declared.rules.FormError.TheVariants.{Bad}
 use Rattle.acc_form.specs.Faults.{IsFirstFault}
 use Rattle.acc_form.specs.Judged.{IsFaultInPrint}
-use Rattle.acc_form.specs.WellFormed.{IsWellFormed}
+use Rattle.acc_formed.specs.WellFormed.{IsWellFormed}
 use Rattle.acc_oblig.specs.Laws.{drafts_of, sequents_of}
-use Rattle.acc_obligations.specs.Causes.{first_wide}
-use Rattle.acc_obligations.specs.declared.errors.ObligError.{ObligError}
-use Rattle.acc_obligations.specs.declared.errors.ObligError.TheVariants as oblig_error
+use Rattle.acc_goals.specs.Causes.{first_wide}
+use Rattle.acc_goals.specs.declared.errors.ObligError.{ObligError}
+use Rattle.acc_goals.specs.declared.errors.ObligError.TheVariants as oblig_error
 use Rattle.acc_axioms.specs.declared.nodes.Proof.{Proof}
 use Rattle.acc_axioms.specs.declared.nodes.Cert.{Cert}
 use Rattle.acc_proof.specs.Proofs.{Verdict, Proved, NotProved as IsNoProof, WideAt, verdict}

@@ -1,14 +1,13 @@
 //! Whether a design is accepted with a certificate.
 ghost use Rattle.std.specs.Prelude.{◌≡◌, slice_get, IfOk, IfErr};
 ghost use Rattle.acc_base.specs.Soundness.{IsSound};
-ghost use Rattle.acc_form.specs.WellFormed.{IsWellFormed};
+ghost use Rattle.acc_formed.specs.WellFormed.{IsWellFormed};
 ghost use Rattle.acc_accept.specs.Accepting.{Accepts, Refuses, Judges, lack_of, TellsLack, TellsFirstLack, IsOutOfMemory};
 
 use crate::listing::obligations;
 use crate::refusals::Refusal;
 use acc_axioms::nodes::{Cert, Proof};
 use acc_base::designs::Design;
-use acc_base::sequences::copied;
 use acc_base::sequents::Sequent;
 use acc_form::{FormError, well_formed};
 use acc_lift::Accepted;
@@ -27,12 +26,12 @@ fn prove_at(
     ensures { TellsLack result (lack_of d.now sequent.now (slice_get proofs.now place)) }
 {
     let Some(proof) = proofs.get(place) else {
-        return Err(Refusal::Missing(copied(&sequent.origin)?));
+        return Err(Refusal::Missing(sequent.origin));
     };
     match proves(alloc, d, sequent, proof) {
         Ok(true) => Ok(()),
-        Ok(false) => Err(Refusal::NotProved(copied(&sequent.origin)?)),
-        Err(ProofError::Wide(_)) => Err(Refusal::ProofWide(copied(&sequent.origin)?)),
+        Ok(false) => Err(Refusal::NotProved(sequent.origin)),
+        Err(ProofError::Wide(_)) => Err(Refusal::ProofWide(sequent.origin)),
         Err(ProofError::Memory) => Err(Refusal::Memory),
     }
 }

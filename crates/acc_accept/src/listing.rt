@@ -1,13 +1,13 @@
 //! The obligations of a design.
-ghost use Rattle.acc_form.specs.WellFormed.{IsWellFormed};
+ghost use Rattle.acc_formed.specs.WellFormed.{IsWellFormed};
 ghost use Rattle.acc_oblig.specs.Laws.{drafts_of};
-ghost use Rattle.acc_obligations.specs.Causes.{Adds};
+ghost use Rattle.acc_goals.specs.Causes.{Adds};
 ghost use Rattle.acc_accept.specs.Obligations.{AreObligations};
 
 use acc_base::designs::Design;
 use acc_base::sequences::Seq;
 use acc_base::sequents::Sequent;
-use acc_obligations::ObligError;
+use acc_goals::ObligError;
 use acc_path_rules::always::add_always;
 use acc_path_rules::promises::add_promises;
 use acc_path_rules::spares::add_spares;
@@ -15,8 +15,8 @@ use acc_path_rules::there::add_there;
 use acc_point_rules::begins::add_begins;
 use acc_point_rules::clears::add_clears;
 use acc_point_rules::empty::add_empty;
-use acc_point_rules::ranges::add_ranges;
 use acc_point_rules::variants::add_variants;
+use acc_range_rules::ranges::add_ranges;
 use std::alloc::Global;
 
 /// Adds the obligations of a design, rule by rule.

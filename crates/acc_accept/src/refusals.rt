@@ -4,7 +4,7 @@ ghost use Rattle.acc_accept.specs.declared.refusals.Refusal.TheVariants.{Memory 
 ghost use Rattle.acc_accept.specs.Accepting.{refusal_of};
 
 use acc_base::sequents::Origin;
-use acc_obligations::ObligError;
+use acc_goals::ObligError;
 use std::alloc::AllocError;
 
 /// Why a design isn't accepted with a certificate.

@@ -32,8 +32,8 @@ use Rattle.acc_base.specs.PrivateRows.{is_own_table, last_is, IsPrivateOf, HasNo
 use Rattle.acc_base.specs.TrueSequents.{NoneOwned, IsAskedOf}
 use Rattle.acc_base.proofs.RowOrder.{order_from}
 use Rattle.acc_base.proofs.Lookups.{any_none, found_at}
-use Rattle.acc_instances.proofs.RowPlaces.{found_holds}
-use Rattle.acc_instances.proofs.PartValues.{one_times}
+use Rattle.acc_instanced.proofs.RowPlaces.{found_holds}
+use Rattle.acc_instanced.proofs.PartValues.{one_times}
 use Rattle.acc_axioms.specs.declared.nodes.Schema.{Schema}
 use Rattle.acc_axioms.specs.declared.nodes.Schema.TheVariants as schema
 use Rattle.acc_axioms.specs.Axioms.{at_most, is_zero}

@@ -15,8 +15,8 @@ use Rattle.acc_base.specs.Tables.{sum_of}
 use Rattle.acc_base.proofs.Places.{is_equal, same_place as row_place}
 use Rattle.acc_base.proofs.RowOrder.{InOrder, past_same}
 use Rattle.acc_base.proofs.Lookups.{any_none, any_some}
-use Rattle.acc_instances.proofs.RowSums.{given, row_sum, where_passes, one, count_is, total_is}
-use Rattle.acc_instances.proofs.RowPlaces.{find_past, same_place}
+use Rattle.acc_instanced.proofs.RowSums.{given, row_sum, where_passes, one, count_is, total_is}
+use Rattle.acc_instanced.proofs.RowPlaces.{find_past, same_place}
 use Rattle.acc_axioms.proofs.Tests.{both_true}
 
 module _ (db : List Row) where

@@ -6,10 +6,8 @@ use Rattle.std.proofs.Common.{ap}
 use Rattle.std.proofs.Math.Bool.{beq}
 use Rattle.std.proofs.lemmas.Bool.Decides.{Decides-like, Decides-eqb}
 use Rattle.acc_base.specs.declared.forms.Rel.{Rel}
-use Rattle.acc_base.specs.declared.forms.LinRel.{LinRel}
 use Rattle.acc_base.specs.declared.forms.Clause.{Clause}
 use Rattle.acc_base.specs.Pairs.{both}
-use Rattle.acc_base.specs.FormEquality.{lin_eq, lin_decides}
 use Rattle.acc_base.specs.UnknownEquality.{form_eq, form_decides}
 
 abbrev pub rel_eq : Rel → Rel → Bool
@@ -21,16 +19,6 @@ rel_decides x y =
     (λ h. λ i. record { form = h.0 i; equal = h.1 i })
     (λ e. (ap (λ r. r.form) e, ap (λ r. r.equal) e))
     (both (form_decides x.form y.form) (booleans_Decides x.equal y.equal))
-
-abbrev pub lin_rel_eq : LinRel → LinRel → Bool
-lin_rel_eq x y = lin_eq x.lin y.lin && beq x.equal y.equal
-
-pub lin_rel_decides : (x y : LinRel) → Decides (lin_rel_eq x y) (x ≡ y)
-lin_rel_decides x y =
-    Decides-like (lin_rel_eq x y)
-    (λ h. λ i. record { lin = h.0 i; equal = h.1 i })
-    (λ e. (ap (λ r. r.lin) e, ap (λ r. r.equal) e))
-    (both (lin_decides x.lin y.lin) (booleans_Decides x.equal y.equal))
 
 abbrev pub texts_eq : List (List ℕ) → List (List ℕ) → Bool
 texts_eq xs ys = pointwise (pointwise ◌==◌) xs ys

@@ -1,15 +1,11 @@
--- The tests of equality of origins and sequents decide equality.
+-- The test of equality of origins decides it.
 use Rattle.std.specs.Prelude.{◌≡◌, ◌==◌, Bool, ◌&&◌, Decides}
 use Rattle.std.specs.Option.{option_eq}
-use Rattle.std.specs.Cmp.Lexicographic.{pointwise, pointwise_decides}
 use Rattle.std.proofs.Common.{ap}
 use Rattle.std.proofs.lemmas.Bool.Decides.{Decides-like, Decides-eqb}
 use Rattle.acc_base.specs.declared.sequents.Origin.{Origin}
-use Rattle.acc_base.specs.declared.sequents.Sequent.{Sequent}
 use Rattle.acc_base.specs.Pairs.{both, option_decides}
 use Rattle.acc_base.specs.PointEquality.{at_eq, at_decides, side_eq, side_decides}
-use Rattle.acc_base.specs.UnknownEquality.{form_eq, form_decides}
-use Rattle.acc_base.specs.ClauseEquality.{rel_eq, rel_decides, clause_eq, clause_decides}
 
 abbrev pub origin_eq : Origin → Origin → Bool
 origin_eq x y =
@@ -47,17 +43,3 @@ origin_decides x y =
     (both (Decides-eqb x.rule y.rule) (both (option_decides at_eq at_decides x.held y.held) (
     both (Decides-eqb x.clause y.clause) (both (option_decides at_eq at_decides x.at y.at) (
     both (side_decides x.side y.side) (both (Decides-eqb x.path y.path) (Decides-eqb x.case y.case)))))))
-
-abbrev pub sequent_eq : Sequent → Sequent → Bool
-sequent_eq x y =
-    origin_eq x.origin y.origin && ((x.vars == y.vars) && (
-    pointwise clause_eq x.hyps y.hyps && (pointwise rel_eq x.rels y.rels && form_eq x.goal y.goal)))
-
-pub sequent_decides : (x y : Sequent) → Decides (sequent_eq x y) (x ≡ y)
-sequent_decides x y =
-    Decides-like (sequent_eq x y)
-    (λ h. λ i. record { origin = h.0 i; vars = h.1.0 i; hyps = h.1.1.0 i; rels = h.1.1.1.0 i; goal = h.1.1.1.1 i })
-    (λ e. (ap (λ s. s.origin) e, (ap (λ s. s.vars) e, (ap (λ s. s.hyps) e, (ap (λ s. s.rels) e, ap (λ s. s.goal) e)))))
-    (both (origin_decides x.origin y.origin) (both (Decides-eqb x.vars y.vars) (
-    both (pointwise_decides clause_decides x.hyps y.hyps) (
-    both (pointwise_decides rel_decides x.rels y.rels) (form_decides x.goal y.goal)))))

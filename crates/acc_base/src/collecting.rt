@@ -16,6 +16,17 @@ fn is_left(sum: i128) -> bool
     sum != 0
 }
 
+/// Adds an unknown again, with a sum.
+fn push_copy<K: Exact + Drop>(
+    terms: &mut Seq<(K, i128)>,
+    unknown: &K,
+    sum: i128,
+) -> Result<(), AllocError>
+    ensures { OnOk result (terms.new ≡ terms.old ++ (unknown.now, sum) ∷ []) }
+{
+    terms.push((copied(unknown)?, sum))
+}
+
 /// The sum of each unknown, in the order in which the unknowns first appear, and the place of each.
 #[derive(Drop)]
 pub struct Sums<'a, K: Exact + Ord> {
@@ -114,7 +125,7 @@ impl<'a, K: Exact + Ord> Sums<'a, K> {
         let mut terms = Seq::new(alloc);
         for (unknown, sum) in &self.sums {
             if is_left(*sum) {
-                terms.push((copied(*unknown)?, *sum))?;
+                push_copy(&mut terms, *unknown, *sum)?;
             }
         }
         Ok(terms)

@@ -1,10 +1,9 @@
 //! The names of types and points.
-ghost use Rattle.std.specs.Prelude.{◌≡◌, ◌++◌, OnOk, slice_get};
+ghost use Rattle.std.specs.Prelude.{◌≡◌, slice_get};
 ghost use Rattle.acc_base.specs.Effects.{point_of};
-ghost use Rattle.acc_base.specs.Lines.{type_name, point_name, at_text};
+ghost use Rattle.acc_base.specs.Lines.{type_name, point_name};
 
 use crate::designs::{At, Design};
-use std::alloc::AllocError;
 
 /// The name of a type, and none where it isn't in the design.
 pub fn type_name(d: &Design, ty: u32) -> &[u8]
@@ -27,13 +26,4 @@ pub fn point_name(d: &Design, at: At) -> &[u8]
         },
         None => b"",
     }
-}
-
-/// Writes a point, as `TYPE.POINT`, behind a text. Where memory is wanting, the text may have a front of it.
-pub fn push_at(out: &mut Vec<u8>, d: &Design, at: At) -> Result<(), AllocError>
-    ensures { OnOk result (out.new.items ≡ out.old.items ++ at_text d.now at) }
-{
-    out.extend_from_slice(type_name(d, at.ty))?;
-    out.extend_from_slice(b".")?;
-    out.extend_from_slice(point_name(d, at))
 }

@@ -12,7 +12,7 @@ use crate::numbers::{bounded_product, bounded_sum};
 use std::alloc::{AllocError, AllocFailed, Global};
 
 /// Why a sum of forms isn't given.
-#[derive(Clone, Copy, Debug, PartialEq, Eq)]
+#[derive(Clone, Copy)]
 pub enum FormSum {
     /// A number of the sum, a product or a sum on the way, is beyond 2^120 on either side of 0.
     Wide,

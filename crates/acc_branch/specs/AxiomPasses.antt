@@ -5,15 +5,15 @@ use Rattle.acc_base.specs.declared.forms.Rel.{Rel}
 use Rattle.acc_base.specs.declared.designs.Design.{Design}
 use Rattle.acc_base.specs.declared.sequents.Sequent.{Sequent}
 use Rattle.acc_farkas.specs.declared.refuting.Mults.{Mults}
-use Rattle.acc_points.specs.Readings.{unknowns_of}
+use Rattle.acc_readings.specs.Readings.{unknowns_of}
 use Rattle.acc_axioms.specs.declared.nodes.Node.TheVariants as node
 use Rattle.acc_axioms.specs.declared.nodes.Schema.{Schema}
 use Rattle.acc_axioms.specs.Axioms.{Demand, axiom_of}
-use Rattle.acc_branch.specs.declared.kinds.Kind.{Kind}
+use Rattle.acc_candidates.specs.declared.kinds.Kind.{Kind}
 use Rattle.acc_branch.specs.Courses.{Course, chain, steps}
 use Rattle.acc_branch.specs.Known.{Known, State, shows_all}
-use Rattle.acc_branch.specs.Schemas.{same_schema}
-use Rattle.acc_branch.specs.Candidates.{kinds, candidates}
+use Rattle.acc_candidates.specs.Schemas.{same_schema}
+use Rattle.acc_candidates.specs.Candidates.{kinds, candidates}
 
 abbrev pub knowing_axiom : Known → Schema → List Rel → Known
 knowing_axiom s a added = record { rels = s.rels ++ added; insts = s.insts; axioms = s.axioms ++ a ∷ [] }

@@ -1,7 +1,7 @@
 -- Parts of a search, one after the other: the first that ends it ends all. And what a call's answer tells of a part.
 use Rattle.std.specs.Prelude.{◌≡◌, Bool, true, false, List, [], ◌∷◌, Option, Some, None, Result, Ok, Err}
-use Rattle.acc_elim.specs.declared.verdicts.ElimError.{ElimError}
-use Rattle.acc_elim.specs.declared.verdicts.ElimError.TheVariants as stopped
+use Rattle.acc_decisions.specs.declared.verdicts.ElimError.{ElimError}
+use Rattle.acc_decisions.specs.declared.verdicts.ElimError.TheVariants as stopped
 use Rattle.acc_branch.specs.declared.halts.Halt.{Halt}
 use Rattle.acc_branch.specs.declared.halts.Halt.TheVariants.{Open, Crowded, Wide, Many, Memory}
 

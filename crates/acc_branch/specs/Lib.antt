@@ -1,5 +1,3 @@
 pub mod Courses
-pub mod Schemas
-pub mod Candidates
 pub mod Known
 pub mod AxiomPasses

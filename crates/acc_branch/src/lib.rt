@@ -2,10 +2,5 @@
 #![tactic(auto)]
 
 pub mod axiom_passes;
-pub mod candidates;
-pub mod copies;
 pub mod halts;
-pub mod kinds;
 pub mod known;
-pub mod names;
-pub mod schemas;

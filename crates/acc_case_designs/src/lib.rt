@@ -1,7 +1,5 @@
-//! Accepted designs, for programs that play cases over them.
+//! Accepted designs, for cases over them.
 #![tactic(auto)]
-
-pub mod lines;
 
 use acc_accept::accept;
 use acc_cert_read::certificates::read;
@@ -30,7 +28,7 @@ fn accepted(
 }
 
 /// The design of a file, if it is accepted with the certificate of the other.
-pub fn accepted_file<R: Files + AllocGlobal>(
+fn accepted_file<R: Files + AllocGlobal>(
     rt: &R,
     design: &str,
     certificate: &str,
@@ -38,4 +36,18 @@ pub fn accepted_file<R: Files + AllocGlobal>(
     let design = fs::read_to_string(rt, design)?;
     let certificate = fs::read_to_string(rt, certificate)?;
     Ok(accepted(rt.alloc(), design.as_bytes(), certificate.as_bytes())?)
+}
+
+/// Takes the design that a line gives by two files, as `design FILE CERTIFICATE`; whether it gives one.
+pub fn take<R: Files + AllocGlobal>(
+    rt: &R,
+    design: &mut Option<Accepted>,
+    line: &str,
+) -> io::Result<bool> {
+    let Some(files) = line.strip_prefix("design ") else {
+        return Ok(false);
+    };
+    let (text, certificate) = files.split_once(' ').unwrap_or((files, ""));
+    *design = accepted_file(rt, text, certificate)?;
+    Ok(true)
 }

@@ -5,7 +5,7 @@ ghost use Rattle.acc_print.specs.Designs.{printed};
 use crate::files::file;
 use crate::recoveries::{fresh, push_counts};
 use acc_base::designs::Design;
-use acc_case_words::words::number;
+use acc_case_words::words::{number, push_lines};
 use acc_disk::MemDisk;
 use acc_journalled::{Answer, Closed, Ending, Wanted, init_journal, recover_journal};
 use acc_lift::Accepted;
@@ -55,11 +55,9 @@ fn ending_word(ending: Ending) -> &'static str {
 }
 
 /// Pushes how a command ended, its lines with ` / ` between two, and how many events it tells and how many of them are durable.
-fn push_said(alloc: Global, out: &mut String, answer: &Answer) -> Result<(), AllocError> {
+fn push_said(out: &mut String, answer: &Answer) -> Result<(), AllocError> {
     out.push_str(ending_word(answer.ending))?;
-    let lines = String::from_utf8_lossy(alloc, &answer.text)?;
-    let line = lines.trim_end().replace(alloc, "\n", " / ")?;
-    out.push_str(&line)?;
+    push_lines(out, &answer.text)?;
     write!(
         out,
         "; events {} settled {}",
@@ -76,7 +74,7 @@ fn push_closed(
     closed: &Closed<MemDisk>,
 ) -> Result<(), AllocError> {
     match &closed.answer {
-        Ok(answer) => push_said(alloc, out, answer)?,
+        Ok(answer) => push_said(out, answer)?,
         Err(_) => out.push_str("memory")?,
     }
     write!(out, " calls {} | ", closed.disk.calls())?;

@@ -38,10 +38,6 @@ impl Given {
 
     /// Whether a line asks nothing.
     pub fn is_told(&self, line: &str) -> bool {
-        line.is_empty()
-            || line.starts_with('#')
-            || line.starts_with("design")
-            || line.starts_with("sequent")
-            || line.starts_with("hints")
+        line.starts_with("design") || line.starts_with("sequent") || line.starts_with("hints")
     }
 }

@@ -1,5 +1,6 @@
 //! The rows of a state as they are dumped.
 use acc_base::designs::Design;
+use acc_case_words::words::push_lines;
 use acc_dump::dump;
 use acc_store::MapStore;
 use std::alloc::{AllocError, Global};
@@ -11,8 +12,5 @@ pub fn push_dump(
     design: &Design,
     store: &MapStore,
 ) -> Result<(), AllocError> {
-    let text = dump(alloc, design, store)?;
-    let lines = String::from_utf8_lossy(alloc, &text)?;
-    let line = lines.trim_end().replace(alloc, "\n", " / ")?;
-    out.push_str(&line)
+    push_lines(out, &dump(alloc, design, store)?)
 }

@@ -1,4 +1,4 @@
-//! What words of a case stand for, and how answers are spelled: what programs that play cases have in common.
+//! What words of a case stand for, and how answers are spelled: what the crates of cases have in common.
 #![tactic(auto)]
 
 pub mod causes;

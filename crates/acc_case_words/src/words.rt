@@ -1,5 +1,6 @@
 //! What words spell.
 use std::alloc::{AllocError, Global};
+use std::fmt::Write;
 
 /// An answer of those words.
 pub fn said(alloc: Global, words: &str) -> Result<String, AllocError> {
@@ -27,4 +28,16 @@ pub fn list(alloc: Global, words: &str) -> Result<Vec<i64>, AllocError> {
         .split(',')
         .filter_map(|word| word.parse().ok())
         .collect(alloc)
+}
+
+/// Pushes the lines of a text, with ` / ` between two.
+pub fn push_lines(out: &mut String, text: &[u8]) -> Result<(), AllocError> {
+    let text = str::from_utf8(text.trim_ascii_end()).unwrap_or("no text");
+    let mut first = true;
+    for line in text.split('\n') {
+        let mark = if first { "" } else { " / " };
+        write!(out, "{mark}{line}")?;
+        first = false;
+    }
+    Ok(())
 }

@@ -1,4 +1,5 @@
 //! The cases by their verbs.
+use crate::kinds::{self, Kinds};
 use acc_case_answers::answers::{answer_at_once, answer_into};
 use acc_case_answers::designs::show;
 use acc_case_answers::faults::{shelf, sink};
@@ -11,11 +12,12 @@ use acc_case_documents::documents;
 use acc_cli::acc;
 use acc_io::{FolderShelf, StdSink};
 use acc_progress::Silent;
+use std::fs::File;
 use std::rt::Files;
 use std::{fs, io};
 
 /// `run WORDS`: a command line over the files of the folder, printed at once.
-fn run<R: Files + Print + AllocGlobal>(rt: &R, line: &str) -> io::Result<()> {
+fn run<R: Files<File = File> + Print + AllocGlobal>(rt: &R, line: &str) -> io::Result<()> {
     let words = memory::words(rt.alloc(), line)?;
     let mut shelf = FolderShelf::new(rt);
     let mut out = StdSink::new(rt);
@@ -25,7 +27,11 @@ fn run<R: Files + Print + AllocGlobal>(rt: &R, line: &str) -> io::Result<()> {
 }
 
 /// `play DESIGN SCRIPT -> ORDER`: a play of a design of the folder, with the script and the order that stand there.
-fn play<R: Files + Print + AllocGlobal>(rt: &R, name: &str, rest: &str) -> io::Result<()> {
+fn play<R: Files<File = File> + Print + AllocGlobal>(
+    rt: &R,
+    name: &str,
+    rest: &str,
+) -> io::Result<()> {
     let design = fs::read_to_string(rt, name)?;
     let (script, order) = rest.split_once(" -> ").unwrap_or((rest, ""));
     play_texts(rt, design.as_str(), script, order)
@@ -33,7 +39,11 @@ fn play<R: Files + Print + AllocGlobal>(rt: &R, name: &str, rest: &str) -> io::R
 
 /// `sched DESIGN CERT SCRIPT -> ORDER`: a schedule over a design and a certificate of the folder, with the script and the order that
 /// stand there.
-fn sched<R: Files + Print + AllocGlobal>(rt: &R, name: &str, rest: &str) -> io::Result<()> {
+fn sched<R: Files<File = File> + Print + AllocGlobal>(
+    rt: &R,
+    name: &str,
+    rest: &str,
+) -> io::Result<()> {
     let (certificate, rest) = first_word(rest);
     let design = fs::read_to_string(rt, name)?;
     let certificate = fs::read_to_string(rt, certificate)?;
@@ -42,7 +52,11 @@ fn sched<R: Files + Print + AllocGlobal>(rt: &R, name: &str, rest: &str) -> io::
 
 /// `many DESIGN CERT COUNT LINE`: a schedule over a design and a certificate of the folder, with so many lines for a script and no order;
 /// its last two lines.
-fn many<R: Files + Print + AllocGlobal>(rt: &R, name: &str, rest: &str) -> io::Result<()> {
+fn many<R: Files<File = File> + Print + AllocGlobal>(
+    rt: &R,
+    name: &str,
+    rest: &str,
+) -> io::Result<()> {
     let (certificate, rest) = first_word(rest);
     let (count, line) = first_word(rest);
     let design = fs::read_to_string(rt, name)?;
@@ -72,14 +86,14 @@ fn prove<R: Print + AllocGlobal>(rt: &R, text: &str) -> io::Result<()> {
 
 /// `proved DESIGN`: what `check` says of a design of the folder with the certificate that `prove` makes of it, or which obligations stay
 /// open.
-fn proved<R: Files + Print + AllocGlobal>(rt: &R, name: &str) -> io::Result<()> {
+fn proved<R: Files<File = File> + Print + AllocGlobal>(rt: &R, name: &str) -> io::Result<()> {
     let design = fs::read_to_string(rt, name)?;
     proofs::tell(rt, design.as_str())
 }
 
 /// `fails ABSENT READS WRITES TAKES WORDS`: a command line over a shelf in memory that lacks a file and some of whose reads
 /// fail, and over a sink in memory some of whose writes fail or take less.
-fn fails<R: Files + Print + AllocGlobal>(rt: &R, text: &str) -> io::Result<()> {
+fn fails<R: Files<File = File> + Print + AllocGlobal>(rt: &R, text: &str) -> io::Result<()> {
     let (absent, rest) = first_word(text);
     let (reads, rest) = first_word(rest);
     let (writes, rest) = first_word(rest);
@@ -91,7 +105,11 @@ fn fails<R: Files + Print + AllocGlobal>(rt: &R, text: &str) -> io::Result<()> {
 }
 
 /// Answers a case of a design of the folder.
-fn answer_design<R: Files + Print + AllocGlobal>(rt: &R, verb: &str, rest: &str) -> io::Result<()> {
+fn answer_design<R: Files<File = File> + Print + AllocGlobal>(
+    rt: &R,
+    verb: &str,
+    rest: &str,
+) -> io::Result<()> {
     let (name, behind) = first_word(rest);
     match verb {
         "play" => play(rt, name, behind),
@@ -103,7 +121,11 @@ fn answer_design<R: Files + Print + AllocGlobal>(rt: &R, verb: &str, rest: &str)
 }
 
 /// Answers a case of a command line or of texts, or another of a design.
-fn answer_words<R: Files + Print + AllocGlobal>(rt: &R, verb: &str, rest: &str) -> io::Result<()> {
+fn answer_words<R: Files<File = File> + Print + AllocGlobal>(
+    rt: &R,
+    verb: &str,
+    rest: &str,
+) -> io::Result<()> {
     match verb {
         "run" => run(rt, rest),
         "print" => print(rt, rest),
@@ -117,7 +139,7 @@ fn answer_words<R: Files + Print + AllocGlobal>(rt: &R, verb: &str, rest: &str) 
 }
 
 /// Answers a case without escapes.
-fn answer_plain<R: Files + Print + AllocGlobal>(
+fn answer_plain<R: Files<File = File> + Print + AllocGlobal>(
     rt: &R,
     base: &mut String,
     line: &str,
@@ -131,12 +153,28 @@ fn answer_plain<R: Files + Print + AllocGlobal>(
     }
 }
 
-/// Answers a case. One of what is told may give the design of those behind it.
-pub fn answer<R: Files + Print + AllocGlobal>(
+/// Prints a case of a command line or of the parts of one, and answers it. One of what is told may give the design of those behind it.
+fn answer_command<R: Files<File = File> + Print + AllocGlobal>(
     rt: &R,
     base: &mut String,
     line: &str,
 ) -> io::Result<()> {
+    rt.println(line)?;
     let line = texts::with_feeds(rt.alloc(), line)?;
     answer_plain(rt, base, line.as_str())
+}
+
+/// Prints a case, and what it answers.
+pub fn answer<R: Files<File = File> + Print + AllocGlobal>(
+    rt: &R,
+    kinds: &mut Kinds,
+    line: &str,
+) -> io::Result<()> {
+    match first_word(line).0 {
+        "device" | "journal" | "relation" => kinds::tell(rt, kinds, line),
+        "machine" | "text" | "search" => kinds::tell_or_take(rt, kinds, line),
+        "state" | "engine" => kinds::tell_or_accept(rt, kinds, line),
+        "design" => kinds::tell_lines(rt, line),
+        _ => answer_command(rt, &mut kinds.explained, line),
+    }
 }

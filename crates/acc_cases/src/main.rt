@@ -1,31 +1,36 @@
-//! Answers command lines and designs, a case a line of the input: prints the line, what is answered, and the status.
+//! Plays cases, one a line of the input: prints the line, and what it answers. `docs/TESTING.md` tells of the kinds of cases.
 #![tactic(auto)]
 
 mod cases;
+mod kinds;
 
+use crate::kinds::Kinds;
+use std::fs::File;
 use std::io;
 use std::rt::Files;
 
-/// Prints a line, and what it answers.
-fn play<R: Files + Print + AllocGlobal>(
+/// Plays a line.
+fn play<R: Files<File = File> + Print + AllocGlobal>(
     rt: &R,
-    base: &mut String,
+    kinds: &mut Kinds,
     line: io::Result<String>,
 ) -> io::Result<()> {
     let line = line?;
-    println!(rt; "{line}")?;
-    cases::answer(rt, base, &line)
+    cases::answer(rt, kinds, &line)
 }
 
 /// Plays each line of the input.
-fn play_all<R: Input + Files + Print + AllocGlobal>(rt: &R, base: &mut String) -> io::Result<()> {
+fn play_all<R: Input + Files<File = File> + Print + AllocGlobal>(
+    rt: &R,
+    kinds: &mut Kinds,
+) -> io::Result<()> {
     for line in rt.lines(rt.alloc()) {
-        play(rt, base, line)?;
+        play(rt, kinds, line)?;
     }
     Ok(())
 }
 
 fn main(rt: HostRuntime) -> io::Result<()> {
-    let mut base = String::new(rt.alloc());
-    play_all(&rt, &mut base)
+    let mut kinds = Kinds::new(&rt)?;
+    play_all(&rt, &mut kinds)
 }

@@ -1,10 +1,10 @@
 //! Where a certificate's file is wrong.
 use crate::json::{item_of, items_in, line_and_column, place_of, start_of, value_at};
 use crate::shapes::{Shape, item_shape, shape_text};
-use acc_explain::{Spot, push_number, push_text};
+use acc_explain::Spot;
 use acc_spot::line_spot;
 use serde_json::Value;
-use std::alloc::{AllocError, Global};
+use std::alloc::Global;
 
 /// A spot of a file with its line, from 1.
 #[derive(Drop)]
@@ -57,21 +57,19 @@ fn is_array(shape: Shape) -> bool {
 }
 
 /// What is found: an item too many, or an array of so many items.
-fn push_found(spot: &mut Spot, text: &[u8], place: usize, shape: Shape) -> Result<(), AllocError> {
+fn push_found(spot: &mut Spot, text: &[u8], place: usize, shape: Shape) {
     if shape == Shape::Surplus {
-        return push_text(&mut spot.what, b"; this item is too many");
+        return spot.what.push(b"; this item is too many");
     }
     match value_at(text, place).first() {
         Some(b'[') if is_array(shape) => {
             let count = items_in(text, place);
-            push_text(&mut spot.what, b"; the array here has ")?;
-            push_number(&mut spot.what, count)?;
-            push_text(
-                &mut spot.what,
-                if count == 1 { b" item" } else { b" items" },
-            )
+            spot.what.push(b"; the array here has ");
+            spot.what.push_number(count);
+            spot.what
+                .push(if count == 1 { b" item" } else { b" items" })
         }
-        _ => Ok(()),
+        _ => {}
     }
 }
 
@@ -91,39 +89,34 @@ fn syntax_mark(alloc: Global, text: &[u8]) -> Option<Marked> {
 }
 
 /// What is wrong with a text that is no JSON.
-fn push_syntax(spot: &mut Spot) -> Result<(), AllocError> {
-    push_text(
-        &mut spot.what,
-        b"this is no JSON text: nothing that is one goes on like this",
-    )?;
-    push_text(
-        &mut spot.hint,
+fn push_syntax(spot: &mut Spot) {
+    spot.what.push(b"this is no JSON text: nothing that is one goes on like this");
+    spot.hint.push(
         b"a certificate is a JSON array with a proof an obligation, nested at most 12 deep, in bytes of UTF-8",
     )
 }
 
 /// The mark of the part of a certificate to which these numbers lead, with what should stand there.
-fn part_mark(alloc: Global, text: &[u8], path: &[u64]) -> Result<Marked, AllocError> {
+fn part_mark(alloc: Global, text: &[u8], path: &[u64]) -> Marked {
     let place = place_of(text, path);
     let shape = shape_at(text, path);
     let mut mark = value_mark(alloc, text, place);
-    push_text(&mut mark.spot.what, b"expected ")?;
-    push_text(&mut mark.spot.what, shape_text(shape))?;
-    push_found(&mut mark.spot, text, place, shape)?;
-    push_text(
-        &mut mark.spot.hint,
-        b"docs/CERTIFICATES.md has the shape of each part",
-    )?;
-    Ok(mark)
+    mark.spot.what.push(b"expected ");
+    mark.spot.what.push(shape_text(shape));
+    push_found(&mut mark.spot, text, place, shape);
+    mark.spot
+        .hint
+        .push(b"docs/CERTIFICATES.md has the shape of each part");
+    mark
 }
 
 /// The mark of what is off in a file that is no certificate: the part to which these numbers lead from the whole, or else the first
 /// byte with which no JSON text goes on.
-pub fn off_mark(alloc: Global, text: &[u8], path: &[u64]) -> Result<Marked, AllocError> {
+pub fn off_mark(alloc: Global, text: &[u8], path: &[u64]) -> Marked {
     if path.is_empty() {
         if let Some(mut mark) = syntax_mark(alloc, text) {
-            push_syntax(&mut mark.spot)?;
-            return Ok(mark);
+            push_syntax(&mut mark.spot);
+            return mark;
         }
     }
     part_mark(alloc, text, path)

@@ -6,13 +6,13 @@ use crate::parts::{
 };
 use crate::rules::lack_text;
 use acc_base::designs::{At, Design, Side};
-use acc_base::names::push_at;
 use acc_base::sequents::Origin;
 use acc_base::steps::{Step, Target};
-use acc_explain::{push_number, push_quoted, push_text};
+use acc_explain::push_quoted;
 use acc_lex::Token;
+use acc_page::{Page, push_at};
 use acc_spot::spot_at;
-use std::alloc::{AllocError, Global};
+use std::alloc::Global;
 
 /// The step of a point at a side.
 fn step_of(d: &Design, at: At, side: Side) -> Option<&Step> {
@@ -109,58 +109,48 @@ fn statement_mark(alloc: Global, text: &[u8], tokens: &[Token]) -> Option<Marked
 }
 
 /// The path of an obligation, in words; nothing where it has none.
-pub fn push_path(out: &mut Vec<u8>, d: &Design, origin: &Origin) -> Result<(), AllocError> {
+pub fn push_path(out: &mut Page, d: &Design, origin: &Origin) {
     let Some(at) = origin.at else {
-        return Ok(());
+        return;
     };
     if origin.path > 0 {
-        push_text(out, b" path ")?;
-        push_number(out, u64::from(origin.path))?;
-        push_text(out, b" of")?;
+        out.push(b" path ");
+        out.push_number(origin.path);
+        out.push(b" of");
     } else if origin.rule != 5 {
-        return Ok(());
+        return;
     }
-    push_text(out, b" the step `")?;
-    push_text(out, side_word(origin.side))?;
-    push_text(out, b"` of `")?;
-    push_at(out, d, at)?;
-    push_text(out, b"`")
+    out.push(b" the step `");
+    out.push(side_word(origin.side));
+    out.push(b"` of `");
+    push_at(out, d, at);
+    out.push(b"`")
 }
 
 /// What an obligation is about: an assertion as it stands in the text, a variant or a number.
-fn push_subject(
-    out: &mut Vec<u8>,
-    d: &Design,
-    origin: &Origin,
-    statement: &[u8],
-) -> Result<(), AllocError> {
+fn push_subject(out: &mut Page, d: &Design, origin: &Origin, statement: &[u8]) {
     match (origin.rule, origin.at) {
         (6, Some(at)) => {
-            push_text(out, b"the variant of `")?;
-            push_at(out, d, at)?;
-            push_text(out, b"`")
+            out.push(b"the variant of `");
+            push_at(out, d, at);
+            out.push(b"`")
         }
         (5, _) => {
-            push_text(out, b"number ")?;
-            push_number(out, u64::from(origin.clause))
+            out.push(b"number ");
+            out.push_number(origin.clause)
         }
         _ => push_quoted(out, statement),
     }
 }
 
 /// What isn't shown, in words.
-fn push_lack(
-    out: &mut Vec<u8>,
-    d: &Design,
-    origin: &Origin,
-    statement: &[u8],
-) -> Result<(), AllocError> {
-    push_subject(out, d, origin, statement)?;
-    push_text(out, lack_text(origin.rule, origin.clause))?;
-    push_path(out, d, origin)?;
-    push_text(out, b" (rule S")?;
-    push_number(out, u64::from(origin.rule))?;
-    push_text(out, b")")
+fn push_lack(out: &mut Page, d: &Design, origin: &Origin, statement: &[u8]) {
+    push_subject(out, d, origin, statement);
+    out.push(lack_text(origin.rule, origin.clause));
+    push_path(out, d, origin);
+    out.push(b" (rule S");
+    out.push_number(origin.rule);
+    out.push(b")")
 }
 
 /// The mark of the assertion that an obligation is about, or else of its path, and what isn't shown.
@@ -170,37 +160,32 @@ pub fn asserted_mark(
     tokens: &[Token],
     d: &Design,
     origin: &Origin,
-) -> Result<Option<Marked>, AllocError> {
+) -> Option<Marked> {
     let found = match asserted_from(text, tokens, d, origin) {
         Some(found) => found,
         None => match taken_from(text, tokens, origin) {
             Some(found) => found,
-            None => return Ok(None),
+            None => return None,
         },
     };
     let Some(mut mark) = statement_mark(alloc, text, found) else {
-        return Ok(None);
+        return None;
     };
-    push_lack(&mut mark.spot.what, d, origin, statement_in(text, found))?;
-    Ok(Some(mark))
+    push_lack(&mut mark.spot.what, d, origin, statement_in(text, found));
+    Some(mark)
 }
 
 /// The mark of the path of an obligation that speaks of an assertion elsewhere; none of others.
-pub fn path_mark(
-    alloc: Global,
-    text: &[u8],
-    tokens: &[Token],
-    origin: &Origin,
-) -> Result<Option<Marked>, AllocError> {
+pub fn path_mark(alloc: Global, text: &[u8], tokens: &[Token], origin: &Origin) -> Option<Marked> {
     if origin.rule == 4 || origin.rule == 5 {
-        return Ok(None);
+        return None;
     }
     let Some(found) = taken_from(text, tokens, origin) else {
-        return Ok(None);
+        return None;
     };
     let Some(mut mark) = statement_mark(alloc, text, found) else {
-        return Ok(None);
+        return None;
     };
-    push_text(&mut mark.spot.what, b"this is the path")?;
-    Ok(Some(mark))
+    mark.spot.what.push(b"this is the path");
+    Some(mark)
 }

@@ -7,7 +7,7 @@ use Rattle.acc_axioms.specs.declared.nodes.Cert.{Cert}
 use Rattle.acc_cert_read.specs.Parts.{Part, Good, Off}
 use Rattle.acc_accept.specs.declared.refusals.Refusal.{Refusal}
 use Rattle.acc_accept.proofs.OneRefusal.{none_is_both, refused_for_one_reason}
-use Rattle.acc_check.specs.Origins.{path_text}
+use Rattle.acc_origins.specs.Origins.{path_text}
 use Rattle.acc_check.specs.Reports.{reason_text, ReportsWith, TellsBytes}
 use Rattle.acc_check.specs.Laws.{OneReport}
 

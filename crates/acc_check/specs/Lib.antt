@@ -1,4 +1,3 @@
-pub mod Origins
 pub mod Reports
 pub mod Admissions
 pub mod Laws

@@ -10,7 +10,7 @@ use Rattle.acc_cert_read.specs.Certificates.{cert_in}
 use Rattle.acc_accept.specs.declared.refusals.Refusal.{Refusal}
 use Rattle.acc_accept.specs.declared.refusals.Refusal.TheVariants.{Form, ObligWide, Missing, ProofWide, NotProved, Memory}
 use Rattle.acc_accept.specs.Accepting.{Accepts, Refuses}
-use Rattle.acc_check.specs.Origins.{origin_text, path_text}
+use Rattle.acc_origins.specs.Origins.{origin_text, path_text}
 
 -- why a design is refused with a certificate; want of memory isn't said
 abbrev pub reason_text : Design → Refusal → List ℕ

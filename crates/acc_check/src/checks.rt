@@ -1,13 +1,13 @@
 //! Whether a design is accepted with the bytes of a certificate.
-ghost use Rattle.std.specs.Prelude.{◌≡◌, ◌≢◌, ◌++◌, codes, IfOk, OnOk};
+ghost use Rattle.std.specs.Prelude.{◌≡◌, ◌≢◌, ◌++◌, false, codes, IfOk};
 ghost use Rattle.std.specs.Fmt.{decimal};
 ghost use Rattle.acc_base.specs.Lines.{line};
 ghost use Rattle.acc_accept.specs.declared.refusals.Refusal.TheVariants.{Memory as OutOfMemory};
-ghost use Rattle.acc_check.specs.Origins.{origin_text, path_text};
+ghost use Rattle.acc_page.specs.Written.{Adds};
+ghost use Rattle.acc_origins.specs.Origins.{origin_text, path_text};
 ghost use Rattle.acc_check.specs.Reports.{Reports, reason_text};
 ghost use Rattle.acc_check.specs.Admissions.{Admits, AdmitsWith};
 
-use crate::origins::{push_number, push_origin, push_path};
 use acc_accept::{Refusal, accept};
 use acc_axioms::nodes::Cert;
 use acc_base::designs::Design;
@@ -15,6 +15,8 @@ use acc_base::sequents::Origin;
 use acc_cert_read::certificates::read;
 use acc_cert_read::errors::CertError;
 use acc_lift::Accepted;
+use acc_origins::origins::{push_origin, push_path};
+use acc_page::Page;
 use std::alloc::{AllocError, Global};
 
 /// A design that is accepted with the bytes of a certificate, or the line that says why it isn't.
@@ -32,31 +34,26 @@ pub struct Report {
 }
 
 /// A label, and where an obligation comes from.
-fn push_labelled(
-    out: &mut Vec<u8>,
-    label: &[u8],
-    d: &Design,
-    origin: &Origin,
-) -> Result<(), AllocError>
-    ensures { OnOk result (out.new.items ≡ out.old.items ++ (label.now ++ origin_text d.now origin.now)) }
+fn push_labelled(out: &mut Page, label: &[u8], d: &Design, origin: &Origin)
+    ensures { Adds out.old out.new (label.now ++ origin_text d.now origin.now) }
 {
-    out.extend_from_slice(label)?;
+    out.push(label);
     push_origin(out, d, origin)
 }
 
-fn push_rule(out: &mut Vec<u8>, rule: u32, line: u64) -> Result<(), AllocError>
-    ensures { OnOk result (out.new.items ≡ out.old.items ++ (codes "form " ++ (decimal rule ++ (codes " " ++ decimal line)))) }
+fn push_rule(out: &mut Page, rule: u32, line: u64)
+    ensures { Adds out.old out.new (codes "form " ++ (decimal rule ++ (codes " " ++ decimal line))) }
 {
-    out.extend_from_slice(b"form ")?;
-    push_number(out, u64::from(rule))?;
-    out.extend_from_slice(b" ")?;
-    push_number(out, line)
+    out.push(b"form ");
+    out.push_number(rule);
+    out.push(b" ");
+    out.push_number(line)
 }
 
 /// Why a design isn't accepted; want of memory is no reason that is written.
-fn push_reason(out: &mut Vec<u8>, d: &Design, refusal: &Refusal) -> Result<(), AllocError>
-    ensures text { OnOk result (out.new.items ≡ out.old.items ++ reason_text d.now refusal.now) }
-    ensures other { OnOk result (refusal.now ≢ OutOfMemory) }
+fn push_reason(out: &mut Page, d: &Design, refusal: &Refusal)
+    ensures text { Adds out.old out.new (reason_text d.now refusal.now) }
+    ensures other { out.new.cut ≡ false → refusal.now ≢ OutOfMemory }
 {
     match refusal {
         Refusal::Form(rule, line) => push_rule(out, *rule, *line),
@@ -64,7 +61,7 @@ fn push_reason(out: &mut Vec<u8>, d: &Design, refusal: &Refusal) -> Result<(), A
         Refusal::Missing(origin) => push_labelled(out, b"missing ", d, origin),
         Refusal::ProofWide(origin) => push_labelled(out, b"wide ", d, origin),
         Refusal::NotProved(origin) => push_labelled(out, b"proof ", d, origin),
-        Refusal::Memory => Err(AllocError),
+        Refusal::Memory => out.cut_off(),
     }
 }
 
@@ -72,10 +69,11 @@ fn push_reason(out: &mut Vec<u8>, d: &Design, refusal: &Refusal) -> Result<(), A
 fn bytes_refused(alloc: Global, path: &[u64]) -> Result<Vec<u8>, AllocError>
     ensures { IfOk result (λ text. text.items ≡ line (codes "refused certificate " ++ path_text path.now)) }
 {
-    let mut text = b"refused certificate ".to_vec(alloc)?;
-    push_path(&mut text, path)?;
-    text.push(b'\n')?;
-    Ok(text)
+    let mut text = Page::new(alloc);
+    text.push(b"refused certificate ");
+    push_path(&mut text, path);
+    text.push(b"\n");
+    text.finish().ok_or(AllocError)
 }
 
 /// What is said of a design that is refused with a certificate.
@@ -83,10 +81,11 @@ fn design_refused(alloc: Global, d: &Design, refusal: &Refusal) -> Result<Vec<u8
     ensures text { IfOk result (λ text. text.items ≡ line (codes "refused " ++ reason_text d.now refusal.now)) }
     ensures other { IfOk result (λ text. refusal.now ≢ OutOfMemory) }
 {
-    let mut text = b"refused ".to_vec(alloc)?;
-    push_reason(&mut text, d, refusal)?;
-    text.push(b'\n')?;
-    Ok(text)
+    let mut text = Page::new(alloc);
+    text.push(b"refused ");
+    push_reason(&mut text, d, refusal);
+    text.push(b"\n");
+    text.finish().ok_or(AllocError)
 }
 
 /// Accepts a design with a certificate.

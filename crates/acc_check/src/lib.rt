@@ -3,6 +3,5 @@
 
 mod checks;
 pub mod laws;
-pub mod origins;
 
 pub use checks::{Admission, Report, admit, check};

@@ -6,7 +6,7 @@ use Rattle.std.specs.List.{fold, list_any, list_all}
 use Rattle.std.proofs.lemmas.List.{length-append}
 use Rattle.std.proofs.lemmas.List.Elements.{All-nil, All-cons, All-head, All-tail, All-push}
 use Rattle.acc_base.specs.declared.forms.Lin.{Lin}
-use Rattle.acc_instances.specs.Instances.{zero_lin}
+use Rattle.acc_instanced.specs.Instances.{zero_lin}
 use Rattle.acc_choices.specs.declared.targets.Target.{Target}
 use Rattle.acc_choices.specs.declared.patterns.Pattern.{Pattern}
 use Rattle.acc_choices.specs.declared.listing.InstError.TheVariants.{Crowded}

@@ -9,7 +9,7 @@ use Rattle.acc_choices.specs.declared.patterns.Pattern.{Pattern}
 use Rattle.acc_choices.specs.Parts.{Listing, steps, with_few}
 use Rattle.acc_choices.specs.Atoms.{table_of, place_in}
 use Rattle.acc_axioms.specs.Axioms.{key_of}
-use Rattle.acc_instances.specs.Instances.{zero_lin}
+use Rattle.acc_instanced.specs.Instances.{zero_lin}
 use Rattle.acc_choices.specs.Targets.{same_lins}
 
 -- ---- the atoms of a hypothesis, and the place at which each own variable stands alone

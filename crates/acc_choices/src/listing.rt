@@ -7,7 +7,7 @@ use acc_base::sums::FormSum;
 use std::alloc::{AllocError, AllocFailed};
 
 /// Why there are no lists.
-#[derive(Clone, Copy, Debug, PartialEq, Eq)]
+#[derive(Clone, Copy)]
 pub enum InstError {
     /// There are over 4,096 instances, or over 256 splits.
     Crowded,

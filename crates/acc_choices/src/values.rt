@@ -3,7 +3,7 @@ ghost use Rattle.std.specs.Prelude.{◌≡◌, [], IfOk, OnOk};
 ghost use Rattle.std.specs.List.{fold, list_any};
 ghost use Rattle.acc_choices.specs.Parts.{Leaves, with_few};
 ghost use Rattle.acc_choices.specs.Targets.{same_lins};
-ghost use Rattle.acc_instances.specs.Instances.{zero_lin};
+ghost use Rattle.acc_instanced.specs.Instances.{zero_lin};
 ghost use Rattle.acc_choices.specs.Choices.{value_by, with_value, values_by, with_nothing, nothings};
 
 use crate::atoms::same_lins;

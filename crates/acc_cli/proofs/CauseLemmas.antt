@@ -11,7 +11,7 @@ use Rattle.acc_journalled.specs.declared.answers.Ending.TheVariants.{Done, Journ
 use Rattle.acc_cli.specs.declared.status.Status.{Status}
 use Rattle.acc_cli.specs.declared.status.Status.TheVariants.{Usage, File, Sink, Memory, Ran}
 use Rattle.acc_cli.specs.Replies.{Reply}
-use Rattle.acc_commands.specs.Disks.{Seen}
+use Rattle.acc_journal_commands.specs.Disks.{Seen}
 use Rattle.acc_inputs.specs.Words.{command_of, files_of}
 use Rattle.acc_cli.specs.Meant.{Runs, MeansForm, Meant}
 use Rattle.acc_cli.specs.Answered.{Answered}

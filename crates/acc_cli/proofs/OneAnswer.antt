@@ -12,7 +12,7 @@ use Rattle.acc_inputs.specs.declared.words.Command.{Command}
 use Rattle.acc_journalled.specs.declared.answers.Ending.{Ending}
 use Rattle.acc_cli.specs.declared.status.Status.TheVariants.{Ran}
 use Rattle.acc_journalled.specs.Tellings.{Telling}
-use Rattle.acc_commands.specs.Disks.{Seen, TellsAll}
+use Rattle.acc_journal_commands.specs.Disks.{Seen, TellsAll}
 use Rattle.acc_cli.specs.Replies.{Reply}
 use Rattle.acc_inputs.specs.Words.{command_of, files_of, is_journalled}
 use Rattle.acc_inputs.specs.Files.{AreFiles, SaysRefused}

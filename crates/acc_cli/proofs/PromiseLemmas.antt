@@ -19,8 +19,8 @@ use Rattle.acc_inputs.specs.Words.{command_of, files_of}
 use Rattle.acc_inputs.specs.Files.{AreFiles}
 use Rattle.acc_inputs.specs.Refusals.{SaysError, RefusesDesign}
 use Rattle.acc_inputs.specs.Scripts.{SaysOfScript, SaysOfOrder}
-use Rattle.acc_commands.specs.ScheduleFiles.{SaysSchedule, SchedulesAccepted, SaysOfCertificate, SchedulesFiles}
-use Rattle.acc_commands.specs.Disks.{Seen}
+use Rattle.acc_file_commands.specs.ScheduleFiles.{SaysSchedule, SchedulesAccepted, SaysOfCertificate, SchedulesFiles}
+use Rattle.acc_journal_commands.specs.Disks.{Seen}
 use Rattle.acc_commands.specs.Means.{MeansOfFiles}
 use Rattle.acc_cli.specs.Meant.{MeansForm, Meant}
 use Rattle.acc_cli.specs.Answered.{Answered}

@@ -27,13 +27,13 @@ use Rattle.acc_journalled.specs.Tellings.{Telling}
 use Rattle.acc_inputs.specs.declared.words.Command.{Command}
 use Rattle.acc_inputs.specs.declared.words.Command.TheVariants as command
 use Rattle.acc_inputs.specs.Text.{Said, said_in}
-use Rattle.acc_commands.specs.Disks.{Seen}
+use Rattle.acc_journal_commands.specs.Disks.{Seen}
 use Rattle.acc_inputs.specs.Words.{command_of, files_of}
 use Rattle.acc_inputs.specs.Files.{AreFiles}
 use Rattle.acc_inputs.specs.Refusals.{SaysError, RefusesDesign}
-use Rattle.acc_commands.specs.RecoverFiles.{RecoversCertified, RecoversFiles}
+use Rattle.acc_journal_commands.specs.RecoverFiles.{RecoversCertified, RecoversFiles}
 use Rattle.acc_commands.specs.Means.{MeansOverDisk, Means}
-use Rattle.acc_commands.proofs.JournalEndings.{refusal_ends, refusal_tells_none}
+use Rattle.acc_journal_commands.proofs.JournalEndings.{refusal_ends, refusal_tells_none}
 use Rattle.acc_cli.specs.declared.status.Status.{Status}
 use Rattle.acc_cli.specs.declared.status.Status.TheVariants.{File, Sink, Memory, Ran}
 use Rattle.acc_cli.specs.Replies.{Reply}

@@ -13,10 +13,10 @@ use Rattle.acc_journalled.specs.Tellings.{Telling}
 use Rattle.acc_inputs.specs.declared.words.Command.{Command}
 use Rattle.acc_inputs.specs.declared.words.Command.TheVariants as command
 use Rattle.acc_inputs.specs.Text.{said_in}
-use Rattle.acc_commands.specs.Disks.{Seen}
+use Rattle.acc_journal_commands.specs.Disks.{Seen}
 use Rattle.acc_inputs.specs.Words.{command_of, files_of}
 use Rattle.acc_inputs.specs.Files.{AreFiles}
-use Rattle.acc_commands.specs.RunFiles.{RunsSeen, RunsOfOrder, RunsOfScript, RunsCertified, RunsFiles}
+use Rattle.acc_journal_commands.specs.RunFiles.{RunsSeen, RunsOfOrder, RunsOfScript, RunsCertified, RunsFiles}
 use Rattle.acc_commands.specs.Means.{MeansOverDisk}
 use Rattle.acc_cli.specs.declared.status.Status.{Status}
 use Rattle.acc_cli.specs.Replies.{Reply}
@@ -24,7 +24,7 @@ use Rattle.acc_cli.specs.Meant.{MeansForm, Meant}
 use Rattle.acc_cli.specs.Answered.{Answered}
 use Rattle.acc_cli.specs.Runs.{KeepsRecord}
 use Rattle.acc_cli.proofs.RecoveryLemmas.{unrecovered_none}
-use Rattle.acc_commands.proofs.JournalEndings.{refusal_tells_none}
+use Rattle.acc_journal_commands.proofs.JournalEndings.{refusal_tells_none}
 
 -- no event, or a run of these calls
 abbrev RunsSomehow : Design → List Call → Option (List ℕ) → Telling → Type 0

@@ -22,9 +22,9 @@ use Rattle.acc_cli.specs.declared.status.Status.TheVariants.{Usage, File, Sink, 
 use Rattle.acc_inputs.specs.Words.{command_of, files_of}
 use Rattle.acc_inputs.specs.Files.{AreFiles, IsFirstRefused, SaysRefused}
 use Rattle.acc_commands.specs.Means.{Means}
-use Rattle.acc_commands.specs.ProveFiles.{StaysOpen}
+use Rattle.acc_file_commands.specs.ProveFiles.{StaysOpen}
 use Rattle.acc_journalled.specs.Tellings.{Telling}
-use Rattle.acc_commands.specs.Disks.{Seen}
+use Rattle.acc_journal_commands.specs.Disks.{Seen}
 
 -- the words are a form, one of whose files isn't given
 pub record LacksFile (held : List ℕ → Told) (counts counts' : Counts) (words : List (List ℕ)) : Type 0 where

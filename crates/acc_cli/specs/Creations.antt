@@ -4,7 +4,7 @@ use Rattle.std.specs.Io.KnownBytes.{Appends}
 use Rattle.acc_base.specs.declared.designs.Design.{Design}
 use Rattle.acc_base.specs.Lines.{line}
 use Rattle.acc_io.specs.Shelves.{Told}
-use Rattle.acc_form.specs.WellFormed.{IsWellFormed}
+use Rattle.acc_formed.specs.WellFormed.{IsWellFormed}
 use Rattle.acc_parse.specs.Texts.{IsDesignText}
 use Rattle.acc_print.specs.Designs.{printed}
 use Rattle.acc_wal.specs.Creating.{rest_of, IsThere}

@@ -5,7 +5,7 @@ use Rattle.acc_io.specs.Shelves.{Told}
 use Rattle.acc_inputs.specs.declared.words.Command.TheVariants as command
 use Rattle.acc_inputs.specs.Words.{files_of}
 use Rattle.acc_inputs.specs.Files.{AreFiles}
-use Rattle.acc_commands.specs.RunFiles.{IsUntouched, LeavesFronts, LeavesSettled}
+use Rattle.acc_journal_commands.specs.RunFiles.{IsUntouched, LeavesFronts, LeavesSettled}
 
 -- the files of `sched` are given, and this is so to them
 pub record IsOfGiven (held : List ℕ → Told) (words : List (List ℕ)) (P : List (List ℕ) → Type 0) : Type 0 where

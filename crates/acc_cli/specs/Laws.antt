@@ -4,7 +4,7 @@ use Rattle.acc_io.specs.Causes.{Rose}
 use Rattle.acc_io.specs.Shelves.{Told}
 use Rattle.acc_io.specs.declared.counts.Counts.{Counts}
 use Rattle.acc_inputs.specs.Words.{command_of}
-use Rattle.acc_commands.specs.Disks.{Seen, TellsAll}
+use Rattle.acc_journal_commands.specs.Disks.{Seen, TellsAll}
 use Rattle.acc_cli.specs.Replies.{Reply}
 use Rattle.acc_cli.specs.Meant.{Meant, is_over_journal}
 use Rattle.acc_cli.specs.Provings.{AreAlike}

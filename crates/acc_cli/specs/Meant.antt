@@ -10,7 +10,7 @@ use Rattle.acc_cli.specs.declared.status.Status.TheVariants.{Usage, File, Ran}
 use Rattle.acc_base.specs.Lines.{line}
 use Rattle.acc_cli.specs.Replies.{Reply}
 use Rattle.acc_inputs.specs.Words.{command_of, files_of, is_journalled}
-use Rattle.acc_commands.specs.Disks.{Seen}
+use Rattle.acc_journal_commands.specs.Disks.{Seen}
 use Rattle.acc_commands.specs.Means.{Means, LeavesOfFile}
 use Rattle.acc_inputs.specs.Files.{AreFiles, IsFirstRefused, SaysRefused}
 

@@ -3,7 +3,7 @@ use Rattle.std.specs.Prelude.{◌≡◌, ◌⊎◌, ◌∷◌, ℕ, List, [], Op
 use Rattle.std.specs.Io.KnownBytes.{Appends}
 use Rattle.acc_base.specs.declared.designs.Design.{Design}
 use Rattle.acc_io.specs.Shelves.{Told}
-use Rattle.acc_form.specs.WellFormed.{IsWellFormed}
+use Rattle.acc_formed.specs.WellFormed.{IsWellFormed}
 use Rattle.acc_parse.specs.Texts.{IsDesignText}
 use Rattle.acc_prove.specs.Provings.{IsCertified}
 use Rattle.acc_journalled.specs.declared.answers.Ending.TheVariants.{Done}

@@ -5,7 +5,7 @@ ghost use Rattle.acc_cli.specs.Status.{code_of};
 use acc_commands::Ending;
 
 /// How the program ends.
-#[derive(Clone, Copy, Debug, PartialEq, Eq)]
+#[derive(Clone, Copy, PartialEq, Eq)]
 pub enum Status {
     /// The words are no form.
     Usage,

@@ -2,10 +2,8 @@ pub mod OneRun
 pub mod OneProving
 pub mod ProvedAccepted
 pub mod OneMeaning
-pub mod Leaving
 pub mod FirstTwo
-pub mod JournalEndings
 pub mod RefusedOvers
-pub mod ToldAs
 pub mod WhichCommands
 pub mod Tables
+pub mod DiskEndings

@@ -19,15 +19,15 @@ use Rattle.acc_journalled.specs.Recovering.{RecoversJournal, text_of}
 use Rattle.acc_journalled.specs.Tellings.{Telling}
 use Rattle.acc_journalled.proofs.Once.{making_once, recovering_once}
 use Rattle.acc_inputs.specs.Text.{Said, said_in}
-use Rattle.acc_commands.specs.Disks.{Seen, TellsAll}
+use Rattle.acc_journal_commands.specs.Disks.{Seen, TellsAll}
 use Rattle.acc_inputs.specs.Notes.{help_text, version_text}
 use Rattle.acc_inputs.specs.Scripts.{SaysOfScript}
-use Rattle.acc_commands.specs.PlayFiles.{SaysPlay, PlaysFiles}
-use Rattle.acc_commands.specs.ScheduleFiles.{SaysOfCertificate, SchedulesFiles}
-use Rattle.acc_commands.specs.PrintFiles.{PrintsFile}
-use Rattle.acc_commands.specs.CheckFiles.{ChecksFiles, ending_by}
-use Rattle.acc_commands.specs.InitFiles.{InitsJournal, InitsFile}
-use Rattle.acc_commands.specs.RecoverFiles.{RecoversSeen, RecoversCertified, RecoversFiles}
+use Rattle.acc_file_commands.specs.PlayFiles.{SaysPlay, PlaysFiles}
+use Rattle.acc_file_commands.specs.ScheduleFiles.{SaysOfCertificate, SchedulesFiles}
+use Rattle.acc_file_commands.specs.PrintFiles.{PrintsFile}
+use Rattle.acc_file_commands.specs.CheckFiles.{ChecksFiles, ending_by}
+use Rattle.acc_journal_commands.specs.InitFiles.{InitsJournal, InitsFile}
+use Rattle.acc_journal_commands.specs.RecoverFiles.{RecoversSeen, RecoversCertified, RecoversFiles}
 use Rattle.acc_commands.specs.Alike.{AreAlike}
 use Rattle.acc_inputs.specs.Words.{is_journalled}
 use Rattle.acc_commands.specs.Means.{MeansOfFiles, MeansOverDisk, MeansBy, Means}
@@ -35,7 +35,7 @@ use Rattle.acc_inputs.proofs.OneDesign.{said_same, one_design, one_refusal, form
 use Rattle.acc_commands.proofs.OneProving.{SaidAlike, one_prove}
 use Rattle.acc_commands.proofs.OneRun.{one_of_script, one_play, one_certificate_refusal, accepted_or_refused, one_certified}
 use Rattle.acc_commands.proofs.OneRun.{one_order_refusal, one_numbers, one_script_refusal, one_calls}
-use Rattle.acc_commands.specs.RunFiles.{RunsSeen, RunsOfOrder, RunsOfScript, RunsCertified, RunsFiles}
+use Rattle.acc_journal_commands.specs.RunFiles.{RunsSeen, RunsOfOrder, RunsOfScript, RunsCertified, RunsFiles}
 use Rattle.acc_running.specs.Running.{RunsJournal}
 use Rattle.acc_running.proofs.OneRun.{running_once}
 

@@ -8,7 +8,6 @@ use Rattle.acc_base.specs.Lines.{line}
 use Rattle.acc_check.proofs.Admitting.{accepted_reports}
 use Rattle.acc_check.proofs.OneReported.{reports_once}
 use Rattle.acc_check.specs.Admissions.{IsAcceptedWith}
-use Rattle.acc_check.specs.Reports.{Reports}
 use Rattle.acc_script.specs.CallLines.{SaysCall, IsScript, most_calls}
 use Rattle.acc_script.specs.OrderLines.{SaysPlaces, IsOrder, most_numbers}
 use Rattle.acc_script.proofs.LineSteps.{one_said_by, one_refused_line}
@@ -16,13 +15,12 @@ use Rattle.acc_script.proofs.CallSteps.{says_one as says_one_call}
 use Rattle.acc_script.proofs.OrderSteps.{says_one as says_one_line}
 use Rattle.acc_play.proofs.OneTold.{tells_once}
 use Rattle.acc_schedule.proofs.OneSchedule.{schedules_once}
-use Rattle.acc_journalled.specs.declared.answers.Ending.TheVariants.{DesignRefused, ScriptRefused}
-use Rattle.acc_journalled.specs.Tellings.{Telling}
-use Rattle.acc_inputs.specs.Text.{Said, said_in}
-use Rattle.acc_commands.specs.Disks.{Seen, WithoutDisk}
+use Rattle.acc_journalled.specs.declared.answers.Ending.TheVariants.{ScriptRefused}
+use Rattle.acc_inputs.specs.Text.{Said}
 use Rattle.acc_inputs.specs.Scripts.{RefusesOrder, SaysOfOrder, RefusesScript, SaysOfScript}
-use Rattle.acc_commands.specs.PlayFiles.{SaysPlay}
-use Rattle.acc_commands.specs.ScheduleFiles.{SaysSchedule, RefusesCertificate, SaysOfCertificate, ending_at}
+use Rattle.acc_file_commands.specs.PlayFiles.{SaysPlay}
+use Rattle.acc_file_commands.specs.ScheduleFiles.{SaysSchedule, SaysOfCertificate, ending_at}
+use Rattle.acc_inputs.specs.Refusals.{RefusesCertificate}
 use Rattle.acc_inputs.proofs.OneDesign.{said_same}
 
 -- ---- scripts and orders
@@ -96,13 +94,6 @@ accepted_or_refused d certificate a accepted refused =
     let text = line (codes "accepted") in
     let report = accepted_reports d certificate text accepted refl in
     false_true (reports_once d certificate false true a.text text refused.reports report).0
-
--- this line is said of a design that is refused with a certificate, and the disk is asked nothing
-pub certificate_refused : (d : Design) (certificate text : List ℕ) (disk : Seen) (t : Telling) → Reports d certificate false text
-    → said_in t ≡ record { ending = DesignRefused; text = text; history = [] } → t.settled ≡ 0
-    → WithoutDisk (RefusesCertificate d certificate) disk disk t
-certificate_refused d certificate text disk t reports said settled =
-    (settled, refl, subst (RefusesCertificate d certificate) (sym said) (record { reports = reports; ending = refl; history = refl }))
 
 pub one_certificate_refusal :
     (d : Design) (certificate : List ℕ) (a b : Said) → RefusesCertificate d certificate a → RefusesCertificate d certificate b → a ≡ b

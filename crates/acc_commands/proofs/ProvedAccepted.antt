@@ -10,9 +10,9 @@ use Rattle.acc_check.specs.Reports.{Reports}
 use Rattle.acc_prove.specs.Provings.{IsCertified}
 use Rattle.acc_journalled.specs.declared.answers.Ending.TheVariants.{Done, DesignRefused, Open}
 use Rattle.acc_inputs.specs.Text.{Said, Says}
-use Rattle.acc_commands.specs.CheckFiles.{ChecksFiles, ending_by}
-use Rattle.acc_commands.specs.ProveFiles.{EndsProving, ProvesFile}
-use Rattle.acc_commands.proofs.JournalEndings.{refusal_ends}
+use Rattle.acc_file_commands.specs.CheckFiles.{ChecksFiles, ending_by}
+use Rattle.acc_file_commands.specs.ProveFiles.{EndsProving, ProvesFile}
+use Rattle.acc_journal_commands.proofs.JournalEndings.{refusal_ends}
 use Rattle.acc_inputs.proofs.OneDesign.{one_design, formed_or_refused}
 
 accepted_with : (d : Design) (text : List ℕ) → IsCertified d text → IsAcceptedWith d text

@@ -23,17 +23,17 @@ use Rattle.acc_journalled.specs.Tellings.{Telling}
 use Rattle.acc_inputs.specs.declared.words.Command.{Command}
 use Rattle.acc_inputs.specs.declared.words.Command.TheVariants as command
 use Rattle.acc_inputs.specs.Text.{Said, said_in, IsEarly}
-use Rattle.acc_commands.specs.Disks.{Seen}
+use Rattle.acc_journal_commands.specs.Disks.{Seen}
 use Rattle.acc_inputs.specs.Refusals.{SaysError, RefusesDesign}
-use Rattle.acc_commands.specs.InitFiles.{InitsJournal, InitsFile}
+use Rattle.acc_journal_commands.specs.InitFiles.{InitsJournal, InitsFile}
 use Rattle.acc_running.specs.Running.{RunsJournal}
 use Rattle.acc_running.specs.Engines.{ending_at}
 use Rattle.acc_schedule.specs.Schedules.{TellsScheduleFrom}
 use Rattle.acc_mentions.specs.Openings.{opening_at}
-use Rattle.acc_commands.specs.RunFiles.{RunsSeen, RunsOfOrder, RunsOfScript, RunsCertified, RunsFiles}
-use Rattle.acc_commands.specs.RecoverFiles.{RecoversSeen, RecoversCertified, RecoversFiles}
+use Rattle.acc_journal_commands.specs.RunFiles.{RunsSeen, RunsOfOrder, RunsOfScript, RunsCertified, RunsFiles}
+use Rattle.acc_journal_commands.specs.RecoverFiles.{RecoversSeen, RecoversCertified, RecoversFiles}
 use Rattle.acc_commands.specs.Means.{MeansOverDisk}
-use Rattle.acc_commands.proofs.JournalEndings.{other_end, refusal_ends, making_ends, recovering_ends, unrecovered_ends, over_unbegun}
+use Rattle.acc_journal_commands.proofs.JournalEndings.{other_end, refusal_ends, making_ends, recovering_ends, unrecovered_ends, over_unbegun}
 
 -- ---- which journal is refused
 

@@ -14,17 +14,18 @@ use Rattle.acc_journalled.specs.declared.answers.Ending.TheVariants.{Done, Desig
 use Rattle.acc_journalled.specs.declared.answers.Ending.TheVariants.{Unbegun, Open}
 use Rattle.acc_journalled.specs.Tellings.{Telling}
 use Rattle.acc_inputs.specs.Text.{Said, said_in}
-use Rattle.acc_commands.specs.Disks.{Seen}
+use Rattle.acc_journal_commands.specs.Disks.{Seen}
 use Rattle.acc_inputs.specs.Refusals.{SaysError, RefusesDesign}
 use Rattle.acc_inputs.specs.Scripts.{SaysOfOrder, SaysOfScript}
-use Rattle.acc_commands.specs.PlayFiles.{SaysPlay, PlaysFiles}
-use Rattle.acc_commands.specs.ScheduleFiles.{SaysSchedule, SaysOfCertificate, SchedulesFiles, ending_at}
-use Rattle.acc_commands.specs.PrintFiles.{PrintsFile}
-use Rattle.acc_commands.specs.CheckFiles.{ChecksFiles, ending_by}
-use Rattle.acc_commands.specs.ProveFiles.{EndsProving, StaysOpen, ProvesFile}
+use Rattle.acc_file_commands.specs.PlayFiles.{SaysPlay, PlaysFiles}
+use Rattle.acc_file_commands.specs.ScheduleFiles.{SaysSchedule, SaysOfCertificate, SchedulesFiles, ending_at}
+use Rattle.acc_file_commands.specs.PrintFiles.{PrintsFile}
+use Rattle.acc_file_commands.specs.CheckFiles.{ChecksFiles, ending_by}
+use Rattle.acc_file_commands.specs.ProveFiles.{EndsProving, StaysOpen, ProvesFile}
 use Rattle.acc_inputs.specs.Words.{is_journalled}
 use Rattle.acc_commands.specs.Means.{MeansOfFiles, MeansBy, Means}
-use Rattle.acc_commands.proofs.JournalEndings.{failed_by, never_open, ends_over_disk}
+use Rattle.acc_journal_commands.proofs.JournalEndings.{failed_by, never_open}
+use Rattle.acc_commands.proofs.DiskEndings.{ends_over_disk}
 use Rattle.acc_commands.proofs.RefusedOvers.{RefusesOver, LeavesOver, refused_over, unbegun_over}
 
 -- ---- commands without a journal

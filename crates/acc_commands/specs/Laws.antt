@@ -5,9 +5,9 @@ use Rattle.acc_journalled.specs.declared.answers.Ending.TheVariants.{Done}
 use Rattle.acc_journalled.specs.Tellings.{Telling}
 use Rattle.acc_inputs.specs.declared.words.Command.{Command}
 use Rattle.acc_inputs.specs.Text.{Said, Says}
-use Rattle.acc_commands.specs.Disks.{Seen, TellsAll}
-use Rattle.acc_commands.specs.CheckFiles.{ChecksFiles}
-use Rattle.acc_commands.specs.ProveFiles.{ProvesFile}
+use Rattle.acc_journal_commands.specs.Disks.{Seen, TellsAll}
+use Rattle.acc_file_commands.specs.CheckFiles.{ChecksFiles}
+use Rattle.acc_file_commands.specs.ProveFiles.{ProvesFile}
 use Rattle.acc_inputs.specs.Words.{is_journalled}
 use Rattle.acc_commands.specs.Means.{Means}
 use Rattle.acc_commands.specs.Alike.{AreAlike}

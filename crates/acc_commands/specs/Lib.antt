@@ -1,12 +1,3 @@
-pub mod Disks
-pub mod PlayFiles
-pub mod ScheduleFiles
-pub mod PrintFiles
-pub mod InitFiles
-pub mod RecoverFiles
-pub mod RunFiles
-pub mod CheckFiles
-pub mod ProveFiles
 pub mod Means
 pub mod Alike
 pub mod Laws

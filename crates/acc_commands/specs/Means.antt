@@ -7,16 +7,16 @@ use Rattle.acc_journalled.specs.declared.answers.Ending.TheVariants.{Done}
 use Rattle.acc_journalled.specs.declared.answers.Wanted.TheVariants.{Counts, Rows}
 use Rattle.acc_journalled.specs.Tellings.{Telling}
 use Rattle.acc_inputs.specs.Text.{Said, Says}
-use Rattle.acc_commands.specs.Disks.{Seen, WithoutDisk}
+use Rattle.acc_journal_commands.specs.Disks.{Seen, WithoutDisk}
 use Rattle.acc_inputs.specs.Notes.{help_text, version_text}
-use Rattle.acc_commands.specs.PlayFiles.{PlaysFiles}
-use Rattle.acc_commands.specs.ScheduleFiles.{SchedulesFiles}
-use Rattle.acc_commands.specs.PrintFiles.{PrintsFile}
-use Rattle.acc_commands.specs.CheckFiles.{ChecksFiles}
-use Rattle.acc_commands.specs.ProveFiles.{ProvesFile}
-use Rattle.acc_commands.specs.InitFiles.{InitsFile, InitLeaves}
-use Rattle.acc_commands.specs.RecoverFiles.{RecoversFiles, RecoverLeaves}
-use Rattle.acc_commands.specs.RunFiles.{RunsFiles, RunLeaves}
+use Rattle.acc_file_commands.specs.PlayFiles.{PlaysFiles}
+use Rattle.acc_file_commands.specs.ScheduleFiles.{SchedulesFiles}
+use Rattle.acc_file_commands.specs.PrintFiles.{PrintsFile}
+use Rattle.acc_file_commands.specs.CheckFiles.{ChecksFiles}
+use Rattle.acc_file_commands.specs.ProveFiles.{ProvesFile}
+use Rattle.acc_journal_commands.specs.InitFiles.{InitsFile, InitLeaves}
+use Rattle.acc_journal_commands.specs.RecoverFiles.{RecoversFiles, RecoverLeaves}
+use Rattle.acc_journal_commands.specs.RunFiles.{RunsFiles, RunLeaves}
 
 -- what a command without a journal makes of its files
 unfoldable pub MeansOfFiles : Command → List (List ℕ) → Said → Type 0

@@ -1,235 +1,29 @@
 //! What each command makes of its files.
-ghost use Rattle.std.specs.Prelude.{◌≡◌, ◌≢◌, ◌⊎◌, ◌≤◌, ◌^◌, true, false, [], All, map, length, IfOk};
-ghost use Rattle.acc_base.specs.Runnable.{IsRunnable};
+ghost use Rattle.std.specs.Prelude.{◌≡◌, ◌≢◌, ◌≤◌, ◌^◌, true, false, All, map, length, IfOk};
 ghost use Rattle.acc_inputs.specs.Words.{file_count, is_journalled};
 ghost use Rattle.acc_commands.specs.Means.{MeansOfFiles, MeansOverDisk, Means, LeavesOfFile};
-ghost use Rattle.acc_commands.specs.Disks.{seen, Leaves, LeavesTold};
-ghost use Rattle.acc_commands.specs.RunFiles.{LeavesFronts, LeavesSettled};
+ghost use Rattle.acc_journal_commands.specs.Disks.{seen, Leaves, LeavesTold};
+ghost use Rattle.acc_journal_commands.specs.RunFiles.{LeavesFronts, LeavesSettled};
 ghost use Rattle.acc_inputs.specs.declared.words.Command.TheVariants.{Sched};
 ghost use Rattle.acc_disk.specs.Crashes.{IsCalm};
 ghost use Rattle.acc_inputs.specs.Text.{Says, IsEarly, said_in};
 ghost use Rattle.acc_journalled.specs.declared.answers.Ending.TheVariants.{Done, DiskFailed};
 ghost use Rattle.acc_inputs.specs.Responses.{said_of};
 ghost use Rattle.acc_journalled.specs.Tellings.{telling_of};
-ghost use Rattle.acc_play.specs.Stages.{AllFit};
-ghost use Rattle.acc_inputs.specs.Scripts.{SaysOfScript, SaysOfOrder};
-ghost use Rattle.acc_commands.specs.PlayFiles.{PlaysFiles, SaysPlay};
-ghost use Rattle.acc_commands.specs.ScheduleFiles.{SchedulesFiles, SaysOfCertificate, SaysSchedule, ending_at};
-ghost use Rattle.acc_commands.specs.PrintFiles.{PrintsFile};
-ghost use Rattle.acc_commands.specs.CheckFiles.{ChecksFiles, ending_by};
 
-use crate::journals::init_file;
-use crate::provings::prove_file;
-use crate::recoveries::recover_files;
-use crate::runs::run_files;
-use acc_base::designs::Design;
-use acc_base::machines::Call;
 use acc_base::sequences::Seq;
-use acc_check::{Admission, Report, admit, check};
 use acc_disk::Disk;
-use acc_inputs::{
-    Command, ReadDesign, ReadOrder, ReadScript, Response, help_text, is_journalled, read_design,
-    read_order, read_script, refused, unsettled, version_text,
-};
+use acc_file_commands::designs::{check_files, print_file};
+use acc_file_commands::plays::play_files;
+use acc_file_commands::provings::prove_file;
+use acc_file_commands::schedules::schedule_files;
+use acc_inputs::{Command, Response, help_text, is_journalled, unsettled, version_text};
+use acc_journal_commands::journals::init_file;
+use acc_journal_commands::recoveries::recover_files;
+use acc_journal_commands::runs::run_files;
 use acc_journalled::{Answer, Closed, Ending, Wanted};
-use acc_lift::Accepted;
-use acc_play::{Transcript, play};
-use acc_print::{PrintError, print};
 use acc_progress::Progress;
-use acc_schedule::{Scheduled, schedule};
 use std::alloc::{AllocError, Global};
-
-/// The answer of a play.
-fn played(transcript: Transcript) -> Response
-    ensures { said_of result ≡ record { ending = Done; text = transcript.text.items; history = transcript.history } }
-{
-    let Transcript { text, history } = transcript;
-    Response {
-        ending: Ending::Done,
-        text,
-        history,
-    }
-}
-
-/// Plays the calls in the order that the file gives.
-fn play_order(
-    alloc: Global,
-    d: &Design,
-    asked: &[Call],
-    file: &[u8],
-) -> Result<Response, AllocError>
-    requires runnable { IsRunnable d.now }
-    requires fit { AllFit d.now asked.now }
-    ensures { IfOk result (λ a. SaysOfOrder (SaysPlay d.now) asked.now file.now (said_of a)) }
-{
-    match read_order(alloc, asked, file)? {
-        ReadOrder::Read(places) => Ok(played(play(alloc, d, asked, places.as_slice())?)),
-        ReadOrder::Refused(response) => Ok(response),
-    }
-}
-
-/// Plays the calls of a script.
-fn play_script(
-    alloc: Global,
-    d: &Design,
-    script: &[u8],
-    file: &[u8],
-) -> Result<Response, AllocError>
-    requires runnable { IsRunnable d.now }
-    ensures { IfOk result (λ a. SaysOfScript (SaysPlay d.now) d.now script.now file.now (said_of a)) }
-{
-    match read_script(alloc, d, script)? {
-        ReadScript::Read(asked) => play_order(alloc, d, asked.as_slice(), file),
-        ReadScript::Refused(response) => Ok(response),
-    }
-}
-
-/// Plays a script's calls in the order that is given, on the plain machine of a design.
-#[tactic(auto, using(acc_form::proofs::Runs::well_formed_runs))]
-fn play_files(
-    alloc: Global,
-    design: &[u8],
-    script: &[u8],
-    file: &[u8],
-) -> Result<Response, AllocError>
-    ensures { IfOk result (λ a. PlaysFiles design.now script.now file.now (said_of a)) }
-{
-    match read_design(alloc, design)? {
-        ReadDesign::Read(d) => play_script(alloc, &d, script, file),
-        ReadDesign::Refused(outcome) => Ok(outcome),
-    }
-}
-
-/// The answer of a schedule.
-fn scheduled_answer(told: Scheduled) -> Response
-    ensures { said_of result ≡ record { ending = ending_at told.all_begun; text = told.text.items; history = told.history } }
-{
-    let Scheduled {
-        text,
-        history,
-        all_begun,
-    } = told;
-    let ending = if all_begun {
-        Ending::Done
-    } else {
-        Ending::Unbegun
-    };
-    Response {
-        ending,
-        text,
-        history,
-    }
-}
-
-/// Schedules the calls in the order that the file gives.
-fn schedule_order(
-    alloc: Global,
-    accepted: &Accepted,
-    asked: &[Call],
-    file: &[u8],
-) -> Result<Response, AllocError>
-    requires fit { AllFit accepted.now asked.now }
-    ensures { IfOk result (λ a. SaysOfOrder (SaysSchedule accepted.now) asked.now file.now (said_of a)) }
-{
-    match read_order(alloc, asked, file)? {
-        ReadOrder::Read(places) => {
-            let told = schedule(alloc, accepted, asked, places.as_slice())?;
-            Ok(scheduled_answer(told))
-        }
-        ReadOrder::Refused(response) => Ok(response),
-    }
-}
-
-/// Schedules the calls of a script.
-fn schedule_script(
-    alloc: Global,
-    accepted: &Accepted,
-    script: &[u8],
-    file: &[u8],
-) -> Result<Response, AllocError>
-    ensures { IfOk result (λ a. SaysOfScript (SaysSchedule accepted.now) accepted.now script.now file.now (said_of a)) }
-{
-    match read_script(alloc, accepted.design(), script)? {
-        ReadScript::Read(asked) => schedule_order(alloc, accepted, asked.as_slice(), file),
-        ReadScript::Refused(response) => Ok(response),
-    }
-}
-
-/// Schedules the calls of a script on a design, if it is accepted with its certificate.
-fn schedule_design(
-    alloc: Global,
-    d: Design,
-    certificate: &[u8],
-    script: &[u8],
-    file: &[u8],
-) -> Result<Response, AllocError>
-    ensures { IfOk result (λ a. SaysOfCertificate d certificate.now script.now file.now (said_of a)) }
-{
-    match admit(alloc, d, certificate)? {
-        Admission::Accepted(accepted) => schedule_script(alloc, &accepted, script, file),
-        Admission::Refused(text) => Ok(refused(alloc, text)),
-    }
-}
-
-/// Plays a script's calls in the order that is given and then to their end, by the rules of locks, on a design that is accepted with
-/// its certificate.
-fn schedule_files(
-    alloc: Global,
-    design: &[u8],
-    certificate: &[u8],
-    script: &[u8],
-    file: &[u8],
-) -> Result<Response, AllocError>
-    ensures { IfOk result (λ a. SchedulesFiles design.now certificate.now script.now file.now (said_of a)) }
-{
-    match read_design(alloc, design)? {
-        ReadDesign::Read(d) => schedule_design(alloc, d, certificate, script, file),
-        ReadDesign::Refused(response) => Ok(response),
-    }
-}
-
-/// Prints a design in its one spelling.
-fn print_file(alloc: Global, design: &[u8]) -> Result<Response, AllocError>
-    ensures { IfOk result (λ a. PrintsFile design.now (said_of a)) }
-{
-    match read_design(alloc, design)? {
-        ReadDesign::Read(d) => match print(alloc, &d) {
-            Ok(text) => Ok(Response {
-                ending: Ending::Done,
-                text,
-                history: Seq::new(alloc),
-            }),
-            Err(PrintError::Memory) => Err(AllocError),
-        },
-        ReadDesign::Refused(outcome) => Ok(outcome),
-    }
-}
-
-/// The answer of a report.
-fn reported(alloc: Global, report: Report) -> Response
-    ensures { said_of result ≡ record { ending = ending_by report.accepted; text = report.text.items; history = [] } }
-{
-    let ending = if report.accepted {
-        Ending::Done
-    } else {
-        Ending::DesignRefused
-    };
-    Response {
-        ending,
-        text: report.text,
-        history: Seq::new(alloc),
-    }
-}
-
-/// Tells whether a design is accepted with a certificate.
-fn check_files(alloc: Global, design: &[u8], certificate: &[u8]) -> Result<Response, AllocError>
-    ensures { IfOk result (λ a. ChecksFiles design.now certificate.now (said_of a)) }
-{
-    match read_design(alloc, design)? {
-        ReadDesign::Read(d) => Ok(reported(alloc, check(alloc, d, certificate)?)),
-        ReadDesign::Refused(outcome) => Ok(outcome),
-    }
-}
 
 /// An answer of a text alone.
 fn note(alloc: Global, text: Vec<u8>) -> Response

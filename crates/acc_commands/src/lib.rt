@@ -2,11 +2,7 @@
 #![tactic(auto)]
 
 mod commands;
-mod journals;
 pub mod laws;
-mod provings;
-mod recoveries;
-mod runs;
 
 pub use acc_journalled::{Answer, Closed, Ending};
 pub use commands::run;

@@ -14,11 +14,11 @@ use acc_base::designs::Design;
 use acc_base::forms::{Form, Rel};
 use acc_base::sequences::{Seq, copied};
 use acc_base::sequents::Sequent;
-use acc_branch::copies::{copied_numbers, copied_rels, copied_schemas};
 use acc_branch::halts::Halt;
 use acc_branch::known::{Branch, above, below, verdict};
+use acc_candidates::copies::{copied_numbers, copied_rels, copied_schemas};
+use acc_decisions::verdicts::Verdict;
 use acc_elim::solver::Solver;
-use acc_elim::verdicts::Verdict;
 use acc_inst::making::Instance;
 use std::alloc::{AllocError, Global};
 

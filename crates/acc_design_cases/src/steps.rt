@@ -13,7 +13,7 @@ use acc_base::steps::Step;
 use acc_step::{Outlook, StepError, effect, look};
 use acc_store::MapStore;
 use std::alloc::{AllocError, Global};
-use std::io;
+use std::fmt::Write;
 
 /// A list of one item.
 fn one<T: Drop>(alloc: Global, item: T) -> Result<Seq<T>, AllocError>
@@ -115,24 +115,32 @@ fn looks_out(alloc: Global, design: &Design, side: Side) -> bool
     look(design, &frame(alloc), side, &no_rows(alloc), &mut after) == Outlook::Range
 }
 
-/// Tells how the step of a side does and looks.
-fn tell_side(rt: &HostRuntime, name: &str, design: &Design, side: Side) -> io::Result<()>
+/// Adds how the step of a side does and looks.
+fn add_side(
+    alloc: Global,
+    out: &mut String,
+    name: &str,
+    design: &Design,
+    side: Side,
+) -> Result<(), AllocError>
     requires { IsRunnable design.now }
 {
-    let is_out = is_out(rt.alloc(), design, side);
-    let looks_out = looks_out(rt.alloc(), design, side);
-    println!(rt; "{name}: out of range {is_out}, looks so {looks_out}")
+    let is_out = is_out(alloc, design, side);
+    let looks_out = looks_out(alloc, design, side);
+    writeln!(out, "{name}: out of range {is_out}, looks so {looks_out}")
 }
 
-fn tell_sides(rt: &HostRuntime, design: &Design) -> io::Result<()>
+fn add_sides(alloc: Global, out: &mut String, design: &Design) -> Result<(), AllocError>
     requires { IsRunnable design.now }
 {
-    tell_side(rt, "next", design, Side::Next)?;
-    tell_side(rt, "undo", design, Side::Undo)
+    add_side(alloc, out, "next", design, Side::Next)?;
+    add_side(alloc, out, "undo", design, Side::Undo)
 }
 
 /// `no path`: how a step without a path does and looks, on both sides.
-pub fn tell(rt: &HostRuntime) -> io::Result<()> {
-    let design = design(rt.alloc())?;
-    tell_sides(rt, &design)
+pub fn told(alloc: Global) -> Result<String, AllocError> {
+    let design = design(alloc)?;
+    let mut out = String::new(alloc);
+    add_sides(alloc, &mut out, &design)?;
+    Ok(out)
 }

@@ -20,7 +20,7 @@ use acc_syntax::trees::{ClauseTree, DesignTree, Names, PointTree, Sum, TypeTree}
 use std::alloc::Global;
 
 /// Why there is no tree of some words.
-#[derive(Debug, Drop)]
+#[derive(Drop)]
 pub enum SyntaxError {
     /// There was no memory for the tree.
     Memory,
@@ -110,8 +110,7 @@ fn limit(parser: &mut Parser<'_>) -> Result<u64, Fault>
 {
     parser.sign(Sign::Limit)?;
     let limit = parser.number()?;
-    parser.sign(Sign::End)?;
-    Ok(limit)
+    parser.ended(limit)
 }
 
 #[tactic(auto, unfolding(crate::specs::DesignReaders::type_head_at))]

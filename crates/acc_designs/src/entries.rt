@@ -33,8 +33,7 @@ fn point_name(parser: &mut Parser<'_>) -> Result<PointName, Fault>
 fn side_name(parser: &mut Parser<'_>) -> Result<SideTree, Fault>
     ensures { Gives result parser.new.words.now (side_name_at parser.old.words.now) }
 {
-    if parser.comes(Sign::Next) {
-        parser.sign(Sign::Next)?;
+    if parser.takes(Sign::Next) {
         Ok(SideTree::Next)
     } else {
         parser.sign(Sign::Undo)?;
@@ -52,20 +51,12 @@ fn pair(parser: &mut Parser<'_>) -> Result<PairTree, Fault>
     Ok(PairTree { held, step })
 }
 
-#[tactic(auto, unfolding(acc_syntax::specs::WordReaders::further_at))]
-fn further_pair(parser: &mut Parser<'_>) -> Result<PairTree, Fault>
-    ensures { Gives result parser.new.words.now (further_at pair_at parser.old.words.now) }
-{
-    parser.sign(Sign::Comma)?;
-    pair(parser)
-}
-
 fn further_pairs(parser: &mut Parser<'_>) -> Result<Seq<PairTree>, Fault>
     ensures { Gives result parser.new.words.now (many (comes Sign.Comma) (further_at pair_at) parser.old.words.now) }
 {
     let mut pairs = Seq::new(parser.alloc);
-    while parser.comes(Sign::Comma) {
-        let pair = further_pair(parser)?;
+    while parser.takes(Sign::Comma) {
+        let pair = pair(parser)?;
         pairs.push(pair)?;
     }
     Ok(pairs)
@@ -75,8 +66,7 @@ fn further_pairs(parser: &mut Parser<'_>) -> Result<Seq<PairTree>, Fault>
 fn pairs(parser: &mut Parser<'_>) -> Result<Option<Pairs>, Fault>
     ensures { Gives result parser.new.words.now (pairs_at parser.old.words.now) }
 {
-    if parser.comes(Sign::Colon) {
-        parser.sign(Sign::Colon)?;
+    if parser.takes(Sign::Colon) {
         let first = pair(parser)?;
         let others = further_pairs(parser)?;
         Ok(Some(Pairs { first, others }))
@@ -103,8 +93,7 @@ fn entry(parser: &mut Parser<'_>) -> Result<EntryTree, Fault>
     let head = entry_head(parser)?;
     let side = side_name(parser)?;
     let pairs = pairs(parser)?;
-    parser.sign(Sign::End)?;
-    Ok(EntryTree {
+    parser.ended(EntryTree {
         held: head.held,
         by: head.by,
         side,
@@ -131,8 +120,7 @@ fn hint(parser: &mut Parser<'_>) -> Result<HintTree, Fault>
     let of = point_name(parser)?;
     let side = side_name(parser)?;
     let value = parser.sum()?;
-    parser.sign(Sign::End)?;
-    Ok(HintTree { of, side, value })
+    parser.ended(HintTree { of, side, value })
 }
 
 pub(crate) fn hints(parser: &mut Parser<'_>) -> Result<Seq<HintTree>, Fault>

@@ -1,5 +1,5 @@
 //! What is told of a command line that ended with another status than 0.
-ghost use Rattle.acc_form.specs.WellFormed.{IsWellFormed};
+ghost use Rattle.acc_formed.specs.WellFormed.{IsWellFormed};
 
 use crate::journals::{push_disk, push_journal};
 use crate::obligations::{File, push_fault};
@@ -7,11 +7,11 @@ use crate::openings::push_unproved;
 use acc_base::designs::Design;
 use acc_base::sequences::Seq;
 use acc_explain::{
-    absent_text, failed_text, line_at, long_text, memory_text, push_note, push_report, push_text,
-    sink_text,
+    absent_text, failed_text, line_at, long_text, memory_text, push_note, push_report, sink_text,
 };
 use acc_faults::{Diagnosed, Judged, diagnose, judge};
 use acc_io::{Shelf, ShelfError};
+use acc_page::Page;
 use acc_script::{ScriptError, calls, order};
 use acc_spot::{order_spot, script_spot};
 use std::alloc::{AllocError, Global};
@@ -29,7 +29,7 @@ fn file_text(error: ShelfError) -> &'static [u8] {
 /// Reads the files of these names; says of the first that isn't given why, and answers none then.
 fn read_all<H: Shelf>(
     alloc: Global,
-    out: &mut Vec<u8>,
+    out: &mut Page,
     names: &[String],
     shelf: &mut H,
 ) -> Result<Option<Vec<Vec<u8>>>, AllocError> {
@@ -38,7 +38,7 @@ fn read_all<H: Shelf>(
         match shelf.read(alloc, name.as_str()) {
             Ok(file) => files.push(file)?,
             Err(error) => {
-                push_note(out, name.as_bytes(), file_text(error), b"")?;
+                push_note(out, name.as_bytes(), file_text(error), b"");
                 return Ok(None);
             }
         }
@@ -47,20 +47,20 @@ fn read_all<H: Shelf>(
 }
 
 /// Says what is wrong with an order, if it is refused.
-fn push_order(alloc: Global, out: &mut Vec<u8>, places: u64, file: File) -> Result<(), AllocError> {
+fn push_order(alloc: Global, out: &mut Page, places: u64, file: File) {
     match order(alloc, places, file.text) {
         Err(ScriptError::Line(line)) => {
-            let spot = order_spot(alloc, places, line_at(file.text, line))?;
-            push_report(out, file.name, file.text, line, &spot)
+            let spot = order_spot(alloc, places, line_at(file.text, line));
+            push_report(out, file.name, file.text, line, &spot);
         }
-        _ => Ok(()),
+        Ok(_) | Err(ScriptError::Memory) => {}
     }
 }
 
 /// Says what is wrong with a script, or else with its order.
 fn push_script(
     alloc: Global,
-    out: &mut Vec<u8>,
+    out: &mut Page,
     design: &Design,
     script: File,
     order: File,
@@ -68,17 +68,18 @@ fn push_script(
     match calls(alloc, design, script.text) {
         Ok(asked) => push_order(alloc, out, asked.len() as u64, order),
         Err(ScriptError::Line(line)) => {
-            let spot = script_spot(alloc, design, line_at(script.text, line))?;
-            push_report(out, script.name, script.text, line, &spot)
+            let spot = script_spot(alloc, design, line_at(script.text, line));
+            push_report(out, script.name, script.text, line, &spot);
         }
-        Err(ScriptError::Memory) => Err(AllocError),
+        Err(ScriptError::Memory) => return Err(AllocError),
     }
+    Ok(())
 }
 
 /// Says why a design isn't accepted with its certificate, or else what is wrong with the files behind that, if there are some.
 fn push_judged(
     alloc: Global,
-    out: &mut Vec<u8>,
+    out: &mut Page,
     d: Design,
     design: File,
     certificate: File,
@@ -99,7 +100,7 @@ fn push_judged(
 /// it was printed.
 fn push_behind(
     alloc: Global,
-    out: &mut Vec<u8>,
+    out: &mut Page,
     d: Design,
     design: File,
     behind: &[File],
@@ -118,7 +119,7 @@ fn push_behind(
 /// then a script and an order, where it takes these.
 fn push_files(
     alloc: Global,
-    out: &mut Vec<u8>,
+    out: &mut Page,
     files: &[File],
     printed: &[u8],
 ) -> Result<(), AllocError> {
@@ -127,7 +128,10 @@ fn push_files(
     };
     match diagnose(alloc, design.text)? {
         Diagnosed::Read(d) => push_behind(alloc, out, d, *design, behind, printed),
-        Diagnosed::Refused(d) => push_report(out, design.name, design.text, d.line, &d.spot),
+        Diagnosed::Refused(d) => {
+            push_report(out, design.name, design.text, d.line, &d.spot);
+            Ok(())
+        }
     }
 }
 
@@ -150,7 +154,7 @@ fn named<'a>(
 /// Says what is wrong with the files that these names stand for.
 fn push_names<H: Shelf>(
     alloc: Global,
-    out: &mut Vec<u8>,
+    out: &mut Page,
     names: &[String],
     shelf: &mut H,
     printed: &[u8],
@@ -165,15 +169,15 @@ fn push_names<H: Shelf>(
 }
 
 /// Says what a command line is, where its words are none.
-fn push_usage(out: &mut Vec<u8>, usage: &[u8]) -> Result<(), AllocError> {
-    push_text(out, b"acc: these words are no command. The commands are\n")?;
-    push_text(out, usage)
+fn push_usage(out: &mut Page, usage: &[u8]) {
+    out.push(b"acc: these words are no command. The commands are\n");
+    out.push(usage);
 }
 
 /// Says why a command line ended with this status.
 fn push_status<H: Shelf>(
     alloc: Global,
-    out: &mut Vec<u8>,
+    out: &mut Page,
     status: u8,
     words: &[String],
     shelf: &mut H,
@@ -181,15 +185,16 @@ fn push_status<H: Shelf>(
     usage: &[u8],
 ) -> Result<(), AllocError> {
     match (status, words) {
-        (0, _) => Ok(()),
+        (0, _) => {}
         (1, _) => push_usage(out, usage),
-        (4, _) => push_journal(alloc, out, printed),
+        (4, _) => return push_journal(alloc, out, printed),
         (5, [verb, ..]) => push_disk(out, verb.as_str()),
         (7, _) => push_note(out, b"acc", sink_text(), b""),
         (9, _) => push_note(out, b"acc", memory_text(), b""),
-        (_, [_, names @ ..]) => push_names(alloc, out, names, shelf, printed),
-        _ => Ok(()),
+        (_, [_, names @ ..]) => return push_names(alloc, out, names, shelf, printed),
+        _ => {}
     }
+    Ok(())
 }
 
 /// What is told of a command line that ended with this status: nothing after 0, and the front of it where memory runs out. The
@@ -203,8 +208,8 @@ pub fn explain<H: Shelf>(
     printed: &[u8],
     usage: &[u8],
 ) -> Vec<u8> {
-    let mut out = Vec::new(alloc);
+    let mut out = Page::new(alloc);
     match push_status(alloc, &mut out, status, words, shelf, printed, usage) {
-        Ok(()) | Err(_) => out,
+        Ok(()) | Err(_) => out.into_bytes(),
     }
 }

@@ -1,5 +1,6 @@
 //! What is told of a journal that is refused, and of a disk that failed.
-use acc_explain::{push_note, push_text};
+use acc_explain::{begin_note, end_note, push_note};
+use acc_page::Page;
 use std::alloc::{AllocError, Global};
 
 /// What is wrong with a journal, and what helps.
@@ -17,7 +18,7 @@ fn said_of(why: &str) -> Said {
         },
         "none" => Said {
             what: b"this file is no journal, and nothing of it was changed",
-            hint: b"`acc init` makes a journal; a name of which there was no file has an empty one now",
+            hint: b"`acc init` makes a journal",
         },
         "version" => Said {
             what: b"acc reads journals of version 1; nothing of this one was changed, and its version is ",
@@ -43,29 +44,23 @@ fn said_of(why: &str) -> Said {
 }
 
 /// Says why a journal is refused: the word and the number that are printed for it.
-fn push_refusal(
-    alloc: Global,
-    out: &mut Vec<u8>,
-    why: &str,
-    number: &str,
-) -> Result<(), AllocError> {
+fn push_refusal(out: &mut Page, why: &str, number: &str) {
     let Said { what, hint } = said_of(why);
-    let mut whole = what.to_vec(alloc)?;
-    push_text(&mut whole, number.as_bytes())?;
-    push_note(out, b"the journal", &whole, hint)
+    begin_note(out, b"the journal");
+    out.push(what);
+    out.push(number.as_bytes());
+    end_note(out, hint);
 }
 
 /// Says why a journal is refused, by the line that is printed.
-pub fn push_journal(alloc: Global, out: &mut Vec<u8>, printed: &[u8]) -> Result<(), AllocError> {
+pub fn push_journal(alloc: Global, out: &mut Page, printed: &[u8]) -> Result<(), AllocError> {
     let text = String::from_utf8_lossy(alloc, printed)?;
     let line = text.trim_end();
-    match line.strip_prefix("refused journal ") {
-        Some(reason) => {
-            let (why, number) = reason.split_once(" ").unwrap_or((reason, ""));
-            push_refusal(alloc, out, why, number)
-        }
-        None => Ok(()),
+    if let Some(reason) = line.strip_prefix("refused journal ") {
+        let (why, number) = reason.split_once(" ").unwrap_or((reason, ""));
+        push_refusal(out, why, number);
     }
+    Ok(())
 }
 
 /// What stands on a disk that failed under a command of this verb.
@@ -79,7 +74,7 @@ fn standing(verb: &str) -> &'static [u8] {
 }
 
 /// Says that a call of the disk failed under a command of this verb.
-pub fn push_disk(out: &mut Vec<u8>, verb: &str) -> Result<(), AllocError> {
+pub fn push_disk(out: &mut Page, verb: &str) {
     push_note(
         out,
         b"the journal",

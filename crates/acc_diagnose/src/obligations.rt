@@ -1,5 +1,5 @@
 //! What is told of a certificate that is refused with its design.
-ghost use Rattle.acc_form.specs.WellFormed.{IsWellFormed};
+ghost use Rattle.acc_formed.specs.WellFormed.{IsWellFormed};
 
 use acc_accept::{Refusal, obligations};
 use acc_base::designs::Design;
@@ -7,9 +7,10 @@ use acc_base::sequents::Origin;
 use acc_cert_spot::{
     Marked, asserted_mark, obligation_hint, off_mark, path_mark, proof_mark, proofs_in,
 };
-use acc_explain::{push_note, push_number, push_report, push_text};
+use acc_explain::{begin_note, end_note, push_note, push_report};
 use acc_faults::{CertFault, tokens_of};
-use acc_obligations::ObligError;
+use acc_goals::ObligError;
+use acc_page::Page;
 use std::alloc::{AllocError, Global};
 
 /// A file that a command line names.
@@ -27,8 +28,8 @@ struct Place {
 }
 
 /// Says what a mark says of a file.
-fn push_mark(out: &mut Vec<u8>, file: File, mark: &Marked) -> Result<(), AllocError> {
-    push_report(out, file.name, file.text, mark.line, &mark.spot)
+fn push_mark(out: &mut Page, file: File, mark: &Marked) {
+    push_report(out, file.name, file.text, mark.line, &mark.spot);
 }
 
 /// The place of the obligation that comes from here.
@@ -51,114 +52,94 @@ fn place_of(alloc: Global, d: &Design, origin: &Origin) -> Result<Option<Place>,
 }
 
 /// Puts a number, and of how many it is one.
-fn push_place(out: &mut Vec<u8>, place: Place) -> Result<(), AllocError> {
-    push_text(out, b"number ")?;
-    push_number(out, place.number)?;
-    push_text(out, b" of ")?;
-    push_number(out, place.count)
+fn push_place(out: &mut Page, place: Place) {
+    out.push(b"number ");
+    out.push_number(place.number);
+    out.push(b" of ");
+    out.push_number(place.count);
 }
 
 /// Says which assertion isn't shown, and by which path.
 pub fn push_assertion(
     alloc: Global,
-    out: &mut Vec<u8>,
+    out: &mut Page,
     d: &Design,
     design: File,
     origin: &Origin,
 ) -> Result<(), AllocError> {
     let tokens = tokens_of(alloc, design.text)?;
-    if let Some(mark) = asserted_mark(alloc, design.text, tokens.as_slice(), d, origin)? {
-        push_mark(out, design, &mark)?;
+    if let Some(mark) = asserted_mark(alloc, design.text, tokens.as_slice(), d, origin) {
+        push_mark(out, design, &mark);
     }
-    if let Some(mark) = path_mark(alloc, design.text, tokens.as_slice(), origin)? {
-        push_mark(out, design, &mark)?;
+    if let Some(mark) = path_mark(alloc, design.text, tokens.as_slice(), origin) {
+        push_mark(out, design, &mark);
     }
     Ok(())
 }
 
 /// Says that the certificate has no proof of an obligation.
-fn push_missing(
-    alloc: Global,
-    out: &mut Vec<u8>,
-    certificate: File,
-    place: Place,
-) -> Result<(), AllocError> {
-    let mut what = Vec::new(alloc);
-    push_text(&mut what, b"the certificate has ")?;
-    push_number(&mut what, proofs_in(certificate.text))?;
-    push_text(&mut what, b" proofs, and none for this obligation, ")?;
-    push_place(&mut what, place)?;
-    push_note(
+fn push_missing(out: &mut Page, certificate: File, place: Place) {
+    begin_note(out, certificate.name);
+    out.push(b"the certificate has ");
+    out.push_number(proofs_in(certificate.text));
+    out.push(b" proofs, and none for this obligation, ");
+    push_place(out, place);
+    end_note(
         out,
-        certificate.name,
-        &what,
         b"a certificate has a proof for each obligation of its design, in their order; this one may be of another design",
-    )
+    );
 }
 
 /// Says what is wrong with the proof of an obligation.
 fn push_proof(
     alloc: Global,
-    out: &mut Vec<u8>,
+    out: &mut Page,
     certificate: File,
     place: Place,
     what: &[u8],
     rule: u32,
-) -> Result<(), AllocError> {
+) {
     let mut mark = proof_mark(alloc, certificate.text, place.number.saturating_sub(1));
-    push_text(&mut mark.spot.what, b"the proof here, ")?;
-    push_place(&mut mark.spot.what, place)?;
-    push_text(&mut mark.spot.what, what)?;
-    push_text(
-        &mut mark.spot.hint,
+    mark.spot.what.push(b"the proof here, ");
+    push_place(&mut mark.spot.what, place);
+    mark.spot.what.push(what);
+    mark.spot.hint.push(
         b"the certificate may be of another design; or the design breaks the assertion, and then: ",
-    )?;
-    push_text(&mut mark.spot.hint, obligation_hint(rule))?;
-    push_mark(out, certificate, &mark)
+    );
+    mark.spot.hint.push(obligation_hint(rule));
+    push_mark(out, certificate, &mark);
 }
 
 /// Says that a number of an obligation is too large.
-pub fn push_wide(out: &mut Vec<u8>, design: File) -> Result<(), AllocError> {
+pub fn push_wide(out: &mut Page, design: File) {
     push_note(
         out,
         design.name,
         b"a number of this obligation is more than 2^120 away from 0, so that no proof is looked at",
         b"multiply by smaller numbers, or take further locals in place of a long chain of `let`",
-    )
+    );
 }
 
 /// Says what the certificate has for an obligation that isn't shown.
-fn push_lack(
-    alloc: Global,
-    out: &mut Vec<u8>,
-    certificate: File,
-    refusal: &Refusal,
-    place: Place,
-) -> Result<(), AllocError> {
+fn push_lack(alloc: Global, out: &mut Page, certificate: File, refusal: &Refusal, place: Place) {
     match refusal {
-        Refusal::Missing(_) => push_missing(alloc, out, certificate, place),
+        Refusal::Missing(_) => push_missing(out, certificate, place),
         Refusal::NotProved(origin) => {
-            push_proof(
-                alloc,
-                out,
-                certificate,
-                place,
-                b", doesn't prove that",
-                origin.rule,
-            )
+            let what = b", doesn't prove that";
+            push_proof(alloc, out, certificate, place, what, origin.rule);
         }
         Refusal::ProofWide(origin) => {
             let what = b", has a number more than 2^120 away from 0 in its check";
-            push_proof(alloc, out, certificate, place, what, origin.rule)
+            push_proof(alloc, out, certificate, place, what, origin.rule);
         }
-        Refusal::ObligWide(_) | Refusal::Form(_, _) | Refusal::Memory => Ok(()),
+        Refusal::ObligWide(_) | Refusal::Form(_, _) | Refusal::Memory => {}
     }
 }
 
 /// Says why a certificate doesn't do for its design.
 fn push_lacking(
     alloc: Global,
-    out: &mut Vec<u8>,
+    out: &mut Page,
     d: &Design,
     design: File,
     certificate: File,
@@ -171,21 +152,22 @@ fn push_lacking(
             origin,
         Refusal::ObligWide(origin) => {
             push_assertion(alloc, out, d, design, origin)?;
-            return push_wide(out, design);
+            push_wide(out, design);
+            return Ok(());
         }
         Refusal::Form(_, _) | Refusal::Memory => return Ok(()),
     };
     push_assertion(alloc, out, d, design, origin)?;
-    match place_of(alloc, d, origin)? {
-        Some(place) => push_lack(alloc, out, certificate, refusal, place),
-        None => Ok(()),
+    if let Some(place) = place_of(alloc, d, origin)? {
+        push_lack(alloc, out, certificate, refusal, place);
     }
+    Ok(())
 }
 
 /// Says why a design isn't accepted with the bytes of a certificate.
 pub fn push_fault(
     alloc: Global,
-    out: &mut Vec<u8>,
+    out: &mut Page,
     d: &Design,
     design: File,
     certificate: File,
@@ -195,8 +177,9 @@ pub fn push_fault(
 {
     match fault {
         CertFault::Bytes(path) => {
-            let mark = off_mark(alloc, certificate.text, path.as_slice())?;
-            push_mark(out, certificate, &mark)
+            let mark = off_mark(alloc, certificate.text, path.as_slice());
+            push_mark(out, certificate, &mark);
+            Ok(())
         }
         CertFault::Lacks(refusal) => push_lacking(alloc, out, d, design, certificate, refusal),
     }

@@ -1,26 +1,26 @@
 //! What is told of a design whose obligations aren't all proved.
-ghost use Rattle.acc_form.specs.WellFormed.{IsWellFormed};
+ghost use Rattle.acc_formed.specs.WellFormed.{IsWellFormed};
 
 use crate::obligations::{File, push_assertion, push_wide};
 use acc_accept::obligations;
 use acc_base::designs::Design;
-use acc_base::forms::Rel;
 use acc_base::sequents::{Origin, Sequent};
 use acc_cert_spot::obligation_hint;
-use acc_check::origins::push_origin;
-use acc_explain::{push_note, push_text};
-use acc_obligations::ObligError;
+use acc_explain::{begin_note, end_note};
+use acc_goals::ObligError;
 use acc_openings::push_values;
+use acc_origins::origins::push_origin;
+use acc_page::Page;
 use acc_prove::searched;
 use acc_prover::found::{Found, SearchError};
 use std::alloc::{AllocError, Global};
 
 /// `open O`, the words with which the line of an open obligation begins.
 fn head_of(alloc: Global, d: &Design, origin: &Origin) -> Result<Vec<u8>, AllocError> {
-    let mut head = Vec::new(alloc);
-    push_text(&mut head, b"open ")?;
-    push_origin(&mut head, d, origin)?;
-    Ok(head)
+    let mut head = Page::new(alloc);
+    head.push(b"open ");
+    push_origin(&mut head, d, origin);
+    head.finish().ok_or(AllocError)
 }
 
 /// Whether a text begins with these words, and goes on with a space.
@@ -39,83 +39,60 @@ fn behind_line(text: &[u8]) -> &[u8] {
     }
 }
 
-/// Says at which values an assertion fails.
-fn push_point(
-    alloc: Global,
-    out: &mut Vec<u8>,
-    d: &Design,
-    origin: &Origin,
-    leaf: &[Rel],
-    point: &[(i128, i128)],
-) -> Result<(), AllocError> {
-    let mut values = Vec::new(alloc);
-    push_values(alloc, &mut values, d, origin, leaf, point)?;
-    push_text(out, b"nothing that is known rules out that it fails")?;
-    if !values.is_empty() {
-        push_text(out, b", at ")?;
-        push_text(out, &values)?;
-    }
-    Ok(())
-}
-
-/// Says how the search for an obligation's proof ended.
+/// Says how the search for an obligation's proof ended, and at which values the assertion fails, where these are known.
 fn push_end(
     alloc: Global,
-    out: &mut Vec<u8>,
+    out: &mut Page,
     d: &Design,
     origin: &Origin,
-    end: Result<Found, SearchError>,
+    end: &Result<Found, SearchError>,
 ) -> Result<(), AllocError> {
     match end {
-        Ok(Found::Proved(_)) => push_text(out, b"is proved now"),
+        Ok(Found::Proved(_)) => out.push(b"is proved now"),
         Ok(Found::Unproved(leaf, point)) => {
-            push_point(alloc, out, d, origin, leaf.as_slice(), point.as_slice())
+            out.push(b"nothing that is known rules out that it fails");
+            let (leaf, point) = (leaf.as_slice(), point.as_slice());
+            return push_values(alloc, out, b", at ", d, origin, leaf, point);
         }
         Err(SearchError::Crowded) => {
-            push_text(
-                out,
-                b"the search has over 4,096 instances or over 256 splits",
-            )
+            out.push(b"the search has over 4,096 instances or over 256 splits");
         }
         Err(SearchError::Wide) => {
-            push_text(
-                out,
-                b"the search came to a number more than 2^120 away from 0",
-            )
+            out.push(b"the search came to a number more than 2^120 away from 0");
         }
         Err(SearchError::Many) => {
-            push_text(
-                out,
-                b"the search came to more than 4,096 relations in one system",
-            )
+            out.push(b"the search came to more than 4,096 relations in one system");
         }
-        Err(SearchError::Memory) => Err(AllocError),
+        Err(SearchError::Memory) => return Err(AllocError),
     }
+    Ok(())
 }
 
 /// Says which assertion isn't shown, by which path, and what ended the search for a proof.
 fn push_opening(
     alloc: Global,
-    out: &mut Vec<u8>,
+    out: &mut Page,
     d: &Design,
     design: File,
     q: &Sequent,
-    head: Vec<u8>,
+    head: &[u8],
 ) -> Result<(), AllocError>
     requires { IsWellFormed d.now }
 {
     push_assertion(alloc, out, d, design, &q.origin)?;
-    let mut what = head;
-    push_text(&mut what, b": ")?;
     let end = searched(alloc, d, q);
-    push_end(alloc, &mut what, d, &q.origin, end)?;
-    push_note(out, design.name, &what, obligation_hint(q.origin.rule))
+    begin_note(out, design.name);
+    out.push(head);
+    out.push(b": ");
+    push_end(alloc, out, d, &q.origin, &end)?;
+    end_note(out, obligation_hint(q.origin.rule));
+    Ok(())
 }
 
 /// Says of each obligation that has a line in what was printed why it is open, in their order.
 fn push_openings(
     alloc: Global,
-    out: &mut Vec<u8>,
+    out: &mut Page,
     d: &Design,
     design: File,
     sequents: &[Sequent],
@@ -127,7 +104,7 @@ fn push_openings(
     for q in sequents {
         let head = head_of(alloc, d, &q.origin)?;
         if begins_with(rest, &head) {
-            push_opening(alloc, out, d, design, q, head)?;
+            push_opening(alloc, out, d, design, q, &head)?;
             rest = behind_line(rest);
         }
     }
@@ -138,7 +115,7 @@ fn push_openings(
 /// search is made anew for those that have a line.
 pub fn push_unproved(
     alloc: Global,
-    out: &mut Vec<u8>,
+    out: &mut Page,
     d: &Design,
     design: File,
     printed: &[u8],
@@ -149,7 +126,8 @@ pub fn push_unproved(
         Ok(sequents) => push_openings(alloc, out, d, design, sequents.as_slice(), printed),
         Err(ObligError::Wide(origin)) => {
             push_assertion(alloc, out, d, design, &origin)?;
-            push_wide(out, design)
+            push_wide(out, design);
+            Ok(())
         }
         Err(ObligError::Memory) => Err(AllocError),
     }

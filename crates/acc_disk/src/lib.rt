@@ -4,10 +4,14 @@
 mod disk;
 mod draw;
 mod file_disk;
+mod held_file;
 mod history;
 mod mem_disk;
 mod replay;
+mod trouble;
 
 pub use disk::Disk;
 pub use file_disk::FileDisk;
+pub use held_file::Opening;
 pub use mem_disk::{DiskMemory, MemDisk};
+pub use trouble::Trouble;

@@ -10,7 +10,7 @@ use acc_io::Failed;
 use std::alloc::{AllocError, AllocFailed, Global};
 
 /// Want of memory.
-#[derive(Clone, Copy, Debug, PartialEq, Eq)]
+#[derive(Clone, Copy)]
 pub struct DiskMemory;
 
 impl From<AllocError> for DiskMemory {

@@ -13,7 +13,8 @@ pub fn fresh(alloc: Global, words: &str) -> Result<MemDisk, AllocError> {
     MemDisk::new(alloc, bytes(held), &fails, from.parse().ok()).map_err(|_| AllocError)
 }
 
-fn read(alloc: Global, disk: &mut MemDisk, at: u64) -> Result<String, AllocError> {
+/// What stands at a place, at most eight bytes.
+pub fn read<D: Disk>(alloc: Global, disk: &mut D, at: u64) -> Result<String, AllocError> {
     let mut buf = [0u8; 8];
     match disk.read(at, &mut buf) {
         Ok(count) => format!(in alloc; "{:?}", buf.get(..count)),
@@ -42,7 +43,8 @@ fn cut(alloc: Global, disk: &mut MemDisk, to: u64) -> Result<String, AllocError>
     ended(alloc, disk.cut(to).is_ok())
 }
 
-fn length(alloc: Global, disk: &mut MemDisk) -> Result<String, AllocError> {
+/// How many bytes stand there.
+pub fn length<D: Disk>(alloc: Global, disk: &mut D) -> Result<String, AllocError> {
     match disk.len() {
         Ok(count) => format!(in alloc; "{count}"),
         Err(Failed) => ended(alloc, false),

@@ -9,13 +9,29 @@ pub fn fresh(alloc: Global, fails: &str) -> Result<MemShelf, AllocError> {
     MemShelf::new(alloc, fails.as_slice()).map_err(|_| AllocError)
 }
 
-fn read(alloc: Global, shelf: &mut MemShelf, name: &str) -> Result<String, AllocError> {
+/// Why a file isn't given.
+fn refused(alloc: Global, error: ShelfError) -> Result<String, AllocError> {
+    match error {
+        ShelfError::Absent => said(alloc, "absent"),
+        ShelfError::Long(length) => format!(in alloc; "long {length}"),
+        ShelfError::Memory => said(alloc, "memory"),
+        ShelfError::Failed => ended(alloc, false),
+    }
+}
+
+/// The bytes of a file.
+pub fn read<S: Shelf>(alloc: Global, shelf: &mut S, name: &str) -> Result<String, AllocError> {
     match shelf.read(alloc, name) {
         Ok(bytes) => format!(in alloc; "{:?}", bytes.as_slice()),
-        Err(ShelfError::Absent) => said(alloc, "absent"),
-        Err(ShelfError::Long(length)) => format!(in alloc; "long {length}"),
-        Err(ShelfError::Memory) => said(alloc, "memory"),
-        Err(ShelfError::Failed) => ended(alloc, false),
+        Err(error) => refused(alloc, error),
+    }
+}
+
+/// How many bytes a file has that is read.
+pub fn length<S: Shelf>(alloc: Global, shelf: &mut S, name: &str) -> Result<String, AllocError> {
+    match shelf.read(alloc, name) {
+        Ok(bytes) => format!(in alloc; "{} bytes", bytes.len()),
+        Err(error) => refused(alloc, error),
     }
 }
 
@@ -51,6 +67,13 @@ fn hold(alloc: Global, shelf: &mut MemShelf, words: &str) -> Result<String, Allo
     ended(alloc, shelf.hold(name, bytes.as_bytes()).is_ok())
 }
 
+/// Holds a file of so many bytes.
+fn hold_long(alloc: Global, shelf: &mut MemShelf, words: &str) -> Result<String, AllocError> {
+    let (name, count) = split(words);
+    let bytes = vec![in alloc; 0u8; count.parse().unwrap_or(0)]?;
+    ended(alloc, shelf.hold(name, &bytes).is_ok())
+}
+
 fn renew(alloc: Global, shelf: &mut MemShelf, fails: &str) -> Result<String, AllocError> {
     *shelf = fresh(alloc, fails)?;
     said(alloc, "fresh")
@@ -62,7 +85,9 @@ pub fn answer(alloc: Global, shelf: &mut MemShelf, words: &str) -> Result<String
     match name {
         "new" => renew(alloc, shelf, rest),
         "hold" => hold(alloc, shelf, rest),
+        "hold_long" => hold_long(alloc, shelf, rest),
         "read" => read(alloc, shelf, rest),
+        "length" => length(alloc, shelf, rest),
         "count" => counts(alloc, &counted(alloc, rest)),
         _ => said(alloc, "no call"),
     }

@@ -1,6 +1,6 @@
 //! The calls of a sink by name.
 use crate::words::{bytes, ended, numbers, said, split};
-use acc_io::{Failed, MemSink, Sink, write_all};
+use acc_io::{Failed, MemSink, Sink, StdSink, write_all};
 use std::alloc::{AllocError, Global};
 
 /// A sink without a byte; the writes of the first list fail, and the second says how much each takes at most.
@@ -16,7 +16,7 @@ fn renew(alloc: Global, sink: &mut MemSink, lists: &str) -> Result<String, Alloc
     said(alloc, "fresh")
 }
 
-fn write(alloc: Global, sink: &mut MemSink, piece: &[u8]) -> Result<String, AllocError> {
+fn write<K: Sink>(alloc: Global, sink: &mut K, piece: &[u8]) -> Result<String, AllocError> {
     match sink.write(piece) {
         Ok(count) => format!(in alloc; "{count}"),
         Err(Failed) => ended(alloc, false),
@@ -34,4 +34,16 @@ pub fn answer(alloc: Global, sink: &mut MemSink, words: &str) -> Result<String, 
         "refused" => format!(in alloc; "{}", sink.refused()),
         _ => said(alloc, "no call"),
     }
+}
+
+/// Writes a line to standard output; answers what a write of nothing behind it does, or that the line wasn't written.
+pub fn answer_of_standard<R: Print + AllocGlobal>(
+    rt: &R,
+    line: &str,
+) -> Result<String, AllocError> {
+    let mut sink = StdSink::new(rt);
+    if write_all(&mut sink, line.as_bytes()).is_err() || write_all(&mut sink, b"\n").is_err() {
+        return ended(rt.alloc(), false);
+    }
+    write(rt.alloc(), &mut sink, b"")
 }

@@ -1,35 +1,34 @@
 //! Rows as text, a line each.
-ghost use Rattle.std.specs.Prelude.{◌≡◌, ◌++◌, IfOk, OnOk, slice_get};
+ghost use Rattle.std.specs.Prelude.{◌≡◌, IfOk, slice_get};
 ghost use Rattle.std.specs.List.{flat_map};
 ghost use Rattle.acc_base.specs.Lines.{spaced};
+ghost use Rattle.acc_page.specs.Written.{Adds};
 ghost use Rattle.acc_dump.specs.Dumps.{table_name, row_line, dump_text};
 
 use acc_base::designs::Design;
 use acc_base::tables::Row;
+use acc_page::Page;
 use acc_store::{Store, StoreError};
-use itoa::Buffer;
 use std::alloc::{AllocError, Global};
 
 /// The parts of a key, each behind a space.
-fn push_parts(out: &mut Vec<u8>, parts: &[i64]) -> Result<(), AllocError>
-    ensures { OnOk result (out.new.items ≡ out.old.items ++ flat_map spaced parts.now) }
+fn push_parts(out: &mut Page, parts: &[i64])
+    ensures { Adds out.old out.new (flat_map spaced parts.now) }
 {
     for part in parts {
-        out.extend_from_slice(b" ")?;
-        out.extend_from_slice(Buffer::new().format(*part).as_bytes())?;
+        out.push(b" ");
+        out.push_number(*part);
     }
-    Ok(())
 }
 
 /// Columns, each behind a space.
-fn push_columns(out: &mut Vec<u8>, columns: &[i128]) -> Result<(), AllocError>
-    ensures { OnOk result (out.new.items ≡ out.old.items ++ flat_map spaced columns.now) }
+fn push_columns(out: &mut Page, columns: &[i128])
+    ensures { Adds out.old out.new (flat_map spaced columns.now) }
 {
     for column in columns {
-        out.extend_from_slice(b" ")?;
-        out.extend_from_slice(Buffer::new().format(*column).as_bytes())?;
+        out.push(b" ");
+        out.push_number(*column);
     }
-    Ok(())
 }
 
 /// The name of the table of that number; none where there is no such table.
@@ -43,34 +42,33 @@ fn name_of(d: &Design, number: u32) -> &[u8]
 }
 
 /// Writes the line of a row.
-fn push_row(out: &mut Vec<u8>, d: &Design, row: &Row) -> Result<(), AllocError>
-    ensures { OnOk result (out.new.items ≡ out.old.items ++ row_line d.now row.now) }
+fn push_row(out: &mut Page, d: &Design, row: &Row)
+    ensures { Adds out.old out.new (row_line d.now row.now) }
 {
-    out.extend_from_slice(name_of(d, row.table))?;
-    push_parts(out, row.key.parts.as_slice())?;
-    out.extend_from_slice(b" :")?;
-    push_columns(out, row.cols.as_slice())?;
-    out.extend_from_slice(b"\n")
+    out.push(name_of(d, row.table));
+    push_parts(out, row.key.parts.as_slice());
+    out.push(b" :");
+    push_columns(out, row.cols.as_slice());
+    out.push(b"\n");
 }
 
 /// Writes the lines of rows, in their order.
-pub fn push_rows(out: &mut Vec<u8>, d: &Design, rows: &[Row]) -> Result<(), AllocError>
-    ensures { OnOk result (out.new.items ≡ out.old.items ++ dump_text d.now rows.now) }
+fn push_rows(out: &mut Page, d: &Design, rows: &[Row])
+    ensures { Adds out.old out.new (dump_text d.now rows.now) }
 {
     for row in rows {
-        push_row(out, d, row)?;
+        push_row(out, d, row);
     }
-    Ok(())
 }
 
 /// The rows of a store, by table and then key, a line each: the table's name, the key's parts, a colon, and the columns.
 pub fn dump<S: Store>(alloc: Global, d: &Design, store: &S) -> Result<Vec<u8>, AllocError>
     ensures { IfOk result (λ text. text.items ≡ dump_text d.now (S.rows store.now)) }
 {
-    let mut text = Vec::new(alloc);
+    let mut text = Page::new(alloc);
     match store.rows(alloc) {
-        Ok(plain) => push_rows(&mut text, d, plain.rows.as_slice())?,
+        Ok(plain) => push_rows(&mut text, d, plain.rows.as_slice()),
         Err(StoreError::Memory) => return Err(AllocError),
     }
-    Ok(text)
+    text.finish().ok_or(AllocError)
 }

@@ -3,4 +3,4 @@
 
 mod dumps;
 
-pub use dumps::{dump, push_rows};
+pub use dumps::dump;

@@ -1,6 +1,1 @@
-pub mod Lefts
-pub mod Weights
-pub mod Accepted
-pub mod Shown
-pub mod ReadOn
 pub mod Keepings

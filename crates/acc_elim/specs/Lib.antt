@@ -1,5 +1,1 @@
-pub mod Causes
-pub mod Decisions
-pub mod Evidence
-pub mod Readings
 pub mod Keepings

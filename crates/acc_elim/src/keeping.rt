@@ -1,20 +1,20 @@
 //! Relations that are read once, and whose stage of equations is kept, for many searches.
 ghost use Rattle.std.specs.Prelude.{◌≡◌, ◌≤◌, ◌∷◌, ◌++◌, [], ℕ, None, length, IfOk, IfSome};
-ghost use Rattle.acc_systems.specs.Answers.{Answers, Leaves, steps};
-ghost use Rattle.acc_points.specs.Readings.{read_next};
+ghost use Rattle.acc_rows.specs.Answers.{Answers, Leaves, steps};
+ghost use Rattle.acc_readings.specs.Readings.{read_next};
 ghost use Rattle.acc_points.specs.Searches.{searched};
-ghost use Rattle.acc_stages.specs.Ends.{IsKnown, IsKnownWithin};
-ghost use Rattle.acc_elim.specs.Readings.{unread, read_of, found_in, AreRead};
+ghost use Rattle.acc_known.specs.Ends.{IsKnown, IsKnownWithin};
+ghost use Rattle.acc_decisions.specs.Readings.{unread, read_of, found_in, AreRead};
 ghost use Rattle.acc_elim.specs.Keepings.{IsKept, IsCarriedTo, AreKept};
 
-use crate::reading::{Reading, counted};
 use acc_base::forms::Rel;
 use acc_base::sequences::Seq;
-use acc_points::readings::read_next;
+use acc_decisions::reading::{Reading, counted};
+use acc_known::known::{Known, carried_on, found, found_with, known_of};
+use acc_readings::readings::read_next;
+use acc_rows::rows::Row;
+use acc_rows::stops::Stop;
 use acc_stages::copies::copied_rows;
-use acc_stages::known::{Known, carried_on, found, found_with, known_of};
-use acc_systems::rows::Row;
-use acc_systems::stops::Stop;
 use std::alloc::{AllocError, Global};
 
 /// What was read, and what is kept of its elimination, once it was asked about.

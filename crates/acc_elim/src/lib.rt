@@ -1,9 +1,5 @@
-//! Elimination: whether relations between unknowns hold at some point, with the multipliers that refute them, or with a point at
-//! which they hold.
+//! Relations that are kept, of which elimination decides again and again, each time with one more behind them.
 #![tactic(auto)]
 
-pub mod deciding;
 mod keeping;
-mod reading;
 pub mod solver;
-pub mod verdicts;

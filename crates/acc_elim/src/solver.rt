@@ -1,16 +1,16 @@
 //! Relations that are asked again and again whether they hold at some point.
 ghost use Rattle.std.specs.Prelude.{◌≡◌, ◌∷◌, ◌++◌, [], Ok, IfOk, IfErr, OnOk};
-ghost use Rattle.acc_points.specs.Readings.{unknowns_of};
-ghost use Rattle.acc_elim.specs.Causes.{StoppedBy};
-ghost use Rattle.acc_elim.specs.Decisions.{ended, decision};
+ghost use Rattle.acc_readings.specs.Readings.{unknowns_of};
+ghost use Rattle.acc_decisions.specs.Causes.{StoppedBy};
+ghost use Rattle.acc_decisions.specs.Decisions.{ended, decision};
 
-use crate::deciding::ended;
 use crate::keeping::{Kept, searched, searched_with};
-use crate::reading::unknowns;
-use crate::verdicts::{ElimError, Verdict};
 use acc_base::forms::{Rel, Unknown};
 use acc_base::sequences::Seq;
-use acc_systems::stops::Stop;
+use acc_decisions::deciding::ended;
+use acc_decisions::reading::unknowns;
+use acc_decisions::verdicts::{ElimError, Verdict};
+use acc_rows::stops::Stop;
 use std::alloc::{AllocError, Global};
 use std::marker::Model;
 

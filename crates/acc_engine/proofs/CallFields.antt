@@ -14,7 +14,7 @@ use Rattle.acc_base.specs.declared.machines.Call.{Call}
 use Rattle.acc_base.specs.declared.machines.Event.TheVariants.{Begin}
 use Rattle.acc_base.specs.Machine.{call_fits, ask_fits}
 use Rattle.acc_base.proofs.Smalls.{all_small}
-use Rattle.acc_form.specs.WellFormed.{IsWellFormed, IsTypeFormed}
+use Rattle.acc_formed.specs.WellFormed.{IsWellFormed, IsTypeFormed}
 use Rattle.acc_lift.proofs.FormRules.{numbered_at}
 use Rattle.acc_lift.proofs.Transactions.{got_within}
 use Rattle.acc_wal.specs.Spellings.{CallFits, Fits}

@@ -1,7 +1,7 @@
 //! What an engine's calls answer.
 
 /// Why a call of an engine isn't done.
-#[derive(Clone, Copy, Debug, PartialEq, Eq)]
+#[derive(Clone, Copy)]
 pub enum EngineError {
     /// The disk failed while the history settled. The state is as before, and the engine has failed.
     Disk,
@@ -12,7 +12,7 @@ pub enum EngineError {
 }
 
 /// What came of beginning a place.
-#[derive(Clone, Copy, Debug, PartialEq, Eq)]
+#[derive(Clone, Copy)]
 pub enum Drawn {
     /// Its call began, as the transaction of this number.
     Begun(u64),

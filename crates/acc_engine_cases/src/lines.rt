@@ -1,4 +1,5 @@
 //! How the answer of a schedule over a journal is spelled.
+use acc_case_words::words::push_lines;
 use acc_disk::MemDisk;
 use acc_journalled::Ending;
 use acc_running::{Run, Said};
@@ -16,20 +17,12 @@ fn word(ending: Ending) -> &'static str {
     }
 }
 
-/// Pushes lines, with ` / ` behind each.
-fn push_lines(out: &mut String, text: &[u8]) -> Result<(), AllocError> {
-    for byte in text {
-        match *byte {
-            b'\n' => out.push_str(" / ")?,
-            byte => out.push(byte as char)?,
-        }
-    }
-    Ok(())
-}
-
 /// Pushes the lines that were said, and how the run ended.
 fn push_said(out: &mut String, said: &Said) -> Result<(), AllocError> {
-    push_lines(out, &said.text)?;
+    if !said.text.is_empty() {
+        push_lines(out, &said.text)?;
+        out.push_str(" / ")?;
+    }
     out.push_str(word(said.ending))
 }
 

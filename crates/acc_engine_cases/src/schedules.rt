@@ -16,7 +16,7 @@ use acc_lift::Accepted;
 use acc_progress::Silent;
 use acc_recover::recover;
 use acc_running::schedule_journal;
-use acc_script::order;
+use acc_script::{ScriptError, order};
 use acc_store::MapStore;
 use std::alloc::{AllocError, Global};
 use std::fmt::Write;
@@ -53,7 +53,8 @@ fn push_ordered(
 {
     match order(alloc, calls.len() as u64, words.as_bytes()) {
         Ok(places) => push_over(alloc, out, design, disk, calls, places.as_slice()),
-        Err(_) => {
+        Err(ScriptError::Memory) => Err(AllocError),
+        Err(ScriptError::Line(_)) => {
             out.push_str("no order / ")?;
             Ok(disk)
         }

@@ -1,7 +1,7 @@
 //! The first byte of a line with which no text goes on, and what is said of it.
 
 /// What the bytes before one are part of.
-#[derive(Clone, Copy, PartialEq, Eq)]
+#[derive(Clone, Copy)]
 enum Run {
     Gap,
     Name,

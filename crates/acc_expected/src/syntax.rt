@@ -4,7 +4,7 @@ use crate::mistakes::{Wrong, mending, wrong_at};
 use crate::wanted::{Wanted, could_stand};
 use acc_base::sequences::Seq;
 use acc_designs::{SyntaxError, syntax};
-use acc_explain::{Spot, line_at, push_quoted, push_text};
+use acc_explain::{Spot, line_at, push_quoted};
 use acc_lex::texts::words;
 use acc_lex::words::Word;
 use acc_lex::{Kind, LexError, Token, lex};
@@ -46,21 +46,21 @@ fn before_of(words: &[Word], place: usize) -> Wrong {
 }
 
 /// What was found, behind what could stand there.
-fn push_found(spot: &mut Spot, found: &[u8]) -> Result<(), AllocError> {
+fn push_found(spot: &mut Spot, found: &[u8]) {
     if found.is_empty() || found == b";".as_slice() || found == b"\n".as_slice() {
-        push_text(&mut spot.what, b", found the end of the statement")
+        spot.what.push(b", found the end of the statement")
     } else {
-        push_text(&mut spot.what, b", found ")?;
+        spot.what.push(b", found ");
         push_quoted(&mut spot.what, found)
     }
 }
 
 /// Says what could stand at a spot.
-fn push_wanted(spot: &mut Spot, wanted: &Wanted) -> Result<(), AllocError> {
+fn push_wanted(spot: &mut Spot, wanted: &Wanted) {
     if wanted.is_empty() {
-        return push_text(&mut spot.what, b"no design goes on here");
+        return spot.what.push(b"no design goes on here");
     }
-    push_text(&mut spot.what, b"expected ")?;
+    spot.what.push(b"expected ");
     wanted.push(&mut spot.what)
 }
 
@@ -77,9 +77,9 @@ fn word_spot(
     words.truncate(place);
     let wanted = could_stand(alloc, words)?;
     let mut spot = spot_at(alloc, text, token);
-    push_wanted(&mut spot, &wanted)?;
-    push_found(&mut spot, bytes_of(text, token))?;
-    push_text(&mut spot.hint, mending(wrong, &wanted, before))?;
+    push_wanted(&mut spot, &wanted);
+    push_found(&mut spot, bytes_of(text, token));
+    spot.hint.push(mending(wrong, &wanted, before));
     Ok(spot)
 }
 
@@ -88,26 +88,26 @@ fn end_spot(alloc: Global, words: &mut Seq<Word>) -> Result<Spot, AllocError> {
     let before = before_of(words.as_slice(), words.len());
     let wanted = could_stand(alloc, words)?;
     let mut spot = line_spot(alloc);
-    push_text(&mut spot.what, b"the design ends too early: ")?;
-    push_wanted(&mut spot, &wanted)?;
-    push_text(&mut spot.hint, mending(Wrong::Nothing, &wanted, before))?;
+    spot.what.push(b"the design ends too early: ");
+    push_wanted(&mut spot, &wanted);
+    spot.hint.push(mending(Wrong::Nothing, &wanted, before));
     Ok(spot)
 }
 
 /// The spot of a byte of a line with which no text goes on.
-fn byte_spot(alloc: Global, line: &[u8]) -> Result<Spot, AllocError> {
+fn byte_spot(alloc: Global, line: &[u8]) -> Spot {
     let mut spot = line_spot(alloc);
     let place = bad_byte(line);
     spot.column = place.unwrap_or(0);
     match line.get(spot.column) {
         Some(byte) if place.is_some() => {
-            push_quoted(&mut spot.what, &[*byte])?;
-            push_text(&mut spot.what, b" can't stand here")?;
-            push_text(&mut spot.hint, byte_hint(*byte))?;
+            push_quoted(&mut spot.what, &[*byte]);
+            spot.what.push(b" can't stand here");
+            spot.hint.push(byte_hint(*byte));
         }
-        _ => push_text(&mut spot.what, b"this line is no words of the language")?,
+        _ => spot.what.push(b"this line is no words of the language"),
     }
-    Ok(spot)
+    spot
 }
 
 /// The bytes of a text before the byte of a line with which no text goes on.
@@ -168,6 +168,6 @@ pub fn syntax_spot(alloc: Global, text: &[u8], line: u64) -> Result<Spot, AllocE
     };
     match found {
         Some(spot) => Ok(spot),
-        None => byte_spot(alloc, line_at(text, line)),
+        None => Ok(byte_spot(alloc, line_at(text, line))),
     }
 }

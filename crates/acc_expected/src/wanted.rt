@@ -2,8 +2,8 @@
 use crate::signs::{COUNT, SIGNS, sign_text};
 use acc_base::sequences::Seq;
 use acc_designs::{SyntaxError, syntax};
-use acc_explain::push_text;
 use acc_lex::words::{Sign, Word};
+use acc_page::Page;
 use std::alloc::{AllocError, Global};
 
 /// How many words a text may have before a place at which it is told what could stand there: the words are read once for each
@@ -30,34 +30,33 @@ impl Wanted {
         self.signs.iter().any(|found| *found == sign)
     }
 
-    /// Puts what could stand there behind a text, with commas and an `or`.
-    pub fn push(&self, out: &mut Vec<u8>) -> Result<(), AllocError> {
+    /// Writes what could stand there, with commas and an `or`.
+    pub fn push(&self, out: &mut Page) {
         let mut left = self.signs.len() as u64 + u64::from(self.name) + u64::from(self.number);
         left += u64::from(self.end);
         if self.name {
-            push_item(out, b"a name", &mut left)?;
+            push_item(out, b"a name", &mut left);
         }
         if self.number {
-            push_item(out, b"a number", &mut left)?;
+            push_item(out, b"a number", &mut left);
         }
         for sign in &self.signs {
-            push_item(out, sign_text(*sign), &mut left)?;
+            push_item(out, sign_text(*sign), &mut left);
         }
         if self.end {
-            push_item(out, b"the end of the design", &mut left)?;
+            push_item(out, b"the end of the design", &mut left);
         }
-        Ok(())
     }
 }
 
-/// Puts an item of a list behind a text, with what parts it from the next, where there is one.
-fn push_item(out: &mut Vec<u8>, item: &[u8], left: &mut u64) -> Result<(), AllocError> {
-    push_text(out, item)?;
+/// Writes an item of a list, with what parts it from the next, where there is one.
+fn push_item(out: &mut Page, item: &[u8], left: &mut u64) {
+    out.push(item);
     *left = left.saturating_sub(1);
     match *left {
-        0 => Ok(()),
-        1 => push_text(out, b" or "),
-        _ => push_text(out, b", "),
+        0 => {}
+        1 => out.push(b" or "),
+        _ => out.push(b", "),
     }
 }
 

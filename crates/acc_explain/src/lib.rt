@@ -10,7 +10,7 @@ mod texts;
 
 pub use files::{absent_text, failed_text, long_text, memory_text, sink_text};
 pub use limits::{limit_hint, limit_text};
-pub use reports::{line_at, push_note, push_report};
+pub use reports::{begin_note, end_note, line_at, push_note, push_report};
 pub use rules::{rule_hint, rule_text};
 pub use spots::Spot;
-pub use texts::{push_number, push_quoted, push_text};
+pub use texts::push_quoted;

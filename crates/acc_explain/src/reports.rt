@@ -1,7 +1,7 @@
 //! How a message is laid out: the place, what is wrong, the line with a mark below, and the hint.
 use crate::spots::Spot;
-use crate::texts::{push_number, push_shown, push_text};
-use std::alloc::AllocError;
+use crate::texts::push_shown;
+use acc_page::Page;
 
 /// The most bytes of a line that are shown.
 const MOST_SHOWN: usize = 100;
@@ -43,74 +43,70 @@ fn cut(line: &[u8], column: usize) -> (&[u8], usize) {
     (shown, column.saturating_sub(skipped).min(shown.len()))
 }
 
-/// Puts a byte so many times behind a text.
-fn push_times(out: &mut Vec<u8>, byte: u8, times: usize) -> Result<(), AllocError> {
+/// Writes a byte so many times.
+fn push_times(out: &mut Page, byte: u8, times: usize) {
     for _ in 0..times {
-        out.push(byte)?;
+        out.push(&[byte]);
     }
-    Ok(())
 }
 
 /// The line, and below it the mark of the spot; nothing where the line is empty.
-fn push_line(out: &mut Vec<u8>, line: &[u8], spot: &Spot) -> Result<(), AllocError> {
+fn push_line(out: &mut Page, line: &[u8], spot: &Spot) {
     if line.is_empty() {
-        return Ok(());
+        return;
     }
     let (shown, column) = cut(line, spot.column);
-    push_text(out, b"    ")?;
-    push_shown(out, shown)?;
-    push_text(out, b"\n    ")?;
-    push_times(out, b' ', column)?;
+    out.push(b"    ");
+    push_shown(out, shown);
+    out.push(b"\n    ");
+    push_times(out, b' ', column);
     let most = shown.len().saturating_sub(column).max(1);
-    push_times(out, b'^', spot.width.max(1).min(most))?;
-    push_text(out, b"\n")
+    push_times(out, b'^', spot.width.max(1).min(most));
+    out.push(b"\n");
 }
 
 /// `FILE:LINE:COLUMN: ` and what is wrong there.
-fn push_place(out: &mut Vec<u8>, file: &[u8], line: u64, spot: &Spot) -> Result<(), AllocError> {
-    push_shown(out, file)?;
-    push_text(out, b":")?;
-    push_number(out, line)?;
-    push_text(out, b":")?;
-    push_number(out, (spot.column as u64).saturating_add(1))?;
-    push_text(out, b": ")?;
-    push_text(out, &spot.what)?;
-    push_text(out, b"\n")
+fn push_place(out: &mut Page, file: &[u8], line: u64, spot: &Spot) {
+    push_shown(out, file);
+    out.push(b":");
+    out.push_number(line);
+    out.push(b":");
+    out.push_number((spot.column as u64).saturating_add(1));
+    out.push(b": ");
+    out.push_page(&spot.what);
+    out.push(b"\n");
 }
 
-/// Puts a message on a file behind a text: the place, what is wrong, the line with a mark, the hint.
-pub fn push_report(
-    out: &mut Vec<u8>,
-    file: &[u8],
-    text: &[u8],
-    line: u64,
-    spot: &Spot,
-) -> Result<(), AllocError> {
-    push_place(out, file, line, spot)?;
-    push_line(out, line_at(text, line), spot)?;
-    push_hint(out, &spot.hint)
-}
-
-/// The hint, if there is one.
-fn push_hint(out: &mut Vec<u8>, hint: &[u8]) -> Result<(), AllocError> {
-    if !hint.is_empty() {
-        push_text(out, b"hint: ")?;
-        push_text(out, hint)?;
-        push_text(out, b"\n")?;
+/// Writes a message on a file: the place, what is wrong, the line with a mark, the hint.
+pub fn push_report(out: &mut Page, file: &[u8], text: &[u8], line: u64, spot: &Spot) {
+    push_place(out, file, line, spot);
+    push_line(out, line_at(text, line), spot);
+    if !spot.hint.is_empty() {
+        out.push(b"hint: ");
+        out.push_page(&spot.hint);
+        out.push(b"\n");
     }
-    Ok(())
 }
 
-/// Puts a message without a line behind a text: the name, what is wrong, the hint.
-pub fn push_note(
-    out: &mut Vec<u8>,
-    name: &[u8],
-    what: &[u8],
-    hint: &[u8],
-) -> Result<(), AllocError> {
-    push_shown(out, name)?;
-    push_text(out, b": ")?;
-    push_text(out, what)?;
-    push_text(out, b"\n")?;
-    push_hint(out, hint)
+/// Begins a message without a line, by the name of what it is about; what is wrong follows.
+pub fn begin_note(out: &mut Page, name: &[u8]) {
+    push_shown(out, name);
+    out.push(b": ");
+}
+
+/// Ends a message without a line behind what is wrong, with the hint, if there is one.
+pub fn end_note(out: &mut Page, hint: &[u8]) {
+    out.push(b"\n");
+    if !hint.is_empty() {
+        out.push(b"hint: ");
+        out.push(hint);
+        out.push(b"\n");
+    }
+}
+
+/// Writes a message without a line: the name, what is wrong, the hint.
+pub fn push_note(out: &mut Page, name: &[u8], what: &[u8], hint: &[u8]) {
+    begin_note(out, name);
+    out.push(what);
+    end_note(out, hint);
 }

@@ -1,4 +1,5 @@
 //! A spot on a line, and what is wrong there.
+use acc_page::Page;
 
 /// A spot on a line of a file, what is wrong there in words, and how to mend it; the hint may be empty.
 #[derive(Drop)]
@@ -7,6 +8,6 @@ pub struct Spot {
     pub column: usize,
     /// How many bytes are marked.
     pub width: usize,
-    pub what: Vec<u8>,
-    pub hint: Vec<u8>,
+    pub what: Page,
+    pub hint: Page,
 }

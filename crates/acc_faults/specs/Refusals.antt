@@ -4,7 +4,7 @@ use Rattle.acc_base.specs.declared.designs.Design.{Design}
 use Rattle.acc_statements.specs.Lines.{IsLineOf}
 use Rattle.acc_form.specs.declared.rules.FormError.TheVariants.{Bad}
 use Rattle.acc_form.specs.Judged.{IsFaultInPrint}
-use Rattle.acc_form.specs.WellFormed.{IsWellFormed}
+use Rattle.acc_formed.specs.WellFormed.{IsWellFormed}
 use Rattle.acc_parse.specs.Texts.{IsDesignText}
 use Rattle.acc_parse.specs.Syntax.{IsWrongAt}
 use Rattle.acc_parse.specs.Faults.{IsNameFaultAt, IsLimitAt}

@@ -11,7 +11,7 @@ use crate::tokens::tokens_of;
 use acc_base::designs::Design;
 use acc_designs::syntax;
 use acc_expected::syntax_spot;
-use acc_explain::{Spot, push_number, push_text, rule_hint, rule_text};
+use acc_explain::{Spot, rule_hint, rule_text};
 use acc_form::{FormError, well_formed};
 use acc_lex::texts::words;
 use acc_names::names_of;
@@ -20,7 +20,7 @@ use acc_spot::{limit_spot, name_spot, statement_spot};
 use std::alloc::{AllocError, Global};
 
 /// Why a text is no design that can be played.
-#[derive(Clone, Copy, Debug, PartialEq, Eq)]
+#[derive(Clone, Copy)]
 pub enum Refusal {
     /// It isn't of the grammar.
     Syntax,
@@ -65,13 +65,13 @@ fn name_fault(alloc: Global, text: &[u8]) -> Result<u64, AllocError> {
 fn wrong_name(alloc: Global, text: &[u8]) -> Result<Spot, AllocError> {
     let number = name_fault(alloc, text)?;
     let tokens = tokens_of(alloc, text)?;
-    name_spot(alloc, text, tokens.as_slice(), number)
+    Ok(name_spot(alloc, text, tokens.as_slice(), number))
 }
 
 /// The spot that passes a limit.
 fn passed_limit(alloc: Global, text: &[u8], line: u64, which: u32) -> Result<Spot, AllocError> {
     let tokens = tokens_of(alloc, text)?;
-    limit_spot(alloc, text, tokens.as_slice(), line, which)
+    Ok(limit_spot(alloc, text, tokens.as_slice(), line, which))
 }
 
 /// What is wrong with a text that is refused with an error.
@@ -99,14 +99,13 @@ fn text_diagnosis(alloc: Global, text: &[u8], error: ParseError) -> Result<Diagn
     }
 }
 
-/// The form rule with this number, in words.
-fn rule_words(alloc: Global, rule: u32) -> Result<Vec<u8>, AllocError> {
-    let mut what = Vec::new(alloc);
-    push_text(&mut what, rule_text(rule))?;
-    push_text(&mut what, b" (form rule ")?;
-    push_number(&mut what, u64::from(rule))?;
-    push_text(&mut what, b")")?;
-    Ok(what)
+/// Says which form rule a statement breaks.
+fn push_rule(spot: &mut Spot, rule: u32) {
+    spot.what.push(rule_text(rule));
+    spot.what.push(b" (form rule ");
+    spot.what.push_number(rule);
+    spot.what.push(b")");
+    spot.hint.push(rule_hint(rule));
 }
 
 /// What is wrong with a text whose design breaks a form rule.
@@ -123,15 +122,8 @@ fn form_diagnosis(
 {
     let source = source_line(alloc, text, design, rule, printed)?;
     let tokens = tokens_of(alloc, text)?;
-    let what = rule_words(alloc, rule)?;
-    let spot = statement_spot(
-        alloc,
-        text,
-        tokens.as_slice(),
-        source.statement,
-        &what,
-        rule_hint(rule),
-    )?;
+    let mut spot = statement_spot(alloc, text, tokens.as_slice(), source.statement);
+    push_rule(&mut spot, rule);
     Ok(Diagnosis {
         refusal: Refusal::Form(rule, printed),
         line: source.line,

@@ -22,7 +22,7 @@ use acc_syntax::trees::DesignTree;
 use std::alloc::{AllocError, Global};
 
 /// A statement of a text by its number, from 0, and the line on which it ends, from 1.
-#[derive(Clone, Copy, Debug, PartialEq, Eq)]
+#[derive(Clone, Copy)]
 pub struct SourceLine {
     pub statement: u64,
     pub line: u64,

@@ -6,7 +6,7 @@ use Rattle.std.proofs.lemmas.Bool.{false≢true, and_parts, and_from, cases_lt}
 use Rattle.std.proofs.lemmas.Bool.Decides.{nat_tests}
 use Rattle.std.proofs.lemmas.List.Folds.{list_all-append}
 use Rattle.acc_form.specs.Marks.{Mark, Broken, End, asked, numbered_from, numbered}
-use Rattle.acc_form.specs.WellFormed.{EachNumbered}
+use Rattle.acc_formed.specs.WellFormed.{EachNumbered}
 
 abbrev pub is_end : Mark → Bool
 is_end (Broken rule) = false

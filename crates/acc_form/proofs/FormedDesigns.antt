@@ -7,12 +7,12 @@ use Rattle.acc_base.specs.declared.designs.TxType.{TxType}
 use Rattle.acc_base.specs.declared.designs.Entry.{Entry}
 use Rattle.acc_base.specs.declared.designs.Design.{Design}
 use Rattle.acc_form.specs.Marks.{ending, numbered}
-use Rattle.acc_form.specs.Ranges.{design_in}
-use Rattle.acc_form.specs.Sizes.{lin_small, table_small}
-use Rattle.acc_form.specs.Names.{are_distinct, names_table}
-use Rattle.acc_form.specs.Entries.{leaves_starts, same_entry, pairs_stay}
+use Rattle.acc_formed.specs.Ranges.{design_in}
+use Rattle.acc_formed.specs.Sizes.{lin_small, table_small}
+use Rattle.acc_formed.specs.Names.{are_distinct, names_table}
+use Rattle.acc_formed.specs.Entries.{leaves_starts, same_entry, pairs_stay}
 use Rattle.acc_form.specs.Statements.{table_marks, clause_marks, type_marks, entry_marks, hint_marks, design_marks}
-use Rattle.acc_form.specs.WellFormed.{IsTableFormed, IsTypeFormed, IsEntryFormed, IsHintFormed, IsWellFormed}
+use Rattle.acc_formed.specs.WellFormed.{IsTableFormed, IsTypeFormed, IsEntryFormed, IsHintFormed, IsWellFormed}
 use Rattle.acc_form.proofs.Clean.{Clean, Asks, asks, keeps, clean_parts, clean_from, each_of_clean, clean_of_each}
 use Rattle.acc_form.proofs.FormedSteps.{clauses_open, clauses_shut}
 use Rattle.acc_form.proofs.FormedTypes.{type_asks}

@@ -12,10 +12,10 @@ use Rattle.acc_base.specs.declared.designs.Point.{Point}
 use Rattle.acc_base.specs.declared.designs.TxType.{TxType}
 use Rattle.acc_base.specs.Numbers.{is_small}
 use Rattle.acc_form.specs.Marks.{ending, asked, numbered}
-use Rattle.acc_form.specs.Sizes.{is_short, term_small, lin_small}
-use Rattle.acc_form.specs.Names.{names_point}
+use Rattle.acc_formed.specs.Sizes.{is_short, term_small, lin_small}
+use Rattle.acc_formed.specs.Names.{names_point}
 use Rattle.acc_form.specs.Statements.{clause_marks, step_marks, is_zero, variant_marks, point_marks}
-use Rattle.acc_form.specs.WellFormed.{IsPointFormed}
+use Rattle.acc_formed.specs.WellFormed.{IsPointFormed}
 use Rattle.acc_form.proofs.Clean.{Clean, clean_unless, Asks, asks, keeps, clean_parts, clean_from}
 use Rattle.acc_form.proofs.FormedSteps.{clauses_open, clauses_shut, step_opens, step_shuts}
 

@@ -9,12 +9,12 @@ use Rattle.acc_base.specs.declared.steps.Step.{Step}
 use Rattle.acc_base.specs.declared.designs.Side.{Side}
 use Rattle.acc_base.specs.declared.designs.TxType.{TxType}
 use Rattle.acc_form.specs.Marks.{ending, numbered}
-use Rattle.acc_form.specs.Widths.{clause_fits, read_fits, action_fits, read_leaves_a_component, action_is_own}
-use Rattle.acc_form.specs.Sizes.{clause_small, read_small, action_small, guard_small, target_small}
-use Rattle.acc_form.specs.Names.{are_new}
-use Rattle.acc_form.specs.Ends.{refuses_by_number, divides, may_end, refuses_plainly, assigns_local, may_read, is_undone}
+use Rattle.acc_formed.specs.Widths.{clause_fits, read_fits, action_fits, read_leaves_a_component, action_is_own}
+use Rattle.acc_formed.specs.Sizes.{clause_small, read_small, action_small, guard_small, target_small}
+use Rattle.acc_formed.specs.Names.{are_new}
+use Rattle.acc_formed.specs.Ends.{refuses_by_number, divides, may_end, refuses_plainly, assigns_local, may_read, is_undone}
 use Rattle.acc_form.specs.Statements.{clause_marks, read_marks, action_marks, target_marks, path_marks, step_marks}
-use Rattle.acc_form.specs.WellFormed.{IsClauseFormed, AreClausesFormed, IsReadFormed, IsActionFormed, IsPathFormed, IsStepFormed}
+use Rattle.acc_formed.specs.WellFormed.{IsClauseFormed, AreClausesFormed, IsReadFormed, IsActionFormed, IsPathFormed, IsStepFormed}
 use Rattle.acc_form.proofs.Clean.{Clean, Asks, asks, keeps, clean_parts, clean_from, each_of_clean, clean_of_each}
 
 -- ---- clauses

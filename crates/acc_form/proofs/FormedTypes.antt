@@ -9,11 +9,11 @@ use Rattle.std.proofs.lemmas.List.Sums.{list_all-from_AllPass}
 use Rattle.acc_base.specs.declared.tables.Table.{Table}
 use Rattle.acc_base.specs.declared.designs.TxType.{TxType}
 use Rattle.acc_form.specs.Marks.{Mark, ending, asked, numbered}
-use Rattle.acc_form.specs.Sizes.{is_short, is_short_or_none, returns_small}
-use Rattle.acc_form.specs.Names.{are_distinct, are_new, names_type}
-use Rattle.acc_form.specs.Ends.{is_limit}
+use Rattle.acc_formed.specs.Sizes.{is_short, is_short_or_none, returns_small}
+use Rattle.acc_formed.specs.Names.{are_distinct, are_new, names_type}
+use Rattle.acc_formed.specs.Ends.{is_limit}
 use Rattle.acc_form.specs.Statements.{clause_marks, point_marks, head_marks, returns_marks, locals_marks, type_marks}
-use Rattle.acc_form.specs.WellFormed.{IsPointFormed, IsTypeFormed}
+use Rattle.acc_formed.specs.WellFormed.{IsPointFormed, IsTypeFormed}
 use Rattle.acc_form.proofs.Clean.{Clean, clean_unless, Asks, asks, keeps, clean_parts, clean_from, each_of_clean, clean_of_each}
 use Rattle.acc_form.proofs.FormedPoints.{point_asks}
 use Rattle.acc_form.proofs.FormedSteps.{clauses_open, clauses_shut}

@@ -13,9 +13,9 @@ use Rattle.acc_base.specs.declared.designs.Entry.{Entry}
 use Rattle.acc_base.specs.declared.designs.Hint.{Hint}
 use Rattle.acc_base.specs.declared.designs.Design.{Design}
 use Rattle.acc_form.specs.Marks.{ending, asked}
-use Rattle.acc_form.specs.Sizes.{is_short, returns_small}
-use Rattle.acc_form.specs.Names.{are_distinct, are_new, names_type}
-use Rattle.acc_form.specs.Ends.{is_limit}
+use Rattle.acc_formed.specs.Sizes.{is_short, returns_small}
+use Rattle.acc_formed.specs.Names.{are_distinct, are_new, names_type}
+use Rattle.acc_formed.specs.Ends.{is_limit}
 use Rattle.acc_form.specs.Statements.{table_marks, clause_marks, head_marks, returns_marks, locals_marks, point_marks, type_marks}
 use Rattle.acc_form.specs.Statements.{entry_marks, hint_marks, design_marks}
 use Rattle.acc_print.specs.Lists.{spaced, listed}

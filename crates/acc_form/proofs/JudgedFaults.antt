@@ -8,7 +8,7 @@ use Rattle.std.proofs.lemmas.List.Concat.{flat_map-append}
 use Rattle.acc_base.specs.declared.designs.Design.{Design}
 use Rattle.acc_form.specs.declared.rules.FormError.TheVariants.{Bad}
 use Rattle.acc_form.specs.Marks.{Mark, Broken, End}
-use Rattle.acc_form.specs.Ranges.{design_in}
+use Rattle.acc_formed.specs.Ranges.{design_in}
 use Rattle.acc_form.specs.Statements.{design_marks}
 use Rattle.acc_form.specs.Faults.{next_line, placed, form_faults}
 use Rattle.acc_form.specs.Judged.{Judged, judged, line_of, texts_of, IsJudgedOn, IsFaultInPrint}

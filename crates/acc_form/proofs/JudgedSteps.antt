@@ -14,8 +14,8 @@ use Rattle.acc_base.specs.declared.designs.Side.TheVariants.{Next, Undo}
 use Rattle.acc_base.specs.declared.designs.Point.{Point}
 use Rattle.acc_base.specs.declared.designs.TxType.{TxType}
 use Rattle.acc_form.specs.Marks.{ending, asked, numbered}
-use Rattle.acc_form.specs.Sizes.{is_short, lin_small, guard_small}
-use Rattle.acc_form.specs.Names.{names_point}
+use Rattle.acc_formed.specs.Sizes.{is_short, lin_small, guard_small}
+use Rattle.acc_formed.specs.Names.{names_point}
 use Rattle.acc_form.specs.Statements.{clause_marks, read_marks, action_marks, target_marks, path_marks, step_marks, is_zero, variant_marks}
 use Rattle.acc_form.specs.Statements.{point_marks}
 use Rattle.acc_print.specs.Lists.{listed}

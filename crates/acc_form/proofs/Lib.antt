@@ -6,10 +6,6 @@ pub mod FormedPoints
 pub mod FormedTypes
 pub mod FormedDesigns
 pub mod Placed
-pub mod InRange
-pub mod Runs
-pub mod Uses
-pub mod Open
 pub mod StatementEnds
 pub mod StatementCounts
 pub mod JudgedMarks

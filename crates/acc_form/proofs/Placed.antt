@@ -6,11 +6,11 @@ use Rattle.std.proofs.lemmas.List.Elements.{All-nil, All-cons}
 use Rattle.acc_base.specs.declared.designs.Design.{Design}
 use Rattle.acc_form.specs.declared.walks.Walk.{Walk}
 use Rattle.acc_form.specs.Marks.{Mark, Broken, End}
-use Rattle.acc_form.specs.Ranges.{design_in}
+use Rattle.acc_formed.specs.Ranges.{design_in}
 use Rattle.acc_form.specs.Statements.{design_marks}
 use Rattle.acc_form.specs.Faults.{next_line, placed, form_faults, is_before}
 use Rattle.acc_base.specs.Leasts.{IsLeast, better}
-use Rattle.acc_form.specs.WellFormed.{IsWellFormed}
+use Rattle.acc_formed.specs.WellFormed.{IsWellFormed}
 use Rattle.acc_form.specs.Walks.{noted, after}
 use Rattle.acc_form.proofs.Clean.{Clean}
 use Rattle.acc_form.proofs.FormedDesigns.{design_opens, design_shuts}

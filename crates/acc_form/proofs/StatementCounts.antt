@@ -15,11 +15,11 @@ use Rattle.acc_base.specs.declared.designs.Side.{Side}
 use Rattle.acc_base.specs.declared.designs.TxType.{TxType}
 use Rattle.acc_base.specs.declared.designs.Entry.{Entry}
 use Rattle.acc_base.specs.declared.designs.Hint.{Hint}
-use Rattle.acc_form.specs.Widths.{clause_fits, read_fits, action_fits, read_leaves_a_component, action_is_own}
-use Rattle.acc_form.specs.Sizes.{lin_small, clause_small, table_small, read_small, action_small, target_small}
-use Rattle.acc_form.specs.Names.{are_distinct, are_new, names_table}
-use Rattle.acc_form.specs.Ends.{refuses_by_number, divides, may_end, refuses_plainly, assigns_local, may_read, is_undone}
-use Rattle.acc_form.specs.Entries.{leaves_starts, same_entry, pairs_stay}
+use Rattle.acc_formed.specs.Widths.{clause_fits, read_fits, action_fits, read_leaves_a_component, action_is_own}
+use Rattle.acc_formed.specs.Sizes.{lin_small, clause_small, table_small, read_small, action_small, target_small}
+use Rattle.acc_formed.specs.Names.{are_distinct, are_new, names_table}
+use Rattle.acc_formed.specs.Ends.{refuses_by_number, divides, may_end, refuses_plainly, assigns_local, may_read, is_undone}
+use Rattle.acc_formed.specs.Entries.{leaves_starts, same_entry, pairs_stay}
 use Rattle.acc_form.specs.Statements.{table_marks, clause_marks, read_marks, action_marks, target_marks, is_zero, entry_marks, hint_marks}
 use Rattle.acc_print.specs.Types.{is_zero as is_left_out}
 use Rattle.acc_form.proofs.StatementEnds.{Counts, one_statement, asks}

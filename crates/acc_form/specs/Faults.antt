@@ -6,7 +6,7 @@ use Rattle.acc_base.specs.declared.designs.Design.{Design}
 use Rattle.acc_form.specs.declared.rules.FormError.{FormError}
 use Rattle.acc_form.specs.declared.rules.FormError.TheVariants.{Bad, Memory}
 use Rattle.acc_form.specs.Marks.{Mark, Broken, End}
-use Rattle.acc_form.specs.Ranges.{design_in}
+use Rattle.acc_formed.specs.Ranges.{design_in}
 use Rattle.acc_form.specs.Statements.{design_marks}
 
 -- the line behind a line; lines are counted up to 2^64 - 1, and that line stands for all behind it

@@ -23,10 +23,10 @@ use Rattle.acc_base.specs.declared.designs.Design.{Design}
 use Rattle.acc_form.specs.declared.rules.FormError.{FormError}
 use Rattle.acc_form.specs.declared.rules.FormError.TheVariants.{Bad, Memory}
 use Rattle.acc_form.specs.Marks.{Mark, Broken, ending, asked}
-use Rattle.acc_form.specs.Ranges.{design_in}
-use Rattle.acc_form.specs.Sizes.{is_short, guard_small}
-use Rattle.acc_form.specs.Names.{are_distinct, names_point, names_type}
-use Rattle.acc_form.specs.Ends.{is_limit}
+use Rattle.acc_formed.specs.Ranges.{design_in}
+use Rattle.acc_formed.specs.Sizes.{is_short, guard_small}
+use Rattle.acc_formed.specs.Names.{are_distinct, names_point, names_type}
+use Rattle.acc_formed.specs.Ends.{is_limit}
 use Rattle.acc_form.specs.Statements.{table_marks, clause_marks, read_marks, action_marks, target_marks, is_zero, variant_marks}
 use Rattle.acc_form.specs.Statements.{returns_marks, locals_marks, entry_marks, hint_marks}
 use Rattle.acc_form.specs.Faults.{next_line}

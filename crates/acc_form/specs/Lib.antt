@@ -1,12 +1,5 @@
 pub mod Marks
-pub mod Ranges
-pub mod Widths
-pub mod Sizes
-pub mod Names
-pub mod Ends
-pub mod Entries
 pub mod Statements
 pub mod Faults
 pub mod Walks
-pub mod WellFormed
 pub mod Judged

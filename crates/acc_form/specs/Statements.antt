@@ -23,12 +23,12 @@ use Rattle.acc_base.specs.declared.designs.Entry.{Entry}
 use Rattle.acc_base.specs.declared.designs.Hint.{Hint}
 use Rattle.acc_base.specs.declared.designs.Design.{Design}
 use Rattle.acc_form.specs.Marks.{Mark, ending, asked, numbered}
-use Rattle.acc_form.specs.Widths.{clause_fits, read_fits, action_fits, read_leaves_a_component, action_is_own}
-use Rattle.acc_form.specs.Sizes.{is_short, lin_small, clause_small, table_small, read_small, action_small, guard_small, target_small}
-use Rattle.acc_form.specs.Sizes.{returns_small}
-use Rattle.acc_form.specs.Names.{are_distinct, are_new, names_table, names_point, names_type}
-use Rattle.acc_form.specs.Ends.{is_limit, refuses_by_number, divides, may_end, refuses_plainly, assigns_local, may_read, is_undone}
-use Rattle.acc_form.specs.Entries.{leaves_starts, same_entry, pairs_stay}
+use Rattle.acc_formed.specs.Widths.{clause_fits, read_fits, action_fits, read_leaves_a_component, action_is_own}
+use Rattle.acc_formed.specs.Sizes.{is_short, lin_small, clause_small, table_small, read_small, action_small, guard_small, target_small}
+use Rattle.acc_formed.specs.Sizes.{returns_small}
+use Rattle.acc_formed.specs.Names.{are_distinct, are_new, names_table, names_point, names_type}
+use Rattle.acc_formed.specs.Ends.{is_limit, refuses_by_number, divides, may_end, refuses_plainly, assigns_local, may_read, is_undone}
+use Rattle.acc_formed.specs.Entries.{leaves_starts, same_entry, pairs_stay}
 
 -- ---- tables and clauses
 

@@ -4,7 +4,7 @@ ghost use Rattle.acc_form.specs.Marks.{numbered};
 ghost use Rattle.acc_form.specs.Statements.{table_marks, type_marks, entry_marks, hint_marks, design_marks};
 ghost use Rattle.acc_form.specs.Faults.{form_faults, is_before, IsFirstFault};
 ghost use Rattle.acc_base.specs.Leasts.{IsLeast};
-ghost use Rattle.acc_form.specs.WellFormed.{IsWellFormed};
+ghost use Rattle.acc_formed.specs.WellFormed.{IsWellFormed};
 ghost use Rattle.acc_form.specs.Walks.{after};
 ghost use Rattle.acc_form.specs.Judged.{IsFaultInPrint};
 

@@ -1,6 +1,6 @@
 //! Where paths end, and what the reads of a step may do.
 ghost use Rattle.std.specs.Prelude.{◌≡◌};
-ghost use Rattle.acc_form.specs.Ends.{refuses_by_number, divides, may_end, refuses_plainly, assigns_local, may_read, is_undone};
+ghost use Rattle.acc_formed.specs.Ends.{refuses_by_number, divides, may_end, refuses_plainly, assigns_local, may_read, is_undone};
 
 use acc_base::bounds::LARGEST_REFUSAL;
 use acc_base::designs::{Side, TxType};

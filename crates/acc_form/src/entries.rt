@@ -1,8 +1,8 @@
 //! What entries may name.
 ghost use Rattle.std.specs.Prelude.{◌≡◌, slice_get};
 ghost use Rattle.std.specs.List.{list_all, list_any};
-ghost use Rattle.acc_form.specs.Entries.{leaves_starts, same_point, same_side, same_entry, read_keeps, undo_keeps, undos_keep};
-ghost use Rattle.acc_form.specs.Entries.{pair_stays, pairs_stay};
+ghost use Rattle.acc_formed.specs.Entries.{leaves_starts, same_point, same_side, same_entry, read_keeps, undo_keeps, undos_keep};
+ghost use Rattle.acc_formed.specs.Entries.{pair_stays, pairs_stay};
 
 use acc_base::designs::{At, Entry, Point, Side, TxType};
 use acc_base::steps::Read;

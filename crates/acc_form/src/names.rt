@@ -1,7 +1,7 @@
 //! Whether a name is given twice in its scope.
 ghost use Rattle.std.specs.Prelude.{◌≡◌, not, take, drop};
 ghost use Rattle.std.specs.List.{list_all};
-ghost use Rattle.acc_form.specs.Names.{stands_in, are_distinct, are_new, names_table, names_point, names_type};
+ghost use Rattle.acc_formed.specs.Names.{stands_in, are_distinct, are_new, names_table, names_point, names_type};
 
 use acc_base::designs::{Point, TxType};
 use acc_base::sequences::Text;

@@ -1,9 +1,9 @@
 //! Whether each number that names something is in range.
 ghost use Rattle.std.specs.Prelude.{◌≡◌, ◌+◌, ◌≤◌, ◌^◌, length, slice_get, nat_lt};
 ghost use Rattle.std.specs.List.{list_all};
-ghost use Rattle.acc_form.specs.Ranges.{term_in, lin_in, lin_rel_in, row_in, has_column, cell_in, atom_in, product_in, rel_in, clause_in};
-ghost use Rattle.acc_form.specs.Ranges.{read_in, action_in, target_in, path_in, step_in, point_in, head_in, clauses_in, type_in};
-ghost use Rattle.acc_form.specs.Ranges.{has_point, at_in, locals_of, pair_in, entry_in, hint_in, design_in};
+ghost use Rattle.acc_formed.specs.Ranges.{term_in, lin_in, lin_rel_in, row_in, has_column, cell_in, atom_in, product_in, rel_in, clause_in};
+ghost use Rattle.acc_formed.specs.Ranges.{read_in, action_in, target_in, path_in, step_in, point_in, head_in, clauses_in, type_in};
+ghost use Rattle.acc_formed.specs.Ranges.{has_point, at_in, locals_of, pair_in, entry_in, hint_in, design_in};
 
 use acc_base::designs::{At, Design, Entry, Hint, Point, TxType};
 use acc_base::forms::{Atom, Clause, Lin, LinRel, Rel, Unknown};

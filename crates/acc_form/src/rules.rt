@@ -1,7 +1,7 @@
 //! Why a design isn't well-formed.
 
 /// Why a design isn't well-formed.
-#[derive(Clone, Copy, Debug, PartialEq, Eq)]
+#[derive(Clone, Copy)]
 pub enum FormError {
     /// The lowest rule that is broken, 1 to 16, and the first line that breaks it: of the design as it is printed, a
     /// statement a line, from 1. Rule 1 is broken on line 0.

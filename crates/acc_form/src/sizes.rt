@@ -2,9 +2,9 @@
 ghost use Rattle.std.specs.Prelude.{◌≡◌, slice_get};
 ghost use Rattle.std.specs.List.{list_all};
 ghost use Rattle.acc_base.specs.Numbers.{is_small};
-ghost use Rattle.acc_form.specs.Sizes.{is_short, is_short_or_none, term_small, lin_small, lin_rel_small, atom_small, product_small};
-ghost use Rattle.acc_form.specs.Sizes.{rel_small, clause_small, table_small, read_small, action_small, guard_small, point_small};
-ghost use Rattle.acc_form.specs.Sizes.{target_small, returns_small};
+ghost use Rattle.acc_formed.specs.Sizes.{is_short, is_short_or_none, term_small, lin_small, lin_rel_small, atom_small, product_small};
+ghost use Rattle.acc_formed.specs.Sizes.{rel_small, clause_small, table_small, read_small, action_small, guard_small, point_small};
+ghost use Rattle.acc_formed.specs.Sizes.{target_small, returns_small};
 
 use acc_base::bounds::{
     LARGEST_NUMBER, LONGEST_NAME, MOST_COLUMNS, MOST_GUARDS, MOST_KEY_PARTS, MOST_VARIABLES,

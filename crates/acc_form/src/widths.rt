@@ -1,9 +1,9 @@
 //! How long keys and prefixes are, and whose rows private tables hold.
 ghost use Rattle.std.specs.Prelude.{◌≡◌, slice_get};
 ghost use Rattle.std.specs.List.{list_all};
-ghost use Rattle.acc_form.specs.Widths.{is_key, is_prefix, fills, atom_fits, product_fits, rel_fits, clause_fits, read_fits, action_fits};
-ghost use Rattle.acc_form.specs.Widths.{is_short_prefix, read_leaves_a_component, is_once, is_variable, is_own_key, may_write};
-ghost use Rattle.acc_form.specs.Widths.{action_is_own};
+ghost use Rattle.acc_formed.specs.Widths.{is_key, is_prefix, fills, atom_fits, product_fits, rel_fits, clause_fits, read_fits, action_fits};
+ghost use Rattle.acc_formed.specs.Widths.{is_short_prefix, read_leaves_a_component, is_once, is_variable, is_own_key, may_write};
+ghost use Rattle.acc_formed.specs.Widths.{action_is_own};
 
 use acc_base::forms::{Atom, Clause, Lin, Rel, Unknown};
 use acc_base::steps::{Action, Read};

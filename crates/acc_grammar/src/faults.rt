@@ -5,7 +5,7 @@ ghost use Rattle.acc_grammar.specs.declared.faults.Fault.TheVariants.{Memory};
 use std::alloc::{AllocError, AllocFailed};
 
 /// Why words could not be read.
-#[derive(Debug, Drop)]
+#[derive(Drop)]
 pub enum Fault {
     Memory,
     /// No text of the grammar goes on with the next word.

@@ -19,7 +19,7 @@ use Rattle.acc_parse.specs.declared.errors.ParseError.{ParseError}
 use Rattle.acc_parse.specs.declared.errors.ParseError.TheVariants as errors
 use Rattle.acc_form.specs.Faults.{form_faults, is_before}
 use Rattle.acc_base.specs.Leasts.{IsLeast}
-use Rattle.acc_form.specs.WellFormed.{IsWellFormed}
+use Rattle.acc_formed.specs.WellFormed.{IsWellFormed}
 use Rattle.acc_form.proofs.Placed.{faulty_of_least}
 use Rattle.acc_accept.proofs.OneFault.{one_least}
 use Rattle.acc_journalled.specs.declared.answers.Ending.{Ending}

@@ -1,5 +1,5 @@
--- A design that is refused: by its text, or by the form rules.
-use Rattle.std.specs.Prelude.{◌≡◌, ◌⊎◌, ℕ, ◌-◌, List, ◌++◌, codes}
+-- A design that is refused: by its text, by the form rules, or with a certificate.
+use Rattle.std.specs.Prelude.{◌≡◌, ◌⊎◌, ℕ, ◌-◌, false, List, [], ◌++◌, codes}
 use Rattle.std.specs.Fmt.{decimal}
 use Rattle.acc_base.specs.declared.designs.Design.{Design}
 use Rattle.acc_base.specs.Lines.{line}
@@ -9,6 +9,7 @@ use Rattle.acc_parse.specs.declared.errors.ParseError.{ParseError}
 use Rattle.acc_parse.specs.declared.errors.ParseError.TheVariants as errors
 use Rattle.acc_parse.specs.Texts.{IsDesignText}
 use Rattle.acc_parse.specs.Faults.{Refuses}
+use Rattle.acc_check.specs.Reports.{Reports}
 use Rattle.acc_form.specs.Faults.{form_faults, is_before}
 use Rattle.acc_base.specs.Leasts.{IsLeast}
 use Rattle.acc_form.specs.Judged.{IsJudgedOn}
@@ -48,3 +49,9 @@ pub record RefusesForm (design : List ℕ) (said : Said) : Type 0 where
 
 abbrev pub RefusesDesign : List ℕ → Said → Type 0
 RefusesDesign design said = RefusesText design said ⊎ RefusesForm design said
+
+-- the design is refused with the certificate, and why
+pub record RefusesCertificate (d : Design) (certificate : List ℕ) (said : Said) : Type 0 where
+  pub reports : Reports d certificate false said.text
+  pub ending : said.ending ≡ DesignRefused
+  pub history : said.history ≡ []

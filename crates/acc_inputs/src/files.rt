@@ -7,7 +7,7 @@ use acc_io::{Shelf, ShelfError};
 use std::alloc::Global;
 
 /// The first file that isn't given, and why.
-#[derive(Clone, Copy, Debug)]
+#[derive(Clone, Copy)]
 pub struct Refusal<'a> {
     pub name: &'a str,
     pub error: ShelfError,

@@ -3,7 +3,7 @@ ghost use Rattle.std.specs.Prelude.{◌≡◌, ◌+◌, map, length, string_byte
 ghost use Rattle.acc_inputs.specs.Words.{is_form, command_of, file_count, is_journalled, asks_journal};
 
 /// What the program is asked to do.
-#[derive(Clone, Copy, Debug, PartialEq, Eq)]
+#[derive(Clone, Copy)]
 pub enum Command {
     /// `play DESIGN SCRIPT ORDER`
     Play,

@@ -5,7 +5,7 @@ use Rattle.acc_base.specs.declared.forms.Lin.{Lin}
 use Rattle.acc_base.specs.declared.forms.Rel.{Rel}
 use Rattle.acc_base.specs.declared.forms.Clause.{Clause}
 use Rattle.acc_base.specs.declared.sequents.Sequent.{Sequent}
-use Rattle.acc_instances.specs.Instances.{fact_at}
+use Rattle.acc_instanced.specs.Instances.{fact_at}
 use Rattle.acc_inst.specs.declared.making.Instance.{Instance}
 
 -- a hypothesis's number, and values for its own variables

@@ -6,7 +6,7 @@ use Rattle.std.specs.List.{position_or_len}
 use Rattle.std.proofs.lemmas.Bool.Decides.{nat_tests}
 use Rattle.std.proofs.lemmas.List.Quantifiers.{position-Some}
 use Rattle.std.proofs.lemmas.List.Sums.{fails_before_first}
-use Rattle.acc_instances.specs.Coefficients.{Coefficient, with_coefficient, enlarged}
+use Rattle.acc_instanced.specs.Coefficients.{Coefficient, with_coefficient, enlarged}
 
 -- ---- the coefficient of a variable
 

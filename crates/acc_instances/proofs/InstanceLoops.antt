@@ -4,10 +4,10 @@ use Rattle.std.proofs.lemmas.List.{drop_more}
 use Rattle.acc_base.specs.declared.forms.Lin.{Lin}
 use Rattle.acc_base.specs.declared.forms.Form.{Form}
 use Rattle.acc_base.specs.Sums.{Term}
-use Rattle.acc_instances.specs.Coefficients.{Coefficient}
-use Rattle.acc_instances.specs.Summands.{with_summands}
-use Rattle.acc_instances.specs.Instances.{value_for, plus_part, plus_parts, is_part_long, are_parts_long, term_at, raw_from, is_term_wide}
-use Rattle.acc_instances.specs.Instances.{are_terms_wide}
+use Rattle.acc_instanced.specs.Coefficients.{Coefficient}
+use Rattle.acc_instanced.specs.Summands.{with_summands}
+use Rattle.acc_instanced.specs.Instances.{value_for, plus_part, plus_parts, is_part_long, are_parts_long, term_at, raw_from, is_term_wide}
+use Rattle.acc_instanced.specs.Instances.{are_terms_wide}
 
 module _ (n : ℕ) (own : List Lin) (terms : List Term) (i : ℕ) (d : Term) (within : i < length terms) (here : d ≡ get_or terms i d) (m : ℤ)
     (number : m ≡ d.1) (g new : Form) (added : new ≡ with_summands (term_at n own (d.0, m)) g) where

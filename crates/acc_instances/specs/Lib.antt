@@ -1,4 +1,0 @@
-pub mod Coefficients
-pub mod Summands
-pub mod Instances
-pub mod Meanings

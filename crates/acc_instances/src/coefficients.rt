@@ -1,7 +1,7 @@
 //! Coefficients of linear values, collected. A number that needs more than 64 bits is too large.
 ghost use Rattle.std.specs.Prelude.{◌≡◌, ◌<◌, ◌+ℤ◌, ◌*ℤ◌, ◌==◌, filter, length, position, IfOk, IfSome, OnOk};
 ghost use Rattle.acc_base.specs.Sums.{TellsWide};
-ghost use Rattle.acc_instances.specs.Coefficients.{with_coefficient, enlarged, counts, is_long};
+ghost use Rattle.acc_instanced.specs.Coefficients.{with_coefficient, enlarged, counts, is_long};
 
 use acc_base::sums::FormSum;
 

@@ -1,10 +1,10 @@
 //! Relations at linear values: these stand for the own variables, which come behind the first n.
 ghost use Rattle.std.specs.Prelude.{◌≡◌, [], MatchOption, Some, None, IfOk, OnOk};
 ghost use Rattle.acc_base.specs.Sums.{TellsWide};
-ghost use Rattle.acc_instances.specs.Summands.{lin_parts, with_summand, with_summands, is_summand_wide};
-ghost use Rattle.acc_instances.specs.Instances.{atom_at, is_atom_long, value_of, term_at, raw_at, is_term_wide, are_terms_wide};
-ghost use Rattle.acc_instances.specs.Instances.{form_at, is_form_wide, fact_at};
-ghost use Rattle.acc_instances.specs.Meanings.{IsInstance};
+ghost use Rattle.acc_instanced.specs.Summands.{lin_parts, with_summand, with_summands, is_summand_wide};
+ghost use Rattle.acc_instanced.specs.Instances.{atom_at, is_atom_long, value_of, term_at, raw_at, is_term_wide, are_terms_wide};
+ghost use Rattle.acc_instanced.specs.Instances.{form_at, is_form_wide, fact_at};
+ghost use Rattle.acc_instanced.specs.Meanings.{IsInstance};
 
 use crate::summands::{add_lin, add_parts, add_summand};
 use crate::values::{lins_at, value_for};

@@ -2,8 +2,8 @@
 ghost use Rattle.std.specs.Prelude.{◌≡◌, ◌++◌, ◌*ℤ◌, map, IfOk, OnOk};
 ghost use Rattle.acc_base.specs.Bounded.{is_wide};
 ghost use Rattle.acc_base.specs.Sums.{TellsWide};
-ghost use Rattle.acc_instances.specs.Summands.{variable_parts, lin_parts, part_summand, with_summand, with_summands};
-ghost use Rattle.acc_instances.specs.Summands.{is_constant_wide, is_summand_wide, are_summands_wide};
+ghost use Rattle.acc_instanced.specs.Summands.{variable_parts, lin_parts, part_summand, with_summand, with_summands};
+ghost use Rattle.acc_instanced.specs.Summands.{is_constant_wide, is_summand_wide, are_summands_wide};
 
 use acc_base::forms::{Atom, Form, Lin, Unknown};
 use acc_base::numbers::{bounded_product, bounded_sum};

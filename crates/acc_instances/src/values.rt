@@ -2,9 +2,9 @@
 ghost use Rattle.std.specs.Prelude.{◌≡◌, ◌||◌, ◌+ℤ◌, ◌*ℤ◌, map, MatchOption, Some, None, IfOk, OnOk};
 ghost use Rattle.std.specs.List.{list_any};
 ghost use Rattle.acc_base.specs.Sums.{TellsWide};
-ghost use Rattle.acc_instances.specs.Coefficients.{with_coefficient, with_coefficients, enlarged, is_long};
-ghost use Rattle.acc_instances.specs.Instances.{value_for, scaled, plus_part, plus_parts, zero_lin, are_parts_long, are_scaled_long};
-ghost use Rattle.acc_instances.specs.Instances.{is_part_long, lin_at, is_lin_long};
+ghost use Rattle.acc_instanced.specs.Coefficients.{with_coefficient, with_coefficients, enlarged, is_long};
+ghost use Rattle.acc_instanced.specs.Instances.{value_for, scaled, plus_part, plus_parts, zero_lin, are_parts_long, are_scaled_long};
+ghost use Rattle.acc_instanced.specs.Instances.{is_part_long, lin_at, is_lin_long};
 
 use crate::coefficients::{add_coefficient, drop_zeros, narrow_product, narrow_sum};
 use acc_base::forms::Lin;

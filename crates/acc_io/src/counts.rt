@@ -5,7 +5,7 @@ ghost use Rattle.acc_io.specs.Counted.{none_counted, after_read};
 use crate::ShelfError;
 
 /// The reads of a shelf. They are numbered from 1 on, and each number stands still at 2^64 - 1.
-#[derive(Clone, Copy, Debug, PartialEq, Eq)]
+#[derive(Clone, Copy)]
 pub struct Counts {
     /// How many reads were made, which is the number of the last.
     pub reads: u64,

@@ -1,4 +1,3 @@
-pub mod KeywordLemmas
 pub mod ByteFacts
 pub mod TokenReaders
 pub mod Statements

@@ -1,6 +1,7 @@
 -- The words that the grammar fixes: none of them is a name.
-use Rattle.std.specs.Prelude.{ℕ, List, [], ◌∷◌, Option, Some, None, codes, length, filter, ◌==◌, if◌then◌else◌}
+use Rattle.std.specs.Prelude.{ℕ, List, [], ◌∷◌, Option, Some, None, codes, map, if◌then◌else◌}
 use Rattle.std.specs.Str.{bytes_eq}
+use Rattle.std.specs.Borrow.{Bor}
 use Rattle.acc_lex.specs.declared.words.Sign.{Sign}
 use Rattle.acc_lex.specs.declared.words.Sign.TheVariants as sign
 
@@ -55,6 +56,6 @@ sign_in (k ∷ ks) w = if bytes_eq w k.0 then Some k.1 else sign_in ks w
 unfoldable pub keyword_of : List ℕ → Option Sign
 keyword_of w = sign_in keywords w
 
--- the keywords of one length
-abbrev pub keywords_of : ℕ → List (List ℕ × Sign)
-keywords_of n = filter (λ k. length k.0 == n) keywords
+-- the rows of a table in the code, as its spellings and their signs
+abbrev pub spellings : List (Bor (List ℕ) × Sign) → List (List ℕ × Sign)
+spellings signs = map (λ k. (k.0.now, k.1)) signs

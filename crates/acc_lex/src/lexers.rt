@@ -20,7 +20,7 @@ use acc_grammar::faults::Fault;
 use std::alloc::{AllocError, Global};
 
 /// Why bytes are no design's text.
-#[derive(Clone, Copy, Debug, PartialEq, Eq)]
+#[derive(Clone, Copy)]
 pub enum LexError {
     /// On this line, counted from 1, stands the first byte with which no text goes on, or the text ends too early.
     Bad(u64),

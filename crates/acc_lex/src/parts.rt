@@ -7,7 +7,7 @@ use acc_base::sequences::Seq;
 use std::alloc::{AllocError, Global};
 
 /// What a part of a text is.
-#[derive(Clone, Copy, Debug, PartialEq, Eq)]
+#[derive(Clone, Copy)]
 pub enum Shape {
     /// Spaces or a comment, between tokens.
     Gap,
@@ -23,7 +23,7 @@ pub enum Shape {
 }
 
 /// A part of a text, and how many bytes it has.
-#[derive(Clone, Copy, Debug, PartialEq, Eq)]
+#[derive(Clone, Copy)]
 pub struct Part {
     pub shape: Shape,
     pub len: usize,

@@ -10,7 +10,7 @@ ghost use Rattle.acc_lex.specs.Slices.{mark_sign, IsOf, IsSlice, word_of, ends, 
 ghost use Rattle.acc_lex.specs.Texts.{IsLexed, Answers};
 
 use crate::lexers::{LexError, lex};
-use crate::signs::keyword;
+use crate::signs::{keyword, sign_among};
 use crate::tokens::{Kind, Token};
 use crate::words::{Sign, Word};
 use acc_base::sequences::Seq;
@@ -30,37 +30,27 @@ fn saturated(digits: &[u8]) -> u64
     value
 }
 
+/// Each mark, and its sign.
+const MARKS: [(&[u8], Sign); 12] = [
+    (b"[", Sign::Open),
+    (b"]", Sign::Close),
+    (b",", Sign::Comma),
+    (b".", Sign::Dot),
+    (b":", Sign::Colon),
+    (b"=", Sign::Equal),
+    (b"<=", Sign::AtMost),
+    (b">=", Sign::AtLeast),
+    (b"=>", Sign::Implies),
+    (b"+", Sign::Plus),
+    (b"-", Sign::Minus),
+    (b"*", Sign::Times),
+];
+
 /// The sign of a mark; what is none counts as an end.
 fn mark_sign(mark: &[u8]) -> Sign
     ensures { result ≡ mark_sign mark.now }
 {
-    if mark == b"[".as_slice() {
-        Sign::Open
-    } else if mark == b"]".as_slice() {
-        Sign::Close
-    } else if mark == b",".as_slice() {
-        Sign::Comma
-    } else if mark == b".".as_slice() {
-        Sign::Dot
-    } else if mark == b":".as_slice() {
-        Sign::Colon
-    } else if mark == b"=".as_slice() {
-        Sign::Equal
-    } else if mark == b"<=".as_slice() {
-        Sign::AtMost
-    } else if mark == b">=".as_slice() {
-        Sign::AtLeast
-    } else if mark == b"=>".as_slice() {
-        Sign::Implies
-    } else if mark == b"+".as_slice() {
-        Sign::Plus
-    } else if mark == b"-".as_slice() {
-        Sign::Minus
-    } else if mark == b"*".as_slice() {
-        Sign::Times
-    } else {
-        Sign::End
-    }
+    sign_among(&MARKS, mark).unwrap_or(Sign::End)
 }
 
 /// The word of the bytes of a token.

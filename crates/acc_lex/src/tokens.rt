@@ -1,7 +1,7 @@
 //! The tokens of a design's text.
 
 /// What a token is.
-#[derive(Clone, Copy, Debug, PartialEq, Eq)]
+#[derive(Clone, Copy, Debug)]
 pub enum Kind {
     /// A name, or a word that the grammar fixes.
     Word,
@@ -12,7 +12,7 @@ pub enum Kind {
 }
 
 /// The bytes `from..to` of a text, on a line of it, counted from 1.
-#[derive(Clone, Copy, Debug, PartialEq, Eq)]
+#[derive(Clone, Copy)]
 pub struct Token {
     pub line: u64,
     pub from: u64,

@@ -26,13 +26,13 @@ use Rattle.acc_base.specs.Runnable.{CanEnd}
 use Rattle.acc_base.specs.Effects.{step_at, step_of}
 use Rattle.acc_base.proofs.Items.{at_slice_get}
 use Rattle.acc_base.specs.Shapes.{IsFullKey, IsColumn, AreColumns, ActionFits}
-use Rattle.acc_form.specs.Ranges.{has_column, cell_in, row_in, lin_in, action_in, target_in}
-use Rattle.acc_form.specs.Widths.{is_key, fills, action_fits, may_write, action_is_own}
-use Rattle.acc_form.specs.Ends.{may_end}
-use Rattle.acc_form.specs.Entries.{is_undo, read_keeps, undo_keeps, undos_keep, pair_stays}
-use Rattle.acc_form.specs.WellFormed.{EachNumbered, IsPathFormed, IsStepFormed, IsPointFormed, IsTypeFormed, IsEntryFormed, IsWellFormed}
-use Rattle.acc_form.proofs.InRange.{PathInRange, StepInRange, PointInRange, TypeInRange, design_range}
-use Rattle.acc_form.proofs.Uses.{private_key, bare_path}
+use Rattle.acc_formed.specs.Ranges.{has_column, cell_in, row_in, lin_in, action_in, target_in}
+use Rattle.acc_formed.specs.Widths.{is_key, fills, action_fits, may_write, action_is_own}
+use Rattle.acc_formed.specs.Ends.{may_end}
+use Rattle.acc_formed.specs.Entries.{is_undo, read_keeps, undo_keeps, undos_keep, pair_stays}
+use Rattle.acc_formed.specs.WellFormed.{EachNumbered, IsPathFormed, IsStepFormed, IsPointFormed, IsTypeFormed, IsEntryFormed, IsWellFormed}
+use Rattle.acc_formed.proofs.InRange.{PathInRange, StepInRange, PointInRange, TypeInRange, design_range}
+use Rattle.acc_formed.proofs.Uses.{private_key, bare_path}
 use Rattle.acc_base.specs.PrivateRows.{is_own_table}
 use Rattle.acc_lift.specs.RunRules.{EndsInSelf, PutsOwn, IsTargetOf, IsPathOf, IsTypeOf, IsUnassigned, IsEntryOf, HasRunRules}
 use Rattle.acc_lift.proofs.Owners.{step_is_at}

@@ -8,7 +8,7 @@ use Rattle.acc_base.specs.declared.machines.Event.{Event}
 use Rattle.acc_base.specs.declared.machines.Event.TheVariants.{Abort, Undo}
 use Rattle.acc_base.specs.declared.machines.Transaction.TheVariants.{Undoing}
 use Rattle.acc_base.specs.Machine.{World, start, transaction_at, unfinished, after_event}
-use Rattle.acc_form.specs.WellFormed.{IsWellFormed}
+use Rattle.acc_formed.specs.WellFormed.{IsWellFormed}
 use Rattle.acc_base.specs.Soundness.{IsSound, variant_of}
 use Rattle.acc_base.specs.Lawful.{IsLawful, LeadLawfully, AreLawful}
 use Rattle.acc_base.specs.Annotated.{IsAnnotated, IsIdle}

@@ -1,7 +1,7 @@
 //! Designs that were accepted.
 ghost use Rattle.std.specs.Prelude.{◌≡◌};
 ghost use Rattle.acc_base.specs.Soundness.{IsSound};
-ghost use Rattle.acc_form.specs.WellFormed.{IsWellFormed};
+ghost use Rattle.acc_formed.specs.WellFormed.{IsWellFormed};
 ghost use Rattle.acc_lift.specs.Acceptance.{IsAccepted};
 
 use acc_base::designs::Design;

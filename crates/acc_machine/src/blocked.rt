@@ -1,6 +1,6 @@
 //! Who blocks a step.
 ghost use Rattle.std.specs.Prelude.{◌≡◌, length};
-ghost use Rattle.acc_form.specs.WellFormed.{IsWellFormed};
+ghost use Rattle.acc_formed.specs.WellFormed.{IsWellFormed};
 ghost use Rattle.acc_table.specs.Entries.{IsPointOf, TellsLowest};
 ghost use Rattle.acc_machine.specs.Blocked.{lower, ClashesAt, Blocks, LeadsTo, LooksTo, AreAtPoints, TellsBlocker};
 

@@ -1,14 +1,14 @@
 //! Why calls of a state are refused.
 
 /// Why a state isn't made.
-#[derive(Clone, Copy, Debug, PartialEq, Eq)]
+#[derive(Clone, Copy)]
 pub enum StateError {
     /// Memory ran out.
     Memory,
 }
 
 /// Why a call doesn't begin.
-#[derive(Clone, Copy, Debug, PartialEq, Eq)]
+#[derive(Clone, Copy)]
 pub enum BeginError {
     /// The history holds 2^20 events or more.
     Full,
@@ -19,14 +19,14 @@ pub enum BeginError {
 }
 
 /// Why a turn isn't made.
-#[derive(Clone, Copy, Debug, PartialEq, Eq)]
+#[derive(Clone, Copy)]
 pub enum TurnError {
     /// Memory ran out; the state is as before.
     Memory,
 }
 
 /// Why an event isn't taken.
-#[derive(Clone, Copy, Debug, PartialEq, Eq)]
+#[derive(Clone, Copy)]
 pub enum TakeError {
     /// In this state nothing gives the event, or its call doesn't fit its type; the state is as before.
     Unlawful,
@@ -35,7 +35,7 @@ pub enum TakeError {
 }
 
 /// Why a history isn't done again.
-#[derive(Clone, Copy, Debug, PartialEq, Eq)]
+#[derive(Clone, Copy)]
 pub enum ReplayError {
     /// The event with so many before it is the first that isn't lawful.
     Unlawful(u64),

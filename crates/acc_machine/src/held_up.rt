@@ -4,7 +4,7 @@ ghost use Rattle.acc_base.specs.Tables.{IsInOrder};
 ghost use Rattle.acc_base.specs.Runnable.{IsRunnable, IsSmallFrame};
 ghost use Rattle.acc_base.specs.Machine.{limit_of};
 ghost use Rattle.acc_store.specs.Bounds.{AreWithin};
-ghost use Rattle.acc_form.specs.WellFormed.{IsWellFormed};
+ghost use Rattle.acc_formed.specs.WellFormed.{IsWellFormed};
 ghost use Rattle.acc_machine.specs.Blocked.{AreAtPoints};
 ghost use Rattle.acc_machine.specs.HeldUp.{leads_on, goes_ahead, TellsHeldUp};
 

@@ -29,7 +29,8 @@ fn push_calls(out: &mut String, calls: &[Call]) -> Result<(), AllocError> {
     Ok(())
 }
 
-fn push_error(out: &mut String, error: ScriptError) -> Result<(), AllocError> {
+/// Pushes why a script or an order is refused.
+pub fn push_error(out: &mut String, error: ScriptError) -> Result<(), AllocError> {
     match error {
         ScriptError::Line(line) => write!(out, "refused {line}"),
         ScriptError::Memory => Err(AllocError),

@@ -3,6 +3,10 @@ ghost use Rattle.std.specs.Prelude.{◌≡◌, ◌∷◌, ◌++◌, [], map, pos
 ghost use Rattle.std.specs.List.{flat_map};
 ghost use Rattle.acc_limits.specs.Walks.{after};
 ghost use Rattle.acc_meaning.specs.Steps.{read_of, action_of, target_of, path_of, all_paths, step_of};
+ghost use Rattle.acc_meaning.specs.Questions.{row_read, column_read};
+ghost use Rattle.acc_clauses.specs.Scopes.{variable_of, table_in, column_in};
+ghost use Rattle.acc_clauses.specs.Rows.{key_in};
+ghost use Rattle.acc_clauses.specs.Sizes.{place_sizes};
 ghost use Rattle.acc_clauses.specs.Values.{kept};
 ghost use Rattle.acc_meaning.specs.Sizes.{read_words_sizes, read_sizes, action_words_sizes, action_sizes, path_sizes, step_sizes};
 ghost use Rattle.acc_clauses.specs.Views.{scope_in};
@@ -15,7 +19,9 @@ use acc_clauses::scopes::{Surroundings, column, fitted, number_of, table, variab
 use acc_clauses::values::{guard, lin, values};
 use acc_limits::Walk;
 use acc_names::NameIndex;
-use acc_syntax::trees::{ActionTree, PathTree, ReadTree, StepTree, TargetTree};
+use acc_syntax::trees::{
+    ActionTree, Cell, PathTree, Place, ReadTree, StepTree, TargetTree, Variable,
+};
 use std::alloc::{AllocError, Global};
 
 /// A divisor: 0 where it isn't within 2^45 of 0.
@@ -23,6 +29,70 @@ fn divisor(n: u64) -> i64
     ensures { result ≡ kept (pos n) }
 {
     if n <= LARGEST_NUMBER { n as i64 } else { 0 }
+}
+
+/// What a read asks of the rows whose keys begin so.
+#[derive(Clone, Copy)]
+enum RowQuestion {
+    Has,
+    Count,
+    Least,
+    Greatest,
+}
+
+/// What a read asks of a column.
+#[derive(Clone, Copy)]
+enum ColumnQuestion {
+    Value,
+    Sum,
+}
+
+fn row_read<'a>(
+    alloc: Global,
+    walk: &mut Walk,
+    scope: &Surroundings<'_, 'a>,
+    question: RowQuestion,
+    assigned: &'a Variable,
+    row: &'a Place,
+) -> Result<Read, AllocError>
+    ensures value { IfOk result
+        (λ r. r ≡ row_read question (variable_of (scope_in scope.now).variables assigned.now) (table_in (scope_in scope.now) row.now)
+        (key_in (scope_in scope.now) row.now)) }
+    ensures walk { OnOk result (walk.new ≡ after walk.old (place_sizes (scope_in scope.now) row.now)) }
+{
+    let key = key(alloc, walk, scope, row)?;
+    let x = variable(scope.variables, assigned);
+    let table = table(scope, row);
+    match question {
+        RowQuestion::Has => Ok(Read::Has(x, table, key)),
+        RowQuestion::Count => Ok(Read::Count(x, table, key)),
+        RowQuestion::Least => Ok(Read::Least(x, table, key)),
+        RowQuestion::Greatest => Ok(Read::Greatest(x, table, key)),
+    }
+}
+
+fn column_read<'a>(
+    alloc: Global,
+    walk: &mut Walk,
+    scope: &Surroundings<'_, 'a>,
+    question: ColumnQuestion,
+    assigned: &'a Variable,
+    cell: &'a Cell,
+) -> Result<Read, AllocError>
+    ensures value { IfOk result
+        (λ r. r ≡ column_read question (variable_of (scope_in scope.now).variables assigned.now)
+        (table_in (scope_in scope.now) cell.now.place) (key_in (scope_in scope.now) cell.now.place)
+        (column_in (scope_in scope.now) cell.now)) }
+    ensures walk { OnOk result (walk.new ≡ after walk.old (place_sizes (scope_in scope.now) cell.now.place)) }
+{
+    let key = key(alloc, walk, scope, &cell.place)?;
+    let x = variable(scope.variables, assigned);
+    let table = table(scope, &cell.place);
+    let column = column(scope, cell);
+    match question {
+        ColumnQuestion::Value => Ok(Read::Col(x, table, key, column)),
+        ColumnQuestion::Sum => Ok(Read::Sum(x, table, key, column)),
+    }
 }
 
 /// The read that is written.
@@ -36,54 +106,29 @@ fn read_words<'a>(
     ensures walk { OnOk result (walk.new ≡ after walk.old (read_words_sizes (scope_in scope.now) tree.now)) }
 {
     let variables = scope.variables;
-    Ok(match tree {
-        ReadTree::Let(x, value) => {
-            Read::Let(variable(variables, x), lin(alloc, walk, variables, value)?)
-        }
-        ReadTree::Get(x, from) => {
-            let key = key(alloc, walk, scope, &from.place)?;
-            Read::Col(
-                variable(variables, x),
-                table(scope, &from.place),
-                key,
-                column(scope, from),
-            )
-        }
-        ReadTree::Has(x, row) => {
-            let key = key(alloc, walk, scope, row)?;
-            Read::Has(variable(variables, x), table(scope, row), key)
-        }
-        ReadTree::Count(x, row) => {
-            let key = key(alloc, walk, scope, row)?;
-            Read::Count(variable(variables, x), table(scope, row), key)
-        }
-        ReadTree::Sum(x, from) => {
-            let key = key(alloc, walk, scope, &from.place)?;
-            Read::Sum(
-                variable(variables, x),
-                table(scope, &from.place),
-                key,
-                column(scope, from),
-            )
-        }
-        ReadTree::Least(x, row) => {
-            let key = key(alloc, walk, scope, row)?;
-            Read::Least(variable(variables, x), table(scope, row), key)
-        }
-        ReadTree::Greatest(x, row) => {
-            let key = key(alloc, walk, scope, row)?;
-            Read::Greatest(variable(variables, x), table(scope, row), key)
-        }
-        ReadTree::Take(x) => Read::Take(variable(variables, x)),
-        ReadTree::Mul(x, a, b) => Read::Mul(
+    match tree {
+        ReadTree::Let(x, value) => Ok(Read::Let(
+            variable(variables, x),
+            lin(alloc, walk, variables, value)?,
+        )),
+        ReadTree::Get(x, cell) => column_read(alloc, walk, scope, ColumnQuestion::Value, x, cell),
+        ReadTree::Has(x, row) => row_read(alloc, walk, scope, RowQuestion::Has, x, row),
+        ReadTree::Count(x, row) => row_read(alloc, walk, scope, RowQuestion::Count, x, row),
+        ReadTree::Sum(x, cell) => column_read(alloc, walk, scope, ColumnQuestion::Sum, x, cell),
+        ReadTree::Least(x, row) => row_read(alloc, walk, scope, RowQuestion::Least, x, row),
+        ReadTree::Greatest(x, row) => row_read(alloc, walk, scope, RowQuestion::Greatest, x, row),
+        ReadTree::Take(x) => Ok(Read::Take(variable(variables, x))),
+        ReadTree::Mul(x, a, b) => Ok(Read::Mul(
             variable(variables, x),
             variable(variables, a),
             variable(variables, b),
-        ),
-        ReadTree::Div(x, a, n) => {
-            Read::Div(variable(variables, x), variable(variables, a), divisor(*n))
-        }
-    })
+        )),
+        ReadTree::Div(x, a, n) => Ok(Read::Div(
+            variable(variables, x),
+            variable(variables, a),
+            divisor(*n),
+        )),
+    }
 }
 
 /// The reads of a step, each a statement.

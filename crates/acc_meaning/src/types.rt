@@ -6,13 +6,15 @@ ghost use Rattle.acc_names.specs.Scopes.{locals_of, points_in, point_names};
 ghost use Rattle.acc_names.specs.Members.{members_of};
 ghost use Rattle.acc_limits.specs.Walks.{after};
 ghost use Rattle.acc_clauses.specs.Scopes.{number_of};
+ghost use Rattle.acc_clauses.specs.Forms.{clause_of};
 ghost use Rattle.acc_meaning.specs.Types.{variant_of, point_of, type_scope, returned_of, type_of};
+ghost use Rattle.acc_meaning.specs.Bodies.{body_sizes};
 ghost use Rattle.acc_meaning.specs.Sizes.{variant_sizes, point_sizes, names_sizes, type_sizes};
 ghost use Rattle.acc_clauses.specs.Views.{variables_in, scope_in};
 
 use crate::steps::step;
 use acc_base::designs::{Point, TxType};
-use acc_base::forms::Lin;
+use acc_base::forms::{Clause, Lin};
 use acc_base::sequences::{Seq, Text, copied};
 use acc_clauses::clauses::{clauses, push_listed};
 use acc_clauses::scopes::{Surroundings, VariableNames, fitted, number_of};
@@ -137,6 +139,53 @@ fn end_names(walk: &mut Walk, names: &Option<Names>)
     }
 }
 
+/// What a commit of a type ensures and a compensation repairs, and its points.
+#[derive(Drop)]
+struct TypeBody {
+    posts: Seq<Clause>,
+    repairs: Seq<Clause>,
+    points: Seq<Point>,
+}
+
+/// What stands behind the head of a type; its names are those of `members`.
+fn type_body<'a>(
+    alloc: Global,
+    walk: &mut Walk,
+    tables: &Tables<'a>,
+    members: &Members<'a>,
+    tree: &'a TypeTree,
+) -> Result<TypeBody, AllocError>
+    requires locals { members.now.locals ≡ locals_of tree.now }
+    requires points { members.now.points ≡ point_names tree.now }
+    ensures posts { IfOk result
+        (λ b. b.posts ≡ map (clause_of (type_scope tables.now.trees.now tree.now)) tree.now.ensured) }
+    ensures repairs { IfOk result
+        (λ b. b.repairs ≡ map (clause_of (type_scope tables.now.trees.now tree.now)) tree.now.repaired) }
+    ensures points { IfOk result
+        (λ b. b.points
+        ≡ map (point_of (type_scope tables.now.trees.now tree.now) (point_names tree.now)) (points_in tree.now)) }
+    ensures walk { OnOk result (walk.new ≡ after walk.old (body_sizes (type_scope tables.now.trees.now tree.now) tree.now)) }
+{
+    let own = NameIndex::new(alloc);
+    let variables = VariableNames {
+        in_type: true,
+        locals: &members.locals,
+        own: &own,
+    };
+    let scope = Surroundings {
+        tables,
+        variables: &variables,
+    };
+    let posts = clauses(alloc, walk, &scope, tree.ensured.as_slice())?;
+    let repairs = clauses(alloc, walk, &scope, tree.repaired.as_slice())?;
+    let points = points(alloc, walk, &scope, &members.points, tree)?;
+    Ok(TypeBody {
+        posts,
+        repairs,
+        points,
+    })
+}
+
 /// The type that is written; its names are those of `members`.
 pub fn type_of<'a>(
     alloc: Global,
@@ -150,30 +199,18 @@ pub fn type_of<'a>(
     ensures value { IfOk result (λ t. t ≡ type_of tables.now.trees.now tree.now) }
     ensures walk { OnOk result (walk.new ≡ after walk.old (type_sizes tables.now.trees.now tree.now)) }
 {
-    let own = NameIndex::new(alloc);
-    let variables = VariableNames {
-        in_type: true,
-        locals: &members.locals,
-        own: &own,
-    };
-    let scope = Surroundings {
-        tables,
-        variables: &variables,
-    };
     walk.end();
     walk.end();
     end_names(walk, &tree.returns);
     end_names(walk, &tree.locals);
-    let posts = clauses(alloc, walk, &scope, tree.ensured.as_slice())?;
-    let repairs = clauses(alloc, walk, &scope, tree.repaired.as_slice())?;
-    let points = points(alloc, walk, &scope, &members.points, tree)?;
+    let body = type_body(alloc, walk, tables, members, tree)?;
     Ok(TxType {
         name: copied(&tree.name)?,
         params: fitted(tree.params.len() as u64),
         locals: locals(tree)?,
-        points,
-        posts,
-        repairs,
+        points: body.points,
+        posts: body.posts,
+        repairs: body.repairs,
         returns: returned(alloc, &members.locals, &tree.returns)?,
         limit: fitted(tree.limit),
     })

@@ -6,7 +6,7 @@ use acc_engine::EngineError;
 use std::alloc::{AllocError, AllocFailed};
 
 /// Why a call isn't done.
-#[derive(Clone, Copy, Debug, PartialEq, Eq)]
+#[derive(Clone, Copy)]
 pub enum Stop {
     /// The disk failed, and so has the engine.
     Disk,

@@ -42,9 +42,7 @@ pub mapped_at : {T U : Type 0} (f : T → U) (xs : List T) (i : ℕ) (x : T) (no
 mapped_at f xs i x now later lt is n l = l ∙ ap (λ z. z ++ f x ∷ []) n ∙ sym (map_push f (take i xs) x) ∙ ap (map f)
     (sym (taken_at xs i x lt is))
 
--- four parts, one behind another
-pub four_parts : {T : Type 0} (f0 f1 f2 f3 f4 a b c d : List T) → f1 ≡ f0 ++ a → f2 ≡ f1 ++ b → f3 ≡ f2 ++ c → f4 ≡ f3 ++ d →
-    f4 ≡ f0 ++ (a ++ (b ++ (c ++ d)))
-four_parts f0 f1 f2 f3 f4 a b c d e1 e2 e3 e4 =
-    e4 ∙ ap (λ z. z ++ d) e3 ∙ append_assoc f2 c d ∙ ap (λ z. z ++ (c ++ d)) e2 ∙ append_assoc f1 b (c ++ d) ∙ ap
-    (λ z. z ++ (b ++ (c ++ d))) e1 ∙ append_assoc f0 a (b ++ (c ++ d))
+-- three parts, one behind another
+pub three_parts : {T : Type 0} (f0 f1 f2 f3 a b c : List T) → f1 ≡ f0 ++ a → f2 ≡ f1 ++ b → f3 ≡ f2 ++ c → f3 ≡ f0 ++ (a ++ (b ++ c))
+three_parts f0 f1 f2 f3 a b c e1 e2 e3 =
+    e3 ∙ ap (λ z. z ++ c) e2 ∙ append_assoc f1 b c ∙ ap (λ z. z ++ (b ++ c)) e1 ∙ append_assoc f0 a (b ++ c)

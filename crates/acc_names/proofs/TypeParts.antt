@@ -5,8 +5,9 @@ use Rattle.acc_syntax.specs.declared.trees.TableTree.{TableTree}
 use Rattle.acc_syntax.specs.declared.trees.TypeTree.{TypeTree}
 use Rattle.acc_names.specs.Names.{stands_in}
 use Rattle.acc_names.specs.Scopes.{Scope, locals_of, points_in, point_names}
-use Rattle.acc_names.specs.Faults.{clause_fault, points_faults, type_scope, head_faults, type_faults, types_faults}
-use Rattle.acc_names.proofs.Turns.{left_at, written, four_parts}
+use Rattle.acc_names.specs.Faults.{clause_fault, points_faults, type_scope, type_faults, types_faults}
+use Rattle.acc_names.specs.Bodies.{body_faults}
+use Rattle.acc_names.proofs.Turns.{left_at, written, three_parts}
 
 -- the scope of a type has its locals alone
 pub type_scope_is : (tables : List TableTree) (t : TypeTree) (locals own : List (List ℕ)) → locals ≡ locals_of t → own ≡ [] →
@@ -14,15 +15,15 @@ pub type_scope_is : (tables : List TableTree) (t : TypeTree) (locals own : List 
 type_scope_is tables t locals own l o = let v = ap (λ z. locals ++ z) o ∙ append-nil locals ∙ l in
     λ k. record { tables = tables; variables = v k }
 
-pub type_parts : (tables : List TableTree) (again : Bool) (t : TypeTree) (s : Scope) (points : List (List ℕ)) (f0 f1 f2 f3 f4 : List Bool)
-    → s ≡ type_scope tables t → points ≡ point_names t → f1 ≡ f0 ++ head_faults again t → f2 ≡ f1 ++ map (clause_fault s) t.ensured →
-    f3 ≡ f2 ++ map (clause_fault s) t.repaired
-    → f4 ≡ f3 ++ points_faults s points [] (points_in t) → f4 ≡ f0 ++ type_faults tables again t
-type_parts tables again t s points f0 f1 f2 f3 f4 is p e1 e2 e3 e4 =
-    four_parts f0 f1 f2 f3 f4 (head_faults again t) (map (clause_fault s) t.ensured) (map (clause_fault s) t.repaired)
-    (points_faults s points [] (points_in t)) e1 e2 e3 e4 ∙
-    (λ k. f0 ++ (head_faults again t ++ (map (clause_fault (is k)) t.ensured ++
-    (map (clause_fault (is k)) t.repaired ++ points_faults (is k) (p k) [] (points_in t)))))
+pub body_parts : (tables : List TableTree) (t : TypeTree) (s : Scope) (points : List (List ℕ)) (f0 f1 f2 f3 : List Bool)
+    → s ≡ type_scope tables t → points ≡ point_names t → f1 ≡ f0 ++ map (clause_fault s) t.ensured →
+    f2 ≡ f1 ++ map (clause_fault s) t.repaired
+    → f3 ≡ f2 ++ points_faults s points [] (points_in t) → f3 ≡ f0 ++ body_faults tables t
+body_parts tables t s points f0 f1 f2 f3 is p e1 e2 e3 =
+    three_parts f0 f1 f2 f3 (map (clause_fault s) t.ensured) (map (clause_fault s) t.repaired) (points_faults s points [] (points_in t))
+    e1 e2 e3 ∙
+    (λ k. f0 ++ (map (clause_fault (is k)) t.ensured ++
+    (map (clause_fault (is k)) t.repaired ++ points_faults (is k) (p k) [] (points_in t))))
 
 pub types_turn : (tables : List TableTree) (names later_names : List (List ℕ)) (trees : List TypeTree) (i : ℕ) (t : TypeTree) (again : Bool)
     (now later all : List Bool)

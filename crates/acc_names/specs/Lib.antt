@@ -5,3 +5,4 @@ pub mod Faults
 pub mod Views
 pub mod Members
 pub mod Least
+pub mod Bodies

@@ -7,6 +7,7 @@ ghost use Rattle.acc_names.specs.Views.{variables_in, scope_in};
 ghost use Rattle.acc_names.specs.Members.{members_of};
 ghost use Rattle.acc_names.specs.Faults.{variant_faults, returns_faults, head_faults, point_faults, points_faults, type_faults};
 ghost use Rattle.acc_names.specs.Faults.{types_faults};
+ghost use Rattle.acc_names.specs.Bodies.{body_faults};
 
 use crate::clauses::clauses_faults;
 use crate::members::{Members, Types};
@@ -51,39 +52,40 @@ fn returns_faults<'a>(
     Ok(())
 }
 
-/// The locals of a type; behind `faults`, whether each statement of its head has a fault. `again` says that its name has one.
+/// Puts the locals of a type into `locals`, which is empty, and behind `faults` whether each statement of its head has a fault;
+/// `again` says that its name has one.
 fn head_faults<'a>(
-    alloc: Global,
     again: bool,
     tree: &'a TypeTree,
+    locals: &mut NameIndex<'a>,
     faults: &mut Vec<bool>,
-) -> Result<NameIndex<'a>, AllocError>
-    ensures locals { IfOk result (λ locals. locals ≡ locals_of tree.now) }
+) -> Result<(), AllocError>
+    requires { locals.old ≡ [] }
+    ensures locals { OnOk result (locals.new ≡ locals_of tree.now) }
     ensures faults { OnOk result
         (faults.new.items ≡ faults.old.items ++ head_faults again tree.now) }
 {
-    let mut locals = NameIndex::new(alloc);
     let params_again = locals.add_all(tree.params.as_slice())?;
     let locals_again = locals.add_listed(&tree.locals)?;
     faults.push(again || params_again)?;
     faults.push(false)?;
-    returns_faults(&locals, &tree.returns, faults)?;
+    returns_faults(locals, &tree.returns, faults)?;
     if tree.locals.is_some() {
         faults.push(locals_again)?;
     }
-    Ok(locals)
+    Ok(())
 }
 
-/// The names of a type's points.
-fn point_names<'a>(alloc: Global, tree: &'a TypeTree) -> Result<NameIndex<'a>, AllocError>
-    ensures { IfOk result (λ points. points ≡ point_names tree.now) }
+/// Puts the names of a type's points into `points`, which is empty.
+fn add_points<'a>(points: &mut NameIndex<'a>, tree: &'a TypeTree) -> Result<(), AllocError>
+    requires { points.old ≡ [] }
+    ensures { OnOk result (points.new ≡ point_names tree.now) }
 {
-    let mut points = NameIndex::new(alloc);
     points.add(&tree.first.name)?;
     for point in tree.others.as_slice() {
         points.add(&point.name)?;
     }
-    Ok(points)
+    Ok(())
 }
 
 fn variant_faults<'a>(
@@ -144,6 +146,33 @@ fn points_faults<'a>(
     Ok(())
 }
 
+/// Puts behind `faults` whether each statement of a type behind its head has a fault.
+fn body_faults<'a>(
+    alloc: Global,
+    tables: &Tables<'a>,
+    members: &Members<'a>,
+    tree: &'a TypeTree,
+    faults: &mut Vec<bool>,
+) -> Result<(), AllocError>
+    requires { members.now ≡ members_of tree.now }
+    ensures { OnOk result
+        (faults.new.items ≡ faults.old.items ++ body_faults tables.now.trees.now tree.now) }
+{
+    let own = NameIndex::new(alloc);
+    let variables = Variables {
+        locals: &members.locals,
+        own: &own,
+    };
+    let definitions = Definitions {
+        tables,
+        variables: &variables,
+    };
+    clauses_faults(alloc, &definitions, tree.ensured.as_slice(), faults)?;
+    clauses_faults(alloc, &definitions, tree.repaired.as_slice(), faults)?;
+    points_faults(alloc, &definitions, &members.points, tree, faults)?;
+    Ok(())
+}
+
 /// The locals and points of a type; behind `faults`, whether each of its statements has a fault. `again` says that its name has one.
 fn type_faults<'a>(
     alloc: Global,
@@ -156,21 +185,14 @@ fn type_faults<'a>(
     ensures faults { OnOk result
         (faults.new.items ≡ faults.old.items ++ type_faults tables.now.trees.now again tree.now) }
 {
-    let locals = head_faults(alloc, again, tree, faults)?;
-    let points = point_names(alloc, tree)?;
-    let own = NameIndex::new(alloc);
-    let variables = Variables {
-        locals: &locals,
-        own: &own,
+    let mut members = Members {
+        locals: NameIndex::new(alloc),
+        points: NameIndex::new(alloc),
     };
-    let definitions = Definitions {
-        tables,
-        variables: &variables,
-    };
-    clauses_faults(alloc, &definitions, tree.ensured.as_slice(), faults)?;
-    clauses_faults(alloc, &definitions, tree.repaired.as_slice(), faults)?;
-    points_faults(alloc, &definitions, &points, tree, faults)?;
-    Ok(Members { locals, points })
+    head_faults(again, tree, &mut members.locals, faults)?;
+    add_points(&mut members.points, tree)?;
+    body_faults(alloc, tables, &members, tree, faults)?;
+    Ok(members)
 }
 
 /// The types; behind `faults`, whether each of their statements has a fault.

@@ -17,7 +17,7 @@ use Rattle.acc_base.specs.Linear.{var, variables}
 use Rattle.acc_base.specs.Reads.{unread}
 use Rattle.acc_base.specs.Truth.{rel_true, ClauseTrue}
 use Rattle.acc_base.specs.Assertions.{Always}
-use Rattle.acc_form.specs.WellFormed.{IsWellFormed}
+use Rattle.acc_formed.specs.WellFormed.{IsWellFormed}
 use Rattle.acc_base.specs.Fits.{RowsFit}
 use Rattle.acc_base.specs.PrivateRows.{HasNoPrivate}
 use Rattle.acc_oblig.specs.Settings.{Setting, first_now, step_vars, step_bounds, step_hyps}

@@ -18,9 +18,9 @@ use Rattle.acc_base.specs.Assertions.{AllTrue, Holds, Always, clauses_of}
 use Rattle.acc_base.specs.Effects.{point_of}
 use Rattle.acc_base.specs.Machine.{call_fits, ask_fits, begun, locals_in}
 use Rattle.acc_base.proofs.Smalls.{all_small}
-use Rattle.acc_wp.proofs.Alls.{all-append}
-use Rattle.acc_form.specs.WellFormed.{IsWellFormed}
-use Rattle.acc_form.proofs.InRange.{TypeInRange, design_range}
+use Rattle.acc_preconditions.proofs.Alls.{all-append}
+use Rattle.acc_formed.specs.WellFormed.{IsWellFormed}
+use Rattle.acc_formed.proofs.InRange.{TypeInRange, design_range}
 use Rattle.acc_base.specs.Fits.{RowsFit}
 use Rattle.acc_base.specs.PrivateRows.{HasNoPrivate}
 use Rattle.acc_oblig.specs.PointRules.{begin_drafts}

@@ -29,9 +29,9 @@ use Rattle.acc_base.specs.Effects.{step_at}
 use Rattle.acc_base.proofs.Places.{place_total}
 use Rattle.acc_base.specs.Shapes.{IsFullKey, ActionFits, RowFits}
 use Rattle.acc_base.specs.RowsAfter.{rows_after, AreThere}
-use Rattle.acc_wp.proofs.PartValues.{one_times}
-use Rattle.acc_wp.proofs.RowShapes.{rows_fit}
-use Rattle.acc_form.specs.WellFormed.{IsWellFormed}
+use Rattle.acc_preconditions.proofs.PartValues.{one_times}
+use Rattle.acc_preconditions.proofs.RowShapes.{rows_fit}
+use Rattle.acc_formed.specs.WellFormed.{IsWellFormed}
 use Rattle.acc_base.specs.Fits.{IsReady}
 use Rattle.acc_base.specs.PrivateRows.{HasNoneOf, is_own_table, last_is, type_puts}
 use Rattle.acc_base.specs.Soundness.{ClearsAt}
@@ -42,7 +42,7 @@ use Rattle.acc_oblig.specs.Drafts.{Place, path_drafts, each_path}
 use Rattle.acc_oblig.specs.PointRules.{is_end, none_of, clear_at, clear_drafts}
 use Rattle.acc_oblig.proofs.FormValues.{meets_zero}
 use Rattle.acc_oblig.proofs.Judged.{DraftTrue}
-use Rattle.acc_wp.proofs.PathRows.{leaves_rows_after}
+use Rattle.acc_preconditions.proofs.PathRows.{leaves_rows_after}
 use Rattle.acc_oblig.proofs.Taken.{names_worth, last_worth, here}
 use Rattle.acc_oblig.proofs.Listed.{each_at, path_at}
 use Rattle.acc_oblig.proofs.PathClauses.{path_clause}

@@ -13,9 +13,9 @@ use Rattle.acc_base.specs.declared.steps.Action.{Action}
 use Rattle.acc_base.specs.declared.steps.Action.TheVariants as action
 use Rattle.acc_base.specs.declared.designs.Design.{Design}
 use Rattle.acc_base.specs.Reads.{assigned, read_key}
-use Rattle.acc_form.specs.Widths.{is_key, is_prefix, fills, is_short_prefix, read_fits, read_leaves_a_component, action_fits}
-use Rattle.acc_form.specs.WellFormed.{IsTableFormed, IsWellFormed}
-use Rattle.acc_form.proofs.Runs.{IsTableSmall, table_is_small}
+use Rattle.acc_formed.specs.Widths.{is_key, is_prefix, fills, is_short_prefix, read_fits, read_leaves_a_component, action_fits}
+use Rattle.acc_formed.specs.WellFormed.{IsTableFormed, IsWellFormed}
+use Rattle.acc_formed.proofs.Runs.{IsTableSmall, table_is_small}
 use Rattle.acc_base.specs.Soundness.{adds_to}
 use Rattle.acc_oblig.specs.Settings.{with_self}
 use Rattle.acc_oblig.specs.Ranges.{key_number, value_number, read_numbers, in_range, one_action_numbers, numbers_of}

@@ -14,8 +14,8 @@ use Rattle.acc_base.specs.Linear.{var}
 use Rattle.acc_base.specs.Truth.{ClauseTrue}
 use Rattle.acc_base.specs.Assertions.{Always}
 use Rattle.acc_base.specs.Shapes.{RowFits}
-use Rattle.acc_form.specs.WellFormed.{IsWellFormed}
-use Rattle.acc_form.proofs.InRange.{design_range}
+use Rattle.acc_formed.specs.WellFormed.{IsWellFormed}
+use Rattle.acc_formed.proofs.InRange.{design_range}
 use Rattle.acc_base.specs.Fits.{RowsFit}
 use Rattle.acc_oblig.specs.Drafts.{clause_drafts}
 use Rattle.acc_oblig.specs.PathPromises.{empty_drafts}

@@ -21,10 +21,10 @@ use Rattle.acc_base.specs.declared.machines.Frame.{Frame}
 use Rattle.acc_base.specs.Linear.{var, lin_value}
 use Rattle.acc_base.specs.Reads.{Reading, assigned}
 use Rattle.acc_base.specs.Truth.{is_lin_zero, rel_true}
-use Rattle.acc_wp.proofs.PartValues.{one_times, minus_times}
-use Rattle.acc_form.specs.Ranges.{locals_of, pair_in}
-use Rattle.acc_form.specs.Entries.{same_point, same_side}
-use Rattle.acc_form.proofs.InRange.{EntryInRange}
+use Rattle.acc_preconditions.proofs.PartValues.{one_times, minus_times}
+use Rattle.acc_formed.specs.Ranges.{locals_of, pair_in}
+use Rattle.acc_formed.specs.Entries.{same_point, same_side}
+use Rattle.acc_formed.proofs.InRange.{EntryInRange}
 use Rattle.acc_base.specs.Entries.{at_of, judged, IsFree}
 use Rattle.acc_oblig.specs.Settings.{Setting, now_after, first_now, last_now, step_vars}
 use Rattle.acc_oblig.specs.Naming.{counted}

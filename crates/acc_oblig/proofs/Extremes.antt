@@ -12,7 +12,7 @@ use Rattle.acc_base.specs.declared.forms.Rel.{Rel}
 use Rattle.acc_base.specs.Tables.{count_of, is_under, best, least_of, greatest_of}
 use Rattle.acc_base.specs.Linear.{var, lin_value, lin_values}
 use Rattle.acc_base.specs.Truth.{rel_true, ClauseTrue}
-use Rattle.acc_wp.proofs.PartValues.{one_times, minus_times}
+use Rattle.acc_preconditions.proofs.PartValues.{one_times, minus_times}
 use Rattle.acc_oblig.specs.declared.naming.Naming.{Naming}
 use Rattle.acc_oblig.specs.Naming.{named_lins}
 use Rattle.acc_oblig.specs.Relations.{some_rows, no_rows, none_there, is_nothing, alone, below, extreme}

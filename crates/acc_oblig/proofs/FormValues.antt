@@ -16,7 +16,7 @@ use Rattle.acc_base.specs.Numbers.{total, IsSmall}
 use Rattle.acc_base.specs.Linear.{var, term_value, lin_value, meets, lin_rel_true}
 use Rattle.acc_base.specs.Truth.{atom_value, is_lin_zero, unknown_value, product_value, form_value, rel_true}
 use Rattle.acc_base.specs.Sums.{Term}
-use Rattle.acc_wp.proofs.PartValues.{one_times, minus_times}
+use Rattle.acc_preconditions.proofs.PartValues.{one_times, minus_times}
 use Rattle.acc_base.proofs.Products.{sum_times}
 use Rattle.acc_oblig.specs.declared.naming.Naming.{Naming}
 use Rattle.acc_oblig.specs.Naming.{named_lin}

@@ -19,10 +19,10 @@ use Rattle.acc_base.specs.declared.steps.Action.{Action}
 use Rattle.acc_base.specs.declared.steps.Action.TheVariants as action
 use Rattle.acc_base.specs.Sums.{Term}
 use Rattle.acc_base.specs.Shapes.{IsFullKey, IsPrefix, IsColumn, AreColumns, AtomFits, ActionFits, RowFits}
-use Rattle.acc_form.specs.Ranges.{has_column, cell_in, row_in, lin_in, atom_in, product_in, rel_in, clause_in, action_in}
-use Rattle.acc_form.specs.Widths.{is_key, is_prefix, fills, atom_fits, product_fits, rel_fits, clause_fits, action_fits, is_short_prefix}
-use Rattle.acc_form.specs.Widths.{read_leaves_a_component}
-use Rattle.acc_form.specs.Ends.{divides}
+use Rattle.acc_formed.specs.Ranges.{has_column, cell_in, row_in, lin_in, atom_in, product_in, rel_in, clause_in, action_in}
+use Rattle.acc_formed.specs.Widths.{is_key, is_prefix, fills, atom_fits, product_fits, rel_fits, clause_fits, action_fits, is_short_prefix}
+use Rattle.acc_formed.specs.Widths.{read_leaves_a_component}
+use Rattle.acc_formed.specs.Ends.{divides}
 use Rattle.acc_oblig.proofs.FormValues.{int_le_holds}
 use Rattle.acc_oblig.proofs.Judged.{RelFits, ClauseFits}
 use Rattle.acc_oblig.proofs.Parts.{HasPart}

@@ -17,12 +17,12 @@ use Rattle.acc_base.specs.Sums.{Term}
 use Rattle.acc_base.specs.Linear.{meets}
 use Rattle.acc_base.specs.Truth.{form_value, rel_true, ClauseTrue}
 use Rattle.acc_base.specs.Shapes.{ActionFits, AtomFits}
-use Rattle.acc_wp.specs.Preconditions.{wp_of}
+use Rattle.acc_preconditions.specs.Preconditions.{wp_of}
 use Rattle.acc_base.specs.RowsAfter.{rows_after, AreThere}
 use Rattle.acc_base.proofs.SumLaws.{form_sum-value}
-use Rattle.acc_wp.proofs.PartValues.{minus_times}
+use Rattle.acc_preconditions.proofs.PartValues.{minus_times}
 use Rattle.acc_oblig.specs.Relations.{form}
-use Rattle.acc_wp.proofs.LawTurns.{wp_is_weakest}
+use Rattle.acc_preconditions.proofs.LawTurns.{wp_is_weakest}
 use Rattle.acc_base.specs.Fits.{RowsFit}
 use Rattle.acc_oblig.specs.declared.naming.Naming.{Naming}
 use Rattle.acc_oblig.specs.Naming.{own_naming, named_rel}

@@ -25,10 +25,10 @@ use Rattle.acc_base.specs.Assertions.{AllTrue, clauses_of}
 use Rattle.acc_base.specs.Effects.{Goes, point_of, step_at, effect_of, taken_path}
 use Rattle.acc_base.proofs.EffectParts.{parts}
 use Rattle.acc_base.specs.Shapes.{ActionFits, RowFits}
-use Rattle.acc_form.specs.Ranges.{clause_in}
-use Rattle.acc_form.specs.WellFormed.{EachNumbered, IsClauseFormed, AreClausesFormed, IsPathFormed, IsStepFormed, IsPointFormed}
-use Rattle.acc_form.specs.WellFormed.{IsTypeFormed, IsWellFormed}
-use Rattle.acc_form.proofs.InRange.{PathInRange, StepInRange, PointInRange, TypeInRange, design_range}
+use Rattle.acc_formed.specs.Ranges.{clause_in}
+use Rattle.acc_formed.specs.WellFormed.{EachNumbered, IsClauseFormed, AreClausesFormed, IsPathFormed, IsStepFormed, IsPointFormed}
+use Rattle.acc_formed.specs.WellFormed.{IsTypeFormed, IsWellFormed}
+use Rattle.acc_formed.proofs.InRange.{PathInRange, StepInRange, PointInRange, TypeInRange, design_range}
 use Rattle.acc_base.specs.Fits.{IsFrameOf, IsFrameOfSome, IsReady}
 use Rattle.acc_oblig.proofs.Guards.{taken_is}
 use Rattle.acc_oblig.proofs.Judged.{ClauseFits}

@@ -20,13 +20,13 @@ use Rattle.acc_base.specs.Tables.{IsInOrder, has_row, column_of, count_of, sum_o
 use Rattle.acc_base.specs.Linear.{lin_value, lin_values, meets}
 use Rattle.acc_base.specs.Actions.{after_action, acted_table}
 use Rattle.acc_base.specs.Truth.{atom_value, is_lin_zero, product_value, rel_true, ClauseTrue}
-use Rattle.acc_wp.specs.Changes.{change, presence_change, column_change, key_of}
+use Rattle.acc_preconditions.specs.Changes.{change, presence_change, column_change, key_of}
 use Rattle.acc_base.specs.Shapes.{ActionFits, RowFits}
 use Rattle.acc_base.specs.RowsAfter.{rows_after, AreThere}
-use Rattle.acc_wp.proofs.PartValues.{parts_value}
-use Rattle.acc_wp.proofs.Growths.{IsReady}
-use Rattle.acc_wp.proofs.AtomTurns.{gain, meets as place_meets, atom_turn}
-use Rattle.acc_wp.proofs.RowShapes.{rows_fit, stays_in_order, is_ready}
+use Rattle.acc_preconditions.proofs.PartValues.{parts_value}
+use Rattle.acc_preconditions.proofs.Growths.{IsReady}
+use Rattle.acc_preconditions.proofs.AtomTurns.{gain, meets as place_meets, atom_turn}
+use Rattle.acc_preconditions.proofs.RowShapes.{rows_fit, stays_in_order, is_ready}
 use Rattle.acc_oblig.specs.PathPromises.{atom_names, rel_names, clause_names}
 
 -- a number as a linear value

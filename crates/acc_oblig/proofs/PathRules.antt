@@ -28,16 +28,16 @@ use Rattle.acc_base.specs.Effects.{point_of, step_at}
 use Rattle.acc_base.specs.Machine.{moved}
 use Rattle.acc_base.specs.Shapes.{ActionFits, RowFits, IsFullKey}
 use Rattle.acc_base.specs.RowsAfter.{rows_after, IsThere, AreThere}
-use Rattle.acc_form.specs.Ranges.{clause_in}
-use Rattle.acc_form.specs.WellFormed.{AreClausesFormed, IsWellFormed}
-use Rattle.acc_form.proofs.InRange.{design_range}
+use Rattle.acc_formed.specs.Ranges.{clause_in}
+use Rattle.acc_formed.specs.WellFormed.{AreClausesFormed, IsWellFormed}
+use Rattle.acc_formed.proofs.InRange.{design_range}
 use Rattle.acc_base.specs.Fits.{IsReady}
 use Rattle.acc_base.specs.Soundness.{MeetsAt, posts_of, repairs_of}
 use Rattle.acc_oblig.specs.Settings.{last_now}
 use Rattle.acc_oblig.specs.Drafts.{Place, setting_of, path_drafts, of_some, each_path}
 use Rattle.acc_oblig.specs.PathPromises.{promised, point_clauses, promise_at, promise_drafts, clause_names, always_at, always_drafts}
 use Rattle.acc_oblig.specs.PathPromises.{changed_row, row_there, there_at, there_drafts}
-use Rattle.acc_wp.proofs.PathRows.{leaves_rows_after}
+use Rattle.acc_preconditions.proofs.PathRows.{leaves_rows_after}
 use Rattle.acc_oblig.proofs.Taken.{names_worth}
 use Rattle.acc_oblig.proofs.Judged.{DraftTrue, ClauseFits}
 use Rattle.acc_oblig.proofs.Listed.{each_at, number_at, some_at, path_at}

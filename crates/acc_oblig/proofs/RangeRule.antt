@@ -24,8 +24,8 @@ use Rattle.acc_base.specs.Assertions.{AllTrue, clauses_of}
 use Rattle.acc_base.specs.Effects.{Goes, OutOfRange, first_from, taken_path, leads, path_end, path_effect, choice, reads_end, step_effect}
 use Rattle.acc_base.specs.Effects.{point_of, step_at, step_of, effect_of}
 use Rattle.acc_base.specs.Shapes.{RowFits}
-use Rattle.acc_form.specs.WellFormed.{IsPathFormed, IsWellFormed}
-use Rattle.acc_form.proofs.Open.{some_path_taken}
+use Rattle.acc_formed.specs.WellFormed.{IsPathFormed, IsWellFormed}
+use Rattle.acc_formed.proofs.Open.{some_path_taken}
 use Rattle.acc_base.specs.Fits.{IsReady}
 use Rattle.acc_base.specs.Soundness.{IsShared, AreShared, actions_of, actions_of_path}
 use Rattle.acc_oblig.specs.Settings.{Setting, step_vars}

@@ -18,7 +18,7 @@ use Rattle.acc_base.specs.Numbers.{is_small, IsSmall}
 use Rattle.acc_base.specs.Linear.{var, variables, lin_value, lin_values}
 use Rattle.acc_base.specs.Reads.{Reading, unread, assigned, read_key, read_value, after_read, after_reads}
 use Rattle.acc_base.specs.Truth.{form_value, rel_true, ClauseTrue}
-use Rattle.acc_wp.proofs.Alls.{all-append}
+use Rattle.acc_preconditions.proofs.Alls.{all-append}
 use Rattle.acc_base.specs.Fits.{RowsFit}
 use Rattle.acc_oblig.specs.declared.naming.Naming.{Naming}
 use Rattle.acc_oblig.specs.Naming.{counted, named_lin}
@@ -38,7 +38,7 @@ use Rattle.acc_oblig.proofs.Taken.{all_named, behind_all}
 use Rattle.acc_oblig.proofs.Listed.{all_front, all_back}
 use Rattle.acc_oblig.proofs.RowNumbers.{given_small}
 use Rattle.acc_oblig.proofs.Counting.{counted_more}
-use Rattle.acc_wp.proofs.PartValues.{one_times}
+use Rattle.acc_preconditions.proofs.PartValues.{one_times}
 
 -- a value within bounds
 pub abs_within : (v : ℤ) (n : ℕ) → (v +ℤ neg_ℤ (pos n)) ≤ℤ pos 0 → (neg_ℤ v +ℤ neg_ℤ (pos n)) ≤ℤ pos 0 → unsigned_abs v ≤ n

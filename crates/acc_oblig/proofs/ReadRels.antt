@@ -15,7 +15,7 @@ use Rattle.acc_base.specs.Tables.{has_row, column_of, count_of, sum_of}
 use Rattle.acc_base.specs.Linear.{var}
 use Rattle.acc_base.specs.Reads.{read_value}
 use Rattle.acc_base.specs.Truth.{rel_true}
-use Rattle.acc_wp.proofs.PartValues.{one_times, minus_times}
+use Rattle.acc_preconditions.proofs.PartValues.{one_times, minus_times}
 use Rattle.acc_oblig.specs.declared.naming.Naming.{Naming}
 use Rattle.acc_oblig.specs.Naming.{named, named_lin, named_lins}
 use Rattle.acc_oblig.specs.Relations.{read_rels, is_quotient}

@@ -13,7 +13,7 @@ use Rattle.acc_base.specs.Linear.{lin_values}
 use Rattle.acc_base.specs.Actions.{after_action}
 use Rattle.acc_base.specs.Truth.{ClauseTrue}
 use Rattle.acc_base.specs.RowsAfter.{rows_after, IsThere, AreThere}
-use Rattle.acc_wp.proofs.PartValues.{one_times}
+use Rattle.acc_preconditions.proofs.PartValues.{one_times}
 use Rattle.acc_oblig.specs.PathPromises.{changed_row, row_there}
 use Rattle.acc_oblig.proofs.FormValues.{meets_zero}
 use Rattle.std.proofs.lemmas.List.{append-nil}

@@ -23,9 +23,9 @@ use Rattle.acc_base.specs.Linear.{var, variables}
 use Rattle.acc_base.specs.Reads.{Reading}
 use Rattle.acc_base.specs.Truth.{rel_true, ClauseTrue}
 use Rattle.acc_base.specs.Shapes.{ActionFits}
-use Rattle.acc_wp.specs.Preconditions.{wp_of}
+use Rattle.acc_preconditions.specs.Preconditions.{wp_of}
 use Rattle.acc_base.specs.RowsAfter.{rows_after, AreThere}
-use Rattle.acc_wp.proofs.Alls.{all-append}
+use Rattle.acc_preconditions.proofs.Alls.{all-append}
 use Rattle.acc_base.specs.Fits.{RowsFit}
 use Rattle.acc_oblig.specs.Naming.{own_naming, own_clauses, counted, named_rel}
 use Rattle.acc_oblig.specs.Relations.{below}

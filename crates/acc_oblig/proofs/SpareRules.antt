@@ -25,8 +25,8 @@ use Rattle.acc_base.specs.Assertions.{AllTrue, Holds, clauses_of}
 use Rattle.acc_base.specs.Effects.{point_of, step_at}
 use Rattle.acc_base.specs.Shapes.{RowFits}
 use Rattle.acc_base.specs.RowsAfter.{rows_after, AreThere}
-use Rattle.acc_form.specs.WellFormed.{IsWellFormed}
-use Rattle.acc_form.proofs.InRange.{EntryInRange, design_range}
+use Rattle.acc_formed.specs.WellFormed.{IsWellFormed}
+use Rattle.acc_formed.proofs.InRange.{EntryInRange, design_range}
 use Rattle.acc_base.specs.Fits.{IsFrame, IsReady}
 use Rattle.acc_base.specs.Entries.{at_of, judged, IsFree}
 use Rattle.acc_oblig.specs.Settings.{Setting, step_vars}
@@ -35,7 +35,7 @@ use Rattle.acc_oblig.specs.PathPromises.{clause_names}
 use Rattle.acc_oblig.specs.Spares.{spare_drafts, entry_for, pairs_differ, by_entry, spare_at, all_spare_drafts}
 use Rattle.acc_oblig.proofs.Carries.{carried}
 use Rattle.acc_oblig.proofs.Judged.{DraftTrue, ClauseFits}
-use Rattle.acc_wp.proofs.PathRows.{leaves_rows_after}
+use Rattle.acc_preconditions.proofs.PathRows.{leaves_rows_after}
 use Rattle.acc_oblig.proofs.Taken.{e, here, last_worth}
 use Rattle.acc_oblig.proofs.Listed.{each_at, path_at}
 use Rattle.acc_oblig.proofs.PathClauses.{ws}

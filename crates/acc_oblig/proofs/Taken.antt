@@ -21,7 +21,7 @@ use Rattle.acc_base.specs.Reads.{Reading, unread, after_reads}
 use Rattle.acc_base.specs.Actions.{after_action}
 use Rattle.acc_base.specs.Truth.{rel_true, ClauseTrue}
 use Rattle.acc_base.specs.RowsAfter.{IsThere, AreThere}
-use Rattle.acc_wp.proofs.Alls.{all-append}
+use Rattle.acc_preconditions.proofs.Alls.{all-append}
 use Rattle.acc_oblig.specs.declared.naming.Naming.{Naming}
 use Rattle.acc_oblig.specs.Naming.{own_naming, own_clauses, counted, named_action}
 use Rattle.acc_oblig.specs.Relations.{guard_rel}

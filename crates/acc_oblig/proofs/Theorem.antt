@@ -13,7 +13,7 @@ use Rattle.acc_base.specs.Linear.{variables}
 use Rattle.acc_base.specs.Reads.{Reading}
 use Rattle.acc_base.specs.Effects.{Effect, Goes, Refuses, OutOfRange, point_of, step_at, step_of, effect_of}
 use Rattle.acc_base.specs.RowsAfter.{AreThere}
-use Rattle.acc_form.specs.WellFormed.{IsWellFormed}
+use Rattle.acc_formed.specs.WellFormed.{IsWellFormed}
 use Rattle.acc_base.specs.Fits.{IsReady}
 use Rattle.acc_base.specs.Soundness.{IsSound, WhereGoes, actions_of, actions_of_path}
 use Rattle.acc_oblig.specs.PathPromises.{promise_drafts, always_drafts, there_drafts, empty_drafts}

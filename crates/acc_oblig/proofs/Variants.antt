@@ -27,7 +27,7 @@ use Rattle.acc_base.specs.Effects.{point_of, step_at}
 use Rattle.acc_base.specs.Machine.{moved}
 use Rattle.acc_base.specs.Sums.{form_sum, is_sum_wide}
 use Rattle.acc_base.proofs.SumLaws.{form_sum-value}
-use Rattle.acc_wp.proofs.PartValues.{minus_times}
+use Rattle.acc_preconditions.proofs.PartValues.{minus_times}
 use Rattle.acc_base.specs.Fits.{RowsFit, IsReady}
 use Rattle.acc_base.specs.Soundness.{variant_of, variant_at, FallsAt}
 use Rattle.acc_oblig.specs.Naming.{named_lin}
@@ -46,7 +46,7 @@ use Rattle.acc_oblig.proofs.Taken.{IsOn, E, vs, setting, here, after_agrees, hyp
 use Rattle.acc_oblig.proofs.Listed.{all_front, all_back, each_at, some_at, path_at}
 use Rattle.acc_oblig.proofs.OnPath.{OnPath}
 use Rattle.acc_oblig.proofs.StepPlaces.{HeldAt, held_at, some_point}
-use Rattle.acc_form.specs.Ranges.{target_in}
+use Rattle.acc_formed.specs.Ranges.{target_in}
 
 -- ---- a transaction that rests
 

@@ -15,7 +15,7 @@ use Rattle.acc_base.specs.Linear.{var, variables, lin_value, lin_values}
 use Rattle.acc_base.specs.Reads.{Reading, assigned, read_value, after_reads}
 use Rattle.acc_base.specs.Truth.{rel_true, ClauseTrue}
 use Rattle.acc_base.proofs.Smalls.{small_is}
-use Rattle.acc_wp.proofs.Alls.{all-append}
+use Rattle.acc_preconditions.proofs.Alls.{all-append}
 use Rattle.acc_oblig.specs.declared.naming.Naming.{Naming}
 use Rattle.acc_oblig.specs.Naming.{counted}
 use Rattle.acc_oblig.specs.Relations.{read_rels, read_hyps, below}

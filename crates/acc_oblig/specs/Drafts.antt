@@ -18,7 +18,7 @@ use Rattle.acc_base.specs.declared.sequents.Origin.{Origin}
 use Rattle.acc_base.specs.declared.sequents.Sequent.{Sequent}
 use Rattle.acc_base.specs.Effects.{step_at}
 use Rattle.acc_base.specs.Sums.{form_sum, is_sum_wide}
-use Rattle.acc_wp.specs.Preconditions.{wp_of, is_wp_wide}
+use Rattle.acc_preconditions.specs.Preconditions.{wp_of, is_wp_wide}
 use Rattle.acc_oblig.specs.Naming.{own_naming, named_rel}
 use Rattle.acc_oblig.specs.Relations.{form}
 use Rattle.acc_oblig.specs.Settings.{Setting, step_vars, step_bounds, step_rels, step_hyps, path_actions}

@@ -3,7 +3,7 @@ use Rattle.std.specs.Prelude.{Bool, List, ◌++◌, All, map}
 use Rattle.std.specs.List.{list_any}
 use Rattle.acc_base.specs.declared.designs.Design.{Design}
 use Rattle.acc_base.specs.declared.sequents.Sequent.{Sequent}
-use Rattle.acc_form.specs.WellFormed.{IsWellFormed}
+use Rattle.acc_formed.specs.WellFormed.{IsWellFormed}
 use Rattle.acc_base.specs.Soundness.{IsSound}
 use Rattle.acc_oblig.specs.Drafts.{Draft}
 use Rattle.acc_oblig.specs.PathPromises.{promise_drafts, always_drafts, there_drafts, empty_drafts}

@@ -16,8 +16,8 @@ use Rattle.acc_base.specs.declared.designs.Point.{Point}
 use Rattle.acc_base.specs.declared.designs.TxType.{TxType}
 use Rattle.acc_base.specs.declared.designs.Design.{Design}
 use Rattle.acc_base.specs.declared.sequents.Origin.{Origin}
-use Rattle.acc_wp.specs.Preconditions.{wp_of}
-use Rattle.acc_form.specs.Entries.{same_point, same_side}
+use Rattle.acc_preconditions.specs.Preconditions.{wp_of}
+use Rattle.acc_formed.specs.Entries.{same_point, same_side}
 use Rattle.acc_oblig.specs.Naming.{own_naming, own_clauses, counted, named_rel}
 use Rattle.acc_oblig.specs.Relations.{below, not_all_none}
 use Rattle.acc_oblig.specs.Settings.{Setting, last_now, step_vars, frame_bounds, step_bounds, step_rels, step_hyps, path_actions}

@@ -9,9 +9,9 @@ use Rattle.acc_base.specs.declared.sequents.Sequent.{Sequent}
 use Rattle.acc_oblig.specs.declared.naming.Naming.{Naming}
 use Rattle.acc_oblig.specs.Naming.{own_naming}
 use Rattle.acc_oblig.specs.Drafts.{clause_drafts}
-use Rattle.acc_obligations.specs.declared.errors.ObligError.{ObligError}
-use Rattle.acc_obligations.specs.Causes.{Adds, at_case}
-use Rattle.acc_obligations.specs.Shares.{after_drafts}
+use Rattle.acc_goals.specs.declared.errors.ObligError.{ObligError}
+use Rattle.acc_goals.specs.Causes.{Adds, at_case}
+use Rattle.acc_goals.specs.Shares.{after_drafts}
 
 module _ (r : Result (Unit {0}) ObligError) (old new : List Sequent) (origin : Origin) (hyps : ℕ → List Clause) (rels : ℕ → List Rel)
     (actions : ℕ → List Action) (names : List ℕ) (own : ℕ) (c : Clause) where

@@ -1,9 +1,1 @@
-pub mod Causes
-pub mod Extremes
 pub mod PathClauses
-pub mod Quotients
-pub mod Rooms
-pub mod Seen
-pub mod SeenPlaces
-pub mod Shares
-pub mod Stops

@@ -1,22 +1,49 @@
 //! The obligations of a clause after a path.
-ghost use Rattle.std.specs.Prelude.{◌≡◌, ◌+◌, ◌<◌, ◌^◌};
-ghost use Rattle.acc_oblig.specs.Drafts.{path_origin};
-ghost use Rattle.acc_obligations.specs.Causes.{Adds};
-ghost use Rattle.acc_obligations.specs.Rooms.{HasFewVars, IsSmallStop};
+ghost use Rattle.std.specs.Prelude.{◌≡◌, ◌+◌, ◌<◌, ◌^◌, take};
+ghost use Rattle.acc_oblig.specs.Drafts.{path_origin, setting_of};
+ghost use Rattle.acc_goals.specs.Causes.{Adds};
+ghost use Rattle.acc_places.specs.Rooms.{HasFewVars, IsSmallDesign, IsSmallStop};
 ghost use Rattle.acc_obligations.specs.PathClauses.{path_clause_drafts};
-ghost use Rattle.acc_obligations.specs.Seen.{seen, HasRoom};
-ghost use Rattle.acc_obligations.specs.SeenPlaces.{stop};
+ghost use Rattle.acc_assumptions.specs.Seen.{seen, HasRoom};
+ghost use Rattle.acc_places.specs.SeenPlaces.{stop};
 
-use crate::errors::ObligError;
-use crate::naming::own_naming;
-use crate::places::PathPlace;
-use crate::sequents::{Shared, add_clause};
-use crate::settings::{Setting, path_actions, path_rels, step_hyps, step_vars};
-use acc_base::designs::At;
+use acc_assumptions::settings::{Setting, path_actions, path_rels, step_hyps, step_vars};
+use acc_base::designs::{At, Design};
 use acc_base::forms::Clause;
 use acc_base::sequences::Seq;
 use acc_base::sequents::{Origin, Sequent};
+use acc_base::steps::Path;
+use acc_goals::errors::ObligError;
+use acc_goals::sequents::{Shared, add_clause};
+use acc_named::naming::own_naming;
+use acc_places::places::PathPlace;
 use std::alloc::Global;
+
+/// The paths before the one with a number.
+fn earlier(paths: &[Path], number: u32) -> &[Path]
+    ensures { result.now ≡ take number paths.now }
+{
+    let count = paths.len().min(number as usize);
+    &paths[..count]
+}
+
+/// The setting of a path.
+pub fn path_setting<'a>(d: &'a Design, q: &PathPlace<'a>) -> Setting<'a>
+    requires design { IsSmallDesign d.now }
+    requires small { IsSmallStop (stop q.now) }
+    ensures seen { seen result ≡ setting_of d.now q.now.ty.now q.now.point.now q.now.step.now q.now.number q.now.path.now }
+    ensures room { HasRoom result }
+{
+    Setting {
+        always: d.always.as_slice(),
+        clauses: q.point.clauses.as_slice(),
+        locals: q.ty.locals.len() as u32,
+        reads: q.step.reads.as_slice(),
+        earlier: earlier(q.step.paths.as_slice(), q.number),
+        guard: q.path.guard.as_slice(),
+        actions: q.path.actions.as_slice(),
+    }
+}
 
 /// Which clause or number of a rule an obligation is on, from 0, and of which held point if there is one.
 #[derive(Clone, Copy)]

@@ -4,8 +4,7 @@ use acc_base::forms::Clause;
 use acc_base::sequences::Text;
 use acc_base::sequents::Origin;
 use acc_base::steps::{Read, Step, Target};
-use acc_explain::{push_number, push_text};
-use std::alloc::AllocError;
+use acc_page::Page;
 
 /// What a variable of an obligation is.
 #[derive(Clone, Copy)]
@@ -164,33 +163,28 @@ fn variable_of<'a>(d: &'a Design, origin: &Origin, place: usize) -> Variable<'a>
     }
 }
 
-/// Puts what a variable of an obligation is called behind a text.
-pub fn push_variable(
-    out: &mut Vec<u8>,
-    d: &Design,
-    origin: &Origin,
-    variable: u32,
-) -> Result<(), AllocError> {
+/// Writes what a variable of an obligation is called.
+pub fn push_variable(out: &mut Page, d: &Design, origin: &Origin, variable: u32) {
     match variable_of(d, origin, variable as usize) {
-        Variable::Local(name) | Variable::Named(name) => push_text(out, name),
+        Variable::Local(name) | Variable::Named(name) => out.push(name),
         Variable::Before(name) => {
-            push_text(out, b"old ")?;
-            push_text(out, name)
+            out.push(b"old ");
+            out.push(name)
         }
         Variable::Behind(name, read) => {
-            push_text(out, name)?;
-            push_text(out, b" of read ")?;
-            push_number(out, read)
+            out.push(name);
+            out.push(b" of read ");
+            out.push_number(read)
         }
-        Variable::Own => push_text(out, b"self"),
+        Variable::Own => out.push(b"self"),
         Variable::Held(name) => {
-            push_text(out, b"held ")?;
-            push_text(out, name)
+            out.push(b"held ");
+            out.push(name)
         }
-        Variable::HeldOwn => push_text(out, b"held self"),
+        Variable::HeldOwn => out.push(b"held self"),
         Variable::Component(number) => {
-            push_text(out, b"key ")?;
-            push_number(out, number)
+            out.push(b"key ");
+            out.push_number(number)
         }
     }
 }

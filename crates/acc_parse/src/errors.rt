@@ -5,7 +5,7 @@ ghost use Rattle.acc_parse.specs.declared.errors.ParseError.TheVariants as parse
 use std::alloc::AllocError;
 
 /// Why a text is no design. Lines are counted from 1.
-#[derive(Clone, Copy, Debug, PartialEq, Eq)]
+#[derive(Clone, Copy)]
 pub enum ParseError {
     /// The text isn't of the grammar: the line up to which no design's text goes on, or one more than the number of its line
     /// feeds where it only ends too early.

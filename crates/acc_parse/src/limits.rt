@@ -29,7 +29,7 @@ pub fn first_passed(tree: &DesignTree, collected: Option<(u64, Limit)>) -> Optio
 }
 
 /// A line of a text, and the number of a limit that is passed there.
-#[derive(Clone, Copy, Debug, PartialEq, Eq)]
+#[derive(Clone, Copy)]
 pub struct PassedLimit {
     pub line: u64,
     pub which: u32,

@@ -21,7 +21,7 @@ use acc_lex::lexers::LexError;
 use acc_lex::texts::words;
 use acc_lex::words::Word;
 use acc_meaning::meaning_of;
-use acc_names::names_of;
+use acc_names::{DesignNames, names_of};
 use acc_statements::line_of;
 use acc_statements::lines::first_lines;
 use acc_syntax::trees::DesignTree;
@@ -96,6 +96,28 @@ fn limit_error(
     Ok(ParseError::Limit(passed.line, passed.which))
 }
 
+/// The design of a tree whose names are right, or the limit that it passes.
+fn named_design<'a>(
+    alloc: Global,
+    text: &[u8],
+    names: &DesignNames<'a>,
+    tree: &'a DesignTree,
+) -> Result<Design, ParseError>
+    requires grammatical { (g : IsGrammatical text.now) × (g.tree ≡ tree.now) }
+    requires few { statements_of tree.now < 2 ^ 64 }
+    requires tables { names.now.tables.trees.now ≡ tree.now.tables }
+    requires types { names.now.types.trees.now ≡ tree.now.types }
+    requires named { first_fault_of tree.now ≡ None }
+    ensures ok { IfOk result (λ d. IsAllowed tree.now × (d ≡ design_of tree.now)) }
+    ensures err { IfErr result (Refuses text.now) }
+{
+    let meaning = meaning_of(alloc, names, tree)?;
+    match first_passed(tree, meaning.first_fault) {
+        Some(first) => Err(limit_error(alloc, text, tree, first)?),
+        None => Ok(meaning.design),
+    }
+}
+
 /// The design of a tree that a text spells, or why it stands for none.
 fn design_of_tree(alloc: Global, text: &[u8], tree: &DesignTree) -> Result<Design, ParseError>
     requires grammatical { (g : IsGrammatical text.now) × (g.tree ≡ tree.now) }
@@ -107,11 +129,7 @@ fn design_of_tree(alloc: Global, text: &[u8], tree: &DesignTree) -> Result<Desig
     if let Some(n) = names.first_fault {
         return Err(ParseError::Name(line_in(alloc, text, tree, n)?));
     }
-    let meaning = meaning_of(alloc, &names, tree)?;
-    match first_passed(tree, meaning.first_fault) {
-        Some(first) => Err(limit_error(alloc, text, tree, first)?),
-        None => Ok(meaning.design),
-    }
+    named_design(alloc, text, &names, tree)
 }
 
 /// The design of a text. The cost is that of going over the text, with a look-up in an ordered map for each name and for each

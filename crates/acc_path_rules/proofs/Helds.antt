@@ -10,9 +10,9 @@ use Rattle.acc_oblig.specs.declared.naming.Naming.{Naming}
 use Rattle.acc_oblig.specs.Naming.{own_naming}
 use Rattle.acc_oblig.specs.Settings.{Setting, step_vars, path_actions}
 use Rattle.acc_oblig.specs.Spares.{held_names, spare_drafts}
-use Rattle.acc_obligations.specs.declared.errors.ObligError.{ObligError}
-use Rattle.acc_obligations.specs.Causes.{Adds, at_case}
-use Rattle.acc_obligations.specs.Stops.{Rest}
+use Rattle.acc_goals.specs.declared.errors.ObligError.{ObligError}
+use Rattle.acc_goals.specs.Causes.{Adds, at_case}
+use Rattle.acc_places.specs.Stops.{Rest}
 use Rattle.acc_path_rules.specs.declared.orders.Ordered.{Ordered}
 use Rattle.acc_path_rules.specs.Orders.{after_ordered}
 use Rattle.acc_path_rules.specs.Helds.{ordered_of}

@@ -14,9 +14,9 @@ use Rattle.acc_oblig.specs.Settings.{Setting, last_now}
 use Rattle.acc_oblig.specs.Drafts.{Draft, of_some, path_drafts, path_origin, setting_of}
 use Rattle.acc_oblig.specs.PathPromises.{clause_names, always_at}
 use Rattle.acc_oblig.specs.Spares.{entry_for, judged_var, pairs_differ, spare_drafts, by_entry, spare_at}
-use Rattle.acc_obligations.specs.declared.errors.ObligError.{ObligError}
-use Rattle.acc_obligations.specs.Causes.{Adds}
-use Rattle.acc_obligations.specs.Stops.{Rest, Stop, at_stop}
+use Rattle.acc_goals.specs.declared.errors.ObligError.{ObligError}
+use Rattle.acc_goals.specs.Causes.{Adds}
+use Rattle.acc_places.specs.Stops.{Rest, Stop, at_stop}
 use Rattle.acc_path_rules.specs.Openings.{judged_among, open_by}
 
 -- the setting of a path

@@ -14,10 +14,10 @@ use Rattle.acc_oblig.specs.Settings.{last_now}
 use Rattle.acc_oblig.specs.Drafts.{of_some, path_drafts}
 use Rattle.acc_oblig.specs.PathPromises.{point_clauses, promised, promise_at}
 use Rattle.acc_oblig.proofs.OnPath.{all_at}
-use Rattle.acc_obligations.specs.declared.errors.ObligError.{ObligError}
-use Rattle.acc_obligations.specs.Causes.{Adds}
-use Rattle.acc_obligations.specs.Rooms.{HasFewVars, IsSmallPoint, IsSmallType}
-use Rattle.acc_obligations.specs.Stops.{Stop, at_stop}
+use Rattle.acc_goals.specs.declared.errors.ObligError.{ObligError}
+use Rattle.acc_goals.specs.Causes.{Adds}
+use Rattle.acc_places.specs.Rooms.{HasFewVars, IsSmallPoint, IsSmallType}
+use Rattle.acc_places.specs.Stops.{Stop, at_stop}
 use Rattle.acc_path_rules.proofs.Kept.{setting_at}
 
 all_small : (x : TxType) → IsSmallType x → (t : Target) → All HasFewVars (promised x t)

@@ -9,9 +9,9 @@ use Rattle.acc_base.specs.declared.sequents.Sequent.{Sequent}
 use Rattle.acc_oblig.specs.Settings.{Setting, last_now}
 use Rattle.acc_oblig.specs.Drafts.{Draft, of_some, path_drafts, setting_of}
 use Rattle.acc_oblig.specs.PathPromises.{changed_row, row_there, there_at}
-use Rattle.acc_obligations.specs.declared.errors.ObligError.{ObligError}
-use Rattle.acc_obligations.specs.Causes.{Adds}
-use Rattle.acc_obligations.specs.Stops.{Stop, at_stop}
+use Rattle.acc_goals.specs.declared.errors.ObligError.{ObligError}
+use Rattle.acc_goals.specs.Causes.{Adds}
+use Rattle.acc_places.specs.Stops.{Stop, at_stop}
 use Rattle.acc_path_rules.specs.Rows.{needed_of, needed_at}
 
 needed_is :

@@ -6,10 +6,10 @@ use Rattle.acc_base.specs.declared.designs.Point.{Point}
 use Rattle.acc_base.specs.declared.designs.TxType.{TxType}
 use Rattle.acc_base.specs.declared.designs.Design.{Design}
 use Rattle.acc_oblig.specs.Drafts.{Draft, Place, each_from, each_number, each_path}
-use Rattle.acc_obligations.specs.declared.places.PathPlace.{PathPlace}
-use Rattle.acc_obligations.specs.SeenPlaces.{stop}
-use Rattle.acc_obligations.specs.Stops.{joined, at_stop, stops_of}
-use Rattle.acc_obligations.proofs.EachPath.{each_path_is}
+use Rattle.acc_places.specs.declared.places.PathPlace.{PathPlace}
+use Rattle.acc_places.specs.SeenPlaces.{stop}
+use Rattle.acc_places.specs.Stops.{joined, at_stop, stops_of}
+use Rattle.acc_places.proofs.EachPath.{each_path_is}
 use Rattle.acc_obligations.proofs.Going.{each_next, number_next}
 
 module _ (d : Design) (ps : List PathPlace) (e : map stop ps ≡ stops_of d) where

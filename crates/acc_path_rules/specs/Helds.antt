@@ -6,7 +6,7 @@ use Rattle.acc_oblig.specs.Naming.{own_clauses}
 use Rattle.acc_oblig.specs.Relations.{below}
 use Rattle.acc_oblig.specs.Settings.{Setting, step_vars, frame_bounds, step_bounds, step_rels, step_hyps}
 use Rattle.acc_oblig.specs.Spares.{held_names}
-use Rattle.acc_obligations.specs.Stops.{Rest}
+use Rattle.acc_places.specs.Stops.{Rest}
 use Rattle.acc_path_rules.specs.declared.orders.Ordered.{Ordered}
 
 -- the number of a held transaction with so many locals is the variable behind these

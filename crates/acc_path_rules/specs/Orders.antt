@@ -2,12 +2,12 @@
 use Rattle.std.specs.Prelude.{◌++◌, List, map}
 use Rattle.acc_base.specs.declared.forms.Clause.{Clause}
 use Rattle.acc_base.specs.declared.steps.Action.{Action}
-use Rattle.acc_wp.specs.Preconditions.{wp_of}
+use Rattle.acc_preconditions.specs.Preconditions.{wp_of}
 use Rattle.acc_oblig.specs.declared.naming.Naming.{Naming}
 use Rattle.acc_oblig.specs.Naming.{named_rel}
 use Rattle.acc_oblig.specs.Drafts.{Draft, goals_of, is_clause_wide}
 use Rattle.acc_oblig.specs.Spares.{ordered_drafts}
-use Rattle.acc_obligations.specs.Causes.{at_case}
+use Rattle.acc_goals.specs.Causes.{at_case}
 use Rattle.acc_path_rules.specs.declared.orders.Ordered.{Ordered}
 
 -- of a clause after actions, under its names

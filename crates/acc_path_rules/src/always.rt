@@ -1,20 +1,20 @@
 //! The obligations that a path keeps what holds always.
 ghost use Rattle.std.specs.Prelude.{◌≡◌, ◌+◌, ◌<◌, ◌^◌, map, All};
-ghost use Rattle.acc_form.specs.WellFormed.{IsWellFormed};
+ghost use Rattle.acc_formed.specs.WellFormed.{IsWellFormed};
 ghost use Rattle.acc_oblig.specs.PathPromises.{always_at, always_drafts};
-ghost use Rattle.acc_obligations.specs.Causes.{Adds};
-ghost use Rattle.acc_obligations.specs.Rooms.{HasFewVars, IsSmallDesign, IsSmallStop};
-ghost use Rattle.acc_obligations.specs.SeenPlaces.{stop};
-ghost use Rattle.acc_obligations.specs.Stops.{joined, at_stop};
+ghost use Rattle.acc_goals.specs.Causes.{Adds};
+ghost use Rattle.acc_places.specs.Rooms.{HasFewVars, IsSmallDesign, IsSmallStop};
+ghost use Rattle.acc_places.specs.SeenPlaces.{stop};
+ghost use Rattle.acc_places.specs.Stops.{joined, at_stop};
 
 use crate::tables::clause_names;
 use acc_base::designs::Design;
 use acc_base::forms::Clause;
 use acc_base::sequences::Seq;
 use acc_base::sequents::Sequent;
-use acc_obligations::errors::ObligError;
-use acc_obligations::paths::{Cause, add_path_clause, path_origin};
-use acc_obligations::places::{PathPlace, all_paths, path_setting};
+use acc_goals::errors::ObligError;
+use acc_obligations::paths::{Cause, add_path_clause, path_origin, path_setting};
+use acc_places::places::{PathPlace, all_paths};
 use std::alloc::Global;
 
 /// Adds the obligation that a path keeps a clause, if the clause names a table that the path changes.

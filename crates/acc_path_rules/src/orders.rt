@@ -1,17 +1,17 @@
 //! The obligations of goals for both orders of the held number and the step's.
 ghost use Rattle.std.specs.Prelude.{◌≡◌, ◌++◌, ◌∷◌, ◌<◌, ◌^◌, false, length, IfOk, OnOk};
 ghost use Rattle.acc_oblig.specs.Spares.{ordered_drafts};
-ghost use Rattle.acc_obligations.specs.Causes.{sequents, Adds, at_case};
+ghost use Rattle.acc_goals.specs.Causes.{sequents, Adds, at_case};
 ghost use Rattle.acc_path_rules.specs.Orders.{after_ordered};
 
 use acc_base::forms::{Clause, Form, Rel};
 use acc_base::sequences::{Seq, copied};
 use acc_base::sequents::{Origin, Sequent};
 use acc_base::steps::Action;
+use acc_goals::clauses::goals_after;
+use acc_goals::errors::ObligError;
+use acc_goals::sequents::at_case;
 use acc_oblig::naming::Naming;
-use acc_obligations::clauses::goals_after;
-use acc_obligations::errors::ObligError;
-use acc_obligations::sequents::at_case;
 use std::alloc::{AllocError, Global};
 
 /// What the obligations of a clause have in common: where they come from, how many variables they have, their hypotheses, and
@@ -58,7 +58,7 @@ fn under_order(o: &Ordered, order: &Rel, case: u32, goal: &Form) -> Result<Seque
     }) }
 {
     Ok(Sequent {
-        origin: at_case(&o.origin, case)?,
+        origin: at_case(&o.origin, case),
         vars: o.vars,
         hyps: copied(&o.hyps)?,
         rels: with_order(&o.first, order, &o.rest)?,

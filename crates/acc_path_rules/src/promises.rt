@@ -1,12 +1,12 @@
 //! The obligations that a path leaves what its target promises.
 ghost use Rattle.std.specs.Prelude.{◌≡◌, ◌<◌, map, All, slice_get};
 ghost use Rattle.acc_base.specs.declared.bounds.TheConstants.{MOST_CLAUSES};
-ghost use Rattle.acc_form.specs.WellFormed.{IsWellFormed};
+ghost use Rattle.acc_formed.specs.WellFormed.{IsWellFormed};
 ghost use Rattle.acc_oblig.specs.PathPromises.{point_clauses, promised, promise_at, promise_drafts};
-ghost use Rattle.acc_obligations.specs.Causes.{Adds};
-ghost use Rattle.acc_obligations.specs.Rooms.{HasFewVars, IsSmallDesign, IsSmallStop, IsSmallType};
-ghost use Rattle.acc_obligations.specs.SeenPlaces.{stop};
-ghost use Rattle.acc_obligations.specs.Stops.{joined, at_stop};
+ghost use Rattle.acc_goals.specs.Causes.{Adds};
+ghost use Rattle.acc_places.specs.Rooms.{HasFewVars, IsSmallDesign, IsSmallStop, IsSmallType};
+ghost use Rattle.acc_places.specs.SeenPlaces.{stop};
+ghost use Rattle.acc_places.specs.Stops.{joined, at_stop};
 
 use crate::names::names_after;
 use acc_base::bounds::MOST_CLAUSES;
@@ -15,9 +15,9 @@ use acc_base::forms::Clause;
 use acc_base::sequences::Seq;
 use acc_base::sequents::Sequent;
 use acc_base::steps::Target;
-use acc_obligations::errors::ObligError;
-use acc_obligations::paths::{Cause, add_path_clause, path_origin};
-use acc_obligations::places::{PathPlace, all_paths, path_setting};
+use acc_goals::errors::ObligError;
+use acc_obligations::paths::{Cause, add_path_clause, path_origin, path_setting};
+use acc_places::places::{PathPlace, all_paths};
 use std::alloc::Global;
 
 /// The clauses of a point of a type.

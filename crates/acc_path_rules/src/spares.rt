@@ -1,33 +1,33 @@
 //! The obligations that a path keeps what holds at the points of others.
 ghost use Rattle.std.specs.Prelude.{◌≡◌, ◌+◌, ◌++◌, ◌≤◌, ◌<◌, ◌^◌, length, map, All, IfOk};
 ghost use Rattle.acc_base.specs.declared.bounds.TheConstants.{MOST_LOCALS, MOST_VARIABLES};
-ghost use Rattle.acc_form.specs.WellFormed.{IsWellFormed};
+ghost use Rattle.acc_formed.specs.WellFormed.{IsWellFormed};
 ghost use Rattle.acc_oblig.specs.Naming.{own_clauses};
 ghost use Rattle.acc_oblig.specs.Settings.{step_vars, step_hyps, step_rels, step_bounds, frame_bounds};
 ghost use Rattle.acc_oblig.specs.Spares.{held_names, spare_drafts, spare_at, held_drafts, all_spare_drafts};
-ghost use Rattle.acc_obligations.specs.Causes.{Adds, at_case};
-ghost use Rattle.acc_obligations.specs.Rooms.{HasFewVars, IsSmallDesign, IsSmallStop, IsSmallRest};
-ghost use Rattle.acc_obligations.specs.Seen.{seen, HasRoom};
-ghost use Rattle.acc_obligations.specs.SeenPlaces.{rest, stop};
-ghost use Rattle.acc_obligations.specs.Stops.{joined, at_stop, at_rest, stops_of};
+ghost use Rattle.acc_goals.specs.Causes.{Adds, at_case};
+ghost use Rattle.acc_places.specs.Rooms.{HasFewVars, IsSmallDesign, IsSmallStop, IsSmallRest};
+ghost use Rattle.acc_assumptions.specs.Seen.{seen, HasRoom};
+ghost use Rattle.acc_places.specs.SeenPlaces.{rest, stop};
+ghost use Rattle.acc_places.specs.Stops.{joined, at_stop, at_rest, stops_of};
 ghost use Rattle.acc_path_rules.specs.Helds.{ordered_of};
 
 use crate::entries::open_by;
 use crate::orders::{Ordered, add_clause};
 use crate::tables::clause_names;
+use acc_assumptions::settings::{
+    Setting, add_frame_bounds, add_own_clauses, add_step_rels, counted, path_actions, step_bounds,
+    step_hyps, step_vars,
+};
 use acc_base::designs::Design;
 use acc_base::forms::{Clause, Rel};
 use acc_base::sequences::Seq;
 use acc_base::sequents::{Origin, Sequent};
-use acc_obligations::errors::ObligError;
-use acc_obligations::forms::below;
-use acc_obligations::naming::own_naming;
-use acc_obligations::paths::{Cause, path_origin};
-use acc_obligations::places::{PathPlace, PointPlace, all_paths, path_setting, points_of};
-use acc_obligations::settings::{
-    Setting, add_frame_bounds, add_own_clauses, add_step_rels, counted, path_actions, step_bounds,
-    step_hyps, step_vars,
-};
+use acc_goals::errors::ObligError;
+use acc_named::forms::below;
+use acc_named::naming::own_naming;
+use acc_obligations::paths::{Cause, path_origin, path_setting};
+use acc_places::places::{PathPlace, PointPlace, all_paths, points_of};
 use std::alloc::{AllocError, Global};
 
 /// The variables of so many held locals and of the held number.

@@ -1,28 +1,28 @@
 //! The obligations that the row of each `set` and `add` is there.
 ghost use Rattle.std.specs.Prelude.{◌≡◌, ◌<◌, length, map, take, All, IfOk};
 ghost use Rattle.acc_base.specs.declared.bounds.TheConstants.{MOST_ACTIONS};
-ghost use Rattle.acc_form.specs.WellFormed.{IsWellFormed};
+ghost use Rattle.acc_formed.specs.WellFormed.{IsWellFormed};
 ghost use Rattle.acc_oblig.specs.Drafts.{setting_of};
 ghost use Rattle.acc_oblig.specs.PathPromises.{row_there, there_at, there_drafts};
-ghost use Rattle.acc_obligations.specs.Causes.{Adds};
-ghost use Rattle.acc_obligations.specs.Rooms.{IsSmallDesign, IsSmallStop};
-ghost use Rattle.acc_obligations.specs.Seen.{seen, HasRoom};
-ghost use Rattle.acc_obligations.specs.SeenPlaces.{stop};
-ghost use Rattle.acc_obligations.specs.Stops.{joined, at_stop};
+ghost use Rattle.acc_goals.specs.Causes.{Adds};
+ghost use Rattle.acc_places.specs.Rooms.{IsSmallDesign, IsSmallStop};
+ghost use Rattle.acc_assumptions.specs.Seen.{seen, HasRoom};
+ghost use Rattle.acc_places.specs.SeenPlaces.{stop};
+ghost use Rattle.acc_places.specs.Stops.{joined, at_stop};
 ghost use Rattle.acc_path_rules.specs.Rows.{needed_row, needed_at};
 
 use crate::names::names_after;
+use acc_assumptions::settings::Setting;
 use acc_base::bounds::MOST_ACTIONS;
 use acc_base::designs::Design;
 use acc_base::forms::{Atom, Clause, Lin};
 use acc_base::sequences::{Seq, copied};
 use acc_base::sequents::Sequent;
 use acc_base::steps::Action;
-use acc_obligations::errors::ObligError;
-use acc_obligations::forms::{is_none, one_term, times};
-use acc_obligations::paths::{Cause, add_path_clause, path_origin};
-use acc_obligations::places::{PathPlace, all_paths, path_setting};
-use acc_obligations::settings::Setting;
+use acc_goals::errors::ObligError;
+use acc_named::forms::{is_none, one_term, times};
+use acc_obligations::paths::{Cause, add_path_clause, path_origin, path_setting};
+use acc_places::places::{PathPlace, all_paths};
 use std::alloc::{AllocError, Global};
 
 /// That a row is there.

@@ -20,7 +20,7 @@ use acc_store::{Store, Write};
 use std::alloc::{AllocError, AllocFailed, Global};
 
 /// Why a turn isn't made.
-#[derive(Clone, Copy, Debug, PartialEq, Eq)]
+#[derive(Clone, Copy)]
 pub enum PlainError {
     /// Memory ran out; the machine is as before.
     Memory,

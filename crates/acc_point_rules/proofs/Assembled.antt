@@ -13,21 +13,14 @@ use Rattle.acc_base.specs.declared.sequents.Sequent.{Sequent}
 use Rattle.acc_oblig.specs.Settings.{Setting, first_now, step_vars, step_hyps}
 use Rattle.acc_oblig.specs.Drafts.{Draft, Place, of_some, goal_drafts, path_origin, path_rels}
 use Rattle.acc_oblig.specs.PointRules.{rest_origin, variant_form, rest_in, fall_in}
-use Rattle.acc_obligations.specs.declared.errors.ObligError.{ObligError}
-use Rattle.acc_obligations.specs.declared.errors.ObligError.TheVariants.{Wide, Memory}
-use Rattle.acc_obligations.specs.Causes.{first_wide, Adds, TellsClause, at_case}
+use Rattle.acc_goals.specs.declared.errors.ObligError.{ObligError}
+use Rattle.acc_goals.specs.declared.errors.ObligError.TheVariants.{Wide, Memory}
+use Rattle.acc_goals.specs.Causes.{first_wide, Adds, TellsClause, at_case}
 use Rattle.acc_point_rules.specs.declared.variants.Bound.{Bound}
 use Rattle.acc_point_rules.specs.Bounds.{bound_clause, bound_goal, fall_form, is_fall_wide}
 
 pub nothing_added : (old : List Sequent) → Adds (Ok tt) old old []
 nothing_added old = (sym (append-nil old), refl)
-
--- no number is too large where none of the goals' is
-pub none_wide :
-    (origin : ℕ → Origin) (vars : ℕ) (hyps : List Clause) (rels : List Rel) (n : ℕ) (gs : List Form)
-    → first_wide (goal_drafts origin vars hyps rels false n gs) ≡ None
-none_wide origin vars hyps rels n [] = refl
-none_wide origin vars hyps rels n (g ∷ gs) = none_wide origin vars hyps rels (n + 1) gs
 
 module _ (r : Result (Unit {0}) ObligError) (old new : List Sequent) where
   -- what is chosen by a test, where it is true

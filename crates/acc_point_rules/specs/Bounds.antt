@@ -11,7 +11,7 @@ use Rattle.acc_oblig.specs.Relations.{negated, plus_number}
 use Rattle.acc_oblig.specs.Settings.{Setting, first_now, last_now, step_vars}
 use Rattle.acc_oblig.specs.Drafts.{Draft, of_some, setting_of}
 use Rattle.acc_oblig.specs.PointRules.{variant_form, rest_drafts, fall_drafts, point_at}
-use Rattle.acc_obligations.specs.Stops.{Rest, Stop, joined, at_rest}
+use Rattle.acc_places.specs.Stops.{Rest, Stop, joined, at_rest}
 use Rattle.acc_point_rules.specs.declared.variants.Bound.{Bound}
 use Rattle.acc_point_rules.specs.declared.variants.Bound.TheVariants.{Lowest, Highest}
 

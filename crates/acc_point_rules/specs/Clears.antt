@@ -4,7 +4,7 @@ use Rattle.acc_base.specs.declared.designs.Design.{Design}
 use Rattle.acc_oblig.specs.Settings.{Setting, last_now}
 use Rattle.acc_oblig.specs.Drafts.{Draft, path_drafts, setting_of}
 use Rattle.acc_oblig.specs.PointRules.{none_of}
-use Rattle.acc_obligations.specs.Stops.{Stop}
+use Rattle.acc_places.specs.Stops.{Stop}
 
 -- of a table whose keys have so many components
 abbrev pub path_clears : Design → ℕ → ℕ → Stop → List Draft

@@ -8,7 +8,7 @@ use Rattle.acc_oblig.specs.Settings.{Setting, first_now, step_vars, step_hyps}
 use Rattle.acc_oblig.specs.Drafts.{Draft, clause_drafts}
 use Rattle.acc_oblig.specs.PathPromises.{empty_origin}
 use Rattle.acc_oblig.specs.PointRules.{begin_rels, resting}
-use Rattle.acc_obligations.specs.Causes.{at_case}
+use Rattle.acc_goals.specs.Causes.{at_case}
 
 -- that it holds of no rows
 abbrev pub empty_clause_drafts : ℕ → Clause → List Draft

@@ -1,27 +1,27 @@
 //! The obligations that a transaction which begins has its start point's assertion.
 ghost use Rattle.std.specs.Prelude.{◌≡◌, ◌+◌, ◌-◌, ◌<◌, ◌^◌, [], ◌++◌, length, slice_get, IfOk, OnOk, All};
 ghost use Rattle.acc_base.specs.declared.bounds.TheConstants.{MOST_CLAUSES};
-ghost use Rattle.acc_form.specs.WellFormed.{IsWellFormed};
+ghost use Rattle.acc_formed.specs.WellFormed.{IsWellFormed};
 ghost use Rattle.acc_oblig.specs.Drafts.{each, each_number};
 ghost use Rattle.acc_oblig.specs.Naming.{counted};
 ghost use Rattle.acc_oblig.specs.PathPromises.{point_clauses};
 ghost use Rattle.acc_oblig.specs.PointRules.{begin_at, begin_drafts, begin_origin, begin_rels, zeros};
-ghost use Rattle.acc_obligations.specs.Causes.{Adds};
-ghost use Rattle.acc_obligations.specs.Rooms.{HasFewVars, IsSmallDesign, IsSmallType};
-ghost use Rattle.acc_obligations.specs.Seen.{seen, HasRoom};
+ghost use Rattle.acc_goals.specs.Causes.{Adds};
+ghost use Rattle.acc_places.specs.Rooms.{HasFewVars, IsSmallDesign, IsSmallType};
+ghost use Rattle.acc_assumptions.specs.Seen.{seen, HasRoom};
 ghost use Rattle.acc_point_rules.specs.OneClause.{begin_clause_drafts};
 
 use crate::resting::resting;
+use acc_assumptions::settings::{Setting, behind, counted, step_bounds, step_hyps, step_vars};
 use acc_base::bounds::MOST_CLAUSES;
 use acc_base::designs::{At, Design, Side, TxType};
 use acc_base::forms::{Clause, Rel};
 use acc_base::sequences::Seq;
 use acc_base::sequents::{Origin, Sequent};
-use acc_obligations::errors::ObligError;
-use acc_obligations::forms::is_nothing;
-use acc_obligations::naming::own_naming;
-use acc_obligations::sequents::{Shared, add_clause};
-use acc_obligations::settings::{Setting, behind, counted, step_bounds, step_hyps, step_vars};
+use acc_goals::errors::ObligError;
+use acc_goals::sequents::{Shared, add_clause};
+use acc_named::forms::is_nothing;
+use acc_named::naming::own_naming;
 use std::alloc::{AllocError, Global};
 
 /// Where the first obligation of a clause of a type's start comes from.

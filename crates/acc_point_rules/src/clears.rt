@@ -3,28 +3,28 @@ ghost use Rattle.std.specs.Prelude.{◌≡◌, ◌&&◌, ◌+◌, ◌≤◌, ◌
 ghost use Rattle.std.specs.List.{list_any};
 ghost use Rattle.acc_base.specs.declared.bounds.TheConstants.{MOST_KEY_PARTS};
 ghost use Rattle.acc_base.specs.PrivateRows.{puts_into, step_puts, type_puts};
-ghost use Rattle.acc_form.specs.WellFormed.{IsWellFormed};
+ghost use Rattle.acc_formed.specs.WellFormed.{IsWellFormed};
 ghost use Rattle.acc_oblig.specs.Naming.{counted};
 ghost use Rattle.acc_oblig.specs.Relations.{alone};
 ghost use Rattle.acc_oblig.specs.PointRules.{clear_at, clear_drafts, is_end, none_of};
-ghost use Rattle.acc_obligations.specs.Causes.{Adds};
-ghost use Rattle.acc_obligations.specs.Rooms.{IsSmallDesign, IsSmallStop, IsSmallTable};
-ghost use Rattle.acc_obligations.specs.SeenPlaces.{stop};
-ghost use Rattle.acc_obligations.specs.Stops.{joined, at_stop};
+ghost use Rattle.acc_goals.specs.Causes.{Adds};
+ghost use Rattle.acc_places.specs.Rooms.{IsSmallDesign, IsSmallStop, IsSmallTable};
+ghost use Rattle.acc_places.specs.SeenPlaces.{stop};
+ghost use Rattle.acc_places.specs.Stops.{joined, at_stop};
 ghost use Rattle.acc_point_rules.specs.Clears.{path_clears};
 
+use acc_assumptions::extremes::own_name;
+use acc_assumptions::settings::{behind, last_names};
 use acc_base::designs::{Design, TxType};
 use acc_base::forms::{Atom, Clause, Lin};
 use acc_base::sequences::{Seq, Text};
 use acc_base::sequents::Sequent;
 use acc_base::steps::{Action, Step, Target};
 use acc_base::tables::Table;
-use acc_obligations::errors::ObligError;
-use acc_obligations::extremes::own_name;
-use acc_obligations::forms::{alone, is_none, one_term, times};
-use acc_obligations::paths::{Cause, add_path_clause, path_origin};
-use acc_obligations::places::{PathPlace, all_paths, path_setting};
-use acc_obligations::settings::{behind, last_names};
+use acc_goals::errors::ObligError;
+use acc_named::forms::{alone, is_none, one_term, times};
+use acc_obligations::paths::{Cause, add_path_clause, path_origin, path_setting};
+use acc_places::places::{PathPlace, all_paths};
 use std::alloc::{AllocError, Global};
 
 fn puts_into(t: u32, a: &Action) -> bool

@@ -1,18 +1,18 @@
 //! The obligations that what holds always holds of no rows.
 ghost use Rattle.std.specs.Prelude.{◌≡◌, ◌+◌, ◌<◌, ◌^◌};
-ghost use Rattle.acc_form.specs.WellFormed.{IsWellFormed};
+ghost use Rattle.acc_formed.specs.WellFormed.{IsWellFormed};
 ghost use Rattle.acc_oblig.specs.PathPromises.{empty_origin, empty_drafts};
-ghost use Rattle.acc_obligations.specs.Causes.{Adds};
-ghost use Rattle.acc_obligations.specs.Rooms.{HasFewVars};
+ghost use Rattle.acc_goals.specs.Causes.{Adds};
+ghost use Rattle.acc_places.specs.Rooms.{HasFewVars};
 ghost use Rattle.acc_point_rules.specs.OneClause.{empty_clause_drafts};
 
 use acc_base::designs::{Design, Side};
 use acc_base::forms::Clause;
 use acc_base::sequences::Seq;
 use acc_base::sequents::{Origin, Sequent};
-use acc_obligations::errors::ObligError;
-use acc_obligations::naming::own_naming;
-use acc_obligations::sequents::{Shared, add_clause};
+use acc_goals::errors::ObligError;
+use acc_goals::sequents::{Shared, add_clause};
+use acc_named::naming::own_naming;
 use std::alloc::Global;
 
 /// Where the first obligation of a clause comes from.

@@ -2,37 +2,37 @@
 ghost use Rattle.std.specs.Prelude.{◌≡◌, ◌+◌, ◌<◌, ◌^◌, [], ◌∷◌, map, All, IfOk, slice_get, option_copied, MatchOption, ⊤, pos, negsuc};
 ghost use Rattle.std.specs.Prelude.{◌+ℤ◌, ◌*ℤ◌};
 ghost use Rattle.acc_base.specs.Sums.{form_sum, is_sum_wide, TellsWide};
-ghost use Rattle.acc_form.specs.WellFormed.{IsWellFormed};
+ghost use Rattle.acc_formed.specs.WellFormed.{IsWellFormed};
 ghost use Rattle.acc_oblig.specs.Naming.{named_lin};
 ghost use Rattle.acc_oblig.specs.Settings.{step_naming};
 ghost use Rattle.acc_oblig.specs.Relations.{lin_form, plus_number};
 ghost use Rattle.acc_oblig.specs.Drafts.{setting_of, goal_drafts};
 ghost use Rattle.acc_oblig.specs.PointRules.{rest_origin, fall_in, fall_drafts, fall_at, point_at, variant_drafts};
-ghost use Rattle.acc_obligations.specs.Causes.{Adds, TellsClause, at_case};
-ghost use Rattle.acc_obligations.specs.Rooms.{IsSmallDesign, IsSmallRest, IsSmallStop};
-ghost use Rattle.acc_obligations.specs.Seen.{seen, HasRoom};
-ghost use Rattle.acc_obligations.specs.SeenPlaces.{rest, stop};
-ghost use Rattle.acc_obligations.specs.Stops.{joined, at_rest, at_stop};
+ghost use Rattle.acc_goals.specs.Causes.{Adds, TellsClause, at_case};
+ghost use Rattle.acc_places.specs.Rooms.{IsSmallDesign, IsSmallRest, IsSmallStop};
+ghost use Rattle.acc_assumptions.specs.Seen.{seen, HasRoom};
+ghost use Rattle.acc_places.specs.SeenPlaces.{rest, stop};
+ghost use Rattle.acc_places.specs.Stops.{joined, at_rest, at_stop};
 ghost use Rattle.acc_point_rules.specs.Bounds.{bound_clause, bound_goal, bound_drafts, fall_form, is_fall_wide, target_falls, both_bounds};
 
 use crate::resting::resting;
-use crate::small_goals::add_goal;
+use acc_assumptions::settings::{
+    Setting, counted, last_names, path_rels, step_hyps, step_vars, with_self,
+};
 use acc_base::bounds::LARGEST_VARIANT;
 use acc_base::designs::{At, Design, Point, Side, TxType};
 use acc_base::forms::{Form, Lin};
-use acc_base::sequences::{Seq, copied};
+use acc_base::sequences::Seq;
 use acc_base::sequents::{Origin, Sequent};
 use acc_base::steps::Target;
 use acc_base::sums::FormSum;
-use acc_obligations::errors::ObligError;
-use acc_obligations::forms::{lin_form, negated_form};
-use acc_obligations::naming::named_lin;
-use acc_obligations::paths::{Cause, path_origin};
-use acc_obligations::places::{PathPlace, PointPlace, all_paths, path_setting, points_of};
-use acc_obligations::sequents::Shared;
-use acc_obligations::settings::{
-    Setting, counted, last_names, path_rels, step_hyps, step_vars, with_self,
-};
+use acc_goals::errors::ObligError;
+use acc_goals::sequents::Shared;
+use acc_goals::small_goals::add_goal;
+use acc_named::forms::{lin_form, negated_form};
+use acc_named::naming::named_lin;
+use acc_obligations::paths::{Cause, path_origin, path_setting};
+use acc_places::places::{PathPlace, PointPlace, all_paths, points_of};
 use std::alloc::{AllocError, Global};
 
 /// A bound of the variant at a point.
@@ -179,7 +179,7 @@ fn fall_goal(alloc: Global, origin: &Origin, last: &Lin, first: &Lin) -> Result<
 {
     match difference(alloc, last, first) {
         Ok(difference) => Ok(with_constant(difference, less_by_one(last, first))),
-        Err(FormSum::Wide) => Err(ObligError::Wide(copied(origin)?)),
+        Err(FormSum::Wide) => Err(ObligError::Wide(*origin)),
         Err(FormSum::Memory) => Err(ObligError::Memory),
     }
 }

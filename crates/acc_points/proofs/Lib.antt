@@ -1,3 +1,1 @@
-pub mod RowSteps
-pub mod Names
 pub mod Searched

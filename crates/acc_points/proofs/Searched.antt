@@ -10,22 +10,22 @@ use lib.IntN.{*ℤ-zero, zero-*ℤ}
 use Rattle.acc_base.specs.declared.forms.Unknown.{Unknown}
 use Rattle.acc_base.specs.declared.forms.Rel.{Rel}
 use Rattle.acc_base.specs.Numbers.{total}
-use Rattle.acc_systems.specs.declared.stops.Stop.TheVariants.{Refuted, Wide, Many, Memory}
-use Rattle.acc_systems.specs.declared.rows.Row.{Row}
+use Rattle.acc_rows.specs.declared.stops.Stop.TheVariants.{Refuted, Wide, Many, Memory}
+use Rattle.acc_rows.specs.declared.rows.Row.{Row}
 use Rattle.acc_systems.specs.declared.systems.Eliminated.{Eliminated}
-use Rattle.acc_systems.specs.Answers.{Computation, chain, steps}
-use Rattle.acc_systems.specs.Numbers.{kept, product, opposite, sum as plus}
-use Rattle.acc_systems.specs.Sparse.{Sparse, at, mixed}
+use Rattle.acc_rows.specs.Answers.{Computation, chain, steps}
+use Rattle.acc_rows.specs.Numbers.{kept, product, opposite, sum as plus}
+use Rattle.acc_rows.specs.Sparse.{Sparse, at, mixed}
 use Rattle.acc_systems.specs.Systems.{is_false, is_lower, eliminated}
 use Rattle.acc_points.specs.Fractions.{Fraction, reduced, fraction, numerator, plus_times, is_less}
 use Rattle.acc_points.specs.Points.{Point, value, summed, root, tightest, bounded_value, placed, placed_by, zeros, point_of}
-use Rattle.acc_points.specs.Readings.{unknowns_of, number_of, read_number, read_term, row_of, rows_from}
+use Rattle.acc_readings.specs.Readings.{unknowns_of, number_of, read_number, read_term, row_of, rows_from}
 use Rattle.acc_base.specs.Collecting.{worth}
 use Rattle.acc_systems.specs.Made.{Proper, IsProper, Sums, Signed, MayStand, OfEquation, Ordered, Rises}
 use Rattle.acc_base.specs.Worths.{form_worth}
 use Rattle.acc_base.specs.UnknownEquality.{is_bare_one}
 use Rattle.acc_points.specs.FalseConstants.{numbered, FalseConstantRefutes}
-use Rattle.acc_systems.proofs.Worths.{Gives, gives_chain, gives_weaker, gives_both, kept_gives, mixed_gives}
+use Rattle.acc_rows.proofs.Worths.{Gives, gives_chain, gives_weaker, gives_both, kept_gives, mixed_gives}
 use Rattle.acc_systems.proofs.Orders.{mixed_rises, eliminated_ordered}
 use Rattle.acc_systems.proofs.Propers.{eliminated_proper}
 use Rattle.acc_systems.proofs.FalseConstants.{a_sum, signed, rising, at_end}

@@ -5,11 +5,11 @@ use Rattle.acc_base.specs.declared.forms.Rel.{Rel}
 use Rattle.acc_base.specs.Collecting.{worth}
 use Rattle.acc_base.specs.Worths.{form_worth}
 use Rattle.acc_base.specs.UnknownEquality.{is_bare_one}
-use Rattle.acc_systems.specs.declared.stops.Stop.TheVariants.{Refuted}
-use Rattle.acc_systems.specs.declared.rows.Row.{Row}
+use Rattle.acc_rows.specs.declared.stops.Stop.TheVariants.{Refuted}
+use Rattle.acc_rows.specs.declared.rows.Row.{Row}
 use Rattle.acc_systems.specs.Systems.{is_false}
 use Rattle.acc_systems.specs.Made.{Rises, Proper, Signed}
-use Rattle.acc_points.specs.Readings.{unknowns_of, number_of}
+use Rattle.acc_readings.specs.Readings.{unknowns_of, number_of}
 use Rattle.acc_points.specs.Searches.{searched}
 
 -- what an unknown is worth, where the number of each counts f; the number 1 without condition is worth 1

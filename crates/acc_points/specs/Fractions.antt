@@ -1,8 +1,8 @@
 -- Fractions in lowest terms, with a denominator above 0.
 use Rattle.std.specs.Prelude.{nat_lt, Bool, if◌then◌else◌, Ok, ℤ, pos, int_lt, unsigned_abs}
-use Rattle.acc_systems.specs.Answers.{Computation, chain}
-use Rattle.acc_systems.specs.Numbers.{product, sum, opposite}
-use Rattle.acc_systems.specs.Divisors.{divisor, quotient}
+use Rattle.acc_rows.specs.Answers.{Computation, chain}
+use Rattle.acc_rows.specs.Numbers.{product, sum, opposite}
+use Rattle.acc_rows.specs.Divisors.{divisor, quotient}
 
 -- a numerator and a denominator
 abbrev pub Fraction : Type 0

@@ -1,11 +1,11 @@
 -- The point that an elimination of relations between unknowns ends with.
 use Rattle.std.specs.Prelude.{ℕ, List, length}
 use Rattle.acc_base.specs.declared.forms.Rel.{Rel}
-use Rattle.acc_systems.specs.declared.rows.Row.{Row}
-use Rattle.acc_systems.specs.Answers.{Computation, chain}
+use Rattle.acc_rows.specs.declared.rows.Row.{Row}
+use Rattle.acc_rows.specs.Answers.{Computation, chain}
 use Rattle.acc_systems.specs.Systems.{eliminated}
 use Rattle.acc_points.specs.Points.{Point, point_of}
-use Rattle.acc_points.specs.Readings.{unknowns_of, rows_from}
+use Rattle.acc_readings.specs.Readings.{unknowns_of, rows_from}
 
 -- the unknowns are eliminated, and values are given backwards
 abbrev pub found_by : ℕ → List Row → Computation Point

@@ -1,11 +1,11 @@
 //! Fractions in lowest terms, with a denominator above 0.
 ghost use Rattle.std.specs.Prelude.{◌≡◌};
-ghost use Rattle.acc_systems.specs.Answers.{Answers};
+ghost use Rattle.acc_rows.specs.Answers.{Answers};
 ghost use Rattle.acc_points.specs.Fractions.{reduced, upright, fraction, numerator, over, plus_times, solved, is_less};
 
-use acc_systems::divisors::{divisor, quotient};
-use acc_systems::numbers::{opposite_of, product_of, sum_of};
-use acc_systems::stops::Stop;
+use acc_rows::divisors::{divisor, quotient};
+use acc_rows::numbers::{opposite_of, product_of, sum_of};
+use acc_rows::stops::Stop;
 
 /// n / d, divided by what divides both.
 fn reduced(n: i128, d: i128) -> (i128, i128)

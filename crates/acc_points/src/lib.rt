@@ -1,8 +1,7 @@
-//! Relations between unknowns, read into systems, and the point that the elimination of a system leaves.
+//! The point that the elimination of a system leaves.
 #![tactic(auto)]
 
 mod fractions;
 pub mod laws;
 pub mod points;
-pub mod readings;
 pub mod searching;

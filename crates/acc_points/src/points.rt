@@ -1,12 +1,12 @@
 //! The values of a system's unknowns, given backwards.
 ghost use Rattle.std.specs.Prelude.{◌≡◌, reverse, slice_set};
-ghost use Rattle.acc_systems.specs.Answers.{Answers, Leaves, steps};
+ghost use Rattle.acc_rows.specs.Answers.{Answers, Leaves, steps};
 ghost use Rattle.acc_points.specs.Points.{value, summed, root, tighter, tightest, bounded_value, placed, placed_by};
 
 use crate::fractions::{is_less, plus_times, solved};
 use acc_base::sequences::Seq;
-use acc_systems::rows::Row;
-use acc_systems::stops::Stop;
+use acc_rows::rows::Row;
+use acc_rows::stops::Stop;
 
 /// The value of an unknown.
 fn value(point: &[(i128, i128)], unknown: u32) -> (i128, i128)

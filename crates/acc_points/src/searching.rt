@@ -1,15 +1,15 @@
 //! The search for a point at which relations between unknowns hold.
 ghost use Rattle.std.specs.Prelude.{◌≡◌, IfOk};
-ghost use Rattle.acc_systems.specs.Answers.{Answers};
+ghost use Rattle.acc_rows.specs.Answers.{Answers};
 ghost use Rattle.acc_points.specs.Points.{zeros, point_of};
 ghost use Rattle.acc_points.specs.Searches.{found_by, searched};
 
 use crate::points::{place_all, place_all_by};
-use crate::readings::{rows_of, unknowns_of};
 use acc_base::forms::Rel;
 use acc_base::sequences::Seq;
-use acc_systems::rows::Row;
-use acc_systems::stops::Stop;
+use acc_readings::readings::{rows_of, unknowns_of};
+use acc_rows::rows::Row;
+use acc_rows::stops::Stop;
 use acc_systems::systems::{Eliminated, eliminate_all};
 use std::alloc::{AllocError, Global};
 

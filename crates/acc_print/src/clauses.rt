@@ -1,5 +1,6 @@
-//! Clauses. Each call appends to `out`; after `AllocError` a part may stand there.
-ghost use Rattle.std.specs.Prelude.{◌≡◌, ◌++◌, [], OnOk, true};
+//! Clauses. Each call writes to `out`.
+ghost use Rattle.std.specs.Prelude.{[], true};
+ghost use Rattle.acc_page.specs.Written.{Adds};
 ghost use Rattle.std.specs.List.{flat_map};
 ghost use Rattle.acc_print.specs.Lists.{spaced, listed};
 ghost use Rattle.acc_print.specs.Sums.{term, terms};
@@ -10,143 +11,120 @@ use crate::sums::{push_coefficient, push_constant};
 use crate::values::{comparison, push_cell, push_row};
 use acc_base::forms::{Atom, Clause, Form, Rel, Unknown};
 use acc_base::sequences::Text;
-use std::alloc::AllocError;
+use acc_page::Page;
 
-fn push_atom(out: &mut Vec<u8>, scope: &Scope, atom: &Atom) -> Result<(), AllocError>
-    ensures { OnOk result (out.new.items ≡ out.old.items ++ atom_text scope.now atom.now) }
+fn push_atom(out: &mut Page, scope: &Scope, atom: &Atom)
+    ensures { Adds out.old out.new (atom_text scope.now atom.now) }
 {
     match atom {
-        Atom::One => Ok(()),
-        Atom::Var(variable) => out.extend_from_slice(scope.variable(*variable)),
+        Atom::One => {}
+        Atom::Var(variable) => out.push(scope.variable(*variable)),
         Atom::Has(table, key) => {
-            out.extend_from_slice(b"has ")?;
+            out.push(b"has ");
             push_row(out, scope, *table, key.as_slice())
         }
         Atom::Col(table, key, column) => push_cell(out, scope, *table, key.as_slice(), *column),
         Atom::Count(table, key) => {
-            out.extend_from_slice(b"count ")?;
+            out.push(b"count ");
             push_row(out, scope, *table, key.as_slice())
         }
         Atom::Sum(table, key, column) => {
-            out.extend_from_slice(b"sum ")?;
+            out.push(b"sum ");
             push_cell(out, scope, *table, key.as_slice(), *column)
         }
     }
 }
 
-fn push_unknown(
-    out: &mut Vec<u8>,
-    scope: &Scope,
-    first: bool,
-    unknown: &Unknown,
-    number: i128,
-) -> Result<(), AllocError>
-    ensures { OnOk result (out.new.items ≡ out.old.items ++ term first number (unknown_text scope.now unknown.now)) }
+fn push_unknown(out: &mut Page, scope: &Scope, first: bool, unknown: &Unknown, number: i128)
+    ensures { Adds out.old out.new (term first number (unknown_text scope.now unknown.now)) }
 {
-    push_coefficient(out, first, number)?;
+    push_coefficient(out, first, number);
     push_atom(out, scope, &unknown.atom)
 }
 
-fn push_unknowns(
-    out: &mut Vec<u8>,
-    scope: &Scope,
-    sum: &[(Unknown, i128)],
-) -> Result<(), AllocError>
-    ensures { OnOk result (out.new.items ≡ out.old.items ++ terms (unknown_text scope.now) true sum.now) }
+fn push_unknowns(out: &mut Page, scope: &Scope, sum: &[(Unknown, i128)])
+    ensures { Adds out.old out.new (terms (unknown_text scope.now) true sum.now) }
 {
     let mut first = true;
     for (unknown, number) in sum {
-        push_unknown(out, scope, first, unknown, *number)?;
+        push_unknown(out, scope, first, unknown, *number);
         first = false;
     }
-    Ok(())
 }
 
-fn push_form(out: &mut Vec<u8>, scope: &Scope, form: &Form) -> Result<(), AllocError>
-    ensures { OnOk result (out.new.items ≡ out.old.items ++ form_text scope.now form.now) }
+fn push_form(out: &mut Page, scope: &Scope, form: &Form)
+    ensures { Adds out.old out.new (form_text scope.now form.now) }
 {
-    push_unknowns(out, scope, form.terms.as_slice())?;
+    push_unknowns(out, scope, form.terms.as_slice());
     push_constant(out, form.terms.is_empty(), form.constant)
 }
 
-fn push_rel(out: &mut Vec<u8>, scope: &Scope, rel: &Rel) -> Result<(), AllocError>
-    ensures { OnOk result (out.new.items ≡ out.old.items ++ rel_text scope.now rel.now) }
+fn push_rel(out: &mut Page, scope: &Scope, rel: &Rel)
+    ensures { Adds out.old out.new (rel_text scope.now rel.now) }
 {
-    push_form(out, scope, &rel.form)?;
-    out.extend_from_slice(comparison(rel.equal))
+    push_form(out, scope, &rel.form);
+    out.push(comparison(rel.equal))
 }
 
 /// Relations with commas between them.
-fn push_rels(out: &mut Vec<u8>, scope: &Scope, rels: &[Rel]) -> Result<(), AllocError>
-    ensures { OnOk result (out.new.items ≡ out.old.items ++ listed (rel_text scope.now) [] rels.now) }
+fn push_rels(out: &mut Page, scope: &Scope, rels: &[Rel])
+    ensures { Adds out.old out.new (listed (rel_text scope.now) [] rels.now) }
 {
     let mut before: &[u8] = b"";
     for rel in rels {
-        out.extend_from_slice(before)?;
-        push_rel(out, scope, rel)?;
+        out.push(before);
+        push_rel(out, scope, rel);
         before = b", ";
     }
-    Ok(())
 }
 
-fn push_guards(out: &mut Vec<u8>, scope: &Scope, rels: &[Rel]) -> Result<(), AllocError>
-    ensures { OnOk result (out.new.items ≡ out.old.items ++ guards_text scope.now rels.now) }
+fn push_guards(out: &mut Page, scope: &Scope, rels: &[Rel])
+    ensures { Adds out.old out.new (guards_text scope.now rels.now) }
 {
     if rels.is_empty() {
-        return Ok(());
+        return;
     }
-    push_rels(out, scope, rels)?;
-    out.extend_from_slice(b" => ")
+    push_rels(out, scope, rels);
+    out.push(b" => ")
 }
 
 /// Names, each behind a space.
-pub fn push_names(out: &mut Vec<u8>, names: &[Text]) -> Result<(), AllocError>
-    ensures { OnOk result (out.new.items ≡ out.old.items ++ flat_map spaced names.now) }
+pub fn push_names(out: &mut Page, names: &[Text])
+    ensures { Adds out.old out.new (flat_map spaced names.now) }
 {
     for name in names {
-        out.extend_from_slice(b" ")?;
-        out.extend_from_slice(name.as_slice())?;
+        out.push(b" ");
+        out.push(name.as_slice());
     }
-    Ok(())
 }
 
-fn push_binder(out: &mut Vec<u8>, variables: &[Text]) -> Result<(), AllocError>
-    ensures { OnOk result (out.new.items ≡ out.old.items ++ binder_text variables.now) }
+fn push_binder(out: &mut Page, variables: &[Text])
+    ensures { Adds out.old out.new (binder_text variables.now) }
 {
     if variables.is_empty() {
-        return Ok(());
+        return;
     }
-    out.extend_from_slice(b"forall")?;
-    push_names(out, variables)?;
-    out.extend_from_slice(b" : ")
+    out.push(b"forall");
+    push_names(out, variables);
+    out.push(b" : ")
 }
 
-fn push_clause(
-    out: &mut Vec<u8>,
-    surroundings: &Surroundings,
-    clause: &Clause,
-) -> Result<(), AllocError>
-    ensures { OnOk result (out.new.items ≡ out.old.items ++ clause_text surroundings.now clause.now) }
+fn push_clause(out: &mut Page, surroundings: &Surroundings, clause: &Clause)
+    ensures { Adds out.old out.new (clause_text surroundings.now clause.now) }
 {
     let scope = surroundings.with_own(clause.vars.as_slice());
-    push_binder(out, clause.vars.as_slice())?;
-    push_guards(out, &scope, clause.guards.as_slice())?;
+    push_binder(out, clause.vars.as_slice());
+    push_guards(out, &scope, clause.guards.as_slice());
     push_rel(out, &scope, &clause.rel)
 }
 
 /// The statements of a word and a clause, for each clause.
-pub fn push_clauses(
-    out: &mut Vec<u8>,
-    surroundings: &Surroundings,
-    word: &[u8],
-    clauses: &[Clause],
-) -> Result<(), AllocError>
-    ensures { OnOk result (out.new.items ≡ out.old.items ++ flat_map (clause_line surroundings.now word.now) clauses.now) }
+pub fn push_clauses(out: &mut Page, surroundings: &Surroundings, word: &[u8], clauses: &[Clause])
+    ensures { Adds out.old out.new (flat_map (clause_line surroundings.now word.now) clauses.now) }
 {
     for clause in clauses {
-        out.extend_from_slice(word)?;
-        push_clause(out, surroundings, clause)?;
-        out.extend_from_slice(b"\n")?;
+        out.push(word);
+        push_clause(out, surroundings, clause);
+        out.push(b"\n");
     }
-    Ok(())
 }

@@ -1,5 +1,6 @@
 //! Whole designs.
-ghost use Rattle.std.specs.Prelude.{◌≡◌, ◌++◌, OnOk, IfOk, codes};
+ghost use Rattle.std.specs.Prelude.{◌≡◌, IfOk, codes};
+ghost use Rattle.acc_page.specs.Written.{Adds};
 ghost use Rattle.std.specs.List.{flat_map};
 ghost use Rattle.acc_print.specs.Lists.{listed};
 ghost use Rattle.acc_print.specs.Types.{type_lines};
@@ -7,54 +8,45 @@ ghost use Rattle.acc_print.specs.Designs.{table_line, side_text, scope_at, pair_
 
 use crate::clauses::{push_clauses, push_names};
 use crate::scopes::{Scope, Surroundings};
-use crate::sums::push_number;
 use crate::types::push_type;
 use crate::values::push_lin;
 use acc_base::designs::{At, Design, Entry, Hint, Side, TxType};
-use acc_base::names::push_at;
 use acc_base::tables::Table;
-use std::alloc::{AllocError, Global};
+use acc_page::{Page, push_at};
+use std::alloc::Global;
 
 /// Why a design isn't printed.
-#[derive(Clone, Copy, Debug, PartialEq, Eq)]
+#[derive(Clone, Copy)]
 pub enum PrintError {
     /// Memory ran out.
     Memory,
 }
 
-impl From<AllocError> for PrintError {
-    fn from(_: AllocError) -> Self {
-        PrintError::Memory
-    }
-}
-
-fn push_table(out: &mut Vec<u8>, table: &Table) -> Result<(), AllocError>
-    ensures { OnOk result (out.new.items ≡ out.old.items ++ table_line table.now) }
+fn push_table(out: &mut Page, table: &Table)
+    ensures { Adds out.old out.new (table_line table.now) }
 {
-    out.extend_from_slice(if table.own { b"private " } else { b"table " })?;
-    out.extend_from_slice(table.name.as_slice())?;
-    out.extend_from_slice(b" ")?;
-    push_number(out, u128::from(table.width))?;
-    push_names(out, table.cols.as_slice())?;
-    out.extend_from_slice(b"\n")
+    out.push(if table.own { b"private " } else { b"table " });
+    out.push(table.name.as_slice());
+    out.push(b" ");
+    out.push_number(table.width);
+    push_names(out, table.cols.as_slice());
+    out.push(b"\n")
 }
 
-fn push_tables(out: &mut Vec<u8>, tables: &[Table]) -> Result<(), AllocError>
-    ensures { OnOk result (out.new.items ≡ out.old.items ++ flat_map table_line tables.now) }
+fn push_tables(out: &mut Page, tables: &[Table])
+    ensures { Adds out.old out.new (flat_map table_line tables.now) }
 {
     for table in tables {
-        push_table(out, table)?;
+        push_table(out, table);
     }
-    Ok(())
 }
 
-fn push_types(out: &mut Vec<u8>, tables: &[Table], types: &[TxType]) -> Result<(), AllocError>
-    ensures { OnOk result (out.new.items ≡ out.old.items ++ flat_map (type_lines tables.now) types.now) }
+fn push_types(out: &mut Page, tables: &[Table], types: &[TxType])
+    ensures { Adds out.old out.new (flat_map (type_lines tables.now) types.now) }
 {
     for ty in types {
-        push_type(out, tables, ty)?;
+        push_type(out, tables, ty);
     }
-    Ok(())
 }
 
 /// What can be named within the type of a point.
@@ -74,87 +66,73 @@ fn side_text(side: Side) -> &'static [u8]
     }
 }
 
-fn push_pair(
-    out: &mut Vec<u8>,
-    held: &Scope,
-    step: &Scope,
-    left: u32,
-    right: u32,
-) -> Result<(), AllocError>
-    ensures { OnOk result (out.new.items ≡ out.old.items ++ pair_text held.now.names step.now.names (left, right)) }
+fn push_pair(out: &mut Page, held: &Scope, step: &Scope, left: u32, right: u32)
+    ensures { Adds out.old out.new (pair_text held.now.names step.now.names (left, right)) }
 {
-    out.extend_from_slice(held.variable(left))?;
-    out.extend_from_slice(b" = ")?;
-    out.extend_from_slice(step.variable(right))
+    out.push(held.variable(left));
+    out.push(b" = ");
+    out.push(step.variable(right))
 }
 
-fn push_pairs(
-    out: &mut Vec<u8>,
-    held: &Scope,
-    step: &Scope,
-    pairs: &[(u32, u32)],
-) -> Result<(), AllocError>
-    ensures { OnOk result (out.new.items ≡ out.old.items ++ listed (pair_text held.now.names step.now.names) (codes " : ") pairs.now) }
+fn push_pairs(out: &mut Page, held: &Scope, step: &Scope, pairs: &[(u32, u32)])
+    ensures { Adds out.old out.new (listed (pair_text held.now.names step.now.names) (codes " : ") pairs.now) }
 {
     let mut before: &[u8] = b" : ";
     for (left, right) in pairs {
-        out.extend_from_slice(before)?;
-        push_pair(out, held, step, *left, *right)?;
+        out.push(before);
+        push_pair(out, held, step, *left, *right);
         before = b", ";
     }
-    Ok(())
 }
 
-fn push_entry(out: &mut Vec<u8>, d: &Design, entry: &Entry) -> Result<(), AllocError>
-    ensures { OnOk result (out.new.items ≡ out.old.items ++ entry_line d.now entry.now) }
+fn push_entry(out: &mut Page, d: &Design, entry: &Entry)
+    ensures { Adds out.old out.new (entry_line d.now entry.now) }
 {
     let (held, step) = (scope_at(d, entry.held), scope_at(d, entry.step));
-    out.extend_from_slice(b"entry ")?;
-    push_at(out, d, entry.held)?;
-    out.extend_from_slice(b" by ")?;
-    push_at(out, d, entry.step)?;
-    out.extend_from_slice(side_text(entry.side))?;
-    push_pairs(out, &held, &step, entry.pairs.as_slice())?;
-    out.extend_from_slice(b"\n")
+    out.push(b"entry ");
+    push_at(out, d, entry.held);
+    out.push(b" by ");
+    push_at(out, d, entry.step);
+    out.push(side_text(entry.side));
+    push_pairs(out, &held, &step, entry.pairs.as_slice());
+    out.push(b"\n")
 }
 
-fn push_entries(out: &mut Vec<u8>, d: &Design, entries: &[Entry]) -> Result<(), AllocError>
-    ensures { OnOk result (out.new.items ≡ out.old.items ++ flat_map (entry_line d.now) entries.now) }
+fn push_entries(out: &mut Page, d: &Design, entries: &[Entry])
+    ensures { Adds out.old out.new (flat_map (entry_line d.now) entries.now) }
 {
     for entry in entries {
-        push_entry(out, d, entry)?;
+        push_entry(out, d, entry);
     }
-    Ok(())
 }
 
-fn push_hint(out: &mut Vec<u8>, d: &Design, hint: &Hint) -> Result<(), AllocError>
-    ensures { OnOk result (out.new.items ≡ out.old.items ++ hint_line d.now hint.now) }
+fn push_hint(out: &mut Page, d: &Design, hint: &Hint)
+    ensures { Adds out.old out.new (hint_line d.now hint.now) }
 {
-    out.extend_from_slice(b"hint ")?;
-    push_at(out, d, hint.at)?;
-    out.extend_from_slice(side_text(hint.side))?;
-    out.extend_from_slice(b" ")?;
-    push_lin(out, &scope_at(d, hint.at), &hint.lin)?;
-    out.extend_from_slice(b"\n")
+    out.push(b"hint ");
+    push_at(out, d, hint.at);
+    out.push(side_text(hint.side));
+    out.push(b" ");
+    push_lin(out, &scope_at(d, hint.at), &hint.lin);
+    out.push(b"\n")
 }
 
-fn push_hints(out: &mut Vec<u8>, d: &Design, hints: &[Hint]) -> Result<(), AllocError>
-    ensures { OnOk result (out.new.items ≡ out.old.items ++ flat_map (hint_line d.now) hints.now) }
+fn push_hints(out: &mut Page, d: &Design, hints: &[Hint])
+    ensures { Adds out.old out.new (flat_map (hint_line d.now) hints.now) }
 {
     for hint in hints {
-        push_hint(out, d, hint)?;
+        push_hint(out, d, hint);
     }
-    Ok(())
 }
 
-fn push_design(out: &mut Vec<u8>, d: &Design) -> Result<(), AllocError>
-    ensures { OnOk result (out.new.items ≡ out.old.items ++ printed d.now) }
+fn push_design(out: &mut Page, d: &Design)
+    ensures { Adds out.old out.new (printed d.now) }
 {
     let outside = Surroundings::outside(d.tables.as_slice());
-    push_tables(out, d.tables.as_slice())?;
-    push_clauses(out, &outside, b"always ", d.always.as_slice())?;
-    push_types(out, d.tables.as_slice(), d.types.as_slice())?;
-    push_entries(out, d, d.entries.as_slice())?;
+    push_tables(out, d.tables.as_slice());
+    push_clauses(out, &outside, b"always ", d.always.as_slice());
+    push_types(out, d.tables.as_slice(), d.types.as_slice());
+    push_entries(out, d, d.entries.as_slice());
     push_hints(out, d, d.hints.as_slice())
 }
 
@@ -165,7 +143,7 @@ fn push_design(out: &mut Vec<u8>, d: &Design) -> Result<(), AllocError>
 pub fn print(alloc: Global, d: &Design) -> Result<Vec<u8>, PrintError>
     ensures value { IfOk result (λ text. text.items ≡ printed d.now) }
 {
-    let mut out = Vec::new(alloc);
-    push_design(&mut out, d)?;
-    Ok(out)
+    let mut out = Page::new(alloc);
+    push_design(&mut out, d);
+    out.finish().ok_or(PrintError::Memory)
 }

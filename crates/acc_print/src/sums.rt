@@ -1,17 +1,9 @@
-//! The numbers and signs of sums. Each call appends to `out`; after `AllocError` a part may stand there.
-ghost use Rattle.std.specs.Prelude.{◌≡◌, ◌++◌, OnOk, unsigned_abs, if◌then◌else◌};
-ghost use Rattle.std.specs.Fmt.{decimal};
+//! The numbers and signs of sums. Each call writes to `out`.
+ghost use Rattle.std.specs.Prelude.{◌≡◌, ◌++◌, unsigned_abs, if◌then◌else◌};
+ghost use Rattle.acc_page.specs.Written.{Adds};
 ghost use Rattle.acc_print.specs.Sums.{sign, factor, constant_alone, constant_behind};
 
-use itoa::Buffer;
-use std::alloc::AllocError;
-
-/// A whole number.
-pub fn push_number(out: &mut Vec<u8>, number: u128) -> Result<(), AllocError>
-    ensures { OnOk result (out.new.items ≡ out.old.items ++ decimal number) }
-{
-    out.extend_from_slice(Buffer::new().format(number).as_bytes())
-}
+use acc_page::Page;
 
 fn sign(first: bool, number: i128) -> &'static [u8]
     ensures { result.now ≡ sign first number }
@@ -24,31 +16,31 @@ fn sign(first: bool, number: i128) -> &'static [u8]
     }
 }
 
-fn push_factor(out: &mut Vec<u8>, number: u128) -> Result<(), AllocError>
-    ensures { OnOk result (out.new.items ≡ out.old.items ++ factor number) }
+fn push_factor(out: &mut Page, number: u128)
+    ensures { Adds out.old out.new (factor number) }
 {
     if number == 1 {
-        return Ok(());
+        return;
     }
-    push_number(out, number)?;
-    out.extend_from_slice(b"*")
+    out.push_number(number);
+    out.push(b"*")
 }
 
 /// The sign of a term, and its number.
-pub fn push_coefficient(out: &mut Vec<u8>, first: bool, number: i128) -> Result<(), AllocError>
-    ensures { OnOk result (out.new.items ≡ out.old.items ++ (sign first number ++ factor (unsigned_abs number))) }
+pub fn push_coefficient(out: &mut Page, first: bool, number: i128)
+    ensures { Adds out.old out.new (sign first number ++ factor (unsigned_abs number)) }
 {
-    out.extend_from_slice(sign(first, number))?;
+    out.push(sign(first, number));
     push_factor(out, number.unsigned_abs())
 }
 
 /// The constant of a sum, which may be all of it.
-pub fn push_constant(out: &mut Vec<u8>, alone: bool, number: i128) -> Result<(), AllocError>
-    ensures { OnOk result (out.new.items ≡ out.old.items ++ (if alone then constant_alone number else constant_behind number)) }
+pub fn push_constant(out: &mut Page, alone: bool, number: i128)
+    ensures { Adds out.old out.new (if alone then constant_alone number else constant_behind number) }
 {
     if number == 0 && !alone {
-        return Ok(());
+        return;
     }
-    out.extend_from_slice(sign(alone, number))?;
-    push_number(out, number.unsigned_abs())
+    out.push(sign(alone, number));
+    out.push_number(number.unsigned_abs())
 }

@@ -1,5 +1,5 @@
 /// What recovery found in a journal, and what it did.
-#[derive(Clone, Copy, Debug, PartialEq, Eq)]
+#[derive(Clone, Copy)]
 pub struct Found {
     /// How many events the journal held.
     pub events: u64,

@@ -1,7 +1,7 @@
 use crate::{Found, Progress};
 
 /// Tells nothing.
-#[derive(Clone, Copy, Debug, PartialEq, Eq)]
+#[derive(Clone, Copy)]
 pub struct Silent;
 
 impl Progress for Silent {

@@ -22,7 +22,7 @@ use Rattle.acc_axioms.specs.declared.nodes.Node.{Node}
 use Rattle.acc_axioms.specs.declared.nodes.Node.TheVariants.{Split, Inst, Axiom, Leaf}
 use Rattle.acc_proof.specs.Checked.{Checked, Gives, and_then}
 use Rattle.acc_proof.specs.Facts.{one, below, is_below_wide, above, is_above_wide, refuted, all_shown, used_up}
-use Rattle.acc_instances.specs.Instances.{fact_at}
+use Rattle.acc_instanced.specs.Instances.{fact_at}
 use Rattle.acc_axioms.specs.Axioms.{is_zero, axiom_of}
 use Rattle.acc_proof.specs.Proofs.{Branches, only, instance_of, sure, node_of, Proved, WideAt}
 use Rattle.acc_proof.specs.Proofs.{walked, known_first, verdict}
@@ -33,7 +33,7 @@ use Rattle.acc_proof.proofs.GoingOn.{goes_on, not_wide, may}
 use Rattle.acc_proof.proofs.Shows.{below_value, above_value, are_refuted, not_above, are_shown}
 use Rattle.acc_proof.proofs.Walks.{IsOff, AreOff, NodesSound, all_off}
 use Rattle.acc_axioms.proofs.AxiomTruths.{axiom_true}
-use Rattle.acc_instances.proofs.InstanceValues.{fact_at_true, facts_at_true}
+use Rattle.acc_instanced.proofs.InstanceValues.{fact_at_true, facts_at_true}
 
 all_used : {A : Type 0} (o : Checked A) (ms : List Mults) (y : A) → used_up o ms ≡ Gives y → o ≡ Gives y
 all_used o [] y h = h

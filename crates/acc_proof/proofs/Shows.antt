@@ -16,8 +16,8 @@ use Rattle.acc_farkas.specs.declared.refuting.Mults.{Mults}
 use Rattle.acc_farkas.specs.Sums.{refutes_all, is_refuting_wide}
 use Rattle.acc_farkas.specs.Solutions.{HaveNoSolution}
 use Rattle.acc_farkas.proofs.Worths.{refuted as no_solution}
-use Rattle.acc_instances.specs.Instances.{Fact}
-use Rattle.acc_instances.proofs.PartValues.{one_times, minus_times}
+use Rattle.acc_instanced.specs.Instances.{Fact}
+use Rattle.acc_instanced.proofs.PartValues.{one_times, minus_times}
 use Rattle.acc_proof.specs.Checked.{Gives, Fails, and_then}
 use Rattle.acc_proof.specs.Facts.{one, below, is_below_wide, above, is_above_wide, refuted, excluded, shown, fact_shown}
 use Rattle.acc_proof.specs.Facts.{all_shown}

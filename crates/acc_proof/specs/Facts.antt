@@ -4,7 +4,7 @@ use Rattle.acc_base.specs.declared.forms.Form.{Form}
 use Rattle.acc_base.specs.declared.forms.Rel.{Rel}
 use Rattle.acc_base.specs.Sums.{form_sum, is_sum_wide}
 use Rattle.acc_farkas.specs.declared.refuting.Mults.{Mults}
-use Rattle.acc_instances.specs.Instances.{Fact}
+use Rattle.acc_instanced.specs.Instances.{Fact}
 use Rattle.acc_farkas.specs.Sums.{refutes_all, is_refuting_wide}
 use Rattle.acc_axioms.specs.Axioms.{at_most}
 use Rattle.acc_proof.specs.Checked.{Checked, Gives, Fails, TooWide, and_then}

@@ -10,7 +10,7 @@ use Rattle.acc_base.specs.declared.sequents.Sequent.{Sequent}
 use Rattle.acc_farkas.specs.declared.refuting.Mults.{Mults}
 use Rattle.acc_axioms.specs.declared.nodes.Node.{Node}
 use Rattle.acc_axioms.specs.declared.nodes.Node.TheVariants.{Split, Inst, Axiom, Leaf}
-use Rattle.acc_instances.specs.Instances.{Fact, fact_at}
+use Rattle.acc_instanced.specs.Instances.{Fact, fact_at}
 use Rattle.acc_proof.specs.Checked.{Checked, Gives, Fails, TooWide, and_then}
 use Rattle.acc_proof.specs.Facts.{below, is_below_wide, above, is_above_wide, refuted, all_shown, used_up}
 use Rattle.acc_axioms.specs.Axioms.{is_zero, Demand, axiom_of}

@@ -3,7 +3,7 @@ ghost use Rattle.std.specs.Prelude.{◌≡◌, ◌++◌, ◌∷◌, [], ℕ, map
 ghost use Rattle.acc_proof.specs.Checked.{Gives, Fails};
 ghost use Rattle.acc_proof.specs.Proofs.{split_of, leaf_of, instance_of, sure, use_axiom, node_of, walked, verdict, Proved, NotProved};
 ghost use Rattle.acc_proof.specs.Facts.{all_shown};
-ghost use Rattle.acc_instances.specs.Instances.{fact_at};
+ghost use Rattle.acc_instanced.specs.Instances.{fact_at};
 ghost use Rattle.acc_axioms.specs.Axioms.{axiom_of};
 ghost use Rattle.acc_proof.specs.Opened.{pending};
 ghost use Rattle.acc_proof.specs.Causes.{TellsTooWide, at_node, TellsNode};

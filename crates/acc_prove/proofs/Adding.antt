@@ -1,5 +1,6 @@
 -- What searches give, one obligation after the other.
-use Rattle.std.proofs.Common.{◌≡◌, ℕ, suc, ◌+◌, ◌<◌, ◌≤◌, List, [], ◌∷◌, ◌++◌, length, drop, get_or, Ok, Err, refl, sym, ap, subst, ◌∙◌}
+use Rattle.std.proofs.Common.{◌≡◌, false, ℕ, suc, ◌+◌, ◌<◌, ◌≤◌, List, [], ◌∷◌, ◌++◌, length}
+use Rattle.std.proofs.Common.{drop, get_or, Ok, Err, refl, sym, ap, subst, ◌∙◌}
 use Rattle.std.proofs.Common.{append_assoc, arith}
 use Rattle.std.proofs.Math.Seq.{drop-cons}
 use Rattle.std.proofs.Math.ListN.{drop_of_length-le}
@@ -19,6 +20,7 @@ use Rattle.acc_prover.specs.declared.found.SearchError.{SearchError}
 use Rattle.acc_prover.specs.declared.found.SearchError.TheVariants.{Crowded, Wide, Many, Memory}
 use Rattle.acc_searched.specs.Courses.{IsProof}
 use Rattle.acc_prover.specs.Tellings.{Closes, Tells, IfProved}
+use Rattle.acc_page.specs.Written.{Written, Adds, Owes}
 use Rattle.acc_prove.specs.declared.proving.Proving.{Proving}
 use Rattle.acc_prove.specs.Lines.{searched, open_line, open_lines}
 use Rattle.acc_prove.specs.Founds.{found_line, found_proofs, Gives, GivesAll, AddsProofs, Ends, ProvesAll}
@@ -84,14 +86,16 @@ left_at qs i q within here =
     drop-cons qs i q within ∙ ap (λ x. x ∷ drop (suc i) qs) (sym here) ∙ ap (λ n. q ∷ drop n qs) e
 
 pub next_lines :
-    (d : Design) (qs : List Sequent) (i : ℕ) (q : Sequent) (first mid new : List ℕ) → drop i qs ≡ q ∷ drop (i + 1) qs
-    → new ≡ mid ++ open_line d q.origin (searched d q) → mid ++ open_lines d (drop i qs) ≡ first ++ open_lines d qs
-    → new ++ open_lines d (drop (i + 1) qs) ≡ first ++ open_lines d qs
-next_lines d qs i q first mid new left e before =
-    ap (λ xs. xs ++ open_lines d (drop (i + 1) qs)) e
-    ∙ append_assoc mid (open_line d q.origin (searched d q)) (open_lines d (drop (i + 1) qs))
-    ∙ ap (λ xs. mid ++ open_lines d xs) (sym left)
-    ∙ before
+    (d : Design) (qs : List Sequent) (i : ℕ) (q : Sequent) (first mid new : Written) → drop i qs ≡ q ∷ drop (i + 1) qs
+    → Adds mid new (open_line d q.origin (searched d q)) → Owes first mid (open_lines d (drop i qs)) (open_lines d qs)
+    → Owes first new (open_lines d (drop (i + 1) qs)) (open_lines d qs)
+next_lines d qs i q first mid new left e before = λ whole. (
+  (before (e whole).0).0,
+  ap (λ xs. xs ++ open_lines d (drop (i + 1) qs)) (e whole).1
+      ∙ append_assoc mid.text (open_line d q.origin (searched d q)) (open_lines d (drop (i + 1) qs))
+      ∙ ap (λ xs. mid.text ++ open_lines d xs) (sym left)
+      ∙ (before (e whole).0).1,
+)
 
 pub next_proofs :
     (d : Design) (qs : List Sequent) (i : ℕ) (q : Sequent) (first mid new : List Proof) → drop i qs ≡ q ∷ drop (i + 1) qs
@@ -111,10 +115,11 @@ ended_proofs d qs i first last past before =
 -- ---- what the calls tell
 
 pub one_line : {T E : Type 0}
-    (d : Design) (q : Sequent) (found : Result Found SearchError) (r : Result T E) (old new : List ℕ) → Tells found (searched d q)
-    → OnOk r (new ≡ old ++ found_line d q.origin found) → OnOk r (found ≢ Err Memory)
-    → OnOk r (new ≡ old ++ open_line d q.origin (searched d q))
-one_line d q found (Ok x) old new h e other = e ∙ ap (λ xs. old ++ xs) (line_told d q.origin found (searched d q) other h)
+    (d : Design) (q : Sequent) (found : Result Found SearchError) (r : Result T E) (old new : Written) → Tells found (searched d q)
+    → OnOk r (Adds old new (found_line d q.origin found)) → OnOk r (found ≢ Err Memory)
+    → OnOk r (Adds old new (open_line d q.origin (searched d q)))
+one_line d q found (Ok x) old new h e other =
+    λ whole. ((e whole).0, (e whole).1 ∙ ap (λ xs. old.text ++ xs) (line_told d q.origin found (searched d q) other h))
 one_line d q found (Err e) old new h k other = tt
 
 pub one_proof : {T E : Type 0}
@@ -126,11 +131,11 @@ one_proof d q found (Ok x) old new h k b e other =
 one_proof d q found (Err e) old new h k b f other = tt
 
 pub all_proves : {E : Type 0}
-    (d : Design) (qs : List Sequent) (first ps : List Proof) (old lines : List ℕ) (r : Result Proving E) → first ≡ [] → old ≡ []
-    → AddsProofs d qs first ps
-    → lines ≡ old ++ open_lines d qs → IfOk r (Ends ps lines) → IfOk r (ProvesAll d qs)
-all_proves d qs first ps old lines (Ok x) none nothing (added, e, all) f h =
+    (d : Design) (qs : List Sequent) (first ps : List Proof) (old new : Written) (lines : List ℕ) (r : Result Proving E) → first ≡ []
+    → old.text ≡ [] → AddsProofs d qs first ps
+    → Adds old new (open_lines d qs) → new.cut ≡ false → lines ≡ new.text → IfOk r (Ends ps lines) → IfOk r (ProvesAll d qs)
+all_proves d qs first ps old new lines (Ok x) none nothing (added, e, all) f whole same h =
     let proofs : ps ≡ added = e ∙ ap (λ xs. xs ++ added) none in
-    let text : lines ≡ open_lines d qs = f ∙ ap (λ xs. xs ++ open_lines d qs) nothing in
+    let text : lines ≡ open_lines d qs = same ∙ (f whole).1 ∙ ap (λ xs. xs ++ open_lines d qs) nothing in
     (ps, subst (GivesAll d qs) (sym proofs) all, subst (λ (xs : List ℕ). Ends ps xs x) text h)
-all_proves d qs first ps old lines (Err e) none nothing h f k = tt
+all_proves d qs first ps old new lines (Err e) none nothing h f whole same k = tt

@@ -4,3 +4,4 @@ pub mod Readings
 pub mod Adding
 pub mod Judging
 pub mod OneProving
+pub mod Opened

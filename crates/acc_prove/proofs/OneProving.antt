@@ -3,7 +3,7 @@ use Rattle.std.proofs.Common.{◌≡◌, None, Some, sym, ap, ◌∙◌}
 use Rattle.std.specs.Prelude.{◌++◌, codes}
 use Rattle.acc_base.specs.declared.sequents.Origin.{Origin}
 use Rattle.acc_base.specs.Lines.{line}
-use Rattle.acc_check.specs.Origins.{origin_text}
+use Rattle.acc_origins.specs.Origins.{origin_text}
 use Rattle.acc_prove.specs.declared.proving.Proving.TheVariants.{Proved, Open, Wide}
 use Rattle.acc_prove.specs.Laws.{ProvedOnce}
 

@@ -8,7 +8,7 @@ use Rattle.acc_branch.specs.declared.halts.Halt.TheVariants as halt
 use Rattle.acc_searched.specs.OpenLeaves.{IsOpenLeaf}
 use Rattle.acc_prove.specs.declared.proving.Proving.{Proving}
 use Rattle.acc_prove.specs.declared.proving.Proving.TheVariants.{Proved, Open, Wide}
-use Rattle.acc_prove.specs.Hints.{hints_of}
+use Rattle.acc_hints.specs.Hints.{hints_of}
 use Rattle.acc_prove.specs.Lines.{searched}
 use Rattle.acc_prove.specs.Provings.{Proves}
 

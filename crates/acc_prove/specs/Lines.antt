@@ -13,8 +13,8 @@ use Rattle.acc_branch.specs.declared.halts.Halt.{Halt}
 use Rattle.acc_branch.specs.declared.halts.Halt.TheVariants.{Open, Crowded, Wide, Many, Memory}
 use Rattle.acc_branch.specs.Courses.{Course}
 use Rattle.acc_course.specs.Searches.{course}
-use Rattle.acc_check.specs.Origins.{origin_text}
-use Rattle.acc_prove.specs.Hints.{hints_of}
+use Rattle.acc_origins.specs.Origins.{origin_text}
+use Rattle.acc_hints.specs.Hints.{hints_of}
 
 -- the search for the proof of an obligation, with its hints
 abbrev pub searched : Design → Sequent → Course (List Node)

@@ -11,10 +11,10 @@ use Rattle.acc_cert_read.specs.Parts.{Good}
 use Rattle.acc_cert_read.specs.Certificates.{cert_in}
 use Rattle.acc_cert.specs.SpelledNodes.{cert}
 use Rattle.acc_oblig.specs.Laws.{drafts_of, sequents_of}
-use Rattle.acc_obligations.specs.Causes.{first_wide}
+use Rattle.acc_goals.specs.Causes.{first_wide}
 use Rattle.acc_accept.specs.Accepting.{Accepts}
 use Rattle.acc_prover.specs.Tellings.{Closes}
-use Rattle.acc_check.specs.Origins.{origin_text}
+use Rattle.acc_origins.specs.Origins.{origin_text}
 use Rattle.acc_prove.specs.declared.proving.Proving.{Proving}
 use Rattle.acc_prove.specs.declared.proving.Proving.TheVariants.{Proved, Open, Wide}
 use Rattle.acc_prove.specs.Lines.{searched, open_lines}

@@ -1,7 +1,6 @@
 //! The search for the proofs of a design's obligations: its certificate, or a line for each obligation that isn't proved.
 #![tactic(auto)]
 
-pub mod hints;
 pub mod laws;
 pub mod lines;
 mod proving;

@@ -2,16 +2,16 @@
 ghost use Rattle.std.specs.Prelude.{◌≡◌, ◌≢◌, [], ◌∷◌, ◌++◌, codes, IsTrue, IfOk, OnOk, Err};
 ghost use Rattle.acc_base.specs.Lines.{line};
 ghost use Rattle.acc_cert_bounds.specs.InBounds.{nodes as are_in_bounds, cert as is_in_bounds};
-ghost use Rattle.acc_form.specs.WellFormed.{IsWellFormed};
+ghost use Rattle.acc_formed.specs.WellFormed.{IsWellFormed};
+ghost use Rattle.acc_page.specs.Written.{Adds};
 ghost use Rattle.acc_prover.specs.declared.found.SearchError.TheVariants.{Memory as OutOfMemory};
 ghost use Rattle.acc_searched.specs.Courses.{IsProof};
 ghost use Rattle.acc_prover.specs.Tellings.{Tells, IfProved};
-ghost use Rattle.acc_check.specs.Origins.{origin_text};
+ghost use Rattle.acc_origins.specs.Origins.{origin_text};
 ghost use Rattle.acc_prove.specs.Lines.{searched, open_line, open_lines};
 ghost use Rattle.acc_prove.specs.Provings.{IsWritten, Proves};
 ghost use Rattle.acc_prove.specs.Founds.{found_line, found_proofs, AddsProofs, Ends, ProvesAll};
 
-use crate::hints::hints_of;
 use crate::lines::{push_ended, push_point};
 use acc_accept::obligations;
 use acc_axioms::nodes::{Cert, Proof};
@@ -19,8 +19,10 @@ use acc_base::designs::Design;
 use acc_base::sequences::Seq;
 use acc_base::sequents::{Origin, Sequent};
 use acc_cert::write;
-use acc_check::origins::push_origin;
-use acc_obligations::ObligError;
+use acc_goals::ObligError;
+use acc_hints::hints::hints_of;
+use acc_origins::origins::push_origin;
+use acc_page::Page;
 use acc_progress::Progress;
 use acc_prover::found::{Found, SearchError};
 use acc_prover::searching::search;
@@ -38,7 +40,7 @@ pub enum Proving {
 }
 
 /// The search for the proof of an obligation, with its hints.
-#[tactic(auto, using(acc_obligations::proofs::Small::design_small))]
+#[tactic(auto, using(acc_places::proofs::Small::design_small))]
 pub fn searched(alloc: Global, d: &Design, q: &Sequent) -> Result<Found, SearchError>
     requires { IsWellFormed d.now }
     ensures kind { Tells result (searched d.now q.now) }
@@ -55,9 +57,9 @@ fn add_found(
     origin: &Origin,
     found: Result<Found, SearchError>,
     proofs: &mut Vec<Proof>,
-    lines: &mut Vec<u8>,
+    lines: &mut Page,
 ) -> Result<(), AllocError>
-    ensures lines { OnOk result (lines.new.items ≡ lines.old.items ++ found_line d.now origin.now found) }
+    ensures lines { OnOk result (Adds lines.old lines.new (found_line d.now origin.now found)) }
     ensures proofs { OnOk result (proofs.new.items ≡ proofs.old.items ++ found_proofs found) }
     ensures other { OnOk result (found ≢ Err OutOfMemory) }
 {
@@ -66,10 +68,22 @@ fn add_found(
             proofs.push(proof)?;
             Ok(())
         }
-        Ok(Found::Unproved(_, point)) => push_point(lines, d, origin, point.as_slice()),
-        Err(SearchError::Crowded) => push_ended(lines, d, origin, b"crowded"),
-        Err(SearchError::Wide) => push_ended(lines, d, origin, b"wide"),
-        Err(SearchError::Many) => push_ended(lines, d, origin, b"many"),
+        Ok(Found::Unproved(_, point)) => {
+            push_point(lines, d, origin, point.as_slice());
+            Ok(())
+        }
+        Err(SearchError::Crowded) => {
+            push_ended(lines, d, origin, b"crowded");
+            Ok(())
+        }
+        Err(SearchError::Wide) => {
+            push_ended(lines, d, origin, b"wide");
+            Ok(())
+        }
+        Err(SearchError::Many) => {
+            push_ended(lines, d, origin, b"many");
+            Ok(())
+        }
         Err(SearchError::Memory) => Err(AllocError),
     }
 }
@@ -80,10 +94,10 @@ fn prove_one(
     d: &Design,
     q: &Sequent,
     proofs: &mut Vec<Proof>,
-    lines: &mut Vec<u8>,
+    lines: &mut Page,
 ) -> Result<(), AllocError>
     requires { IsWellFormed d.now }
-    ensures lines { OnOk result (lines.new.items ≡ lines.old.items ++ open_line d.now q.now.origin (searched d.now q.now)) }
+    ensures lines { OnOk result (Adds lines.old lines.new (open_line d.now q.now.origin (searched d.now q.now))) }
     ensures proofs { OnOk result (AddsProofs d.now (q.now ∷ []) proofs.old.items proofs.new.items) }
 {
     let found = searched(alloc, d, q);
@@ -102,11 +116,11 @@ fn prove_each<P: Progress>(
     d: &Design,
     sequents: &[Sequent],
     proofs: &mut Vec<Proof>,
-    lines: &mut Vec<u8>,
+    lines: &mut Page,
     progress: &mut P,
 ) -> Result<(), AllocError>
     requires { IsWellFormed d.now }
-    ensures lines { OnOk result (lines.new.items ≡ lines.old.items ++ open_lines d.now sequents.now) }
+    ensures lines { OnOk result (Adds lines.old lines.new (open_lines d.now sequents.now)) }
     ensures proofs { OnOk result (AddsProofs d.now sequents.now proofs.old.items proofs.new.items) }
 {
     let mut done: u64 = 0;
@@ -161,19 +175,23 @@ fn prove_all<P: Progress>(
     ensures { IfOk result (ProvesAll d.now sequents.now) }
 {
     let mut proofs = Vec::new(alloc);
-    let mut lines = Vec::new(alloc);
+    let mut lines = Page::new(alloc);
     prove_each(alloc, d, sequents, &mut proofs, &mut lines, progress)?;
-    ended(alloc, proofs, lines)
+    match lines.finish() {
+        Some(lines) => ended(alloc, proofs, lines),
+        None => Err(AllocError),
+    }
 }
 
 /// What is said of an obligation that has a number that is too large.
 fn wide_line(alloc: Global, d: &Design, origin: &Origin) -> Result<Vec<u8>, AllocError>
     ensures { IfOk result (λ text. text.items ≡ line (codes "refused wide " ++ origin_text d.now origin.now)) }
 {
-    let mut text = b"refused wide ".to_vec(alloc)?;
-    push_origin(&mut text, d, origin)?;
-    text.push(b'\n')?;
-    Ok(text)
+    let mut text = Page::new(alloc);
+    text.push(b"refused wide ");
+    push_origin(&mut text, d, origin);
+    text.push(b"\n");
+    text.finish().ok_or(AllocError)
 }
 
 /// Proves the obligations of a design, by a search for each, with the hints of its point and side.

@@ -18,7 +18,7 @@ pub enum Found {
 }
 
 /// Why a search finds nothing.
-#[derive(Clone, Copy, Debug, PartialEq, Eq)]
+#[derive(Clone, Copy)]
 pub enum SearchError {
     /// There are over 4,096 instances, or over 256 splits.
     Crowded,

@@ -2,7 +2,7 @@
 use crate::pruning::{added_by, branches_of};
 use acc_axioms::nodes::Node;
 use acc_base::sequences::{Seq, copied};
-use acc_branch::copies::copied_schema;
+use acc_candidates::copies::copied_schema;
 use acc_farkas::refuting::Mults;
 use std::alloc::{AllocError, Global};
 

@@ -10,8 +10,8 @@ use Rattle.acc_base.specs.declared.designs.Side.TheVariants.{Next, Undo}
 use Rattle.acc_base.specs.declared.designs.Point.{Point}
 use Rattle.acc_base.specs.declared.designs.TxType.{TxType}
 use Rattle.acc_form.specs.Marks.{numbered}
-use Rattle.acc_form.specs.Sizes.{is_short, lin_small, guard_small}
-use Rattle.acc_form.specs.Names.{names_point}
+use Rattle.acc_formed.specs.Sizes.{is_short, lin_small, guard_small}
+use Rattle.acc_formed.specs.Names.{names_point}
 use Rattle.acc_form.specs.Statements.{clause_marks, read_marks, action_marks, path_marks, step_marks, is_zero, variant_marks, point_marks}
 use Rattle.acc_statements.specs.Counts.{if_there, path_statements, step_statements, point_statements}
 use Rattle.acc_print.specs.Names.{Scope}

@@ -7,9 +7,9 @@ use Rattle.std.proofs.lemmas.List.{drop_all, length-drop}
 use Rattle.acc_base.specs.declared.tables.Table.{Table}
 use Rattle.acc_base.specs.declared.designs.TxType.{TxType}
 use Rattle.acc_base.specs.declared.designs.Design.{Design}
-use Rattle.acc_form.specs.Sizes.{is_short, returns_small}
-use Rattle.acc_form.specs.Names.{are_distinct, are_new, names_type}
-use Rattle.acc_form.specs.Ends.{is_limit}
+use Rattle.acc_formed.specs.Sizes.{is_short, returns_small}
+use Rattle.acc_formed.specs.Names.{are_distinct, are_new, names_type}
+use Rattle.acc_formed.specs.Ends.{is_limit}
 use Rattle.acc_form.specs.Statements.{table_marks, clause_marks, head_marks, returns_marks, locals_marks, type_marks, entry_marks}
 use Rattle.acc_form.specs.Statements.{hint_marks, design_marks}
 use Rattle.acc_statements.specs.Counts.{if_there, type_statements, statements_of}

@@ -12,7 +12,7 @@ use Rattle.acc_base.specs.declared.designs.At.{At}
 use Rattle.acc_base.specs.declared.designs.Entry.{Entry}
 use Rattle.acc_base.specs.declared.designs.Hint.{Hint}
 use Rattle.acc_base.specs.declared.designs.Design.{Design}
-use Rattle.acc_form.specs.Ranges.{term_in, clause_in, type_in, has_point, at_in, locals_of, pair_in, entry_in, hint_in, design_in}
+use Rattle.acc_formed.specs.Ranges.{term_in, clause_in, type_in, has_point, at_in, locals_of, pair_in, entry_in, hint_in, design_in}
 use Rattle.acc_print.specs.Names.{name_at, outside, names_within, inside}
 use Rattle.acc_readback.specs.Printable.{IsName, IsClauseSaid}
 use Rattle.acc_readback.specs.PrintableTypes.{IsTypeSaid, IsAtSaid, IsPairSaid, IsEntrySaid, IsHintSaid, IsSaid}

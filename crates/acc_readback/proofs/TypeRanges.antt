@@ -19,7 +19,7 @@ use Rattle.acc_base.specs.declared.steps.Path.{Path}
 use Rattle.acc_base.specs.declared.steps.Step.{Step}
 use Rattle.acc_base.specs.declared.designs.Point.{Point}
 use Rattle.acc_base.specs.declared.designs.TxType.{TxType}
-use Rattle.acc_form.specs.Ranges.{lin_rel_in, clause_in, read_in, action_in, target_in, path_in, step_in, point_in, head_in, type_in}
+use Rattle.acc_formed.specs.Ranges.{lin_rel_in, clause_in, read_in, action_in, target_in, path_in, step_in, point_in, head_in, type_in}
 use Rattle.acc_print.specs.Names.{Scope, name_at, within}
 use Rattle.acc_readback.specs.Printable.{IsName, IsLinRelSaid, IsClauseSaid}
 use Rattle.acc_readback.specs.PrintableTypes.{IsReadSaid, IsActionSaid, IsTargetSaid, IsPathSaid, ArePathsSaid, IsStepSaid, IsPointSaid}

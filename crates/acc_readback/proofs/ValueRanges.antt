@@ -13,7 +13,7 @@ use Rattle.acc_base.specs.declared.forms.Unknown.{Unknown}
 use Rattle.acc_base.specs.declared.forms.Rel.{Rel}
 use Rattle.acc_base.specs.declared.forms.Clause.{Clause}
 use Rattle.acc_base.specs.declared.tables.Table.{Table}
-use Rattle.acc_form.specs.Ranges.{term_in, lin_in, row_in, has_column, cell_in, atom_in, product_in, rel_in, clause_in}
+use Rattle.acc_formed.specs.Ranges.{term_in, lin_in, row_in, has_column, cell_in, atom_in, product_in, rel_in, clause_in}
 use Rattle.acc_print.specs.Names.{Scope, name_at, table_name, column_name, with_own}
 use Rattle.acc_readback.specs.Printable.{IsName, IsVariable, IsTermSaid, IsLinSaid, IsKeySaid, IsRowSaid, IsCellSaid, IsAtomSaid}
 use Rattle.acc_readback.specs.Printable.{IsUnknownSaid, IsRelSaid, IsClauseSaid}

@@ -3,7 +3,7 @@ use acc_wal::WalError;
 
 /// Why no state is recovered from a disk. After each the store that is handed back has the rows of some first of the events that
 /// were found or of the recovered ones; where the journal or its text is refused it is empty.
-#[derive(Clone, Copy, Debug, PartialEq, Eq)]
+#[derive(Clone, Copy)]
 pub enum RecoverError {
     /// The disk's bytes aren't a journal's: `NotJournal`, `OtherVersion` or `Damaged`, and no other.
     Journal(WalError),

@@ -2,7 +2,7 @@
 use crate::made::{pairs, upper_bounds};
 use crate::spelled::{parted, relation, relations};
 use crate::verdicts::push_verdict;
-use acc_elim::deciding::decide;
+use acc_decisions::deciding::decide;
 use acc_elim::solver::Solver;
 use std::alloc::{AllocError, Global};
 

@@ -24,8 +24,7 @@ fn push_lins(out: &mut String, lins: &[Lin]) -> Result<(), AllocError> {
 }
 
 fn push_row(out: &mut String, word: &str, key: &[Lin]) -> Result<(), AllocError> {
-    out.push_str(word)?;
-    out.push_str("[")?;
+    write!(out, "{word}[")?;
     push_lins(out, key)?;
     out.push_str("]")
 }

@@ -1,5 +1,5 @@
 //! How verdicts are printed.
-use acc_elim::verdicts::{ElimError, Verdict};
+use acc_decisions::verdicts::{ElimError, Verdict};
 use std::alloc::AllocError;
 use std::fmt::Write;
 

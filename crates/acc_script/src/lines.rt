@@ -1,38 +1,35 @@
 //! The lines that are printed of a play. Each public call appends a line to `out`, or, where memory is wanting, nothing.
-ghost use Rattle.std.specs.Prelude.{◌≡◌, ◌++◌, codes, OnOk, OnErr};
+ghost use Rattle.std.specs.Prelude.{◌≡◌, ◌++◌, false, codes, OnOk, OnErr};
 ghost use Rattle.std.specs.List.{flat_map};
 ghost use Rattle.std.specs.Fmt.{decimal};
 ghost use Rattle.acc_base.specs.Items.{item_at};
 ghost use Rattle.acc_base.specs.Plays.{Turns};
+ghost use Rattle.acc_page.specs.Written.{Adds};
 ghost use Rattle.acc_base.specs.Lines.{line, told_line, cause_text, holder_text, turn_text, spaced, outcome_text};
 
 use acc_base::designs::Design;
 use acc_base::machines::{Cause, Outcome, Reply, Turn};
-use acc_base::names::push_at;
-use itoa::Buffer;
+use acc_page::{Page, push_at};
 use std::alloc::AllocError;
 
-fn push_number(out: &mut Vec<u8>, number: u64) -> Result<(), AllocError>
-    ensures { OnOk result (out.new.items ≡ out.old.items ++ decimal number) }
-{
-    out.extend_from_slice(Buffer::new().format(number).as_bytes())
-}
-
 /// A text, and then a number.
-fn push_labelled(out: &mut Vec<u8>, label: &[u8], number: u64) -> Result<(), AllocError>
-    ensures { OnOk result (out.new.items ≡ out.old.items ++ (label.now ++ decimal number)) }
+fn push_labelled(out: &mut Page, label: &[u8], number: u64)
+    ensures { Adds out.old out.new (label.now ++ decimal number) }
 {
-    out.extend_from_slice(label)?;
-    push_number(out, number)
+    out.push(label);
+    out.push_number(number)
 }
 
 /// A text as a line, whole or not at all.
-fn push_line(out: &mut Vec<u8>, mut text: Vec<u8>) -> Result<(), AllocError>
-    ensures ok { OnOk result (out.new.items ≡ out.old.items ++ line text.items) }
+fn push_line(out: &mut Vec<u8>, mut text: Page) -> Result<(), AllocError>
+    ensures ok { OnOk result ((text.cut ≡ false) × (out.new.items ≡ out.old.items ++ line text.text)) }
     ensures err { OnErr result (out.new.items ≡ out.old.items) }
 {
-    text.push(b'\n')?;
-    out.extend_from_slice(&text)
+    text.push(b"\n");
+    match text.finish() {
+        Some(whole) => out.extend_from_slice(&whole),
+        None => Err(AllocError),
+    }
 }
 
 /// The line of a place: its number, and then what is said of it.
@@ -40,22 +37,22 @@ fn push_place(out: &mut Vec<u8>, place: u64, said: &[u8]) -> Result<(), AllocErr
     ensures ok { OnOk result (out.new.items ≡ out.old.items ++ line (decimal place ++ said.now)) }
     ensures err { OnErr result (out.new.items ≡ out.old.items) }
 {
-    let mut text = Vec::new(*out.allocator());
-    push_number(&mut text, place)?;
-    text.extend_from_slice(said)?;
+    let mut text = Page::new(*out.allocator());
+    text.push_number(place);
+    text.push(said);
     push_line(out, text)
 }
 
-fn push_cause(out: &mut Vec<u8>, cause: Cause) -> Result<(), AllocError>
-    ensures { OnOk result (out.new.items ≡ out.old.items ++ cause_text cause) }
+fn push_cause(out: &mut Page, cause: Cause)
+    ensures { Adds out.old out.new (cause_text cause) }
 {
     match cause {
         Cause::Refused(number) => push_labelled(out, b"refused ", u64::from(number)),
-        Cause::Range => out.extend_from_slice(b"range"),
-        Cause::Limit => out.extend_from_slice(b"limit"),
-        Cause::Asked => out.extend_from_slice(b"asked"),
-        Cause::Victim => out.extend_from_slice(b"victim"),
-        Cause::Crash => out.extend_from_slice(b"crash"),
+        Cause::Range => out.push(b"range"),
+        Cause::Limit => out.push(b"limit"),
+        Cause::Asked => out.push(b"asked"),
+        Cause::Victim => out.push(b"victim"),
+        Cause::Crash => out.push(b"crash"),
     }
 }
 
@@ -67,46 +64,42 @@ fn place_of(places: &[u64], t: u64) -> Option<u64>
     places.get(at as usize).copied()
 }
 
-fn push_holder(out: &mut Vec<u8>, holder: Option<u64>) -> Result<(), AllocError>
-    ensures { OnOk result (out.new.items ≡ out.old.items ++ (codes " blocked by " ++ holder_text holder)) }
+fn push_holder(out: &mut Page, holder: Option<u64>)
+    ensures { Adds out.old out.new (holder_text holder) }
 {
     match holder {
-        Some(place) => push_labelled(out, b" blocked by ", place),
-        None => out.extend_from_slice(b" blocked by "),
+        Some(place) => out.push_number(place),
+        None => {}
     }
 }
 
-fn push_blocked(out: &mut Vec<u8>, holder: Option<u64>, entry: u32) -> Result<(), AllocError>
-    ensures { OnOk result (out.new.items ≡ out.old.items ++ (codes " blocked by "
-        ++ (holder_text holder ++ (codes " entry " ++ decimal entry)))) }
+fn push_blocked(out: &mut Page, holder: Option<u64>, entry: u32)
+    ensures { Adds out.old out.new (codes " blocked by " ++ (holder_text holder ++ (codes " entry " ++ decimal entry))) }
 {
-    push_holder(out, holder)?;
-    push_labelled(out, b" entry ", u64::from(entry))
+    out.push(b" blocked by ");
+    push_holder(out, holder);
+    out.push(b" entry ");
+    out.push_number(entry)
 }
 
-fn push_turn_text(
-    out: &mut Vec<u8>,
-    d: &Design,
-    places: &[u64],
-    turn: Turn,
-) -> Result<(), AllocError>
-    ensures { OnOk result (out.new.items ≡ out.old.items ++ turn_text d.now places.now turn) }
+fn push_turn_text(out: &mut Page, d: &Design, places: &[u64], turn: Turn)
+    ensures { Adds out.old out.new (turn_text d.now places.now turn) }
 {
     match turn {
         Turn::Stepped(at) => {
-            out.extend_from_slice(b" stepped ")?;
+            out.push(b" stepped ");
             push_at(out, d, at)
         }
         Turn::Blocked(holder, entry) => push_blocked(out, place_of(places, holder), entry),
         Turn::Turned(cause) => {
-            out.extend_from_slice(b" turned ")?;
+            out.push(b" turned ");
             push_cause(out, cause)
         }
         Turn::Back(at) => {
-            out.extend_from_slice(b" back ")?;
+            out.push(b" back ");
             push_at(out, d, at)
         }
-        Turn::Ended => out.extend_from_slice(b" ended"),
+        Turn::Ended => out.push(b" ended"),
     }
 }
 
@@ -121,9 +114,9 @@ pub fn push_turn(
     ensures ok { OnOk result (out.new.items ≡ out.old.items ++ told_line d.now places.now (Turns place turn)) }
     ensures err { OnErr result (out.new.items ≡ out.old.items) }
 {
-    let mut text = Vec::new(*out.allocator());
-    push_number(&mut text, place)?;
-    push_turn_text(&mut text, d, places, turn)?;
+    let mut text = Page::new(*out.allocator());
+    text.push_number(place);
+    push_turn_text(&mut text, d, places, turn);
     push_line(out, text)
 }
 
@@ -176,26 +169,25 @@ pub fn push_unsettled(out: &mut Vec<u8>, place: u64) -> Result<(), AllocError>
 }
 
 /// Numbers, each behind a space.
-fn push_spaced(out: &mut Vec<u8>, values: &[i64]) -> Result<(), AllocError>
-    ensures { OnOk result (out.new.items ≡ out.old.items ++ flat_map spaced values.now) }
+fn push_spaced(out: &mut Page, values: &[i64])
+    ensures { Adds out.old out.new (flat_map spaced values.now) }
 {
     for value in values {
-        out.extend_from_slice(b" ")?;
-        out.extend_from_slice(Buffer::new().format(*value).as_bytes())?;
+        out.push(b" ");
+        out.push_number(*value);
     }
-    Ok(())
 }
 
-fn push_outcome(out: &mut Vec<u8>, outcome: &Outcome) -> Result<(), AllocError>
-    ensures { OnOk result (out.new.items ≡ out.old.items ++ outcome_text outcome.now) }
+fn push_outcome(out: &mut Page, outcome: &Outcome)
+    ensures { Adds out.old out.new (outcome_text outcome.now) }
 {
     match outcome {
         Outcome::Committed(values) => {
-            out.extend_from_slice(b" committed")?;
+            out.push(b" committed");
             push_spaced(out, values.as_slice())
         }
         Outcome::Compensated(cause) => {
-            out.extend_from_slice(b" compensated ")?;
+            out.push(b" compensated ");
             push_cause(out, *cause)
         }
     }
@@ -206,9 +198,9 @@ pub fn push_reply(out: &mut Vec<u8>, place: u64, reply: &Reply) -> Result<(), Al
     ensures ok { OnOk result (out.new.items ≡ out.old.items ++ line (decimal place ++ outcome_text reply.now.outcome)) }
     ensures err { OnErr result (out.new.items ≡ out.old.items) }
 {
-    let mut text = Vec::new(*out.allocator());
-    push_number(&mut text, place)?;
-    push_outcome(&mut text, &reply.outcome)?;
+    let mut text = Page::new(*out.allocator());
+    text.push_number(place);
+    push_outcome(&mut text, &reply.outcome);
     push_line(out, text)
 }
 
@@ -217,7 +209,7 @@ pub fn push_events(out: &mut Vec<u8>, events: u64) -> Result<(), AllocError>
     ensures ok { OnOk result (out.new.items ≡ out.old.items ++ line (codes "events " ++ decimal events)) }
     ensures err { OnErr result (out.new.items ≡ out.old.items) }
 {
-    let mut text = Vec::new(*out.allocator());
-    push_labelled(&mut text, b"events ", events)?;
+    let mut text = Page::new(*out.allocator());
+    push_labelled(&mut text, b"events ", events);
     push_line(out, text)
 }

@@ -16,7 +16,7 @@ use Rattle.acc_base.specs.Collecting.{worth}
 use Rattle.acc_base.specs.Sums.{Term, form_sum, is_sum_wide}
 use Rattle.acc_base.proofs.Products.{times_sum, sum_times}
 use Rattle.acc_base.proofs.SumLaws.{form_sum-worth}
-use Rattle.acc_instances.proofs.PartValues.{one_times, minus_times}
+use Rattle.acc_instanced.proofs.PartValues.{one_times, minus_times}
 use Rattle.acc_axioms.specs.Axioms.{is_zero}
 use Rattle.acc_proof.specs.Facts.{one, below, above}
 use Rattle.acc_inst.specs.Lists.{no_terms, is_nothing, cancels}

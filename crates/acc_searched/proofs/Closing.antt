@@ -12,10 +12,10 @@ use Rattle.acc_base.specs.declared.designs.Design.{Design}
 use Rattle.acc_base.specs.declared.sequents.Sequent.{Sequent}
 use Rattle.acc_farkas.specs.declared.refuting.Mults.{Mults}
 use Rattle.acc_points.specs.Points.{Point}
-use Rattle.acc_points.specs.Readings.{unknowns_of}
-use Rattle.acc_elim.specs.declared.verdicts.Verdict.{Verdict}
-use Rattle.acc_elim.specs.declared.verdicts.Verdict.TheVariants.{Refuted, Solved}
-use Rattle.acc_elim.specs.Decisions.{decision}
+use Rattle.acc_readings.specs.Readings.{unknowns_of}
+use Rattle.acc_decisions.specs.declared.verdicts.Verdict.{Verdict}
+use Rattle.acc_decisions.specs.declared.verdicts.Verdict.TheVariants.{Refuted, Solved}
+use Rattle.acc_decisions.specs.Decisions.{decision}
 use Rattle.acc_axioms.specs.declared.nodes.Node.{Node}
 use Rattle.acc_axioms.specs.declared.nodes.Node.TheVariants.{Split, Axiom, Inst, Leaf}
 use Rattle.acc_axioms.specs.declared.nodes.Schema.{Schema}
@@ -26,11 +26,11 @@ use Rattle.acc_proof.specs.Facts.{refuted, used_up, all_shown}
 use Rattle.acc_proof.specs.Proofs.{node_of, sure, after_facts}
 use Rattle.acc_inst.specs.declared.making.Instance.{Instance}
 use Rattle.acc_branch.specs.declared.halts.Halt.TheVariants.{Wide}
-use Rattle.acc_branch.specs.declared.kinds.Kind.{Kind}
+use Rattle.acc_candidates.specs.declared.kinds.Kind.{Kind}
 use Rattle.acc_branch.specs.Courses.{Course, chain, steps}
 use Rattle.acc_branch.specs.Known.{State, verdict, shows_all}
-use Rattle.acc_branch.specs.Candidates.{kinds, candidates}
-use Rattle.acc_branch.specs.Schemas.{same_schema}
+use Rattle.acc_candidates.specs.Candidates.{kinds, candidates}
+use Rattle.acc_candidates.specs.Schemas.{same_schema}
 use Rattle.acc_branch.specs.AxiomPasses.{with_axiom, try_demand, try_axiom, try_kind, axioms_pass}
 use Rattle.acc_course.specs.Passes.{is_place, with_instance, try_instance, try_next, instances_pass, passes}
 use Rattle.acc_course.specs.Searches.{knowing, ended, leaf_end, split_end, three, tried, closing_by, closing, branch}

@@ -13,10 +13,10 @@ use Rattle.acc_base.specs.declared.forms.Rel.{Rel}
 use Rattle.acc_base.specs.declared.designs.Design.{Design}
 use Rattle.acc_base.specs.declared.sequents.Sequent.{Sequent}
 use Rattle.acc_points.specs.Points.{Point}
-use Rattle.acc_points.specs.Readings.{unknowns_of}
+use Rattle.acc_readings.specs.Readings.{unknowns_of}
 use Rattle.acc_solved.specs.Meetings.{is_met, Meets}
-use Rattle.acc_elim.specs.declared.verdicts.Verdict.TheVariants.{Solved}
-use Rattle.acc_elim.proofs.Shown.{solved_is_met}
+use Rattle.acc_decisions.specs.declared.verdicts.Verdict.TheVariants.{Solved}
+use Rattle.acc_decisions.proofs.Shown.{solved_is_met}
 use Rattle.acc_axioms.specs.declared.nodes.Node.{Node}
 use Rattle.acc_proof.specs.Facts as facts
 use Rattle.acc_proof.specs.Proofs.{known_first}

@@ -11,7 +11,7 @@ use Rattle.acc_base.specs.declared.forms.Clause.{Clause}
 use Rattle.acc_base.specs.declared.designs.Design.{Design}
 use Rattle.acc_base.specs.declared.sequents.Sequent.{Sequent}
 use Rattle.acc_farkas.specs.declared.refuting.Mults.{Mults}
-use Rattle.acc_instances.specs.Instances.{fact_at}
+use Rattle.acc_instanced.specs.Instances.{fact_at}
 use Rattle.acc_axioms.specs.declared.nodes.Node.TheVariants.{Inst}
 use Rattle.acc_proof.specs.Checked.{Gives, Fails, and_then}
 use Rattle.acc_proof.specs.Facts.{all_shown, used_up}

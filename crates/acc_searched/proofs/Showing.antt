@@ -8,12 +8,12 @@ use Rattle.acc_base.specs.declared.forms.Form.{Form}
 use Rattle.acc_base.specs.declared.forms.Rel.{Rel}
 use Rattle.acc_farkas.specs.declared.refuting.Mults.{Mults}
 use Rattle.acc_farkas.specs.Sums.{refutes_all, is_refuting_wide}
-use Rattle.acc_elim.specs.declared.verdicts.ElimError.{ElimError}
-use Rattle.acc_elim.specs.declared.verdicts.ElimError.TheVariants as stopped
-use Rattle.acc_elim.specs.declared.verdicts.Verdict.{Verdict}
-use Rattle.acc_elim.specs.declared.verdicts.Verdict.TheVariants.{Refuted, Solved}
-use Rattle.acc_elim.specs.Decisions.{decision}
-use Rattle.acc_elim.proofs.Shown.{refuted_is_accepted, solved_is_met}
+use Rattle.acc_decisions.specs.declared.verdicts.ElimError.{ElimError}
+use Rattle.acc_decisions.specs.declared.verdicts.ElimError.TheVariants as stopped
+use Rattle.acc_decisions.specs.declared.verdicts.Verdict.{Verdict}
+use Rattle.acc_decisions.specs.declared.verdicts.Verdict.TheVariants.{Refuted, Solved}
+use Rattle.acc_decisions.specs.Decisions.{decision}
+use Rattle.acc_decisions.proofs.Shown.{refuted_is_accepted, solved_is_met}
 use Rattle.acc_points.specs.Points.{Point}
 use Rattle.acc_solved.specs.Meetings.{Meets}
 use Rattle.acc_proof.specs.Checked.{Checked, Gives, Fails, TooWide, and_then}

@@ -17,10 +17,10 @@ use Rattle.acc_base.specs.Sums.{form_sum}
 use Rattle.acc_base.specs.UnknownEquality.{is_bare_one}
 use Rattle.acc_base.proofs.Products.{sum_times, times_times}
 use Rattle.acc_base.proofs.SumLaws.{form_sum-worth}
-use Rattle.acc_instances.proofs.PartValues.{one_times, minus_times}
+use Rattle.acc_instanced.proofs.PartValues.{one_times, minus_times}
 use Rattle.acc_points.specs.Fractions.{Fraction}
 use Rattle.acc_points.specs.Points.{Point, value}
-use Rattle.acc_points.specs.Readings.{unknowns_of, number_of}
+use Rattle.acc_readings.specs.Readings.{unknowns_of, number_of}
 use Rattle.acc_axioms.specs.Axioms.{at_most, is_zero}
 use Rattle.acc_proof.specs.Facts.{one}
 use Rattle.acc_solved.specs.Meetings.{value_at, plus_exactly, sum_at, form_at, is_met, is_above, Meets}

@@ -6,7 +6,7 @@ use Rattle.acc_base.specs.declared.forms.Form.{Form}
 use Rattle.acc_base.specs.declared.forms.Rel.{Rel}
 use Rattle.acc_base.specs.declared.sequents.Sequent.{Sequent}
 use Rattle.acc_points.specs.Points.{Point}
-use Rattle.acc_points.specs.Readings.{unknowns_of}
+use Rattle.acc_readings.specs.Readings.{unknowns_of}
 use Rattle.acc_solved.specs.Meetings.{is_met, Meets}
 use Rattle.acc_axioms.specs.Axioms.{is_zero}
 use Rattle.acc_proof.specs.Facts.{below, above}

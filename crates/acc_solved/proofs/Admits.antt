@@ -11,11 +11,11 @@ use lib.IntN.{*ℤ_comm, zero-*ℤ}
 use Rattle.std.proofs.lemmas.Int.{ints}
 use Rattle.std.proofs.lemmas.Bool.Decides.{Decides-int_eq}
 use Rattle.std.proofs.lemmas.List.Elements.{All-nil, All-head, All-tail, All-cons, All-push}
-use Rattle.acc_systems.specs.declared.stops.Stop.TheVariants.{Refuted, Many}
-use Rattle.acc_systems.specs.declared.rows.Row.{Row}
-use Rattle.acc_systems.specs.Answers.{Computation, steps}
+use Rattle.acc_rows.specs.declared.stops.Stop.TheVariants.{Refuted, Many}
+use Rattle.acc_rows.specs.declared.rows.Row.{Row}
+use Rattle.acc_rows.specs.Answers.{Computation, steps}
 use Rattle.acc_base.specs.Collecting.{worth}
-use Rattle.acc_systems.specs.Sparse.{Sparse, same_numbers, no_numbers}
+use Rattle.acc_rows.specs.Sparse.{Sparse, same_numbers, no_numbers}
 use Rattle.acc_systems.specs.Systems.{MOST, is_false, same_bool, repeats, is_constant, admitted}
 use Rattle.acc_solved.proofs.Ints.{below_times}
 use Rattle.acc_solved.proofs.Values.{Holds, holds_chain, holds_weaker}

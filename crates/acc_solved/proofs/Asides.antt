@@ -8,15 +8,15 @@ use lib.IntN.{*ℤ-zero}
 use Rattle.std.proofs.lemmas.Int.{ints}
 use Rattle.std.proofs.lemmas.List.{length-set}
 use Rattle.std.proofs.lemmas.List.Elements.{All-nil, All-head, All-tail, All-cons}
-use Rattle.acc_systems.specs.declared.rows.Row.{Row}
-use Rattle.acc_systems.specs.Answers.{steps}
+use Rattle.acc_rows.specs.declared.rows.Row.{Row}
+use Rattle.acc_rows.specs.Answers.{steps}
 use Rattle.acc_systems.specs.Made.{Ordered}
-use Rattle.acc_systems.specs.Sparse.{at}
-use Rattle.acc_systems.specs.Rows.{has, cleared}
+use Rattle.acc_rows.specs.Sparse.{at}
+use Rattle.acc_rows.specs.Rows.{has, cleared}
 use Rattle.acc_systems.specs.Systems.{is_constant, admitted, is_equation_with, taken, replaced}
 use Rattle.acc_points.specs.Fractions.{Fraction}
 use Rattle.acc_points.specs.Points.{Point, root, placed_by}
-use Rattle.acc_systems.proofs.Worths.{gives_both}
+use Rattle.acc_rows.proofs.Worths.{gives_both}
 use Rattle.acc_systems.proofs.Orders.{cleared_ordered}
 use Rattle.acc_solved.proofs.Ints.{cancel_zero, cancel_below, below_times, above_times, above_other}
 use Rattle.acc_solved.proofs.Values.{Holds, holds_chain, holds_weaker, from_gives, IsRoot}

@@ -7,11 +7,11 @@ use lib.IntN.{*ℤ_comm}
 use Rattle.std.proofs.lemmas.Int.{ints}
 use Rattle.std.proofs.lemmas.List.Elements.{All-nil, All-head, All-tail, All-cons}
 use Rattle.acc_base.proofs.Products.{times_sum}
-use Rattle.acc_systems.specs.declared.rows.Row.{Row}
-use Rattle.acc_systems.specs.Answers.{steps}
-use Rattle.acc_systems.specs.Sparse.{at}
+use Rattle.acc_rows.specs.declared.rows.Row.{Row}
+use Rattle.acc_rows.specs.Answers.{steps}
+use Rattle.acc_rows.specs.Sparse.{at}
 use Rattle.acc_systems.specs.Systems.{is_lower}
-use Rattle.acc_systems.specs.Numbers.{product}
+use Rattle.acc_rows.specs.Numbers.{product}
 use Rattle.acc_points.specs.Fractions.{Fraction, is_less}
 use Rattle.acc_points.specs.Points.{Point, root, tighter, tightest, bounded_value}
 use Rattle.acc_solved.proofs.Ints.{swap, Other, below_times, cancel_below, above_other}

@@ -9,17 +9,17 @@ use Rattle.std.proofs.lemmas.Int.{ints}
 use Rattle.std.proofs.lemmas.Bool.Decides.{nat_tests, Decides-int_eq}
 use Rattle.std.proofs.lemmas.List.{length-set, reverse-append, get_or_past, get_or-replicate, length-replicate}
 use Rattle.std.proofs.lemmas.List.Elements.{All-nil, All-head, All-tail, All-cons}
-use Rattle.acc_systems.specs.declared.rows.Row.{Row}
+use Rattle.acc_rows.specs.declared.rows.Row.{Row}
 use Rattle.acc_systems.specs.declared.systems.Bounded.{Bounded}
-use Rattle.acc_systems.specs.Answers.{steps}
+use Rattle.acc_rows.specs.Answers.{steps}
 use Rattle.acc_systems.specs.Made.{Ordered}
-use Rattle.acc_systems.specs.Sparse.{at}
-use Rattle.acc_systems.specs.Rows.{crossing}
+use Rattle.acc_rows.specs.Sparse.{at}
+use Rattle.acc_rows.specs.Rows.{crossing}
 use Rattle.acc_systems.specs.Systems.{is_constant, admitted, is_upper, is_lower, is_without, crossed_once, crossed_with, or_else, bounds_of}
 use Rattle.acc_systems.specs.Systems.{crossed}
 use Rattle.acc_points.specs.Fractions.{Fraction}
 use Rattle.acc_points.specs.Points.{Point, value, bounded_value, placed, zeros}
-use Rattle.acc_systems.proofs.Worths.{gives_both}
+use Rattle.acc_rows.proofs.Worths.{gives_both}
 use Rattle.acc_systems.proofs.Orders.{crossing_ordered}
 use Rattle.acc_solved.proofs.Ints.{cancel_below, below_times, above_times}
 use Rattle.acc_solved.proofs.Values.{Holds, holds_chain, holds_weaker, from_gives, Worth}
@@ -28,7 +28,7 @@ use Rattle.acc_solved.proofs.Bounds.{worth_at, MetAt, ZeroAt, OnSide, Tight, Any
 use Rattle.acc_solved.proofs.Mixes.{Among, CrossedTo, crossing_gives, gone_at, lacks_both, form_mix}
 use Rattle.acc_solved.proofs.Admits.{MetBy, Met, Admits, admitted_holds, Adds, adds_steps}
 use Rattle.acc_solved.proofs.Asides.{Out, MeetsAt, all_stay}
-use Rattle.acc_systems.proofs.Chains.{steps_append}
+use Rattle.acc_rows.proofs.Chains.{steps_append}
 use Rattle.acc_solved.proofs.Stages.{nothing_left, Apart}
 
 -- ---- relations that are parted by the sign of a coefficient

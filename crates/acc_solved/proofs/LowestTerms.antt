@@ -9,12 +9,12 @@ use Rattle.std.proofs.lemmas.Nat.Gcd.{le_of_dvd}
 use Rattle.std.proofs.lemmas.Int.{ints, unsigned_abs-mul}
 use Rattle.std.proofs.lemmas.Bool.Decides.{nat_tests}
 use Rattle.std.proofs.lemmas.List.Elements.{All-nil, All-cons, All-head, All-tail, All-set, All-replicate}
-use Rattle.acc_systems.specs.declared.rows.Row.{Row}
+use Rattle.acc_rows.specs.declared.rows.Row.{Row}
 use Rattle.acc_systems.specs.declared.systems.Eliminated.{Eliminated}
-use Rattle.acc_systems.specs.Answers.{Computation, chain, steps}
-use Rattle.acc_systems.specs.Numbers.{product, opposite}
-use Rattle.acc_systems.specs.Divisors.{divisor, quotient}
-use Rattle.acc_systems.specs.Sparse.{at}
+use Rattle.acc_rows.specs.Answers.{Computation, chain, steps}
+use Rattle.acc_rows.specs.Numbers.{product, opposite}
+use Rattle.acc_rows.specs.Divisors.{divisor, quotient}
+use Rattle.acc_rows.specs.Sparse.{at}
 use Rattle.acc_systems.specs.Systems.{is_lower}
 use Rattle.acc_systems.proofs.Divisions.{divides_both}
 use Rattle.acc_points.specs.Fractions.{Fraction, reduced, fraction, is_less}

@@ -11,18 +11,18 @@ use Rattle.std.proofs.lemmas.Int.{ints, unsigned_abs-mul}
 use Rattle.std.proofs.lemmas.Bool.Decides.{nat_tests, Decides-int_eq}
 use Rattle.std.proofs.lemmas.List.Elements.{All-nil, All-head, All-tail, All-cons}
 use Rattle.acc_base.proofs.Products.{times_sum, sum_times, times_times}
-use Rattle.acc_systems.specs.declared.stops.Stop.TheVariants.{Refuted, Wide, Many, Memory}
-use Rattle.acc_systems.specs.declared.rows.Row.{Row}
-use Rattle.acc_systems.specs.Answers.{Computation, chain}
+use Rattle.acc_rows.specs.declared.stops.Stop.TheVariants.{Refuted, Wide, Many, Memory}
+use Rattle.acc_rows.specs.declared.rows.Row.{Row}
+use Rattle.acc_rows.specs.Answers.{Computation, chain}
 use Rattle.acc_base.specs.Collecting.{worth}
 use Rattle.acc_systems.specs.Made.{IsProper}
-use Rattle.acc_systems.specs.Numbers.{kept, opposite}
-use Rattle.acc_systems.specs.Sparse.{Sparse, at, mixture, mixed}
-use Rattle.acc_systems.specs.Divisors.{common, quotient}
-use Rattle.acc_systems.specs.Rows.{numbers, quotients, divided, divisor_of, lowest, made, has, cleared_by, cleared, crossing}
+use Rattle.acc_rows.specs.Numbers.{kept, opposite}
+use Rattle.acc_rows.specs.Sparse.{Sparse, at, mixture, mixed}
+use Rattle.acc_rows.specs.Divisors.{common, quotient}
+use Rattle.acc_rows.specs.Rows.{numbers, quotients, divided, divisor_of, lowest, made, has, cleared_by, cleared, crossing}
 use Rattle.acc_systems.specs.Systems.{is_upper, is_lower}
-use Rattle.acc_systems.proofs.Worths.{Gives, gives_chain, gives_weaker, gives_both, kept_gives, mixture_gives, mixed_gives}
-use Rattle.acc_systems.proofs.Entries.{mixed_all}
+use Rattle.acc_rows.proofs.Worths.{Gives, gives_chain, gives_weaker, gives_both, kept_gives, mixture_gives, mixed_gives}
+use Rattle.acc_rows.proofs.Entries.{mixed_all}
 use Rattle.acc_systems.proofs.Divisions.{Divides, common_divides, quotient_times}
 use Rattle.acc_solved.proofs.Ints.{times_less, Other, cancel_zero, above_other, product_other}
 use Rattle.acc_solved.proofs.Points.{only, coef, form}

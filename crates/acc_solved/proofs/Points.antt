@@ -7,11 +7,11 @@ use Rattle.std.proofs.lemmas.Int.{ints}
 use Rattle.std.proofs.lemmas.Bool.Decides.{nat_tests}
 use Rattle.std.proofs.lemmas.List.{get_or-set_same, get_or-set_other}
 use Rattle.acc_base.proofs.Products.{times_sum, sum_times, times_times}
-use Rattle.acc_systems.specs.declared.rows.Row.{Row}
-use Rattle.acc_systems.specs.Answers.{steps}
+use Rattle.acc_rows.specs.declared.rows.Row.{Row}
+use Rattle.acc_rows.specs.Answers.{steps}
 use Rattle.acc_base.specs.Collecting.{worth}
 use Rattle.acc_systems.specs.Made.{Rises}
-use Rattle.acc_systems.specs.Sparse.{Sparse, at}
+use Rattle.acc_rows.specs.Sparse.{Sparse, at}
 use Rattle.acc_points.specs.Fractions.{Fraction, plus_times}
 use Rattle.acc_points.specs.Points.{Point, value, summed, root}
 use Rattle.acc_solved.proofs.Ints.{swap, move, Other}

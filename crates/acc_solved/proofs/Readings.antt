@@ -12,22 +12,22 @@ use Rattle.acc_base.specs.declared.forms.Unknown.{Unknown}
 use Rattle.acc_base.specs.declared.forms.Rel.{Rel}
 use Rattle.acc_base.specs.Numbers.{total}
 use Rattle.acc_base.proofs.Products.{sum_times}
-use Rattle.acc_systems.specs.declared.rows.Row.{Row}
-use Rattle.acc_systems.specs.Answers.{Computation, chain, steps}
+use Rattle.acc_rows.specs.declared.rows.Row.{Row}
+use Rattle.acc_rows.specs.Answers.{Computation, chain, steps}
 use Rattle.acc_base.specs.Collecting.{worth}
 use Rattle.acc_base.specs.UnknownEquality.{is_bare_one}
 use Rattle.acc_systems.specs.Made.{Ordered, IsProper}
-use Rattle.acc_systems.specs.Numbers.{kept}
-use Rattle.acc_systems.specs.Sparse.{Sparse, mixed}
+use Rattle.acc_rows.specs.Numbers.{kept}
+use Rattle.acc_rows.specs.Sparse.{Sparse, mixed}
 use Rattle.acc_systems.specs.Systems.{eliminated}
 use Rattle.acc_points.specs.Fractions.{Fraction}
 use Rattle.acc_points.specs.Points.{Point, value, point_of}
-use Rattle.acc_points.specs.Readings.{unknowns_of, number_of, read_number, read_term, row_of, rows_from}
+use Rattle.acc_readings.specs.Readings.{unknowns_of, number_of, read_number, read_term, row_of, rows_from}
 use Rattle.acc_points.specs.Searches.{searched}
 use Rattle.acc_solved.specs.Meetings.{value_at, plus_exactly, sum_at, form_at, is_met, is_above, Meets, SearchedIsMet}
-use Rattle.acc_systems.proofs.Worths.{Gives, gives_chain}
-use Rattle.acc_systems.proofs.Entries.{mixed_all}
-use Rattle.acc_points.proofs.Names.{Named, unknowns_stand, named_below}
+use Rattle.acc_rows.proofs.Worths.{Gives, gives_chain}
+use Rattle.acc_rows.proofs.Entries.{mixed_all}
+use Rattle.acc_readings.proofs.Names.{Named, unknowns_stand, named_below}
 use Rattle.acc_points.proofs.Searched.{part, unit, read_worth, constant_some, row_ordered}
 use Rattle.acc_solved.proofs.Ints.{above_times, below_times, cancel_below, cancel_zero, above_other, Other}
 use Rattle.acc_solved.proofs.Values.{Holds, holds_chain, holds_weaker, held, from_gives, Worth, sum_worth}

@@ -12,13 +12,13 @@ use Rattle.acc_base.specs.UnknownEquality.{unknown_eq, is_bare_one}
 use Rattle.std.proofs.lemmas.List.Elements.{All-head, All-tail}
 use Rattle.acc_base.specs.declared.forms.Unknown.{Unknown}
 use Rattle.acc_base.specs.declared.forms.Rel.{Rel}
-use Rattle.acc_systems.specs.declared.rows.Row.{Row}
-use Rattle.acc_systems.specs.Answers.{Computation, chain, steps}
-use Rattle.acc_systems.specs.Numbers.{kept}
-use Rattle.acc_systems.specs.Sparse.{Sparse, mixed}
-use Rattle.acc_points.specs.Readings.{place_of, with_term, with_rel, unknowns_of, number_of, once, read_number, read_term, row_of}
-use Rattle.acc_points.specs.Readings.{rows_from}
-use Rattle.acc_points.proofs.Names.{Stands, Named, unknowns_stand, stands_push, placed}
+use Rattle.acc_rows.specs.declared.rows.Row.{Row}
+use Rattle.acc_rows.specs.Answers.{Computation, chain, steps}
+use Rattle.acc_rows.specs.Numbers.{kept}
+use Rattle.acc_rows.specs.Sparse.{Sparse, mixed}
+use Rattle.acc_readings.specs.Readings.{place_of, with_term, with_rel, unknowns_of, number_of, once, read_number, read_term, row_of}
+use Rattle.acc_readings.specs.Readings.{rows_from}
+use Rattle.acc_readings.proofs.Names.{Stands, Named, unknowns_stand, stands_push, placed}
 use Rattle.acc_solved.specs.Rows.{RowsStay}
 
 first_is : (a b : ℕ) → (a < b → ⊥) → (b < a → ⊥) → a ≡ b

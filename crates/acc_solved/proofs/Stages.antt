@@ -4,12 +4,12 @@ use Rattle.std.proofs.Common.{sym, ◌∙◌, subst, arith, ℤ, pos, if◌then�
 use Rattle.std.specs.Prelude.{All, reverse}
 use Rattle.std.proofs.lemmas.List.{reverse-append}
 use Rattle.std.proofs.lemmas.List.Elements.{All-nil, All-head, All-tail, All-cons, All-push}
-use Rattle.acc_systems.specs.declared.rows.Row.{Row}
+use Rattle.acc_rows.specs.declared.rows.Row.{Row}
 use Rattle.acc_systems.specs.declared.systems.Reduced.{Reduced}
-use Rattle.acc_systems.specs.Answers.{Computation, chain, steps}
-use Rattle.acc_systems.proofs.Chains.{steps_append}
+use Rattle.acc_rows.specs.Answers.{Computation, chain, steps}
+use Rattle.acc_rows.proofs.Chains.{steps_append}
 use Rattle.acc_systems.specs.Made.{Rises, Ordered, IsProper}
-use Rattle.acc_systems.specs.Sparse.{Sparse, at, no_numbers}
+use Rattle.acc_rows.specs.Sparse.{Sparse, at, no_numbers}
 use Rattle.acc_systems.specs.Systems.{is_constant, taken, replaced, set_aside, counted}
 use Rattle.acc_points.specs.Points.{Point, placed_by}
 use Rattle.acc_solved.proofs.Ints.{Other}

@@ -7,11 +7,11 @@ use lib.IntN.{*ℤ_comm, *ℤ-zero}
 use Rattle.std.proofs.lemmas.Int.{ints}
 use Rattle.std.proofs.lemmas.List.Elements.{All-head}
 use Rattle.acc_base.proofs.Products.{times_sum, sum_times, times_times}
-use Rattle.acc_systems.specs.Answers.{Computation, chain}
-use Rattle.acc_systems.specs.Numbers.{kept, product, opposite}
-use Rattle.acc_systems.specs.Divisors.{divisor, quotient}
+use Rattle.acc_rows.specs.Answers.{Computation, chain}
+use Rattle.acc_rows.specs.Numbers.{kept, product, opposite}
+use Rattle.acc_rows.specs.Divisors.{divisor, quotient}
 use Rattle.acc_points.specs.Fractions.{Fraction, reduced, upright, fraction, numerator, plus_times, solved}
-use Rattle.acc_systems.proofs.Worths.{Gives, kept_gives}
+use Rattle.acc_rows.proofs.Worths.{Gives, kept_gives}
 use Rattle.acc_systems.proofs.Divisions.{Divides, common_divides, quotient_times}
 use Rattle.acc_solved.proofs.Ints.{swap, move, times_less, above_times, Other, cancel, above_other, product_other}
 

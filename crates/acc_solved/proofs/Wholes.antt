@@ -2,10 +2,10 @@
 use Rattle.std.proofs.Common.{ℕ, ◌<◌, List, [], ◌∷◌, sym, subst, arith}
 use Rattle.std.specs.Prelude.{All, reverse}
 use Rattle.std.proofs.lemmas.List.Elements.{All-nil, All-head, All-tail, All-cons}
-use Rattle.acc_systems.specs.declared.rows.Row.{Row}
+use Rattle.acc_rows.specs.declared.rows.Row.{Row}
 use Rattle.acc_systems.specs.declared.systems.Reduced.{Reduced}
 use Rattle.acc_systems.specs.declared.systems.Bounded.{Bounded}
-use Rattle.acc_systems.specs.Answers.{chain, steps}
+use Rattle.acc_rows.specs.Answers.{chain, steps}
 use Rattle.acc_systems.specs.Made.{Ordered}
 use Rattle.acc_systems.specs.Systems.{admitted, set_aside, whole, crossed, counted, unbounded, eliminated}
 use Rattle.acc_points.specs.Points.{placed, placed_by, zeros, point_of}

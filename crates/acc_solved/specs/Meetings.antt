@@ -8,7 +8,7 @@ use Rattle.acc_base.specs.Sums.{Term}
 use Rattle.acc_base.specs.UnknownEquality.{is_bare_one}
 use Rattle.acc_points.specs.Fractions.{Fraction}
 use Rattle.acc_points.specs.Points.{Point, value}
-use Rattle.acc_points.specs.Readings.{unknowns_of, number_of}
+use Rattle.acc_readings.specs.Readings.{unknowns_of, number_of}
 use Rattle.acc_points.specs.Searches.{searched}
 
 -- the value of an unknown at a point; the number 1 without condition is 1

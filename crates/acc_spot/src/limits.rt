@@ -1,11 +1,11 @@
 //! The word of a line that passes a limit, and how much is there.
 use crate::names::forall_names;
 use crate::numbers::value_of;
-use crate::statements::{bytes_of, head_of, line_spot, split_statement, spot_at};
+use crate::statements::{bytes_of, first_spot, head_of, line_spot, split_statement, spot_at};
 use acc_base::bounds::{LARGEST_NUMBER, LONGEST_NAME, PAST_SMALL_NUMBERS};
-use acc_explain::{Spot, limit_hint, limit_text, push_number, push_text};
+use acc_explain::{Spot, limit_hint, limit_text};
 use acc_lex::{Kind, Token};
-use std::alloc::{AllocError, Global};
+use std::alloc::Global;
 
 /// Whether a word is one of some words.
 fn is_one_of(words: &[&[u8]], word: &[u8]) -> bool {
@@ -226,68 +226,47 @@ fn measure_of(text: &[u8], limit: u32, statement: &[Token], parameters: usize) -
 }
 
 /// Puts how much is there.
-fn push_count(spot: &mut Spot, count: u64) -> Result<(), AllocError> {
-    push_text(&mut spot.what, b"; there are ")?;
-    push_number(&mut spot.what, count)
+fn push_count(spot: &mut Spot, count: u64) {
+    spot.what.push(b"; there are ");
+    spot.what.push_number(count)
 }
 
 /// The spot of a word that passes the limit by itself, with its length where it is a name.
-fn large_spot(alloc: Global, text: &[u8], limit: u32, token: &Token) -> Result<Spot, AllocError> {
+fn large_spot(alloc: Global, text: &[u8], limit: u32, token: &Token) -> Spot {
     let mut spot = spot_at(alloc, text, token);
-    push_text(&mut spot.what, limit_text(limit))?;
+    spot.what.push(limit_text(limit));
     if limit == 15 {
-        push_text(&mut spot.what, b"; this one has ")?;
-        push_number(&mut spot.what, bytes_of(text, token).len() as u64)?;
+        spot.what.push(b"; this one has ");
+        spot.what.push_number(bytes_of(text, token).len() as u64);
     }
-    Ok(spot)
+    spot
 }
 
 /// The spot of a statement that is one too many.
-fn counted_spot(
-    alloc: Global,
-    text: &[u8],
-    tokens: &[Token],
-    limit: u32,
-    token: &Token,
-) -> Result<Spot, AllocError> {
+fn counted_spot(alloc: Global, text: &[u8], tokens: &[Token], limit: u32, token: &Token) -> Spot {
     let mut spot = spot_at(alloc, text, token);
-    push_text(&mut spot.what, limit_text(limit))?;
-    push_count(&mut spot, count_with(text, tokens, limit, token))?;
-    Ok(spot)
+    spot.what.push(limit_text(limit));
+    push_count(&mut spot, count_with(text, tokens, limit, token));
+    spot
 }
 
 /// The spot of a statement that passes the limit by what it is made of, or else of its line.
-fn measured_spot(
-    alloc: Global,
-    text: &[u8],
-    tokens: &[Token],
-    line: u64,
-    limit: u32,
-) -> Result<Spot, AllocError> {
+fn measured_spot(alloc: Global, text: &[u8], tokens: &[Token], line: u64, limit: u32) -> Spot {
     let Some((statement, parameters)) = measured(text, tokens, line, limit) else {
         let mut spot = line_spot(alloc);
-        push_text(&mut spot.what, limit_text(limit))?;
-        return Ok(spot);
+        spot.what.push(limit_text(limit));
+        return spot;
     };
-    let mut spot = match statement.first() {
-        Some(token) => spot_at(alloc, text, token),
-        None => line_spot(alloc),
-    };
-    push_text(&mut spot.what, limit_text(limit))?;
+    let mut spot = first_spot(alloc, text, statement);
+    spot.what.push(limit_text(limit));
     if let Some(count) = measure_of(text, limit, statement, parameters) {
-        push_count(&mut spot, count)?;
+        push_count(&mut spot, count);
     }
-    Ok(spot)
+    spot
 }
 
 /// The spot on a line that passes the limit, without the limit's number.
-fn unnumbered_spot(
-    alloc: Global,
-    text: &[u8],
-    tokens: &[Token],
-    line: u64,
-    limit: u32,
-) -> Result<Spot, AllocError> {
+fn unnumbered_spot(alloc: Global, text: &[u8], tokens: &[Token], line: u64, limit: u32) -> Spot {
     match large_token(text, tokens, line, limit) {
         Some(token) => large_spot(alloc, text, limit, token),
         None => match one_too_many(text, tokens, line, limit) {
@@ -298,17 +277,11 @@ fn unnumbered_spot(
 }
 
 /// The spot on a line that passes the limit with this number: the word, or the beginning of the statement, and how much is there.
-pub fn limit_spot(
-    alloc: Global,
-    text: &[u8],
-    tokens: &[Token],
-    line: u64,
-    limit: u32,
-) -> Result<Spot, AllocError> {
-    let mut spot = unnumbered_spot(alloc, text, tokens, line, limit)?;
-    push_text(&mut spot.what, b" (limit ")?;
-    push_number(&mut spot.what, u64::from(limit))?;
-    push_text(&mut spot.what, b")")?;
-    push_text(&mut spot.hint, limit_hint(limit))?;
-    Ok(spot)
+pub fn limit_spot(alloc: Global, text: &[u8], tokens: &[Token], line: u64, limit: u32) -> Spot {
+    let mut spot = unnumbered_spot(alloc, text, tokens, line, limit);
+    spot.what.push(b" (limit ");
+    spot.what.push_number(limit);
+    spot.what.push(b")");
+    spot.hint.push(limit_hint(limit));
+    spot
 }

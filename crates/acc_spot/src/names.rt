@@ -5,11 +5,11 @@ use crate::scopes::{
     type_named,
 };
 use crate::statements::{
-    Statement, bytes_of, head_of, is_name, line_spot, spot_at, statement_at, word_at,
+    Statement, bytes_of, first_spot, head_of, is_name, line_spot, spot_at, statement_at, word_at,
 };
-use acc_explain::{Spot, push_text};
+use acc_explain::Spot;
 use acc_lex::{Kind, Token};
-use std::alloc::{AllocError, Global};
+use std::alloc::Global;
 
 /// A fault of a name that isn't defined.
 fn undefined<'a>(token: &'a Token, role: Role<'a>) -> Option<NameFault<'a>> {
@@ -319,42 +319,27 @@ fn statement_fault<'a>(
 }
 
 /// Says that a name of a statement is wrong.
-fn fault_spot(
-    alloc: Global,
-    text: &[u8],
-    tokens: &[Token],
-    of: Statement,
-) -> Result<Spot, AllocError> {
+fn fault_spot(alloc: Global, text: &[u8], tokens: &[Token], of: Statement) -> Spot {
     match statement_fault(text, tokens, of) {
         Some(fault) => {
             let mut spot = spot_at(alloc, text, fault.token);
-            push_fault(&mut spot, fault, bytes_of(text, fault.token))?;
-            Ok(spot)
+            push_fault(&mut spot, fault, bytes_of(text, fault.token));
+            spot
         }
         None => {
-            let mut spot = match of.tokens.first() {
-                Some(token) => spot_at(alloc, text, token),
-                None => line_spot(alloc),
-            };
-            push_text(
-                &mut spot.what,
-                b"a name isn't defined, or is defined a second time",
-            )?;
-            Ok(spot)
+            let mut spot = first_spot(alloc, text, of.tokens);
+            spot.what
+                .push(b"a name isn't defined, or is defined a second time");
+            spot
         }
     }
 }
 
 /// The spot of the name of a statement, by its number from 0, that isn't defined or is defined a second time. Each name is looked up
 /// by going over the text.
-pub fn name_spot(
-    alloc: Global,
-    text: &[u8],
-    tokens: &[Token],
-    number: u64,
-) -> Result<Spot, AllocError> {
+pub fn name_spot(alloc: Global, text: &[u8], tokens: &[Token], number: u64) -> Spot {
     match statement_at(text, tokens, number) {
         Some(of) => fault_spot(alloc, text, tokens, of),
-        None => Ok(line_spot(alloc)),
+        None => line_spot(alloc),
     }
 }

@@ -2,8 +2,8 @@
 use crate::numbers::{is_numeral, value_of};
 use crate::scripts::{LineWord, mark, next_word};
 use crate::statements::line_spot;
-use acc_explain::{Spot, push_number, push_quoted, push_text};
-use std::alloc::{AllocError, Global};
+use acc_explain::{Spot, push_quoted};
+use std::alloc::Global;
 
 /// Whether a word is the number of one of so many places.
 fn is_place(word: LineWord, places: u64) -> bool {
@@ -25,21 +25,18 @@ fn wrong_word(line: &[u8], places: u64) -> Option<LineWord> {
 }
 
 /// The spot of a refused line of an order over so many places.
-pub fn order_spot(alloc: Global, places: u64, line: &[u8]) -> Result<Spot, AllocError> {
+pub fn order_spot(alloc: Global, places: u64, line: &[u8]) -> Spot {
     let mut spot = line_spot(alloc);
     match wrong_word(line, places) {
         Some(word) => {
             mark(&mut spot, word);
-            push_quoted(&mut spot.what, word.bytes)?;
-            push_text(&mut spot.what, b" is the number of no transaction")?;
-            push_text(&mut spot.hint, b"the script has ")?;
-            push_number(&mut spot.hint, places)?;
-            push_text(
-                &mut spot.hint,
-                b" transactions; their numbers begin at 1, without leading zeros",
-            )?;
+            push_quoted(&mut spot.what, word.bytes);
+            spot.what.push(b" is the number of no transaction");
+            spot.hint.push(b"the script has ");
+            spot.hint.push_number(places);
+            spot.hint.push(b" transactions; their numbers begin at 1, without leading zeros");
         }
-        None => push_text(&mut spot.what, b"an order has at most 1,048,576 numbers")?,
+        None => spot.what.push(b"an order has at most 1,048,576 numbers"),
     }
-    Ok(spot)
+    spot
 }

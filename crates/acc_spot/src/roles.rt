@@ -1,7 +1,7 @@
 //! What a name stands for where it is used or defined, and what is said where that is wrong.
-use acc_explain::{Spot, push_number, push_quoted, push_text};
+use acc_explain::{Spot, push_quoted};
 use acc_lex::Token;
-use std::alloc::AllocError;
+use acc_page::Page;
 
 /// What a name stands for.
 #[derive(Clone, Copy)]
@@ -26,19 +26,19 @@ pub struct NameFault<'a> {
 }
 
 /// Puts what a name is, as a message begins.
-fn push_role(out: &mut Vec<u8>, role: Role) -> Result<(), AllocError> {
+fn push_role(out: &mut Page, role: Role) {
     match role {
-        Role::Table => push_text(out, b"table"),
+        Role::Table => out.push(b"table"),
         Role::Column(table) => {
-            push_text(out, b"column of ")?;
+            out.push(b"column of ");
             push_quoted(out, table)
         }
-        Role::Type => push_text(out, b"type"),
+        Role::Type => out.push(b"type"),
         Role::Point(ty) => {
-            push_text(out, b"point of the type ")?;
+            out.push(b"point of the type ");
             push_quoted(out, ty)
         }
-        Role::Variable => push_text(out, b"local"),
+        Role::Variable => out.push(b"local"),
     }
 }
 
@@ -56,27 +56,27 @@ fn definition_hint(role: Role) -> &'static [u8] {
 }
 
 /// Says that a name is defined a second time.
-fn push_again(spot: &mut Spot, role: Role, name: &[u8], first: &Token) -> Result<(), AllocError> {
-    push_text(&mut spot.what, b"there is a second ")?;
-    push_role(&mut spot.what, role)?;
-    push_text(&mut spot.what, b" called ")?;
-    push_quoted(&mut spot.what, name)?;
-    push_text(&mut spot.hint, b"the first stands on line ")?;
-    push_number(&mut spot.hint, first.line)?;
-    push_text(&mut spot.hint, b": choose another name for one of the two")
+fn push_again(spot: &mut Spot, role: Role, name: &[u8], first: &Token) {
+    spot.what.push(b"there is a second ");
+    push_role(&mut spot.what, role);
+    spot.what.push(b" called ");
+    push_quoted(&mut spot.what, name);
+    spot.hint.push(b"the first stands on line ");
+    spot.hint.push_number(first.line);
+    spot.hint.push(b": choose another name for one of the two")
 }
 
 /// Says that a name isn't defined.
-fn push_none(spot: &mut Spot, role: Role, name: &[u8]) -> Result<(), AllocError> {
-    push_text(&mut spot.what, b"there is no ")?;
-    push_role(&mut spot.what, role)?;
-    push_text(&mut spot.what, b" called ")?;
-    push_quoted(&mut spot.what, name)?;
-    push_text(&mut spot.hint, definition_hint(role))
+fn push_none(spot: &mut Spot, role: Role, name: &[u8]) {
+    spot.what.push(b"there is no ");
+    push_role(&mut spot.what, role);
+    spot.what.push(b" called ");
+    push_quoted(&mut spot.what, name);
+    spot.hint.push(definition_hint(role))
 }
 
 /// Says what is wrong with a name.
-pub fn push_fault(spot: &mut Spot, fault: NameFault, name: &[u8]) -> Result<(), AllocError> {
+pub fn push_fault(spot: &mut Spot, fault: NameFault, name: &[u8]) {
     match fault.first {
         Some(first) => push_again(spot, fault.role, name, first),
         None => push_none(spot, fault.role, name),

@@ -3,8 +3,9 @@ use crate::numbers::{is_integer, is_numeral, is_within, value_of};
 use crate::statements::line_spot;
 use acc_base::bounds::{LATEST_ASK, LONGEST_TAPE};
 use acc_base::designs::{Design, TxType};
-use acc_explain::{Spot, push_number, push_quoted, push_text};
-use std::alloc::{AllocError, Global};
+use acc_explain::{Spot, push_quoted};
+use acc_page::Page;
+use std::alloc::Global;
 
 /// A word of a line.
 #[derive(Clone, Copy)]
@@ -48,33 +49,27 @@ fn type_named<'a>(d: &'a Design, name: &[u8]) -> Option<&'a TxType> {
 }
 
 /// What the line of a type's call is, in words.
-fn push_form(out: &mut Vec<u8>, ty: &TxType) -> Result<(), AllocError> {
-    push_text(out, b"a call is `")?;
-    push_text(out, ty.name.as_slice())?;
+fn push_form(out: &mut Page, ty: &TxType) {
+    out.push(b"a call is `");
+    out.push(ty.name.as_slice());
     for name in ty.locals.as_slice().iter().take(ty.params as usize) {
-        push_text(out, b" ")?;
-        push_text(out, name.as_slice())?;
+        out.push(b" ");
+        out.push(name.as_slice());
     }
-    push_text(
-        out,
-        b"`, and behind that `| TAPE` and `@ STEPS`, where they are wanted",
-    )
+    out.push(b"`, and behind that `| TAPE` and `@ STEPS`, where they are wanted")
 }
 
 /// Says that a word isn't the number that is wanted.
-fn push_number_fault(spot: &mut Spot, word: LineWord) -> Result<(), AllocError> {
+fn push_number_fault(spot: &mut Spot, word: LineWord) {
     mark(spot, word);
-    push_quoted(&mut spot.what, word.bytes)?;
+    push_quoted(&mut spot.what, word.bytes);
     if is_integer(word.bytes) {
-        push_text(&mut spot.what, b" is out of range")?;
-        push_text(
-            &mut spot.hint,
-            b"numbers are within 35,184,372,088,832 of 0",
-        )
+        spot.what.push(b" is out of range");
+        spot.hint
+            .push(b"numbers are within 35,184,372,088,832 of 0")
     } else {
-        push_text(&mut spot.what, b" is no whole number")?;
-        push_text(
-            &mut spot.hint,
+        spot.what.push(b" is no whole number");
+        spot.hint.push(
             b"a number is written in digits, without a plus and without leading zeros, and with a `-` where it is below 0",
         )
     }
@@ -91,108 +86,94 @@ fn is_part(word: LineWord) -> bool {
 }
 
 /// Where the parameters end, or what is wrong with them; the spot is said then.
-fn parameters_end(
-    spot: &mut Spot,
-    line: &[u8],
-    ty: &TxType,
-    from: usize,
-) -> Result<Option<usize>, AllocError> {
+fn parameters_end(spot: &mut Spot, line: &[u8], ty: &TxType, from: usize) -> Option<usize> {
     let mut at = from;
     for number in 0..ty.params {
         match next_word(line, at) {
             Some(word) if is_value(word) => at = end_of(word),
             Some(word) if !is_part(word) => {
-                push_number_fault(spot, word)?;
-                return Ok(None);
+                push_number_fault(spot, word);
+                return None;
             }
             _ => {
                 spot.column = at;
-                push_count_fault(spot, ty, u64::from(number))?;
-                return Ok(None);
+                push_count_fault(spot, ty, u64::from(number));
+                return None;
             }
         }
     }
-    Ok(Some(at))
+    Some(at)
 }
 
 /// Says that there are too few parameters, or too many.
-fn push_count_fault(spot: &mut Spot, ty: &TxType, found: u64) -> Result<(), AllocError> {
-    push_quoted(&mut spot.what, ty.name.as_slice())?;
-    push_text(&mut spot.what, b" has ")?;
-    push_number(&mut spot.what, u64::from(ty.params))?;
+fn push_count_fault(spot: &mut Spot, ty: &TxType, found: u64) {
+    push_quoted(&mut spot.what, ty.name.as_slice());
+    spot.what.push(b" has ");
+    spot.what.push_number(ty.params);
     if ty.params == 1 {
-        push_text(&mut spot.what, b" parameter")?;
+        spot.what.push(b" parameter");
     } else {
-        push_text(&mut spot.what, b" parameters")?;
+        spot.what.push(b" parameters");
     }
-    push_text(&mut spot.what, b", the line gives ")?;
-    push_number(&mut spot.what, found)?;
+    spot.what.push(b", the line gives ");
+    spot.what.push_number(found);
     push_form(&mut spot.hint, ty)
 }
 
 /// Where the tape ends, or what is wrong with it; the spot is said then.
-fn tape_end(spot: &mut Spot, line: &[u8], from: usize) -> Result<Option<usize>, AllocError> {
+fn tape_end(spot: &mut Spot, line: &[u8], from: usize) -> Option<usize> {
     let mut at = from;
     for _ in 0..=LONGEST_TAPE {
         match next_word(line, at) {
             Some(word) if is_value(word) => at = end_of(word),
             Some(word) if word.bytes != b"@".as_slice() => {
-                push_number_fault(spot, word)?;
-                return Ok(None);
+                push_number_fault(spot, word);
+                return None;
             }
-            _ => return Ok(Some(at)),
+            _ => return Some(at),
         }
     }
     spot.column = from;
-    push_text(&mut spot.what, b"a tape has at most 4,096 numbers")?;
-    Ok(None)
+    spot.what.push(b"a tape has at most 4,096 numbers");
+    None
 }
 
 /// Says what is wrong behind the `@` of a line.
-fn push_ask_fault(spot: &mut Spot, line: &[u8], from: usize) -> Result<(), AllocError> {
+fn push_ask_fault(spot: &mut Spot, line: &[u8], from: usize) {
     spot.column = from;
-    push_text(
-        &mut spot.hint,
+    spot.hint.push(
         b"behind `@` stands one number up to 65,536, the number of steps after which the transaction is asked to turn, and nothing more",
-    )?;
+    );
     let Some(word) = next_word(line, from) else {
-        return push_text(&mut spot.what, b"a number is missing behind `@`");
+        return spot.what.push(b"a number is missing behind `@`");
     };
     mark(spot, word);
     let is_steps = is_numeral(word.bytes) && value_of(word.bytes) <= LATEST_ASK as u64;
     if !is_steps {
-        push_quoted(&mut spot.what, word.bytes)?;
-        return push_text(&mut spot.what, b" is no number of steps");
+        push_quoted(&mut spot.what, word.bytes);
+        return spot.what.push(b" is no number of steps");
     }
     match next_word(line, end_of(word)) {
         Some(more) => {
             mark(spot, more);
-            push_quoted(&mut spot.what, more.bytes)?;
-            push_text(
-                &mut spot.what,
-                b" is too much: a line ends behind the number of `@`",
-            )
+            push_quoted(&mut spot.what, more.bytes);
+            spot.what
+                .push(b" is too much: a line ends behind the number of `@`")
         }
-        None => push_text(
-            &mut spot.what,
-            b"a script has at most 1,048,576 transactions",
-        ),
+        None => spot
+            .what
+            .push(b"a script has at most 1,048,576 transactions"),
     }
 }
 
 /// Says what is wrong behind the parameters of a line.
-fn push_rest_fault(
-    spot: &mut Spot,
-    line: &[u8],
-    ty: &TxType,
-    from: usize,
-) -> Result<(), AllocError> {
+fn push_rest_fault(spot: &mut Spot, line: &[u8], ty: &TxType, from: usize) {
     let mut at = from;
     if let Some(word) = next_word(line, at) {
         if word.bytes == b"|".as_slice() {
-            match tape_end(spot, line, end_of(word))? {
+            match tape_end(spot, line, end_of(word)) {
                 Some(end) => at = end,
-                None => return Ok(()),
+                None => return,
             }
         }
     }
@@ -200,43 +181,41 @@ fn push_rest_fault(
         Some(word) if word.bytes == b"@".as_slice() => push_ask_fault(spot, line, end_of(word)),
         Some(word) => {
             mark(spot, word);
-            push_quoted(&mut spot.what, word.bytes)?;
-            push_text(&mut spot.what, b" is too much")?;
+            push_quoted(&mut spot.what, word.bytes);
+            spot.what.push(b" is too much");
             push_form(&mut spot.hint, ty)
         }
-        None => push_text(
-            &mut spot.what,
-            b"a script has at most 1,048,576 transactions",
-        ),
+        None => spot
+            .what
+            .push(b"a script has at most 1,048,576 transactions"),
     }
 }
 
 /// Says that a word is no type's name, and which there are.
-fn push_type_fault(spot: &mut Spot, d: &Design, word: LineWord) -> Result<(), AllocError> {
+fn push_type_fault(spot: &mut Spot, d: &Design, word: LineWord) {
     mark(spot, word);
-    push_text(&mut spot.what, b"there is no type called ")?;
-    push_quoted(&mut spot.what, word.bytes)?;
-    push_text(&mut spot.hint, b"the types of the design are")?;
+    spot.what.push(b"there is no type called ");
+    push_quoted(&mut spot.what, word.bytes);
+    spot.hint.push(b"the types of the design are");
     for ty in d.types.as_slice() {
-        push_text(&mut spot.hint, b" ")?;
-        push_quoted(&mut spot.hint, ty.name.as_slice())?;
+        spot.hint.push(b" ");
+        push_quoted(&mut spot.hint, ty.name.as_slice());
     }
-    Ok(())
 }
 
 /// The spot of a refused line of a script over a design, and what the type's parameters are.
-pub fn script_spot(alloc: Global, d: &Design, line: &[u8]) -> Result<Spot, AllocError> {
+pub fn script_spot(alloc: Global, d: &Design, line: &[u8]) -> Spot {
     let mut spot = line_spot(alloc);
     let Some(word) = next_word(line, 0) else {
-        return Ok(spot);
+        return spot;
     };
     let Some(ty) = type_named(d, word.bytes) else {
-        push_type_fault(&mut spot, d, word)?;
-        return Ok(spot);
+        push_type_fault(&mut spot, d, word);
+        return spot;
     };
-    match parameters_end(&mut spot, line, ty, end_of(word))? {
-        Some(at) => push_rest_fault(&mut spot, line, ty, at)?,
+    match parameters_end(&mut spot, line, ty, end_of(word)) {
+        Some(at) => push_rest_fault(&mut spot, line, ty, at),
         None => {}
     }
-    Ok(spot)
+    spot
 }

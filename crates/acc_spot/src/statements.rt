@@ -4,7 +4,8 @@ ghost use Rattle.std.specs.Prelude.{◌<◌, length, IfSome};
 use acc_explain::Spot;
 use acc_lex::signs::keyword;
 use acc_lex::{Kind, Token};
-use std::alloc::{AllocError, Global};
+use acc_page::Page;
+use std::alloc::Global;
 
 /// The bytes of a token.
 pub fn bytes_of<'a>(text: &'a [u8], token: &Token) -> &'a [u8] {
@@ -109,8 +110,8 @@ pub fn spot_at(alloc: Global, text: &[u8], token: &Token) -> Spot {
     Spot {
         column: column_of(text, token),
         width: bytes_of(text, token).len(),
-        what: Vec::new(alloc),
-        hint: Vec::new(alloc),
+        what: Page::new(alloc),
+        hint: Page::new(alloc),
     }
 }
 
@@ -119,28 +120,23 @@ pub fn line_spot(alloc: Global) -> Spot {
     Spot {
         column: 0,
         width: 1,
-        what: Vec::new(alloc),
-        hint: Vec::new(alloc),
+        what: Page::new(alloc),
+        hint: Page::new(alloc),
     }
 }
 
-/// A spot that marks the word with which the statement of this number, from 0, begins, with what is wrong and a hint.
-pub fn statement_spot(
-    alloc: Global,
-    text: &[u8],
-    tokens: &[Token],
-    number: u64,
-    what: &[u8],
-    hint: &[u8],
-) -> Result<Spot, AllocError> {
-    let mut spot = match statement_at(text, tokens, number) {
-        Some(statement) => match statement.tokens.first() {
-            Some(token) => spot_at(alloc, text, token),
-            None => line_spot(alloc),
-        },
+/// A spot that marks the first token of a statement, or else the beginning of its line, of which nothing is said yet.
+pub fn first_spot(alloc: Global, text: &[u8], statement: &[Token]) -> Spot {
+    match statement.first() {
+        Some(token) => spot_at(alloc, text, token),
         None => line_spot(alloc),
-    };
-    spot.what.extend_from_slice(what)?;
-    spot.hint.extend_from_slice(hint)?;
-    Ok(spot)
+    }
+}
+
+/// A spot that marks the word with which the statement of this number, from 0, begins, of which nothing is said yet.
+pub fn statement_spot(alloc: Global, text: &[u8], tokens: &[Token], number: u64) -> Spot {
+    match statement_at(text, tokens, number) {
+        Some(statement) => first_spot(alloc, text, statement.tokens),
+        None => line_spot(alloc),
+    }
 }

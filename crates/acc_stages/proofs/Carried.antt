@@ -6,19 +6,19 @@ use Rattle.std.specs.List.{list_any}
 use Rattle.std.proofs.lemmas.Bool.Decides.{nat_tests}
 use Rattle.std.proofs.lemmas.List.{reverse-append}
 use Rattle.std.proofs.lemmas.List.Folds.{list_any-append}
-use Rattle.acc_systems.specs.declared.stops.Stop.{Stop}
-use Rattle.acc_systems.specs.declared.stops.Stop.TheVariants.{Refuted, Many}
-use Rattle.acc_systems.specs.declared.rows.Row.{Row}
+use Rattle.acc_rows.specs.declared.stops.Stop.{Stop}
+use Rattle.acc_rows.specs.declared.stops.Stop.TheVariants.{Refuted, Many}
+use Rattle.acc_rows.specs.declared.rows.Row.{Row}
 use Rattle.acc_systems.specs.declared.systems.Replaced.{Replaced}
-use Rattle.acc_systems.specs.Answers.{Computation, chain, steps}
-use Rattle.acc_systems.specs.Rows.{has, cleared, cleared_by}
-use Rattle.acc_systems.specs.Sparse.{at}
+use Rattle.acc_rows.specs.Answers.{Computation, chain, steps}
+use Rattle.acc_rows.specs.Rows.{has, cleared, cleared_by}
+use Rattle.acc_rows.specs.Sparse.{at}
 use Rattle.acc_systems.specs.Systems.{MOST, is_false, repeats, is_constant, is_without, admitted, taken, replaced}
 use Rattle.acc_systems.specs.Repetitions.{GrowTogether, TellBehind, StillBehind}
 use Rattle.acc_systems.proofs.Apart.{told_stayed, told_grown}
 use Rattle.acc_systems.proofs.Apart.{ok_chain}
 use Rattle.acc_systems.proofs.Behind.{kept_behind, made_behind, ended_behind}
-use Rattle.acc_systems.proofs.Chains.{steps_append}
+use Rattle.acc_rows.proofs.Chains.{steps_append}
 use Rattle.acc_stages.specs.declared.stages.Step.{Step}
 use Rattle.acc_stages.specs.declared.stages.Stage.{Stage}
 use Rattle.acc_stages.specs.declared.carrying.Note.{Note}

@@ -4,14 +4,14 @@ use Rattle.std.proofs.Common.{sym, ◌∙◌, subst, arith, ◌||◌}
 use Rattle.std.specs.Prelude.{option_map, reverse, IfOk, IfSome}
 use Rattle.std.specs.List.{list_any}
 use Rattle.std.proofs.lemmas.List.{reverse-append, length-map}
-use Rattle.acc_systems.specs.declared.rows.Row.{Row}
+use Rattle.acc_rows.specs.declared.rows.Row.{Row}
 use Rattle.acc_systems.specs.declared.systems.Reduced.{Reduced}
 use Rattle.acc_systems.specs.declared.systems.Replaced.{Replaced}
-use Rattle.acc_systems.specs.Answers.{Computation, chain, steps}
+use Rattle.acc_rows.specs.Answers.{Computation, chain, steps}
 use Rattle.acc_systems.specs.Systems.{repeats, is_constant, admitted, taken, replaced, whole, set_aside, counted}
 use Rattle.acc_systems.specs.Repetitions.{AreApart, TellBehind}
 use Rattle.acc_systems.proofs.Apart.{system_apart, aside_apart}
-use Rattle.acc_systems.proofs.Chains.{steps_append}
+use Rattle.acc_rows.proofs.Chains.{steps_append}
 use Rattle.acc_stages.specs.declared.stages.Step.{Step}
 use Rattle.acc_stages.specs.declared.stages.Stage.{Stage}
 use Rattle.acc_stages.specs.Followed.{listed, left_first, told, followed_at, followed, through}

@@ -6,19 +6,19 @@ use Rattle.std.specs.Prelude.{Result, nat_le, nat_lt, option_map, reverse, IfOk,
 use Rattle.std.specs.List.{list_any}
 use Rattle.std.specs.Cmp.{second_so}
 use Rattle.std.proofs.lemmas.List.{reverse-append}
-use Rattle.acc_systems.specs.declared.stops.Stop.{Stop}
-use Rattle.acc_systems.specs.declared.stops.Stop.TheVariants.{Refuted, Many}
-use Rattle.acc_systems.specs.declared.rows.Row.{Row}
+use Rattle.acc_rows.specs.declared.stops.Stop.{Stop}
+use Rattle.acc_rows.specs.declared.stops.Stop.TheVariants.{Refuted, Many}
+use Rattle.acc_rows.specs.declared.rows.Row.{Row}
 use Rattle.acc_systems.specs.declared.systems.Replaced.{Replaced}
-use Rattle.acc_systems.specs.Answers.{Computation, Answers, chain, steps}
-use Rattle.acc_systems.specs.Sparse.{at, mixture, mixed}
-use Rattle.acc_systems.specs.Numbers.{size}
-use Rattle.acc_systems.specs.Rows.{divided, divisor_of, lowest, has, turned, cleared_by, cleared}
+use Rattle.acc_rows.specs.Answers.{Computation, Answers, chain, steps}
+use Rattle.acc_rows.specs.Sparse.{at, mixture, mixed}
+use Rattle.acc_rows.specs.Numbers.{size}
+use Rattle.acc_rows.specs.Rows.{divided, divisor_of, lowest, has, turned, cleared_by, cleared}
 use Rattle.acc_systems.specs.Systems.{MOST, is_false, repeats, is_constant, is_without, is_equation_with, taken, admitted, replaced}
 use Rattle.acc_systems.specs.Repetitions.{TellBehind}
 use Rattle.acc_systems.proofs.Apart.{any_ok, ok_chain, ok_steps}
 use Rattle.acc_systems.proofs.Behind.{has_as}
-use Rattle.acc_systems.proofs.Chains.{steps_append}
+use Rattle.acc_rows.proofs.Chains.{steps_append}
 use Rattle.acc_stages.specs.declared.stages.Step.{Step}
 use Rattle.acc_stages.specs.declared.stages.Path.{Path}
 use Rattle.acc_stages.specs.Followed.{listed, left_of, told, followed_at, Following, followed, followed_all, through}

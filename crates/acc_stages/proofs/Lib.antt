@@ -1,5 +1,3 @@
 pub mod Lefts
 pub mod Extended
 pub mod Carried
-pub mod Ended
-pub mod Knowns

@@ -1,15 +1,14 @@
 -- A relation that is carried along behind others: what the path of their stage notes of it.
 use Rattle.std.specs.Prelude.{◌≡◌, ℕ, suc, nat_lt, Bool, true, false, ◌&&◌, if◌then◌else◌, List, [], ◌∷◌, ◌++◌, reverse}
 use Rattle.std.specs.Prelude.{Option, Some, None, Ok}
-use Rattle.acc_systems.specs.declared.rows.Row.{Row}
-use Rattle.acc_systems.specs.Answers.{Computation, chain}
-use Rattle.acc_systems.specs.Rows.{has}
+use Rattle.acc_rows.specs.declared.rows.Row.{Row}
+use Rattle.acc_rows.specs.Answers.{Computation, chain}
+use Rattle.acc_rows.specs.Rows.{has}
 use Rattle.acc_systems.specs.Systems.{MOST}
 use Rattle.acc_stages.specs.declared.stages.Step.{Step}
 use Rattle.acc_stages.specs.declared.stages.Path.{Path}
 use Rattle.acc_stages.specs.declared.stages.Stage.{Stage}
 use Rattle.acc_stages.specs.declared.carrying.Note.{Note}
-use Rattle.acc_stages.specs.declared.carrying.Carried.{Carried}
 use Rattle.acc_stages.specs.Followed.{listed, left_first, followed_at}
 use Rattle.acc_stages.specs.Stages.{form}
 
@@ -59,10 +58,10 @@ path_with p o ns = record { first = p.first ++ listed (note_of true o).made; ste
 abbrev pub stage_with : Stage → Option Row → Noticed → Stage
 stage_with g o x = record { path = path_with g.path o x.0; rows = g.rows ++ listed x.1; left = g.left }
 
--- a path is the other with this relation, of which that is left
-pub record IsCarriedAlong (p : Path) (r : Row) (c : Carried) : Type 0 where
+-- the second path is the first with this relation, of which that is left behind the steps
+pub record IsCarriedAlong (p : Path) (r : Row) (q : Path) (left : Option Row) : Type 0 where
   pub rest : Option Row
   pub notes : List Note
   pub first : left_first p.first r ≡ Ok rest
-  pub trail : noticed p.first (reverse p.steps) rest ≡ Ok (notes, c.left)
-  pub path : c.path ≡ path_with p rest notes
+  pub trail : noticed p.first (reverse p.steps) rest ≡ Ok (notes, left)
+  pub path : q ≡ path_with p rest notes

@@ -1,10 +1,10 @@
 -- What is left of a relation that comes behind others, in their stage of equations.
 use Rattle.std.specs.Prelude.{ℕ, nat_le, Bool, ◌&&◌, ◌||◌, if◌then◌else◌, List, [], ◌∷◌, length, Option, Some, None, Ok, Err}
 use Rattle.std.specs.List.{list_any}
-use Rattle.acc_systems.specs.declared.stops.Stop.TheVariants.{Refuted, Many}
-use Rattle.acc_systems.specs.declared.rows.Row.{Row}
-use Rattle.acc_systems.specs.Answers.{Computation, chain, steps}
-use Rattle.acc_systems.specs.Rows.{cleared}
+use Rattle.acc_rows.specs.declared.stops.Stop.TheVariants.{Refuted, Many}
+use Rattle.acc_rows.specs.declared.rows.Row.{Row}
+use Rattle.acc_rows.specs.Answers.{Computation, chain, steps}
+use Rattle.acc_rows.specs.Rows.{cleared}
 use Rattle.acc_systems.specs.Systems.{MOST, is_false, repeats, is_constant, is_without}
 use Rattle.acc_stages.specs.declared.stages.Step.{Step}
 use Rattle.acc_stages.specs.declared.stages.Path.{Path}

@@ -1,4 +1,3 @@
 pub mod Followed
 pub mod Stages
 pub mod Carried
-pub mod Ends

@@ -1,9 +1,9 @@
 -- The stage of equations of a system, kept step by step.
 use Rattle.std.specs.Prelude.{◌≡◌, ℕ, zero, suc, List, [], ◌∷◌, ◌++◌, map, length, Option, Some, None, Ok}
-use Rattle.acc_systems.specs.declared.rows.Row.{Row}
+use Rattle.acc_rows.specs.declared.rows.Row.{Row}
 use Rattle.acc_systems.specs.declared.systems.Reduced.{Reduced}
 use Rattle.acc_systems.specs.declared.systems.Replaced.{Replaced}
-use Rattle.acc_systems.specs.Answers.{Computation, chain, steps}
+use Rattle.acc_rows.specs.Answers.{Computation, chain, steps}
 use Rattle.acc_systems.specs.Systems.{admitted, taken, replaced, whole, set_aside, counted}
 use Rattle.acc_systems.specs.Repetitions.{TellBehind}
 use Rattle.acc_stages.specs.declared.stages.Step.{Step}

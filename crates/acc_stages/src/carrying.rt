@@ -1,18 +1,19 @@
 //! One more inequality, carried along in the path of a stage of equations that is kept.
-ghost use Rattle.std.specs.Prelude.{◌≡◌, false, reverse, Ok, IfOk, IfSome};
+ghost use Rattle.std.specs.Prelude.{◌≡◌, ◌∷◌, ◌++◌, [], false, reverse, Ok, IfOk, IfSome, OnOk};
 ghost use Rattle.std.specs.List.{list_any};
 ghost use Rattle.acc_systems.specs.Systems.{repeats};
-ghost use Rattle.acc_stages.specs.Carried.{has_unknown, note_of, count_with, noted, noted_once, all_noted, noticed};
+ghost use Rattle.acc_stages.specs.Followed.{told, listed};
+ghost use Rattle.acc_stages.specs.Carried.{has_unknown, note_of, count_with, noted, noted_once, all_noted, noticed_at, noticed};
 ghost use Rattle.acc_stages.specs.Carried.{IsCarriedAlong};
 
-use crate::ending::rows_with;
-use crate::following::{follow_step, left_first};
+use crate::following::{add_left, follow_step, left_first};
 use crate::stages::{Path, Step};
 use acc_base::sequences::Seq;
-use acc_systems::rows::Row;
-use acc_systems::stops::Stop;
+use acc_rows::rows::Row;
+use acc_rows::stops::Stop;
 use acc_systems::systems::{MOST, form_of};
 use std::alloc::{AllocError, Global};
+use std::mem;
 
 /// What a step notes of one more relation: the form in which it was made there, and whether it is left.
 #[derive(Drop)]
@@ -25,13 +26,6 @@ pub struct Note {
 #[derive(Drop)]
 pub struct Trail {
     pub notes: Seq<Note>,
-    pub left: Option<Row>,
-}
-
-/// A path with one more relation, and what is left of it behind the steps.
-#[derive(Drop)]
-pub struct Carried {
-    pub path: Path,
     pub left: Option<Row>,
 }
 
@@ -67,6 +61,26 @@ fn note_of(alloc: Global, is_changed: bool, left: &Option<Row>) -> Result<Note, 
     }
 }
 
+/// What is left of a relation behind a step, whose note comes behind the others.
+fn notice(
+    alloc: Global,
+    first: &[Row],
+    earlier: &[Step],
+    step: &Step,
+    rest: Option<Row>,
+    notes: &mut Seq<Note>,
+) -> Result<Option<Row>, Stop>
+    requires { IfSome rest (λ row. told first.now (reverse earlier.now) row ≡ false) }
+    ensures value { IfOk result (λ left. noticed_at first.now (reverse earlier.now) step.now (reverse notes.old, rest)
+        ≡ Ok (reverse notes.new, left)) }
+    ensures untold { IfOk result (λ left. IfSome left (λ row. told first.now (step.now ∷ reverse earlier.now) row ≡ false)) }
+{
+    let is_changed = has_unknown(step.aside.0, &rest);
+    let left = follow_step(alloc, first, earlier, step, rest)?;
+    notes.push(note_of(alloc, is_changed, &left)?)?;
+    Ok(left)
+}
+
 /// What the steps note of a relation, and what is left of it behind them.
 fn trail_of(alloc: Global, path: &Path, rest: Option<Row>) -> Result<Trail, Stop>
     requires { IfSome rest (λ row. list_any (repeats row) path.now.first ≡ false) }
@@ -77,9 +91,14 @@ fn trail_of(alloc: Global, path: &Path, rest: Option<Row>) -> Result<Trail, Stop
     let mut notes = Seq::new(alloc);
     let mut left = rest;
     for place in 0..steps.len() {
-        let is_changed = has_unknown(steps[place].aside.0, &left);
-        left = follow_step(alloc, first, &steps[..place], &steps[place], left)?;
-        notes.push(note_of(alloc, is_changed, &left)?)?;
+        left = notice(
+            alloc,
+            first,
+            &steps[..place],
+            &steps[place],
+            left,
+            &mut notes,
+        )?;
     }
     Ok(Trail { notes, left })
 }
@@ -95,30 +114,32 @@ fn count_with(is_left: bool, count: usize) -> usize
     }
 }
 
-/// A step with its note.
-fn noted(step: Step, note: Note) -> Result<Step, AllocError>
-    ensures { IfOk result (λ s. s ≡ noted step note) }
+/// A step gets its note.
+fn note_step(step: &mut Step, note: Note) -> Result<(), AllocError>
+    ensures { OnOk result (step.new ≡ noted step.old note) }
 {
-    let Step { aside, made, count } = step;
-    let Note {
-        made: more,
-        is_left,
-    } = note;
-    Ok(Step {
-        aside,
-        made: rows_with(made, more)?,
-        count: count_with(is_left, count),
-    })
+    add_left(&mut step.made, note.made)?;
+    step.count = count_with(note.is_left, step.count);
+    Ok(())
 }
 
-/// A step with its note, where there is one.
-fn noted_once(step: Step, note: Option<Note>) -> Result<Step, AllocError>
-    ensures { IfOk result (λ s. s ≡ noted_once step note) }
+/// A step gets its note, where there is one.
+fn note_once(step: &mut Step, note: Option<Note>) -> Result<(), AllocError>
+    ensures { OnOk result (step.new ≡ noted_once step.old note) }
 {
     match note {
-        None => Ok(step),
-        Some(note) => noted(step, note),
+        None => Ok(()),
+        Some(note) => note_step(step, note),
     }
+}
+
+/// Puts a step with its note behind the others.
+fn push_noted(all: &mut Vec<Step>, mut step: Step, note: Option<Note>) -> Result<(), AllocError>
+    ensures { OnOk result (all.new.items ≡ all.old.items ++ noted_once step note ∷ []) }
+{
+    note_once(&mut step, note)?;
+    all.push(step)?;
+    Ok(())
 }
 
 /// Steps with their notes.
@@ -129,25 +150,43 @@ fn all_noted(alloc: Global, steps: Vec<Step>, notes: Seq<Note>) -> Result<Seq<St
     let mut notes = notes;
     let mut all = Vec::new(alloc);
     while let Some(step) = rest.pop() {
-        all.push(noted_once(step, notes.pop())?)?;
+        push_noted(&mut all, step, notes.pop())?;
     }
     all.reverse();
     Ok(Seq::from_vec(all))
 }
 
-/// One more inequality is carried along. What is left of it, or isn't, at each step is noted there. An equation isn't carried along
-/// rightly: it may be set aside.
-pub fn carry(alloc: Global, path: Path, row: Row) -> Result<Carried, Stop>
-    ensures { IfOk result (IsCarriedAlong path row) }
+/// The steps get their notes.
+fn note_all(alloc: Global, steps: &mut Seq<Step>, notes: Seq<Note>) -> Result<(), AllocError>
+    ensures { OnOk result (steps.new ≡ reverse (all_noted (reverse steps.old) (reverse notes))) }
+{
+    let old = mem::replace(steps, Seq::new(alloc)).into_vec();
+    *steps = all_noted(alloc, old, notes)?;
+    Ok(())
+}
+
+/// A path gets this note before its steps, and these for them.
+fn note_path(
+    alloc: Global,
+    path: &mut Path,
+    begun: Note,
+    notes: Seq<Note>,
+) -> Result<(), AllocError>
+    ensures first { OnOk result (path.new.first ≡ path.old.first ++ listed begun.made) }
+    ensures steps { OnOk result (path.new.steps ≡ reverse (all_noted (reverse path.old.steps) (reverse notes))) }
+{
+    add_left(&mut path.first, begun.made)?;
+    note_all(alloc, &mut path.steps, notes)
+}
+
+/// One more inequality is carried along: what is left of it, or isn't, at each step is noted there. Answers what is left behind them. An
+/// equation isn't carried along rightly: it may be set aside.
+pub fn carry(alloc: Global, path: &mut Path, row: Row) -> Result<Option<Row>, Stop>
+    ensures { IfOk result (IsCarriedAlong path.old row path.new) }
 {
     let rest = left_first(path.first.as_slice(), row)?;
     let begun = note_of(alloc, true, &rest)?;
-    let Trail { notes, left } = trail_of(alloc, &path, rest)?;
-    let Path { first, steps } = path;
-    let first = rows_with(first, begun.made)?;
-    let steps = all_noted(alloc, steps.into_vec(), notes)?;
-    Ok(Carried {
-        path: Path { first, steps },
-        left,
-    })
+    let Trail { notes, left } = trail_of(alloc, path, rest)?;
+    note_path(alloc, path, begun, notes)?;
+    Ok(left)
 }

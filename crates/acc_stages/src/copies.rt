@@ -2,8 +2,8 @@
 ghost use Rattle.std.specs.Prelude.{◌≡◌, IfOk};
 
 use acc_base::sequences::copied;
-use acc_systems::rows::Row;
-use acc_systems::stops::Stop;
+use acc_rows::rows::Row;
+use acc_rows::stops::Stop;
 use std::alloc::{AllocError, Global};
 
 /// The same relation again.

@@ -1,15 +1,16 @@
 //! What is left of one more relation in a stage of equations that is kept.
-ghost use Rattle.std.specs.Prelude.{◌≡◌, ◌∷◌, false, reverse, Some, IfOk, IfSome};
+ghost use Rattle.std.specs.Prelude.{◌≡◌, ◌∷◌, ◌++◌, false, reverse, Some, IfOk, IfSome, OnOk};
 ghost use Rattle.std.specs.List.{list_any};
-ghost use Rattle.acc_systems.specs.Answers.{Answers};
+ghost use Rattle.acc_rows.specs.Answers.{Answers};
 ghost use Rattle.acc_systems.specs.Systems.{repeats};
-ghost use Rattle.acc_stages.specs.Followed.{left_of, left_first, told, followed_at, followed_all, through};
+ghost use Rattle.acc_stages.specs.Followed.{left_of, left_first, listed, told, followed_at, followed_all, through};
 
 use crate::stages::{Path, Step};
-use acc_systems::rows::{Row, cleared};
-use acc_systems::stops::Stop;
+use acc_base::sequences::Seq;
+use acc_rows::rows::{Row, cleared};
+use acc_rows::stops::Stop;
 use acc_systems::systems::{MOST, is_constant, is_false, is_repetition};
-use std::alloc::Global;
+use std::alloc::{AllocError, Global};
 
 /// What is left of one more relation of a system of `count`, where it is known whether it repeats one.
 fn left_of(row: Row, is_repeated: bool, count: usize) -> Result<Option<Row>, Stop>
@@ -127,4 +128,14 @@ pub fn follow(alloc: Global, path: &Path, row: Row) -> Result<Option<Row>, Stop>
 {
     let rest = left_first(path.first.as_slice(), row)?;
     follow_all(alloc, path, rest)
+}
+
+/// Puts one more relation behind the others, where there is one.
+pub fn add_left(rows: &mut Seq<Row>, more: Option<Row>) -> Result<(), AllocError>
+    ensures { OnOk result (rows.new ≡ rows.old ++ listed more) }
+{
+    match more {
+        None => Ok(()),
+        Some(row) => rows.push(row),
+    }
 }

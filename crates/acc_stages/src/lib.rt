@@ -1,9 +1,7 @@
-//! Systems of which the stage of equations is kept, and asked again and again about one more relation.
+//! Stages of equations, and what they make of one more relation: led through, or carried along.
 #![tactic(auto)]
 
-mod carrying;
+pub mod carrying;
 pub mod copies;
-mod ending;
-mod following;
-pub mod known;
+pub mod following;
 pub mod stages;

@@ -1,13 +1,13 @@
 //! The stage of equations of a system, kept so that one more relation can be led through it.
 ghost use Rattle.std.specs.Prelude.{◌≡◌, map, IfOk, IfErr, OnOk, OnErr, [], ◌∷◌, ◌++◌};
-ghost use Rattle.acc_systems.specs.Answers.{StoppedBy, steps};
+ghost use Rattle.acc_rows.specs.Answers.{StoppedBy, steps};
 ghost use Rattle.acc_systems.specs.Repetitions.{AreApart};
-ghost use Rattle.acc_systems.specs.Systems.{admitted, set_aside};
-ghost use Rattle.acc_stages.specs.Stages.{form, reduced, IsFirst, Follows};
+ghost use Rattle.acc_systems.specs.Systems.{admitted, replaced, set_aside};
+ghost use Rattle.acc_stages.specs.Stages.{form, reduced, IsFirst, SetsAside, Follows};
 
 use acc_base::sequences::Seq;
-use acc_systems::rows::Row;
-use acc_systems::stops::Stop;
+use acc_rows::rows::Row;
+use acc_rows::stops::Stop;
 use acc_systems::systems::{Replaced, admit_all, form_of, replace_all, take_equation};
 use std::alloc::{AllocError, Global};
 use std::mem;
@@ -62,6 +62,30 @@ pub fn begin(alloc: Global, rows: Vec<Row>) -> Result<Stage, Stop>
     })
 }
 
+/// An equation that was taken for the unknown is set aside. The others are the system without the unknown.
+fn put_aside(
+    alloc: Global,
+    stage: &mut Stage,
+    unknown: u32,
+    equation: Row,
+    others: Vec<Row>,
+) -> Result<(), Stop>
+    requires { AreApart others.items }
+    ensures value { OnOk result (SetsAside stage.old unknown equation others.items stage.new) }
+    ensures path { OnErr result (stage.new.path ≡ stage.old.path) }
+    ensures stops { IfErr result (λ e. StoppedBy e (steps (replaced unknown equation) [] others.items)) }
+{
+    let Replaced { rows, made } = replace_all(alloc, unknown, &equation, others)?;
+    let count = rows.len();
+    stage.rows = rows;
+    stage.path.steps.push(Step {
+        aside: (unknown, equation),
+        made,
+        count,
+    })?;
+    Ok(())
+}
+
 /// The system without the unknown where an equation has it; else the unknown is left. What stops that leaves the path as it was.
 pub fn set_aside(alloc: Global, stage: &mut Stage, unknown: u32) -> Result<(), Stop>
     requires { AreApart stage.old.rows }
@@ -76,15 +100,6 @@ pub fn set_aside(alloc: Global, stage: &mut Stage, unknown: u32) -> Result<(), S
             stage.left.push(unknown)?;
             Ok(())
         }
-        Some(equation) => {
-            let Replaced { rows, made } = replace_all(alloc, unknown, &equation, rows)?;
-            stage.path.steps.push(Step {
-                aside: (unknown, equation),
-                made,
-                count: rows.len(),
-            })?;
-            stage.rows = rows;
-            Ok(())
-        }
+        Some(equation) => put_aside(alloc, stage, unknown, equation, rows),
     }
 }

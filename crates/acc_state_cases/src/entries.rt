@@ -1,6 +1,6 @@
 //! Which entry forbids a step, and by which two places clash.
 ghost use Rattle.std.specs.Prelude.{IsTrue};
-ghost use Rattle.acc_form.specs.WellFormed.{IsWellFormed};
+ghost use Rattle.acc_formed.specs.WellFormed.{IsWellFormed};
 ghost use Rattle.acc_table.specs.Entries.{IsPointOf};
 
 use acc_base::designs::{At, Design, Side};

@@ -2,21 +2,19 @@
 ghost use Rattle.acc_play.specs.Stages.{AllFit};
 
 use acc_base::machines::Call;
-use acc_case_words::words::parted;
+use acc_case_words::words::{parted, push_lines};
 use acc_lift::Accepted;
 use acc_schedule::schedule;
-use acc_script::{calls, order};
+use acc_script::{ScriptError, calls, order};
 use std::alloc::{AllocError, Global};
+use std::fmt::Write;
 
-/// Pushes the lines of a text, with ` / ` between two.
-fn push_lines(out: &mut String, text: &[u8]) -> Result<(), AllocError> {
-    for byte in text.trim_ascii_end() {
-        match *byte {
-            b'\n' => out.push_str(" / ")?,
-            byte => out.push(byte as char)?,
-        }
+/// Pushes that one of these is refused.
+fn push_refusal(out: &mut String, error: ScriptError, what: &str) -> Result<(), AllocError> {
+    match error {
+        ScriptError::Line(_) => write!(out, "refused {what}"),
+        ScriptError::Memory => Err(AllocError),
     }
-    Ok(())
 }
 
 /// Pushes the lines of calls in an order.
@@ -29,13 +27,13 @@ fn push_ordered(
 ) -> Result<(), AllocError>
     requires fit { AllFit design.now asked.now }
 {
-    let Ok(places) = order(alloc, asked.len() as u64, places.as_bytes()) else {
-        return out.push_str("refused order");
-    };
-    push_lines(
-        out,
-        &schedule(alloc, design, asked, places.as_slice())?.text,
-    )
+    match order(alloc, asked.len() as u64, places.as_bytes()) {
+        Ok(places) => push_lines(
+            out,
+            &schedule(alloc, design, asked, places.as_slice())?.text,
+        ),
+        Err(error) => push_refusal(out, error, "order"),
+    }
 }
 
 /// Pushes the lines of a script's calls in an order, or what isn't as it should be.
@@ -49,6 +47,6 @@ pub fn push_schedule(
     let script = script.replace(alloc, ";", "\n")?;
     match calls(alloc, design.design(), script.as_bytes()) {
         Ok(asked) => push_ordered(alloc, out, design, asked.as_slice(), places),
-        Err(_) => out.push_str("refused script"),
+        Err(error) => push_refusal(out, error, "script"),
     }
 }

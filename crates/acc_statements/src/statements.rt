@@ -11,7 +11,7 @@ use acc_lex::texts::words;
 use std::alloc::{AllocError, Global};
 
 /// A line of a text, and the statements that end on it.
-#[derive(Clone, Copy, Debug, PartialEq, Eq)]
+#[derive(Clone, Copy)]
 pub struct Line {
     /// The line, from 1.
     pub number: u64,

@@ -5,7 +5,7 @@ ghost use Rattle.acc_step.specs.declared.errors.StepError.TheVariants.{Memory as
 use std::alloc::{AllocError, AllocFailed};
 
 /// Why a step has no effect.
-#[derive(Clone, Copy, Debug, PartialEq, Eq)]
+#[derive(Clone, Copy, PartialEq, Eq)]
 pub enum StepError {
     /// A number of the step leaves its range, ±2^45; or there is no such step, or no path of it is open.
     Range,

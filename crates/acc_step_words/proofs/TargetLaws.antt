@@ -19,7 +19,6 @@ abbrev IsGoto : TargetTree → Type 0
 IsGoto t = (x : List ℕ) × (target.Goto x ≡ t)
 
 goto_exact : Exact CanFollow target_statement IsGoto Free goto_at
-unfolding goto_at
 goto_exact =
     let point = closed_exact sign.End refl name_exact (λ x rest. tt) in
     let whole = made_free (after_exact sign.Goto refl point) (λ x. target.Goto x) target_statement (λ a p. refl) (λ a rest. tt) in
@@ -29,14 +28,12 @@ abbrev Is : TargetTree → TargetTree → Type 0
 Is u t = u ≡ t
 
 commit_exact : Exact CanFollow target_statement (Is target.Commit) Free commit_at
-unfolding commit_at
 commit_exact =
     let whole = made_free (after_exact sign.Commit refl (sign_exact sign.End refl)) (λ o. target.Commit) target_statement (λ a p. refl)
     (λ a rest. tt) in
     trees_exact (same_exact (λ ws. simp bind_assoc) whole) (λ t p. p.2) (λ t q. (tt, tt, q))
 
 undone_exact : Exact CanFollow target_statement (Is target.Undone) Free undone_at
-unfolding undone_at
 undone_exact =
     let whole = made_free (after_exact sign.Undone refl (sign_exact sign.End refl)) (λ o. target.Undone) target_statement (λ a p. refl)
     (λ a rest. tt) in

@@ -59,7 +59,7 @@ abbrev pub starts_action : List Word → Bool
 starts_action ws = comes sign.Put ws || (comes sign.Del ws || (comes sign.Set ws || comes sign.Add ws))
 
 -- goto NAME
-unfoldable pub goto_at : List Word → WordsRead TargetTree
+abbrev pub goto_at : List Word → WordsRead TargetTree
 goto_at ws = do
   k ← sign_at sign.Goto ws
   x ← name_at k.1
@@ -67,14 +67,14 @@ goto_at ws = do
   Ok (target.Goto x.0, e.1)
 
 -- commit
-unfoldable pub commit_at : List Word → WordsRead TargetTree
+abbrev pub commit_at : List Word → WordsRead TargetTree
 commit_at ws = do
   k ← sign_at sign.Commit ws
   e ← sign_at sign.End k.1
   Ok (target.Commit, e.1)
 
 -- undone
-unfoldable pub undone_at : List Word → WordsRead TargetTree
+abbrev pub undone_at : List Word → WordsRead TargetTree
 undone_at ws = do
   k ← sign_at sign.Undone ws
   e ← sign_at sign.End k.1

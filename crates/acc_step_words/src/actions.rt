@@ -2,8 +2,8 @@
 ghost use Rattle.std.specs.Prelude.{◌≡◌};
 ghost use Rattle.acc_grammar.specs.Readers.{many};
 ghost use Rattle.acc_grammar.specs.Answers.{Gives};
-ghost use Rattle.acc_step_words.specs.ActionReaders.{put_at, del_at, set_at, add_at, action_at, starts_action, goto_at, commit_at};
-ghost use Rattle.acc_step_words.specs.ActionReaders.{undone_at, refuse_at, target_at};
+ghost use Rattle.acc_step_words.specs.ActionReaders.{put_at, del_at, set_at, add_at, action_at, starts_action, refuse_at};
+ghost use Rattle.acc_step_words.specs.ActionReaders.{target_at};
 
 use acc_base::sequences::Seq;
 use acc_grammar::faults::Fault;
@@ -18,8 +18,7 @@ fn put(parser: &mut Parser<'_>) -> Result<ActionTree, Fault>
     parser.sign(Sign::Put)?;
     let place = parser.place()?;
     let values = parser.values()?;
-    parser.sign(Sign::End)?;
-    Ok(ActionTree::Put(place, values))
+    parser.ended(ActionTree::Put(place, values))
 }
 
 #[tactic(auto, unfolding(crate::specs::ActionReaders::del_at))]
@@ -28,8 +27,7 @@ fn del(parser: &mut Parser<'_>) -> Result<ActionTree, Fault>
 {
     parser.sign(Sign::Del)?;
     let place = parser.place()?;
-    parser.sign(Sign::End)?;
-    Ok(ActionTree::Del(place))
+    parser.ended(ActionTree::Del(place))
 }
 
 #[tactic(auto, unfolding(crate::specs::ActionReaders::set_at))]
@@ -39,8 +37,7 @@ fn set(parser: &mut Parser<'_>) -> Result<ActionTree, Fault>
     parser.sign(Sign::Set)?;
     let cell = parser.cell()?;
     let value = parser.sum()?;
-    parser.sign(Sign::End)?;
-    Ok(ActionTree::Set(cell, value))
+    parser.ended(ActionTree::Set(cell, value))
 }
 
 #[tactic(auto, unfolding(crate::specs::ActionReaders::add_at))]
@@ -50,8 +47,7 @@ fn add(parser: &mut Parser<'_>) -> Result<ActionTree, Fault>
     parser.sign(Sign::Add)?;
     let cell = parser.cell()?;
     let value = parser.sum()?;
-    parser.sign(Sign::End)?;
-    Ok(ActionTree::Add(cell, value))
+    parser.ended(ActionTree::Add(cell, value))
 }
 
 #[tactic(auto, unfolding(crate::specs::ActionReaders::action_at))]
@@ -89,54 +85,26 @@ pub(crate) fn actions(parser: &mut Parser<'_>) -> Result<Seq<ActionTree>, Fault>
     Ok(actions)
 }
 
-#[tactic(auto, unfolding(crate::specs::ActionReaders::goto_at))]
-fn goto(parser: &mut Parser<'_>) -> Result<TargetTree, Fault>
-    ensures { Gives result parser.new.words.now (goto_at parser.old.words.now) }
-{
-    parser.sign(Sign::Goto)?;
-    let point = parser.name()?;
-    parser.sign(Sign::End)?;
-    Ok(TargetTree::Goto(point))
-}
-
-#[tactic(auto, unfolding(crate::specs::ActionReaders::commit_at))]
-fn commit(parser: &mut Parser<'_>) -> Result<TargetTree, Fault>
-    ensures { Gives result parser.new.words.now (commit_at parser.old.words.now) }
-{
-    parser.sign(Sign::Commit)?;
-    parser.sign(Sign::End)?;
-    Ok(TargetTree::Commit)
-}
-
-#[tactic(auto, unfolding(crate::specs::ActionReaders::undone_at))]
-fn undone(parser: &mut Parser<'_>) -> Result<TargetTree, Fault>
-    ensures { Gives result parser.new.words.now (undone_at parser.old.words.now) }
-{
-    parser.sign(Sign::Undone)?;
-    parser.sign(Sign::End)?;
-    Ok(TargetTree::Undone)
-}
-
 #[tactic(auto, unfolding(crate::specs::ActionReaders::refuse_at))]
 fn refuse(parser: &mut Parser<'_>) -> Result<TargetTree, Fault>
     ensures { Gives result parser.new.words.now (refuse_at parser.old.words.now) }
 {
     parser.sign(Sign::Refuse)?;
     let number = parser.number()?;
-    parser.sign(Sign::End)?;
-    Ok(TargetTree::Refuse(number))
+    parser.ended(TargetTree::Refuse(number))
 }
 
 #[tactic(auto, unfolding(crate::specs::ActionReaders::target_at))]
 pub(crate) fn target(parser: &mut Parser<'_>) -> Result<TargetTree, Fault>
     ensures { Gives result parser.new.words.now (target_at parser.old.words.now) }
 {
-    if parser.comes(Sign::Goto) {
-        goto(parser)
-    } else if parser.comes(Sign::Commit) {
-        commit(parser)
-    } else if parser.comes(Sign::Undone) {
-        undone(parser)
+    if parser.takes(Sign::Goto) {
+        let point = parser.name()?;
+        parser.ended(TargetTree::Goto(point))
+    } else if parser.takes(Sign::Commit) {
+        parser.ended(TargetTree::Commit)
+    } else if parser.takes(Sign::Undone) {
+        parser.ended(TargetTree::Undone)
     } else {
         refuse(parser)
     }

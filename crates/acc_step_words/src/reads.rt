@@ -29,8 +29,7 @@ fn row_read(parser: &mut Parser<'_>, sign: Sign) -> Result<(Variable, Place), Fa
 {
     let variable = assigned(parser, sign)?;
     let place = parser.place()?;
-    parser.sign(Sign::End)?;
-    Ok((variable, place))
+    parser.ended((variable, place))
 }
 
 /// The word, the variable that is assigned, and a column of a row.
@@ -40,8 +39,7 @@ fn cell_read(parser: &mut Parser<'_>, sign: Sign) -> Result<(Variable, Cell), Fa
 {
     let variable = assigned(parser, sign)?;
     let cell = parser.cell()?;
-    parser.sign(Sign::End)?;
-    Ok((variable, cell))
+    parser.ended((variable, cell))
 }
 
 #[tactic(auto, unfolding(crate::specs::ReadReaders::let_at))]
@@ -50,8 +48,7 @@ fn let_read(parser: &mut Parser<'_>) -> Result<ReadTree, Fault>
 {
     let variable = assigned(parser, Sign::Let)?;
     let value = parser.sum()?;
-    parser.sign(Sign::End)?;
-    Ok(ReadTree::Let(variable, value))
+    parser.ended(ReadTree::Let(variable, value))
 }
 
 #[tactic(auto, unfolding(crate::specs::ReadReaders::get_at))]
@@ -108,8 +105,7 @@ fn take_read(parser: &mut Parser<'_>) -> Result<ReadTree, Fault>
 {
     parser.sign(Sign::Take)?;
     let variable = parser.variable()?;
-    parser.sign(Sign::End)?;
-    Ok(ReadTree::Take(variable))
+    parser.ended(ReadTree::Take(variable))
 }
 
 #[tactic(auto, unfolding(crate::specs::ReadReaders::mul_at))]
@@ -119,8 +115,7 @@ fn mul_read(parser: &mut Parser<'_>) -> Result<ReadTree, Fault>
     let variable = assigned(parser, Sign::Mul)?;
     let left = parser.variable()?;
     let right = parser.variable()?;
-    parser.sign(Sign::End)?;
-    Ok(ReadTree::Mul(variable, left, right))
+    parser.ended(ReadTree::Mul(variable, left, right))
 }
 
 #[tactic(auto, unfolding(crate::specs::ReadReaders::div_at))]
@@ -130,8 +125,7 @@ fn div_read(parser: &mut Parser<'_>) -> Result<ReadTree, Fault>
     let variable = assigned(parser, Sign::Div)?;
     let divided = parser.variable()?;
     let divisor = parser.number()?;
-    parser.sign(Sign::End)?;
-    Ok(ReadTree::Div(variable, divided, divisor))
+    parser.ended(ReadTree::Div(variable, divided, divisor))
 }
 
 #[tactic(auto, unfolding(crate::specs::ReadReaders::read_at))]

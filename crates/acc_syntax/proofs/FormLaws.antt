@@ -124,7 +124,7 @@ abbrev IsOneself : Operand → Type 0
 IsOneself t = operands.Variable Oneself ≡ t
 
 self_sure : (ws : List Word) → comes sign.Oneself ws ≡ true → Sure operand IsOneself OperandGoes self_operand_at ws
-unfolding self_operand_at sign_at
+unfolding sign_at
 self_sure [] h = absurd cc
 self_sure (word.Name x ∷ ws) h = absurd cc
 self_sure (word.Number n ∷ ws) h = absurd cc
@@ -137,7 +137,7 @@ self_sure (word.Sign s ∷ ws) h = (
 )
 
 self_again : (t : Operand) (rest : List Word) → IsOneself t → self_operand_at (operand t ++ rest) ≡ Ok (t, rest)
-unfolding self_operand_at sign_at
+unfolding sign_at
 self_again t rest p = subst (λ (z : Operand). self_operand_at (operand z ++ rest) ≡ Ok (z, rest)) p refl
 
 -- `self`, or what begins with a name
@@ -156,7 +156,6 @@ abbrev IsHas : Operand → Type 0
 IsHas t = (p : Place) × (operands.Has p ≡ t)
 
 has_exact : Exact CanFollow operand IsHas OperandGoes has_operand_at
-unfolding has_operand_at
 has_exact =
     let whole = made_exact (after_exact sign.Has refl place_exact) (λ p. operands.Has p) operand OperandGoes (λ a p. refl) (λ a rest g. tt)
     (λ a rest p g. tt) operand_heads in
@@ -166,7 +165,6 @@ abbrev IsCount : Operand → Type 0
 IsCount t = (p : Place) × (operands.Count p ≡ t)
 
 count_exact : Exact CanFollow operand IsCount OperandGoes count_operand_at
-unfolding count_operand_at
 count_exact =
     let whole = made_exact (after_exact sign.Count refl place_exact) (λ p. operands.Count p) operand OperandGoes (λ a p. refl)
     (λ a rest g. tt) (λ a rest p g. tt) operand_heads in
@@ -176,7 +174,6 @@ abbrev IsSum : Operand → Type 0
 IsSum t = (c : Cell) × (operands.Sum c ≡ t)
 
 sum_exact : Exact CanFollow operand IsSum OperandGoes sum_operand_at
-unfolding sum_operand_at
 sum_exact =
     let whole = made_exact (after_exact sign.Sum refl cell_exact) (λ c. operands.Sum c) operand OperandGoes (λ a p. refl) (λ a rest g. tt)
     (λ a rest p g. tt) operand_heads in

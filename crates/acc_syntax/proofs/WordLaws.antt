@@ -215,6 +215,17 @@ module _ {T : Type 0} {spell : T → List Word} {goes : T → List Word → Type
       (many (comes sign.Comma) (further_at read))
   furthers_exact = many_exact further_exact (comes sign.Comma) (comes_head sign.Comma) refl (λ t rest p g. refl) (λ t p. omega arith)
 
+-- what a reader reads is answered as it is
+read_as_is : {T : Type 0} (outcome : WordsRead T) → (outcome >>= (λ x. Ok (x.0, x.1))) ≡ outcome
+read_as_is (Ok x) = refl
+read_as_is (Err rest) = refl
+
+-- behind a comma, a further part is read as the first
+pub behind_comma : {T : Type 0} (item : List Word → WordsRead T) (ws after : List Word) → sign_at sign.Comma ws ≡ Ok (tt, after) →
+    further_at item ws ≡ item after
+unfolding further_at
+behind_comma item ws after e = rw e (read_as_is (item after))
+
 -- where a part may end at a comma, and what follows may end it too
 pub ends_before : {T : Type 0} (stop : List Word → Type 0) (spell : T → List Word) → ((ws : List Word) → stop (word.Sign sign.Comma ∷ ws)) →
     (ts : List T) (rest : List Word) → stop rest → stop (joined (further spell) ts ++ rest)

@@ -41,28 +41,28 @@ named_operand_at ws = do
   Ok (named_operand x.0 p.0, p.1)
 
 -- has row
-unfoldable pub has_operand_at : List Word → WordsRead Operand
+abbrev pub has_operand_at : List Word → WordsRead Operand
 has_operand_at ws = do
   k ← sign_at sign.Has ws
   p ← place_at k.1
   Ok (operands.Has p.0, p.1)
 
 -- count row
-unfoldable pub count_operand_at : List Word → WordsRead Operand
+abbrev pub count_operand_at : List Word → WordsRead Operand
 count_operand_at ws = do
   k ← sign_at sign.Count ws
   p ← place_at k.1
   Ok (operands.Count p.0, p.1)
 
 -- sum row.column
-unfoldable pub sum_operand_at : List Word → WordsRead Operand
+abbrev pub sum_operand_at : List Word → WordsRead Operand
 sum_operand_at ws = do
   k ← sign_at sign.Sum ws
   c ← cell_at k.1
   Ok (operands.Sum c.0, c.1)
 
 -- `self`
-unfoldable pub self_operand_at : List Word → WordsRead Operand
+abbrev pub self_operand_at : List Word → WordsRead Operand
 self_operand_at ws = do
   o ← sign_at sign.Oneself ws
   Ok (operands.Variable Oneself, o.1)

@@ -55,6 +55,12 @@ unfoldable pub number_at : List Word → WordsRead ℕ
 number_at (word.Number n ∷ ws) = Ok (n, ws)
 number_at ws = Err ws
 
+-- this value, where its statement ends here
+abbrev pub ended_at : {T : Type 0} → T → List Word → WordsRead T
+ended_at x ws = do
+  e ← sign_at sign.End ws
+  Ok (x, e.1)
+
 -- the end of the words
 unfoldable pub end_at : List Word → WordsRead (Unit {0})
 end_at ws = absent_at every ws

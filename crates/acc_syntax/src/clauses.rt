@@ -17,8 +17,7 @@ impl Parser<'_> {
     fn binder(&mut self) -> Result<Option<Names>, Fault>
         ensures { Gives result self.new.words.now (binder_at self.old.words.now) }
     {
-        if self.comes(Sign::Forall) {
-            self.sign(Sign::Forall)?;
+        if self.takes(Sign::Forall) {
             let names = self.some_names()?;
             self.sign(Sign::Colon)?;
             Ok(Some(names))
@@ -74,8 +73,7 @@ impl Parser<'_> {
     {
         self.sign(sign)?;
         let clause = self.clause()?;
-        self.sign(Sign::End)?;
-        Ok(clause)
+        self.ended(clause)
     }
 
     /// Clauses, as long as a statement begins with the word.
@@ -94,11 +92,9 @@ impl Parser<'_> {
     pub fn variant(&mut self) -> Result<Option<Sum>, Fault>
         ensures { Gives result self.new.words.now (variant_at self.old.words.now) }
     {
-        if self.comes(Sign::Variant) {
-            self.sign(Sign::Variant)?;
+        if self.takes(Sign::Variant) {
             let value = self.sum()?;
-            self.sign(Sign::End)?;
-            Ok(Some(value))
+            self.ended(Some(value))
         } else {
             Ok(None)
         }

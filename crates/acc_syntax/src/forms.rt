@@ -4,8 +4,8 @@ ghost use Rattle.acc_grammar.specs.Readers.{many};
 ghost use Rattle.acc_grammar.specs.Answers.{Gives};
 ghost use Rattle.acc_syntax.specs.WordReaders.{comes, further_at};
 ghost use Rattle.acc_syntax.specs.ValueReaders.{starts_signed_term};
-ghost use Rattle.acc_syntax.specs.FormReaders.{key_and_column_at, named_operand_at, has_operand_at, count_operand_at, sum_operand_at};
-ghost use Rattle.acc_syntax.specs.FormReaders.{self_operand_at, operand_at, operand_factor_at, form_number_term_at, form_term_at};
+ghost use Rattle.acc_syntax.specs.FormReaders.{key_and_column_at, named_operand_at, operand_at, operand_factor_at};
+ghost use Rattle.acc_syntax.specs.FormReaders.{form_number_term_at, form_term_at};
 ghost use Rattle.acc_syntax.specs.FormReaders.{signed_form_term_at, form_at, form_rel_at};
 
 use crate::boxes::Boxed;
@@ -23,8 +23,7 @@ impl Parser<'_> {
     fn key_and_column(&mut self) -> Result<Option<(Boxed<Sums>, Text)>, Fault>
         ensures { Gives result self.new.words.now (key_and_column_at self.old.words.now) }
     {
-        if self.comes(Sign::Open) {
-            self.sign(Sign::Open)?;
+        if self.takes(Sign::Open) {
             let key = self.sums()?;
             self.sign(Sign::Close)?;
             self.sign(Sign::Dot)?;
@@ -50,50 +49,18 @@ impl Parser<'_> {
         }
     }
 
-    #[tactic(auto, unfolding(crate::specs::FormReaders::has_operand_at))]
-    fn has_operand(&mut self) -> Result<Operand, Fault>
-        ensures { Gives result self.new.words.now (has_operand_at self.old.words.now) }
-    {
-        self.sign(Sign::Has)?;
-        Ok(Operand::Has(self.place()?))
-    }
-
-    #[tactic(auto, unfolding(crate::specs::FormReaders::count_operand_at))]
-    fn count_operand(&mut self) -> Result<Operand, Fault>
-        ensures { Gives result self.new.words.now (count_operand_at self.old.words.now) }
-    {
-        self.sign(Sign::Count)?;
-        Ok(Operand::Count(self.place()?))
-    }
-
-    #[tactic(auto, unfolding(crate::specs::FormReaders::sum_operand_at))]
-    fn sum_operand(&mut self) -> Result<Operand, Fault>
-        ensures { Gives result self.new.words.now (sum_operand_at self.old.words.now) }
-    {
-        self.sign(Sign::Sum)?;
-        Ok(Operand::Sum(self.cell()?))
-    }
-
-    #[tactic(auto, unfolding(crate::specs::FormReaders::self_operand_at))]
-    fn self_operand(&mut self) -> Result<Operand, Fault>
-        ensures { Gives result self.new.words.now (self_operand_at self.old.words.now) }
-    {
-        self.sign(Sign::Oneself)?;
-        Ok(Operand::Variable(Variable::Oneself))
-    }
-
     #[tactic(auto, unfolding(crate::specs::FormReaders::operand_at))]
     fn operand(&mut self) -> Result<Operand, Fault>
         ensures { Gives result self.new.words.now (operand_at self.old.words.now) }
     {
-        if self.comes(Sign::Has) {
-            self.has_operand()
-        } else if self.comes(Sign::Count) {
-            self.count_operand()
-        } else if self.comes(Sign::Sum) {
-            self.sum_operand()
-        } else if self.comes(Sign::Oneself) {
-            self.self_operand()
+        if self.takes(Sign::Has) {
+            Ok(Operand::Has(self.place()?))
+        } else if self.takes(Sign::Count) {
+            Ok(Operand::Count(self.place()?))
+        } else if self.takes(Sign::Sum) {
+            Ok(Operand::Sum(self.cell()?))
+        } else if self.takes(Sign::Oneself) {
+            Ok(Operand::Variable(Variable::Oneself))
         } else {
             self.named_operand()
         }
@@ -103,8 +70,7 @@ impl Parser<'_> {
     fn operand_factor(&mut self) -> Result<Option<Operand>, Fault>
         ensures { Gives result self.new.words.now (operand_factor_at self.old.words.now) }
     {
-        if self.comes(Sign::Times) {
-            self.sign(Sign::Times)?;
+        if self.takes(Sign::Times) {
             Ok(Some(self.operand()?))
         } else {
             Ok(None)
@@ -157,7 +123,7 @@ impl Parser<'_> {
     fn form(&mut self) -> Result<Boxed<FormTree>, Fault>
         ensures { Gives result self.new.words.now (form_at self.old.words.now) }
     {
-        let minus = self.minus()?;
+        let minus = self.minus();
         let first = self.form_term()?;
         let others = self.signed_form_terms()?;
         let form = FormTree {
@@ -182,20 +148,12 @@ impl Parser<'_> {
         })
     }
 
-    #[tactic(auto, unfolding(crate::specs::WordReaders::further_at))]
-    fn further_form_rel(&mut self) -> Result<FormRelTree, Fault>
-        ensures { Gives result self.new.words.now (further_at form_rel_at self.old.words.now) }
-    {
-        self.sign(Sign::Comma)?;
-        self.form_rel()
-    }
-
     pub fn further_form_rels(&mut self) -> Result<Seq<FormRelTree>, Fault>
         ensures { Gives result self.new.words.now (many (comes Sign.Comma) (further_at form_rel_at) self.old.words.now) }
     {
         let mut rels = Seq::new(self.alloc);
-        while self.comes(Sign::Comma) {
-            let rel = self.further_form_rel()?;
+        while self.takes(Sign::Comma) {
+            let rel = self.form_rel()?;
             rels.push(rel)?;
         }
         Ok(rels)

@@ -1,8 +1,8 @@
 //! A parser of words: what comes next, and reading one word.
-ghost use Rattle.std.specs.Prelude.{◌≡◌};
+ghost use Rattle.std.specs.Prelude.{◌≡◌, false, Ok, IsTrue};
 ghost use Rattle.acc_grammar.specs.Readers.{many};
 ghost use Rattle.acc_grammar.specs.Answers.{Gives};
-ghost use Rattle.acc_syntax.specs.WordReaders.{comes, is_name, is_number, is_word, sign_at, name_at, number_at, end_at};
+ghost use Rattle.acc_syntax.specs.WordReaders.{comes, is_name, is_number, is_word, sign_at, name_at, number_at, ended_at, end_at};
 
 use acc_base::sequences::{Seq, Text, copied};
 use acc_grammar::faults::Fault;
@@ -44,15 +44,37 @@ impl Parser<'_> {
         !self.words.is_empty()
     }
 
+    /// Goes past the fixed word, and answers whether it came.
+    #[tactic(auto, unfolding(crate::specs::WordReaders::sign_at))]
+    pub fn takes(&mut self, sign: Sign) -> bool
+        ensures came { result ≡ comes sign self.old.words.now }
+        ensures taken { IsTrue result → sign_at sign self.old.words.now ≡ Ok (tt, self.new.words.now) }
+        ensures left { result ≡ false → self.new.words.now ≡ self.old.words.now }
+    {
+        let came = self.comes(sign);
+        if came {
+            self.words = &self.words[1..];
+        }
+        came
+    }
+
     #[tactic(auto, unfolding(crate::specs::WordReaders::sign_at))]
     pub fn sign(&mut self, sign: Sign) -> Result<(), Fault>
         ensures { Gives result self.new.words.now (sign_at sign self.old.words.now) }
     {
-        if !self.comes(sign) {
-            return Err(Fault::Syntax);
+        if self.takes(sign) {
+            Ok(())
+        } else {
+            Err(Fault::Syntax)
         }
-        self.words = &self.words[1..];
-        Ok(())
+    }
+
+    /// The value, where its statement ends here.
+    pub fn ended<T: Drop>(&mut self, value: T) -> Result<T, Fault>
+        ensures { Gives result self.new.words.now (ended_at value self.old.words.now) }
+    {
+        self.sign(Sign::End)?;
+        Ok(value)
     }
 
     #[tactic(auto, unfolding(crate::specs::WordReaders::name_at))]

@@ -15,8 +15,7 @@ impl Parser<'_> {
     fn private(&mut self) -> Result<bool, Fault>
         ensures { Gives result self.new.words.now (private_at self.old.words.now) }
     {
-        if self.comes(Sign::Private) {
-            self.sign(Sign::Private)?;
+        if self.takes(Sign::Private) {
             Ok(true)
         } else {
             self.sign(Sign::Table)?;
@@ -32,8 +31,7 @@ impl Parser<'_> {
         let name = self.name()?;
         let width = self.number()?;
         let columns = self.names()?;
-        self.sign(Sign::End)?;
-        Ok(TableTree {
+        self.ended(TableTree {
             private,
             name,
             width,
@@ -71,11 +69,9 @@ impl Parser<'_> {
     pub fn names_statement(&mut self, sign: Sign) -> Result<Option<Names>, Fault>
         ensures { Gives result self.new.words.now (names_statement_at sign self.old.words.now) }
     {
-        if self.comes(sign) {
-            self.sign(sign)?;
+        if self.takes(sign) {
             let names = self.some_names()?;
-            self.sign(Sign::End)?;
-            Ok(Some(names))
+            self.ended(Some(names))
         } else {
             Ok(None)
         }

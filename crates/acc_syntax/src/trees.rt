@@ -62,7 +62,7 @@ pub struct Names {
 }
 
 /// How two values compare: `<=`, `>=` or `=`.
-#[derive(Debug, Drop)]
+#[derive(Drop)]
 pub enum Relation {
     AtMost,
     AtLeast,
@@ -244,7 +244,7 @@ pub struct TypeTree {
 }
 
 /// One of a point's two steps.
-#[derive(Debug, Drop)]
+#[derive(Drop)]
 pub enum SideTree {
     Next,
     Undo,

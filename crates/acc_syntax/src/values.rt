@@ -1,5 +1,5 @@
 //! Reading linear values, rows and guards.
-ghost use Rattle.std.specs.Prelude.{◌≡◌};
+ghost use Rattle.std.specs.Prelude.{◌≡◌, Ok};
 ghost use Rattle.acc_grammar.specs.Readers.{many};
 ghost use Rattle.acc_grammar.specs.Answers.{Gives};
 ghost use Rattle.acc_syntax.specs.WordReaders.{comes, further_at};
@@ -21,8 +21,7 @@ impl Parser<'_> {
     pub fn variable(&mut self) -> Result<Variable, Fault>
         ensures { Gives result self.new.words.now (variable_at self.old.words.now) }
     {
-        if self.comes(Sign::Oneself) {
-            self.sign(Sign::Oneself)?;
+        if self.takes(Sign::Oneself) {
             Ok(Variable::Oneself)
         } else {
             Ok(Variable::Named(self.name()?))
@@ -33,8 +32,7 @@ impl Parser<'_> {
     fn factor(&mut self) -> Result<Option<Variable>, Fault>
         ensures { Gives result self.new.words.now (factor_at self.old.words.now) }
     {
-        if self.comes(Sign::Times) {
-            self.sign(Sign::Times)?;
+        if self.takes(Sign::Times) {
             Ok(Some(self.variable()?))
         } else {
             Ok(None)
@@ -64,23 +62,17 @@ impl Parser<'_> {
     }
 
     #[tactic(auto, unfolding(crate::specs::ValueReaders::minus_at))]
-    pub fn minus(&mut self) -> Result<bool, Fault>
-        ensures { Gives result self.new.words.now (minus_at self.old.words.now) }
+    pub fn minus(&mut self) -> bool
+        ensures { minus_at self.old.words.now ≡ Ok (result, self.new.words.now) }
     {
-        if self.comes(Sign::Minus) {
-            self.sign(Sign::Minus)?;
-            Ok(true)
-        } else {
-            Ok(false)
-        }
+        self.takes(Sign::Minus)
     }
 
     #[tactic(auto, unfolding(crate::specs::ValueReaders::direction_at))]
     pub fn direction(&mut self) -> Result<bool, Fault>
         ensures { Gives result self.new.words.now (direction_at self.old.words.now) }
     {
-        if self.comes(Sign::Minus) {
-            self.sign(Sign::Minus)?;
+        if self.takes(Sign::Minus) {
             Ok(true)
         } else {
             self.sign(Sign::Plus)?;
@@ -118,7 +110,7 @@ impl Parser<'_> {
     pub fn sum(&mut self) -> Result<Sum, Fault>
         ensures { Gives result self.new.words.now (sum_at self.old.words.now) }
     {
-        let minus = self.minus()?;
+        let minus = self.minus();
         let first = self.term()?;
         let others = self.signed_terms()?;
         Ok(Sum {
@@ -134,20 +126,12 @@ impl Parser<'_> {
         self.is_number() || self.is_name() || self.comes(Sign::Oneself) || self.comes(Sign::Minus)
     }
 
-    #[tactic(auto, unfolding(crate::specs::WordReaders::further_at))]
-    fn further_sum(&mut self) -> Result<Sum, Fault>
-        ensures { Gives result self.new.words.now (further_at sum_at self.old.words.now) }
-    {
-        self.sign(Sign::Comma)?;
-        self.sum()
-    }
-
     fn further_sums(&mut self) -> Result<Seq<Sum>, Fault>
         ensures { Gives result self.new.words.now (many (comes Sign.Comma) (further_at sum_at) self.old.words.now) }
     {
         let mut sums = Seq::new(self.alloc);
-        while self.comes(Sign::Comma) {
-            let sum = self.further_sum()?;
+        while self.takes(Sign::Comma) {
+            let sum = self.sum()?;
             sums.push(sum)?;
         }
         Ok(sums)
@@ -198,11 +182,9 @@ impl Parser<'_> {
     pub fn relation(&mut self) -> Result<Relation, Fault>
         ensures { Gives result self.new.words.now (relation_at self.old.words.now) }
     {
-        if self.comes(Sign::AtMost) {
-            self.sign(Sign::AtMost)?;
+        if self.takes(Sign::AtMost) {
             Ok(Relation::AtMost)
-        } else if self.comes(Sign::AtLeast) {
-            self.sign(Sign::AtLeast)?;
+        } else if self.takes(Sign::AtLeast) {
             Ok(Relation::AtLeast)
         } else {
             self.sign(Sign::Equal)?;
@@ -224,20 +206,12 @@ impl Parser<'_> {
         })
     }
 
-    #[tactic(auto, unfolding(crate::specs::WordReaders::further_at))]
-    fn further_lin_rel(&mut self) -> Result<LinRelTree, Fault>
-        ensures { Gives result self.new.words.now (further_at lin_rel_at self.old.words.now) }
-    {
-        self.sign(Sign::Comma)?;
-        self.lin_rel()
-    }
-
     fn further_lin_rels(&mut self) -> Result<Seq<LinRelTree>, Fault>
         ensures { Gives result self.new.words.now (many (comes Sign.Comma) (further_at lin_rel_at) self.old.words.now) }
     {
         let mut rels = Seq::new(self.alloc);
-        while self.comes(Sign::Comma) {
-            let rel = self.further_lin_rel()?;
+        while self.takes(Sign::Comma) {
+            let rel = self.lin_rel()?;
             rels.push(rel)?;
         }
         Ok(rels)

@@ -6,12 +6,12 @@ use Rattle.std.specs.Prelude.{All, Result, option_map, nat_le, IfOk, IfSome, OnO
 use Rattle.std.specs.List.{list_any}
 use Rattle.std.proofs.lemmas.List.Elements.{All-nil, All-head, All-tail, All-cons, All-push}
 use Rattle.std.proofs.lemmas.List.Folds.{list_any-append}
-use Rattle.acc_systems.specs.declared.stops.Stop.{Stop}
-use Rattle.acc_systems.specs.declared.stops.Stop.TheVariants.{Refuted, Many}
-use Rattle.acc_systems.specs.declared.rows.Row.{Row}
+use Rattle.acc_rows.specs.declared.stops.Stop.{Stop}
+use Rattle.acc_rows.specs.declared.stops.Stop.TheVariants.{Refuted, Many}
+use Rattle.acc_rows.specs.declared.rows.Row.{Row}
 use Rattle.acc_systems.specs.declared.systems.Reduced.{Reduced}
-use Rattle.acc_systems.specs.Answers.{Computation, chain, steps, Leaves}
-use Rattle.acc_systems.specs.Rows.{cleared}
+use Rattle.acc_rows.specs.Answers.{Computation, chain, steps, Leaves}
+use Rattle.acc_rows.specs.Rows.{cleared}
 use Rattle.acc_systems.specs.Systems.{MOST, is_false, repeats, is_constant, admitted, is_equation_with, taken, replaced, set_aside}
 use Rattle.acc_systems.specs.Repetitions.{Differs, AreApart, TellsOf, StillTellsOf, GrowTogether}
 

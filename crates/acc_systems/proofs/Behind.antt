@@ -10,12 +10,12 @@ use Rattle.std.proofs.lemmas.Bool.Decides.{Decides-eqb, Decides-int_eq}
 use Rattle.std.proofs.lemmas.Slice.Eq.{slice_eq-Decides}
 use Rattle.std.proofs.lemmas.List.Folds.{list_any-append}
 use Rattle.acc_base.specs.Pairs.{pair_decides}
-use Rattle.acc_systems.specs.declared.stops.Stop.{Stop}
-use Rattle.acc_systems.specs.declared.stops.Stop.TheVariants.{Refuted, Many}
-use Rattle.acc_systems.specs.declared.rows.Row.{Row}
-use Rattle.acc_systems.specs.Answers.{Leaves}
-use Rattle.acc_systems.specs.Sparse.{Sparse, same_numbers, no_numbers}
-use Rattle.acc_systems.specs.Rows.{has}
+use Rattle.acc_rows.specs.declared.stops.Stop.{Stop}
+use Rattle.acc_rows.specs.declared.stops.Stop.TheVariants.{Refuted, Many}
+use Rattle.acc_rows.specs.declared.rows.Row.{Row}
+use Rattle.acc_rows.specs.Answers.{Leaves}
+use Rattle.acc_rows.specs.Sparse.{Sparse, same_numbers, no_numbers}
+use Rattle.acc_rows.specs.Rows.{has}
 use Rattle.acc_systems.specs.Systems.{MOST, is_false, same_bool, repeats, is_constant, is_without, admitted}
 use Rattle.acc_systems.specs.Repetitions.{GrowTogether, StillBehind, told_behind}
 

@@ -11,14 +11,14 @@ use Rattle.std.proofs.lemmas.Bool.Decides.{nat_tests}
 use Rattle.std.proofs.lemmas.List.Elements.{All-nil, All-head, All-tail, All-cons}
 use lib.IntN.{*ℤ-zero, pos-*ℤ-pos}
 use Rattle.acc_base.proofs.Products.{times_sum, times_times}
-use Rattle.acc_systems.specs.declared.rows.Row.{Row}
+use Rattle.acc_rows.specs.declared.rows.Row.{Row}
 use Rattle.acc_base.specs.Collecting.{worth}
 use Rattle.acc_systems.specs.Made.{Sums as IsSum}
-use Rattle.acc_systems.specs.Numbers.{kept, opposite, size}
-use Rattle.acc_systems.specs.Sparse.{Sparse, at, mixture, mixed}
-use Rattle.acc_systems.specs.Divisors.{divisor_within, divisor, common, quotient}
-use Rattle.acc_systems.specs.Rows.{numbers, quotients, divided, divisor_of, lowest, made, has, turned, cleared_by, cleared, crossing}
-use Rattle.acc_systems.proofs.Worths.{Gives, gives_chain, mixture_gives, mixed_gives, kept_gives, gives_weaker}
+use Rattle.acc_rows.specs.Numbers.{kept, opposite, size}
+use Rattle.acc_rows.specs.Sparse.{Sparse, at, mixture, mixed}
+use Rattle.acc_rows.specs.Divisors.{divisor_within, divisor, common, quotient}
+use Rattle.acc_rows.specs.Rows.{numbers, quotients, divided, divisor_of, lowest, made, has, turned, cleared_by, cleared, crossing}
+use Rattle.acc_rows.proofs.Worths.{Gives, gives_chain, mixture_gives, mixed_gives, kept_gives, gives_weaker}
 use Rattle.acc_systems.specs.Systems.{is_upper, is_lower, eliminated}
 use Rattle.acc_systems.proofs.Kept.{Keeps, EliminatedGood, eliminated_keeps}
 

@@ -1,10 +1,10 @@
 -- The false constant that ends an elimination.
 use Rattle.std.proofs.Common.{◌≡◌, ℕ, true, [], ◌∷◌, Err, refl, subst, arith, ℤ, pos}
 use Rattle.std.proofs.lemmas.Int.{ints}
-use Rattle.acc_systems.specs.declared.stops.Stop.TheVariants.{Refuted}
-use Rattle.acc_systems.specs.declared.rows.Row.{Row}
-use Rattle.acc_systems.specs.Answers.{Computation}
-use Rattle.acc_systems.specs.Sparse.{Sparse, no_numbers}
+use Rattle.acc_rows.specs.declared.stops.Stop.TheVariants.{Refuted}
+use Rattle.acc_rows.specs.declared.rows.Row.{Row}
+use Rattle.acc_rows.specs.Answers.{Computation}
+use Rattle.acc_rows.specs.Sparse.{Sparse, no_numbers}
 use Rattle.acc_systems.specs.Systems.{is_constant, is_false, eliminated}
 use Rattle.acc_base.specs.Collecting.{worth}
 use Rattle.acc_systems.specs.Made.{Sums, Signed, Ordered, FalseConstantIsASum, MultipliersAreSigned, MultipliersRise}

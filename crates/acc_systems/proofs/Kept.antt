@@ -5,18 +5,18 @@ use Rattle.std.specs.Prelude.{All, filter, option_map, nat_le}
 use Rattle.std.specs.List.{list_any}
 use Rattle.std.specs.Cmp.{first_so, second_so}
 use Rattle.std.proofs.lemmas.List.Elements.{All-nil, All-head, All-tail, All-cons, All-push}
-use Rattle.acc_systems.specs.declared.stops.Stop.{Stop}
-use Rattle.acc_systems.specs.declared.stops.Stop.TheVariants.{Refuted, Wide, Many, Memory}
-use Rattle.acc_systems.specs.declared.rows.Row.{Row}
+use Rattle.acc_rows.specs.declared.stops.Stop.{Stop}
+use Rattle.acc_rows.specs.declared.stops.Stop.TheVariants.{Refuted, Wide, Many, Memory}
+use Rattle.acc_rows.specs.declared.rows.Row.{Row}
 use Rattle.acc_systems.specs.declared.systems.Reduced.{Reduced}
 use Rattle.acc_systems.specs.declared.systems.Bounded.{Bounded}
 use Rattle.acc_systems.specs.declared.systems.Eliminated.{Eliminated}
-use Rattle.acc_systems.specs.Answers.{Computation, chain, steps}
-use Rattle.acc_systems.specs.Rows.{has, cleared, crossing}
+use Rattle.acc_rows.specs.Answers.{Computation, chain, steps}
+use Rattle.acc_rows.specs.Rows.{has, cleared, crossing}
 use Rattle.acc_systems.specs.Systems.{MOST, is_false, repeats, is_constant, admitted, is_equation_with, taken, replaced, set_aside, whole}
 use Rattle.acc_systems.specs.Systems.{is_upper, is_lower, is_without, crossed_once, crossed_with, or_else, crossed, unbounded, counted}
 use Rattle.acc_systems.specs.Systems.{eliminated}
-use Rattle.acc_systems.proofs.Worths.{Gives}
+use Rattle.acc_rows.proofs.Worths.{Gives}
 
 -- all of a list, with what a filter tested
 kept_by : {X : Type 0} (P : X → Type 0) (p : X → Bool) (x : X) (xs : List X) (b : Bool) → p x ≡ b → P x → All (λ y. P y × (p y ≡ true)) xs

@@ -1,13 +1,8 @@
-pub mod Chains
-pub mod SparseSteps
-pub mod DivisorSteps
 pub mod SystemSteps
 pub mod Apart
 pub mod Behind
-pub mod Worths
 pub mod Kept
 pub mod Divisions
-pub mod Entries
 pub mod Signs
 pub mod Orders
 pub mod FalseConstants

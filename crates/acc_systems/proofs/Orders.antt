@@ -4,14 +4,14 @@ use Rattle.std.proofs.Common.{nat_lt, if◌then◌else◌}
 use Rattle.std.specs.Prelude.{All, int_lt}
 use Rattle.std.specs.Ordering.{int_eq}
 use Rattle.std.proofs.lemmas.Bool.Decides.{nat_tests}
-use Rattle.acc_systems.specs.declared.rows.Row.{Row}
-use Rattle.acc_systems.specs.Answers.{Computation}
+use Rattle.acc_rows.specs.declared.rows.Row.{Row}
+use Rattle.acc_rows.specs.Answers.{Computation}
 use Rattle.acc_systems.specs.Made.{Rises, Ordered}
-use Rattle.acc_systems.specs.Numbers.{product, opposite, size}
-use Rattle.acc_systems.specs.Sparse.{Sparse, at, put, put_left, scaled, mixture, mixed_after, mixed}
-use Rattle.acc_systems.specs.Rows.{quotients, divided, divisor_of, made, has, turned, cleared_by, cleared, crossing}
+use Rattle.acc_rows.specs.Numbers.{product, opposite, size}
+use Rattle.acc_rows.specs.Sparse.{Sparse, at, put, put_left, scaled, mixture, mixed_after, mixed}
+use Rattle.acc_rows.specs.Rows.{quotients, divided, divisor_of, made, has, turned, cleared_by, cleared, crossing}
 use Rattle.acc_systems.specs.Systems.{is_upper, is_lower, eliminated}
-use Rattle.acc_systems.proofs.Worths.{Gives, gives_chain, gives_weaker, kept_gives, mixture_gives}
+use Rattle.acc_rows.proofs.Worths.{Gives, gives_chain, gives_weaker, kept_gives, mixture_gives}
 use Rattle.acc_systems.proofs.Kept.{Keeps, EliminatedGood, eliminated_keeps}
 
 lower : (j k : ℕ) (xs : Sparse) → j ≤ k → Rises k xs → Rises j xs

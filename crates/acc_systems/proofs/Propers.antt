@@ -5,15 +5,15 @@ use Rattle.std.specs.Prelude.{All, not, int_lt, unsigned_abs}
 use Rattle.std.specs.Ordering.{int_eq}
 use Rattle.std.proofs.lemmas.Int.{unsigned_abs-mul}
 use Rattle.std.proofs.lemmas.List.Elements.{All-nil, All-head, All-tail, All-cons}
-use Rattle.acc_systems.specs.declared.rows.Row.{Row}
-use Rattle.acc_systems.specs.Numbers.{kept, opposite, size}
-use Rattle.acc_systems.specs.Sparse.{Sparse, at, mixture, mixed}
-use Rattle.acc_systems.specs.Divisors.{quotient, common}
-use Rattle.acc_systems.specs.Rows.{numbers, quotients, divided, divisor_of, lowest, made, has, turned, cleared_by, cleared, crossing}
+use Rattle.acc_rows.specs.declared.rows.Row.{Row}
+use Rattle.acc_rows.specs.Numbers.{kept, opposite, size}
+use Rattle.acc_rows.specs.Sparse.{Sparse, at, mixture, mixed}
+use Rattle.acc_rows.specs.Divisors.{quotient, common}
+use Rattle.acc_rows.specs.Rows.{numbers, quotients, divided, divisor_of, lowest, made, has, turned, cleared_by, cleared, crossing}
 use Rattle.acc_systems.specs.Systems.{is_upper, is_lower, eliminated}
 use Rattle.acc_systems.specs.Made.{IsProper, Proper}
-use Rattle.acc_systems.proofs.Worths.{Gives, gives_chain, gives_weaker, kept_gives, mixture_gives, mixed_gives}
-use Rattle.acc_systems.proofs.Entries.{mixed_all}
+use Rattle.acc_rows.proofs.Worths.{Gives, gives_chain, gives_weaker, kept_gives, mixture_gives, mixed_gives}
+use Rattle.acc_rows.proofs.Entries.{mixed_all}
 use Rattle.acc_systems.proofs.Divisions.{Divides, common_divides, quotient_times}
 use Rattle.acc_systems.proofs.Kept.{Keeps, EliminatedGood, eliminated_keeps}
 

@@ -5,16 +5,16 @@ use Rattle.std.specs.Prelude.{All, int_lt, int_le}
 use Rattle.std.proofs.lemmas.Int.{ints}
 use Rattle.std.proofs.lemmas.List.Elements.{All-nil, All-head, All-tail, All-cons}
 use lib.IntN.{pos-*ℤ-pos}
-use Rattle.acc_systems.specs.declared.rows.Row.{Row}
+use Rattle.acc_rows.specs.declared.rows.Row.{Row}
 use Rattle.acc_systems.specs.Made.{MayStand as May, OfEquation as Of, Signed as IsSigned}
-use Rattle.acc_systems.specs.Numbers.{kept, opposite, size}
-use Rattle.acc_systems.specs.Sparse.{Sparse, at, mixture, mixed}
-use Rattle.acc_systems.specs.Divisors.{quotient}
-use Rattle.acc_systems.specs.Rows.{quotients, divided, divisor_of, lowest, made, has, turned, cleared_by, cleared, crossing}
+use Rattle.acc_rows.specs.Numbers.{kept, opposite, size}
+use Rattle.acc_rows.specs.Sparse.{Sparse, at, mixture, mixed}
+use Rattle.acc_rows.specs.Divisors.{quotient}
+use Rattle.acc_rows.specs.Rows.{quotients, divided, divisor_of, lowest, made, has, turned, cleared_by, cleared, crossing}
 use Rattle.acc_systems.specs.Systems.{is_upper, is_lower, eliminated}
-use Rattle.acc_systems.proofs.Worths.{Gives, gives_chain, gives_weaker, gives_both, kept_gives, mixture_gives, mixed_gives}
+use Rattle.acc_rows.proofs.Worths.{Gives, gives_chain, gives_weaker, gives_both, kept_gives, mixture_gives, mixed_gives}
 use Rattle.acc_systems.proofs.Kept.{Keeps, EliminatedGood, eliminated_keeps}
-use Rattle.acc_systems.proofs.Entries.{Entry, mixed_all}
+use Rattle.acc_rows.proofs.Entries.{Entry, mixed_all}
 
 -- ---- products of numbers that aren't below 0
 

@@ -1,15 +1,21 @@
 -- The first equation that has an unknown, and the numbers of the unknowns.
 use Rattle.std.proofs.Common.{◌≡◌, ℕ, zero, suc, ◌+◌, ◌-◌, ◌<◌, ◌≤◌, Bool, true, false, cond, List, [], ◌∷◌, ◌++◌, length, get_or, not, pos}
-use Rattle.std.proofs.Common.{Some, None, refl, ap, sym, ◌∙◌, arith, if◌then◌else◌, nat_lt}
+use Rattle.std.proofs.Common.{Some, None, Ok, refl, ap, sym, ◌∙◌, arith, if◌then◌else◌, nat_lt}
 use Rattle.std.specs.Prelude.{position, option_map, filter, int_lt}
 use Rattle.std.specs.Ordering.{int_eq}
 use Rattle.std.specs.List.{position_or_len, remove}
 use Rattle.std.proofs.lemmas.Bool.Decides.{nat_tests}
 use Rattle.std.proofs.lemmas.List.Quantifiers.{position-Some}
 use Rattle.std.proofs.lemmas.List.Sums.{fails_before_first}
-use Rattle.acc_systems.specs.declared.rows.Row.{Row}
-use Rattle.acc_systems.specs.Sparse.{at}
-use Rattle.acc_systems.specs.Systems.{is_equation_with, taken, counted, is_without, is_lower, is_upper}
+use Rattle.acc_rows.specs.declared.rows.Row.{Row}
+use Rattle.acc_rows.specs.Sparse.{at}
+use Rattle.acc_rows.specs.declared.stops.Stop.{Stop}
+use Rattle.acc_systems.specs.declared.systems.Parted.{Parted}
+use Rattle.acc_systems.specs.declared.systems.Bounded.{Bounded}
+use Rattle.acc_rows.specs.Answers.{Computation, StoppedBy, chain, steps}
+use Rattle.acc_systems.specs.Systems.{is_equation_with, taken, counted, is_without, is_lower, is_upper, IsParted, parted_with}
+use Rattle.acc_systems.specs.Systems.{crossed_with, crossed, bounds_of, or_else}
+use Rattle.acc_rows.proofs.Chains.{stopped_along, stopped_chain}
 
 module _ (u : ℕ) where
   taken_cases : (r : Row) (rs : List Row) (b : Bool) → is_equation_with u r ≡ b
@@ -79,6 +85,20 @@ module _ {X : Type 0} (p : X → Bool) (x : X) where
   filter_skip [] e = ap (λ b. if b then (x ∷ []) else []) e
   filter_skip (y ∷ ys) e = ap (λ zs. if p y then (y ∷ zs) else zs) (filter_skip ys e)
 
+  filter_more : (xs : List X) → filter p (xs ++ x ∷ []) ≡ (if p x then filter p xs ++ x ∷ [] else filter p xs)
+  filter_more xs = by (p x) refl
+    where
+      by : (b : Bool) → p x ≡ b → filter p (xs ++ x ∷ []) ≡ (if b then filter p xs ++ x ∷ [] else filter p xs)
+      by true e = filter_put xs e
+      by false e = filter_skip xs e
+
+pub parted_more : (u : ℕ) (rows : List Row) (p : Parted) (r : Row) → IsParted u rows p → IsParted u (rows ++ r ∷ []) (parted_with u p r)
+parted_more u rows p r is = (
+  ap (λ rs. if is_without u r then rs ++ r ∷ [] else rs) is.0 ∙ sym (filter_more (is_without u) r rows),
+  ap (λ rs. if is_lower u r then rs ++ r ∷ [] else rs) is.1 ∙ sym (filter_more (is_lower u) r rows),
+  ap (λ rs. if is_upper u r then rs ++ r ∷ [] else rs) is.2 ∙ sym (filter_more (is_upper u) r rows),
+)
+
 pub is_zero_without : (u : ℕ) (r : Row) → at u r.terms ≡ pos 0 → is_without u r ≡ true
 is_zero_without u r e = ap (λ z. not (not (int_eq z (pos 0)))) e
 
@@ -87,3 +107,28 @@ is_zero_lower u r e = ap (λ z. int_lt z (pos 0)) e
 
 pub is_zero_upper : (u : ℕ) (r : Row) → at u r.terms ≡ pos 0 → is_upper u r ≡ false
 is_zero_upper u r e = ap (λ z. int_lt (pos 0) z) e
+
+-- the relations of a system, parted, are crossed
+module _ (u : ℕ) (s : Bounded) (p : Parted) (is : IsParted u s.rows p) (without lows ups : List Row) (without_is : without ≡ p.without)
+    (lows_is : lows ≡ p.lows) (ups_is : ups ≡ p.ups) where
+  abbrev all_crossed : Computation (List Row)
+  all_crossed =
+      steps (crossed_with u (filter (is_lower u) s.rows)) (filter (is_without u) s.rows) (filter (is_upper u) s.rows)
+
+  crossed_is : steps (crossed_with u lows) without ups ≡ all_crossed
+  crossed_is = λ k. steps (crossed_with u ((lows_is ∙ is.1) k)) ((without_is ∙ is.0) k) ((ups_is ∙ is.2) k)
+
+  abbrev next : List Row → Computation Bounded
+  next rows = Ok (record { rows = rows; bounds = s.bounds ++ (u, bounds_of u s.rows) ∷ [] })
+
+  pub crossed_stopped : (e : Stop) → StoppedBy e (steps (crossed_with u lows) without ups) → StoppedBy e (crossed s u)
+  crossed_stopped e h = stopped_chain e all_crossed next (stopped_along e _ _ crossed_is h)
+
+  pub crossed_to : (rows : List Row) (bounds : List (ℕ × List Row)) → steps (crossed_with u lows) without ups ≡ Ok rows
+      → bounds ≡ s.bounds ++ (u, or_else p.lows p.ups) ∷ [] → crossed s u ≡ Ok (record { rows = rows; bounds = bounds })
+  crossed_to rows bounds done more =
+      ap (λ o. chain o next) (sym crossed_is ∙ done)
+      ∙ (λ k. Ok (record {
+        rows = rows;
+        bounds = (sym (more ∙ (λ i. s.bounds ++ (u, or_else (is.1 i) (is.2 i)) ∷ []))) k;
+      }))

@@ -1,9 +1,9 @@
 -- What is known of the relations that an elimination makes: each is a sum of multiples of those that it began with.
 use Rattle.std.specs.Prelude.{◌≡◌, ◌≤◌, ◌<◌, ℕ, suc, Bool, true, false, List, [], ◌∷◌, All, Err, ℤ, pos, ◌+ℤ◌, int_le, unsigned_abs}
 use Rattle.acc_base.specs.Collecting.{worth}
-use Rattle.acc_systems.specs.declared.stops.Stop.TheVariants.{Refuted}
-use Rattle.acc_systems.specs.declared.rows.Row.{Row}
-use Rattle.acc_systems.specs.Sparse.{Sparse}
+use Rattle.acc_rows.specs.declared.stops.Stop.TheVariants.{Refuted}
+use Rattle.acc_rows.specs.declared.rows.Row.{Row}
+use Rattle.acc_rows.specs.Sparse.{Sparse}
 use Rattle.acc_systems.specs.Systems.{is_false, eliminated}
 
 -- a relation's form is worth what the multiples of the first ones are worth together: f of the unknowns, base of the first relations

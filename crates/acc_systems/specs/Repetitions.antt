@@ -1,7 +1,7 @@
 -- Relations of which none repeats an earlier one, and what tells whether one more repeats one of them.
 use Rattle.std.specs.Prelude.{◌≡◌, ℕ, Bool, false, ◌&&◌, ◌||◌, All, List, [], ◌∷◌}
 use Rattle.std.specs.List.{list_any}
-use Rattle.acc_systems.specs.declared.rows.Row.{Row}
+use Rattle.acc_rows.specs.declared.rows.Row.{Row}
 use Rattle.acc_systems.specs.declared.systems.Replaced.{Replaced}
 use Rattle.acc_systems.specs.Systems.{repeats, is_constant, is_without}
 

@@ -3,15 +3,15 @@ use Rattle.std.specs.Prelude.{◌≡◌, ℕ, zero, suc, nat_le, Bool, true, fal
 use Rattle.std.specs.Prelude.{Option, Some, None, option_map, Ok, Err, pos, int_lt}
 use Rattle.std.specs.List.{list_any}
 use Rattle.std.specs.Ordering.{int_eq}
-use Rattle.acc_systems.specs.declared.stops.Stop.TheVariants.{Refuted, Many}
-use Rattle.acc_systems.specs.declared.rows.Row.{Row}
+use Rattle.acc_rows.specs.declared.stops.Stop.TheVariants.{Refuted, Many}
+use Rattle.acc_rows.specs.declared.rows.Row.{Row}
 use Rattle.acc_systems.specs.declared.systems.Reduced.{Reduced}
 use Rattle.acc_systems.specs.declared.systems.Parted.{Parted}
 use Rattle.acc_systems.specs.declared.systems.Bounded.{Bounded}
 use Rattle.acc_systems.specs.declared.systems.Eliminated.{Eliminated}
-use Rattle.acc_systems.specs.Answers.{Computation, chain, steps}
-use Rattle.acc_systems.specs.Sparse.{at, same_numbers, no_numbers}
-use Rattle.acc_systems.specs.Rows.{has, cleared, crossing}
+use Rattle.acc_rows.specs.Answers.{Computation, chain, steps}
+use Rattle.acc_rows.specs.Sparse.{at, same_numbers, no_numbers}
+use Rattle.acc_rows.specs.Rows.{has, cleared, crossing}
 
 -- ---- the relations of a system
 
@@ -61,12 +61,17 @@ Takes u old new (Some e) = taken u old ≡ Some (e, new)
 abbrev pub whole : List Row → Reduced
 whole rows = record { rows = rows; aside = []; left = [] }
 
+-- an equation and the others
+abbrev pub put_aside : Reduced → ℕ → Row × List Row → Computation Reduced
+put_aside s u t =
+    chain (steps (replaced u t.0) [] t.1)
+    (λ rows. Ok (record { rows = rows; aside = s.aside ++ (u, t.0) ∷ []; left = s.left }))
+
 abbrev pub set_aside : Reduced → ℕ → Computation Reduced
 set_aside s u =
     elim (taken u s.rows) [
       | None ↦ Ok (record { rows = s.rows; aside = s.aside; left = s.left ++ u ∷ [] })
-      | Some t ↦ chain (steps (replaced u t.0) [] t.1)
-          (λ rows. Ok (record { rows = rows; aside = s.aside ++ (u, t.0) ∷ []; left = s.left }))
+      | Some t ↦ put_aside s u t
     ]
 
 -- ---- by pairs of bounds
@@ -83,6 +88,13 @@ is_without u r = not (has u r)
 abbrev pub IsParted : ℕ → List Row → Parted → Type 0
 IsParted u rows p =
     (p.without ≡ filter (is_without u) rows) × (p.lows ≡ filter (is_lower u) rows) × (p.ups ≡ filter (is_upper u) rows)
+
+abbrev pub parted_with : ℕ → Parted → Row → Parted
+parted_with u p r = record {
+  without = if is_without u r then p.without ++ r ∷ [] else p.without;
+  lows = if is_lower u r then p.lows ++ r ∷ [] else p.lows;
+  ups = if is_upper u r then p.ups ++ r ∷ [] else p.ups;
+}
 
 abbrev pub crossed_once : ℕ → Row → List Row → Row → Computation (List Row)
 crossed_once u up rows low = chain (crossing u up low) (admitted rows)
@@ -114,8 +126,11 @@ counted first (suc n) = first ∷ counted (suc first) n
 abbrev pub unbounded : List Row → Bounded
 unbounded rows = record { rows = rows; bounds = [] }
 
+abbrev pub eliminated_left : Reduced → Computation Eliminated
+eliminated_left r =
+    chain (steps crossed (unbounded r.rows) r.left) (λ b. Ok (record { aside = r.aside; bounds = b.bounds }))
+
 abbrev pub eliminated : ℕ → List Row → Computation Eliminated
 eliminated unknowns rows =
     chain (steps admitted [] rows) (λ system.
-    chain (steps set_aside (whole system) (counted 0 unknowns)) (λ r.
-    chain (steps crossed (unbounded r.rows) r.left) (λ b. Ok (record { aside = r.aside; bounds = b.bounds }))))
+    chain (steps set_aside (whole system) (counted 0 unknowns)) eliminated_left)

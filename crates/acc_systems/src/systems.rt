@@ -1,15 +1,17 @@
 //! Systems of relations: what is dropped, and what ends an elimination.
 ghost use Rattle.std.specs.Prelude.{◌≡◌, ◌<◌, [], length, position, Ok, IfSome, IfOk, OnOk, MatchResult};
 ghost use Rattle.std.specs.List.{list_any};
-ghost use Rattle.acc_systems.specs.Answers.{Answers, Leaves, StoppedBy, steps};
-ghost use Rattle.acc_systems.specs.Systems.{is_false, is_equation_with, repeats, is_constant, admitted, Takes, replaced, set_aside, whole};
+ghost use Rattle.acc_rows.specs.Answers.{Answers, Leaves, StoppedBy, steps};
+ghost use Rattle.acc_systems.specs.Systems.{is_false, is_equation_with, repeats, is_constant, admitted, Takes, replaced, put_aside};
+ghost use Rattle.acc_systems.specs.Systems.{set_aside, whole, parted_with, eliminated_left};
 ghost use Rattle.acc_systems.specs.Repetitions.{AreApart, TellsOf, StillTellsOf, GrowTogether, StillBehind, TellBehind};
 ghost use Rattle.acc_systems.specs.Systems.{counted, IsParted, crossed_once, crossed_with, or_else, crossed, unbounded, eliminated};
 
-use crate::rows::{Row, cleared, crossing};
-use crate::stops::Stop;
 use acc_base::sequences::{Seq, copied};
+use acc_rows::rows::{Row, cleared, crossing};
+use acc_rows::stops::Stop;
 use std::alloc::{AllocError, Global};
+use std::mem;
 
 /// The most relations of a system.
 pub const MOST: usize = 4096;
@@ -115,11 +117,10 @@ fn admit_made(alloc: Global, made: &mut Vec<Row>, kept: &mut Vec<Row>, row: Row)
     ensures value { Leaves result kept.new.items (admitted kept.old.items row) }
     ensures told { OnOk result (GrowTogether made.old.items kept.old.items made.new.items kept.new.items) }
 {
-    let form = form_of(alloc, &row)?;
     let before = kept.len();
     admit(kept, row)?;
     if before < kept.len() {
-        made.push(form)?;
+        made.push(form_of(alloc, &kept[before])?)?;
     }
     Ok(())
 }
@@ -187,31 +188,36 @@ pub struct Reduced {
     pub left: Seq<u32>,
 }
 
-/// The system without the unknown where an equation has it; else the unknown is left.
-fn set_aside(alloc: Global, state: Reduced, unknown: u32) -> Result<Reduced, Stop>
-    requires { AreApart state.rows }
-    ensures { Answers result (set_aside state unknown) }
+/// An equation that was taken for the unknown is set aside. The others are the system without the unknown.
+fn put_aside(
+    alloc: Global,
+    state: &mut Reduced,
+    unknown: u32,
+    equation: Row,
+    others: Vec<Row>,
+) -> Result<(), Stop>
+    requires { AreApart others.items }
+    ensures { Leaves result state.new (put_aside state.old unknown (equation, others.items)) }
 {
-    let Reduced {
-        rows,
-        mut aside,
-        mut left,
-    } = state;
-    let mut rows = rows.into_vec();
+    let Replaced { rows, made: _ } = replace_all(alloc, unknown, &equation, others)?;
+    state.rows = rows;
+    state.aside.push((unknown, equation))?;
+    Ok(())
+}
+
+/// The system without the unknown where an equation has it; else the unknown is left.
+fn set_aside(alloc: Global, state: &mut Reduced, unknown: u32) -> Result<(), Stop>
+    requires { AreApart state.old.rows }
+    ensures { Leaves result state.new (set_aside state.old unknown) }
+{
+    let mut rows = mem::replace(&mut state.rows, Seq::new(alloc)).into_vec();
     match take_equation(&mut rows, unknown) {
         None => {
-            left.push(unknown)?;
-            Ok(Reduced {
-                rows: Seq::from_vec(rows),
-                aside,
-                left,
-            })
+            state.rows = Seq::from_vec(rows);
+            state.left.push(unknown)?;
+            Ok(())
         }
-        Some(equation) => {
-            let Replaced { rows, made: _ } = replace_all(alloc, unknown, &equation, rows)?;
-            aside.push((unknown, equation))?;
-            Ok(Reduced { rows, aside, left })
-        }
+        Some(equation) => put_aside(alloc, state, unknown, equation, rows),
     }
 }
 
@@ -226,7 +232,7 @@ fn set_all_aside(alloc: Global, unknowns: u32, rows: Seq<Row>) -> Result<Reduced
         left: Seq::new(alloc),
     };
     for unknown in 0..unknowns {
-        state = set_aside(alloc, state, unknown)?;
+        set_aside(alloc, &mut state, unknown)?;
     }
     Ok(state)
 }
@@ -246,24 +252,33 @@ struct Parted {
     ups: Seq<Row>,
 }
 
+/// One more relation, put where it belongs by the sign with which it has an unknown.
+fn part_one(parted: &mut Parted, unknown: u32, row: Row) -> Result<(), AllocError>
+    ensures { OnOk result (parted.new ≡ parted_with unknown parted.old row) }
+{
+    let coefficient = row.coefficient(unknown);
+    if coefficient < 0 {
+        parted.lows.push(row)
+    } else if coefficient > 0 {
+        parted.ups.push(row)
+    } else {
+        parted.without.push(row)
+    }
+}
+
 /// Relations parted by the sign with which they have an unknown.
 fn part(alloc: Global, unknown: u32, rows: Seq<Row>) -> Result<Parted, AllocError>
     ensures { IfOk result (IsParted unknown rows) }
 {
-    let mut without = Seq::new(alloc);
-    let mut lows = Seq::new(alloc);
-    let mut ups = Seq::new(alloc);
+    let mut parted = Parted {
+        without: Seq::new(alloc),
+        lows: Seq::new(alloc),
+        ups: Seq::new(alloc),
+    };
     for row in rows.into_vec() {
-        let coefficient = row.coefficient(unknown);
-        if coefficient < 0 {
-            lows.push(row)?;
-        } else if coefficient > 0 {
-            ups.push(row)?;
-        } else {
-            without.push(row)?;
-        }
+        part_one(&mut parted, unknown, row)?;
     }
-    Ok(Parted { without, lows, ups })
+    Ok(parted)
 }
 
 /// One more relation, made of an upper and a lower bound.
@@ -314,20 +329,15 @@ fn or_else(lows: Seq<Row>, ups: Seq<Row>) -> Seq<Row>
 }
 
 /// The system without the unknown.
-fn cross_out(alloc: Global, state: Bounded, unknown: u32) -> Result<Bounded, Stop>
-    ensures { Answers result (crossed state unknown) }
+fn cross_out(alloc: Global, state: &mut Bounded, unknown: u32) -> Result<(), Stop>
+    ensures { Leaves result state.new (crossed state.old unknown) }
 {
-    let Bounded { rows, mut bounds } = state;
+    let rows = mem::replace(&mut state.rows, Seq::new(alloc));
     let Parted { without, lows, ups } = part(alloc, unknown, rows)?;
-    let rows = cross_all(
-        alloc,
-        unknown,
-        lows.as_slice(),
-        ups.as_slice(),
-        without.into_vec(),
-    )?;
-    bounds.push((unknown, or_else(lows, ups)))?;
-    Ok(Bounded { rows, bounds })
+    let without = without.into_vec();
+    state.rows = cross_all(alloc, unknown, lows.as_slice(), ups.as_slice(), without)?;
+    state.bounds.push((unknown, or_else(lows, ups)))?;
+    Ok(())
 }
 
 /// The system without the unknowns, one after the other.
@@ -339,7 +349,7 @@ pub fn cross_each(alloc: Global, unknowns: &[u32], rows: Seq<Row>) -> Result<Bou
         bounds: Seq::new(alloc),
     };
     for unknown in unknowns {
-        state = cross_out(alloc, state, *unknown)?;
+        cross_out(alloc, &mut state, *unknown)?;
     }
     Ok(state)
 }
@@ -364,12 +374,20 @@ pub struct Eliminated {
     pub bounds: Seq<(u32, Seq<Row>)>,
 }
 
+/// The elimination of the unknowns that are left, by pairs of bounds.
+fn eliminate_left(alloc: Global, reduced: Reduced) -> Result<Eliminated, Stop>
+    ensures { Answers result (eliminated_left reduced) }
+{
+    let Reduced { rows, aside, left } = reduced;
+    let Bounded { rows: _, bounds } = cross_each(alloc, left.as_slice(), rows)?;
+    Ok(Eliminated { aside, bounds })
+}
+
 /// The elimination of all unknowns: first by equations, then by pairs of bounds.
 pub fn eliminate_all(alloc: Global, unknowns: u32, rows: Vec<Row>) -> Result<Eliminated, Stop>
     ensures { Answers result (eliminated unknowns rows.items) }
 {
     let system = admit_all(alloc, rows)?;
-    let Reduced { rows, aside, left } = set_all_aside(alloc, unknowns, system)?;
-    let Bounded { rows: _, bounds } = cross_each(alloc, left.as_slice(), rows)?;
-    Ok(Eliminated { aside, bounds })
+    let reduced = set_all_aside(alloc, unknowns, system)?;
+    eliminate_left(alloc, reduced)
 }

@@ -3,7 +3,7 @@ ghost use Rattle.std.specs.Prelude.{◌≡◌, ◌≤◌, ◌<◌, ◌^◌, ◌|
 ghost use Rattle.std.specs.List.{list_any};
 ghost use Rattle.acc_base.specs.Linear.{var};
 ghost use Rattle.acc_base.specs.Effects.{first_from};
-ghost use Rattle.acc_form.specs.WellFormed.{IsWellFormed};
+ghost use Rattle.acc_formed.specs.WellFormed.{IsWellFormed};
 ghost use Rattle.acc_base.specs.Entries.{at_of, Forbids};
 ghost use Rattle.acc_base.specs.Locks.{ClashesEither};
 ghost use Rattle.acc_table.specs.Closures.{is_set};

@@ -7,27 +7,39 @@ use crate::words::{tell_tokens, tell_words};
 use std::alloc::{AllocError, Global};
 use std::fmt::Write;
 
-/// Adds what the call answers of a text.
-fn tell(alloc: Global, out: &mut String, call: &[&str], text: &[u8]) -> Result<(), AllocError> {
-    match call {
-        ["tokens"] => tell_tokens(alloc, out, text),
-        ["words"] => tell_words(alloc, out, text),
-        ["statement", n] => tell_line(alloc, out, number(n), text),
-        ["lines", n] => tell_lines(out, number(n), text),
-        ["limit"] => tell_design(alloc, out, Question::FirstFault, text),
-        ["limit", from, to] => {
-            let question = Question::LowestOn(number(from), number(to));
-            tell_design(alloc, out, question, text)
-        }
-        ["meaning"] => tell_design(alloc, out, Question::Meaning, text),
+/// The limits that are asked for: of two numbers of statements the lowest on those, else the first fault.
+fn limits(words: &str) -> Question {
+    match words.split_once(' ') {
+        Some((from, to)) => Question::LowestOn(number(from), number(to)),
+        None => Question::FirstFault,
+    }
+}
+
+/// Adds what a call of a design's tree answers of a text.
+fn tell_of_tree(
+    alloc: Global,
+    out: &mut String,
+    name: &str,
+    rest: &str,
+    text: &[u8],
+) -> Result<(), AllocError> {
+    match name {
+        "limit" => tell_design(alloc, out, limits(rest), text),
+        "meaning" => tell_design(alloc, out, Question::Meaning, text),
         _ => write!(out, " no call"),
     }
 }
 
-/// Adds what the call of those words answers of a text.
-fn tell_call(alloc: Global, out: &mut String, call: &str, text: &[u8]) -> Result<(), AllocError> {
-    let words: Vec<&str> = call.split(' ').collect(alloc)?;
-    tell(alloc, out, words.as_slice(), text)
+/// Adds what the call answers of a text.
+fn tell(alloc: Global, out: &mut String, call: &str, text: &[u8]) -> Result<(), AllocError> {
+    let (name, rest) = call.split_once(' ').unwrap_or((call, ""));
+    match name {
+        "tokens" => tell_tokens(alloc, out, text),
+        "words" => tell_words(alloc, out, text),
+        "statement" => tell_line(alloc, out, number(rest), text),
+        "lines" => tell_lines(out, number(rest), text),
+        _ => tell_of_tree(alloc, out, name, rest, text),
+    }
 }
 
 /// Adds what the call answers of the text that a case names.
@@ -39,38 +51,32 @@ fn tell_case(
     case: &str,
 ) -> Result<(), AllocError> {
     let text = bytes_of(alloc, base, case)?;
-    tell_call(alloc, out, call, text.as_slice())
+    tell(alloc, out, call, text.as_slice())
 }
 
-/// Adds the line of the input, with what the call that it names answers.
-fn tell_input(
-    alloc: Global,
-    out: &mut String,
-    base: &mut String,
-    line: &str,
-) -> Result<(), AllocError> {
+/// Takes another base.
+fn take(base: &mut String, text: &str) -> Result<(), AllocError> {
+    base.clear();
+    base.push_str(text)
+}
+
+/// Adds what the call of a line answers.
+fn tell_line_of(alloc: Global, out: &mut String, base: &str, line: &str) -> Result<(), AllocError> {
     match line.split_once(": ") {
-        Some(("base", text)) => {
-            base.clear();
-            base.push_str(text)?;
-            out.push_str(line)
-        }
-        Some(("tree", text)) => {
-            out.push_str("tree:")?;
-            tell_tree(alloc, out, text)
-        }
-        Some((call, case)) if !call.starts_with('#') => {
-            out.push_str(line)?;
-            out.push_str(" ->")?;
-            tell_case(alloc, out, base.as_str(), call, case)
-        }
-        _ => out.push_str(line),
+        Some(("tree", text)) => tell_tree(alloc, out, text),
+        Some((call, case)) => tell_case(alloc, out, base, call, case),
+        None => write!(out, " no call"),
     }
 }
 
-/// A line of the input with what the call that it names answers; one may give a new base.
-pub fn answered(alloc: Global, base: &mut String, line: &str) -> Result<String, AllocError> {
+/// What the call of a line answers; none of a line that gives a new base.
+pub fn answer(alloc: Global, base: &mut String, line: &str) -> Result<Option<String>, AllocError> {
+    if let Some(text) = line.strip_prefix("base: ") {
+        take(base, text)?;
+        return Ok(None);
+    }
     let mut out = String::new(alloc);
-    tell_input(alloc, &mut out, base, line)?;
-    Ok(out)
+    tell_line_of(alloc, &mut out, base, line)?;
+    let said = out.strip_prefix(' ').unwrap_or("");
+    Ok(Some(String::from_str(alloc, said)?))
 }

@@ -14,6 +14,7 @@ mod staging;
 mod wal;
 mod writing;
 
+pub use creating::FIRST_BYTES;
 pub use errors::WalError;
 pub use wal::Wal;
 pub use writing::event_len;

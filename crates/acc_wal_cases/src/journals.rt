@@ -5,9 +5,10 @@ ghost use Rattle.acc_wal.specs.Spellings.{Fits};
 use crate::answers::push_end;
 use crate::events::{event, push_events};
 use crate::stops::{push_changes, push_stops};
-use crate::words::{bytes, number, numbers, push_bytes};
+use crate::words::{bytes, push_bytes};
 use acc_base::machines::Event;
 use acc_disk::{Disk, MemDisk};
+use acc_disk_cases::words::{number, numbers, split};
 use acc_wal::{Wal, WalError, event_len};
 use std::alloc::{AllocError, Global};
 use std::fmt::Write;
@@ -65,16 +66,12 @@ fn fresh(alloc: Global, held: &str, fails: &str, from: &str) -> Result<MemDisk, 
     MemDisk::new(alloc, &held, fails.as_slice(), from.parse().ok()).map_err(|_| AllocError)
 }
 
-/// Holds such a disk.
-fn renew(
-    alloc: Global,
-    held: &mut Held,
-    bytes: &str,
-    fails: &str,
-    from: &str,
-) -> Result<(), AllocError> {
+/// Holds such a disk, spelled by three words.
+fn renew(alloc: Global, out: &mut String, held: &mut Held, words: &str) -> Result<(), AllocError> {
+    let (bytes, rest) = split(words);
+    let (fails, from) = split(rest);
     *held = Held::Disk(fresh(alloc, bytes, fails, from)?);
-    Ok(())
+    out.push_str("fresh")
 }
 
 /// The base text of a word, and none for '-'.
@@ -106,10 +103,11 @@ fn attach(alloc: Global, held: &mut Held) -> Result<(), WalError> {
 }
 
 /// Lets the journal go, and holds its disk.
-fn close(held: &mut Held) {
+fn close(out: &mut String, held: &mut Held) -> Result<(), AllocError> {
     if let Some(disk) = held.take() {
         *held = Held::Disk(disk);
     }
+    out.push_str("closed")
 }
 
 /// Pushes an event to the tail.
@@ -147,9 +145,10 @@ fn push_pushed(
     alloc: Global,
     out: &mut String,
     wal: &mut Wal<MemDisk>,
-    words: &[&str],
+    words: &str,
 ) -> Result<(), AllocError> {
-    match event(alloc, words)? {
+    let words: Vec<&str> = words.split(' ').collect(alloc)?;
+    match event(alloc, words.as_slice())? {
         Some(event) => push_end(out, push(wal, event)),
         None => out.push_str("no event"),
     }
@@ -164,14 +163,10 @@ fn push_lists(out: &mut String, wal: &Wal<MemDisk>) -> Result<(), AllocError> {
     push_events(out, wal.tail())
 }
 
-/// How a call of a journal ends; none where the words are no such call.
-fn end(wal: &mut Wal<MemDisk>, words: &[&str]) -> Option<Result<(), WalError>> {
-    match words {
-        ["reserve", bytes] => Some(wal.reserve(number(bytes) as usize)),
-        ["settle"] => Some(wal.settle()),
-        ["fill", batches, steps] => Some(fill(wal, number(batches), steps.parse().unwrap_or(0))),
-        _ => None,
-    }
+/// Settles so many batches of so many steps, by two words.
+fn fill_by(wal: &mut Wal<MemDisk>, words: &str) -> Result<(), WalError> {
+    let (batches, steps) = split(words);
+    fill(wal, number(batches), steps.parse().unwrap_or(0))
 }
 
 /// Pushes what a call of a journal answers.
@@ -179,51 +174,55 @@ fn push_call(
     alloc: Global,
     out: &mut String,
     wal: &mut Wal<MemDisk>,
-    words: &[&str],
+    words: &str,
 ) -> Result<(), AllocError> {
-    match words {
-        ["push", words @ ..] => push_pushed(alloc, out, wal, words),
-        ["lists"] => push_lists(out, wal),
-        ["tail"] => write!(out, "{} bytes", wal.tail_bytes()),
-        _ => match end(wal, words) {
-            Some(end) => push_end(out, end),
-            None => out.push_str("no call"),
-        },
+    let (name, rest) = split(words);
+    match name {
+        "push" => push_pushed(alloc, out, wal, rest),
+        "lists" => push_lists(out, wal),
+        "tail" => write!(out, "{} bytes", wal.tail_bytes()),
+        "reserve" => push_end(out, wal.reserve(number(rest) as usize)),
+        "settle" => push_end(out, wal.settle()),
+        "fill" => push_end(out, fill_by(wal, rest)),
+        _ => out.push_str("no call"),
     }
 }
 
-/// Pushes what is asked of a disk; whether the words are such a question.
+/// Pushes what is asked of a disk.
 fn push_seen(
     alloc: Global,
     out: &mut String,
     disk: &MemDisk,
-    words: &[&str],
-) -> Result<bool, AllocError> {
-    match words {
-        ["bytes"] => push_bytes(out, disk.bytes())?,
-        ["calls"] => write!(out, "{}", disk.calls())?,
-        ["stops", picks] => push_stops(alloc, out, disk, number(picks))?,
-        ["changes", picks] => push_changes(alloc, out, disk, number(picks))?,
-        _ => return Ok(false),
+    name: &str,
+    picks: u64,
+) -> Result<(), AllocError> {
+    match name {
+        "bytes" => push_bytes(out, disk.bytes()),
+        "calls" => write!(out, "{}", disk.calls()),
+        "stops" => push_stops(alloc, out, disk, picks),
+        _ => push_changes(alloc, out, disk, picks),
     }
-    Ok(true)
 }
 
-/// Pushes what is asked of what is held.
-fn push_answer(
+/// Pushes what is asked of the disk that is held, also of a journal.
+fn push_held(alloc: Global, out: &mut String, held: &Held, words: &str) -> Result<(), AllocError> {
+    let (name, picks) = split(words);
+    match held.disk() {
+        Some(disk) => push_seen(alloc, out, disk, name, number(picks)),
+        None => out.push_str("no journal"),
+    }
+}
+
+/// Pushes what a call of the journal answers that is held.
+fn push_called(
     alloc: Global,
     out: &mut String,
     held: &mut Held,
-    words: &[&str],
+    words: &str,
 ) -> Result<(), AllocError> {
-    if let Some(disk) = held.disk() {
-        if push_seen(alloc, out, disk, words)? {
-            return Ok(());
-        }
-    }
     match held {
         Held::Journal(wal) => push_call(alloc, out, wal, words),
-        _ => out.push_str("no journal"),
+        Held::Disk(_) | Held::Nothing => out.push_str("no journal"),
     }
 }
 
@@ -232,19 +231,15 @@ pub fn play(
     alloc: Global,
     out: &mut String,
     held: &mut Held,
-    words: &[&str],
+    words: &str,
 ) -> Result<(), AllocError> {
-    match words {
-        ["disk", bytes, fails, from] => {
-            renew(alloc, held, bytes, fails, from)?;
-            out.push_str("fresh")
-        }
-        ["create", text] => push_end(out, create(alloc, held, text)),
-        ["attach"] => push_end(out, attach(alloc, held)),
-        ["close"] => {
-            close(held);
-            out.push_str("closed")
-        }
-        _ => push_answer(alloc, out, held, words),
+    let (name, rest) = split(words);
+    match name {
+        "disk" => renew(alloc, out, held, rest),
+        "create" => push_end(out, create(alloc, held, rest)),
+        "attach" => push_end(out, attach(alloc, held)),
+        "close" => close(out, held),
+        "bytes" | "calls" | "stops" | "changes" => push_held(alloc, out, held, words),
+        _ => push_called(alloc, out, held, words),
     }
 }

@@ -1,16 +1,6 @@
-//! What the words of a line spell.
+//! Bytes that words spell.
 use std::alloc::{AllocError, Global};
 use std::fmt::Write;
-
-/// The number that a word spells; else one that no disk reaches.
-pub fn number(word: &str) -> u64 {
-    word.parse().unwrap_or(u64::MAX)
-}
-
-/// The numbers of a list with commas. A word that is no number gives one that no call has.
-pub fn numbers(alloc: Global, list: &str) -> Result<Vec<u64>, AllocError> {
-    list.split(',').map(number).collect(alloc)
-}
 
 fn digit(byte: u8) -> u8 {
     match byte {

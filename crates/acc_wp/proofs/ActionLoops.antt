@@ -4,7 +4,7 @@ use Rattle.std.proofs.Common.{arith, ◌||◌}
 use Rattle.std.proofs.lemmas.List.{take_more}
 use Rattle.acc_base.specs.declared.forms.Form.{Form}
 use Rattle.acc_base.specs.declared.steps.Action.{Action}
-use Rattle.acc_wp.specs.Preconditions.{before_action, before_actions, is_action_wide, are_actions_wide}
+use Rattle.acc_preconditions.specs.Preconditions.{before_action, before_actions, is_action_wide, are_actions_wide}
 use Rattle.acc_wp.proofs.GainLoops.{or_assoc}
 
 before_last : (xs : List Action) (a : Action) (f : Form) → before_actions (xs ++ a ∷ []) f ≡ before_actions xs (before_action a f)

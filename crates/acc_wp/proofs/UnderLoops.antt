@@ -2,7 +2,7 @@
 use Rattle.std.proofs.Common.{◌≡◌, ℕ, ◌≤◌, ◌⊎◌, inl, inr, min, false, List, [], ◌∷◌, length, drop, refl, ap, ◌∙◌, arith}
 use Rattle.std.proofs.lemmas.List.{drop_all}
 use Rattle.acc_base.specs.declared.forms.Lin.{Lin}
-use Rattle.acc_wp.specs.Unders.{differences, are_long}
+use Rattle.acc_preconditions.specs.Unders.{differences, are_long}
 
 either_past : (n a b : ℕ) → n ≡ min a b → (a ≤ n) ⊎ (b ≤ n)
 either_past n a b h = grind arith

@@ -1,9 +1,3 @@
-pub use Rattle.acc_instances.specs.Coefficients
-pub use Rattle.acc_instances.specs.Summands
-pub mod Differences
-pub mod Unders
-pub mod Changes
-pub mod Gains
-pub mod Preconditions
+pub use Rattle.acc_instanced.specs.Coefficients
+pub use Rattle.acc_instanced.specs.Summands
 pub mod Causes
-pub mod Laws

@@ -1,7 +1,8 @@
 //! What an action adds to the value of an atom.
-ghost use Rattle.std.specs.Prelude.{◌≡◌, ◌++◌, IfOk, option_copied};
-ghost use Rattle.acc_wp.specs.Changes.{key_of, place_of, value_parts, minus, presence_change, column_change, presence_of};
-ghost use Rattle.acc_wp.specs.Changes.{column_of, change};
+ghost use Rattle.std.specs.Prelude.{◌≡◌, ◌++◌, IfOk, OnOk, option_copied};
+ghost use Rattle.acc_instanced.specs.Summands.{lin_parts};
+ghost use Rattle.acc_preconditions.specs.Changes.{key_of, place_of, value_parts, minus, presence_change, column_change, presence_of};
+ghost use Rattle.acc_preconditions.specs.Changes.{column_of, change};
 
 use acc_base::forms::{Atom, Lin};
 use acc_base::sequences::{Seq, copied};
@@ -30,6 +31,50 @@ pub fn place_of(atom: &Atom) -> &[Lin]
     }
 }
 
+/// Takes the old value away.
+fn take_old(parts: &mut Vec<(Atom, i64)>, old: Atom) -> Result<(), AllocError>
+    ensures { OnOk result (parts.new.items ≡ parts.old.items ++ minus old) }
+{
+    parts.push((old, -1))?;
+    Ok(())
+}
+
+/// Adds a value, and takes the old one away.
+fn add_new(parts: &mut Vec<(Atom, i64)>, value: &Lin, old: Atom) -> Result<(), AllocError>
+    ensures { OnOk result (parts.new.items ≡ parts.old.items ++ (lin_parts value.now ++ minus old)) }
+{
+    add_lin(parts, value)?;
+    take_old(parts, old)
+}
+
+/// Adds what a row that is put adds to a column and to a sum of it.
+fn add_put(parts: &mut Vec<(Atom, i64)>, value: Option<&Lin>, old: Atom) -> Result<(), AllocError>
+    ensures { OnOk result (parts.new.items ≡ parts.old.items ++ (value_parts (option_copied value.entry) ++ minus old)) }
+{
+    match value {
+        Some(value) => add_new(parts, value, old),
+        None => take_old(parts, old),
+    }
+}
+
+/// Adds what an action adds to whether a row of its table is there, and to a count of rows.
+fn add_presence_change(
+    parts: &mut Vec<(Atom, i64)>,
+    action: &Action,
+    old: Atom,
+) -> Result<(), AllocError>
+    ensures { OnOk result (parts.new.items ≡ parts.old.items ++ presence_change action.now old) }
+{
+    match action {
+        Action::Put(_, _, _) => {
+            parts.push((Atom::One, 1))?;
+            take_old(parts, old)
+        }
+        Action::Del(_, _) => take_old(parts, old),
+        Action::Set(_, _, _, _) | Action::Add(_, _, _, _) => Ok(()),
+    }
+}
+
 /// What an action adds to whether a row of its table is there, and to a count of rows.
 fn presence_change(
     alloc: Global,
@@ -39,27 +84,26 @@ fn presence_change(
     ensures { IfOk result (λ v. v.items ≡ presence_change action.now old) }
 {
     let mut parts = Vec::new(alloc);
-    match action {
-        Action::Put(_, _, _) => {
-            parts.push((Atom::One, 1))?;
-            parts.push((old, -1))?;
-        }
-        Action::Del(_, _) => parts.push((old, -1))?,
-        Action::Set(_, _, _, _) | Action::Add(_, _, _, _) => {}
-    }
+    add_presence_change(&mut parts, action, old)?;
     Ok(parts)
 }
 
-/// What a row that is put adds to a column and to a sum of it.
-fn put_change(alloc: Global, value: Option<&Lin>, old: Atom) -> Result<Vec<(Atom, i64)>, AllocError>
-    ensures { IfOk result (λ v. v.items ≡ value_parts (option_copied value.entry) ++ minus old) }
+/// Adds what an action adds to a column of a row of its table, and to a sum of that column.
+fn add_column_change(
+    parts: &mut Vec<(Atom, i64)>,
+    action: &Action,
+    column: u32,
+    old: Atom,
+) -> Result<(), AllocError>
+    ensures { OnOk result (parts.new.items ≡ parts.old.items ++ column_change action.now column old) }
 {
-    let mut parts = Vec::new(alloc);
-    if let Some(value) = value {
-        add_lin(&mut parts, value)?;
+    match action {
+        Action::Put(_, _, values) => add_put(parts, values.as_slice().get(column as usize), old),
+        Action::Del(_, _) => take_old(parts, old),
+        Action::Set(_, _, own, value) if *own == column => add_new(parts, value, old),
+        Action::Add(_, _, own, value) if *own == column => add_lin(parts, value),
+        Action::Set(_, _, _, _) | Action::Add(_, _, _, _) => Ok(()),
     }
-    parts.push((old, -1))?;
-    Ok(parts)
 }
 
 /// What an action adds to a column of a row of its table, and to a sum of that column.
@@ -72,23 +116,7 @@ fn column_change(
     ensures { IfOk result (λ v. v.items ≡ column_change action.now column old) }
 {
     let mut parts = Vec::new(alloc);
-    match action {
-        Action::Put(_, _, values) => {
-            return put_change(alloc, values.as_slice().get(column as usize), old);
-        }
-        Action::Del(_, _) => parts.push((old, -1))?,
-        Action::Set(_, _, own, value) => {
-            if *own == column {
-                add_lin(&mut parts, value)?;
-                parts.push((old, -1))?;
-            }
-        }
-        Action::Add(_, _, own, value) => {
-            if *own == column {
-                add_lin(&mut parts, value)?;
-            }
-        }
-    }
+    add_column_change(&mut parts, action, column, old)?;
     Ok(parts)
 }
 

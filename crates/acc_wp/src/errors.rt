@@ -7,7 +7,7 @@ use acc_base::sums::FormSum;
 use std::alloc::{AllocError, AllocFailed};
 
 /// Why a weakest precondition isn't given.
-#[derive(Clone, Copy, Debug, PartialEq, Eq)]
+#[derive(Clone, Copy)]
 pub enum WpError {
     /// A number on the way is too large: a coefficient or a constant of a difference of keys beyond 64 bits, or another
     /// number beyond 2^120 on either side of 0.

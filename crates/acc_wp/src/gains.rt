@@ -1,8 +1,8 @@
 //! What a form gains by an action.
 ghost use Rattle.std.specs.Prelude.{◌≡◌, ◌||◌, IfOk, OnOk};
 ghost use Rattle.acc_base.specs.Sums.{TellsWide};
-ghost use Rattle.acc_instances.specs.Summands.{with_summands, are_summands_wide};
-ghost use Rattle.acc_wp.specs.Gains.{term_summands, is_term_long, gained, is_gained_wide};
+ghost use Rattle.acc_instanced.specs.Summands.{with_summands, are_summands_wide};
+ghost use Rattle.acc_preconditions.specs.Gains.{term_summands, is_term_long, gained, is_gained_wide};
 
 use crate::changes::{change, key_of, place_of};
 use crate::unders::{has_false, lengthened};
@@ -18,13 +18,13 @@ fn add_gains(
     alloc: Global,
     gained: &mut Form,
     action: &Action,
-    unknown: &Unknown,
-    m: i128,
+    term: &(Unknown, i128),
 ) -> Result<(), FormSum>
-    ensures value { OnOk result (gained.new ≡ with_summands (term_summands action.now (unknown.now, m)) gained.old) }
-    ensures wide { TellsWide result (is_term_long action.now (unknown.now, m)
-        || are_summands_wide (term_summands action.now (unknown.now, m)) gained.old) }
+    ensures value { OnOk result (gained.new ≡ with_summands (term_summands action.now term.now) gained.old) }
+    ensures wide { TellsWide result (is_term_long action.now term.now
+        || are_summands_wide (term_summands action.now term.now) gained.old) }
 {
+    let (unknown, m) = term;
     let parts = change(alloc, action, &unknown.atom)?;
     if parts.is_empty() {
         return Ok(());
@@ -34,7 +34,7 @@ fn add_gains(
     if has_false(under.as_slice()) {
         return Ok(());
     }
-    add_parts(gained, &under, m, parts.as_slice())
+    add_parts(gained, &under, *m, parts.as_slice())
 }
 
 /// What a form gains: the constant that it begins with, and what its terms gain.
@@ -46,8 +46,8 @@ pub fn gained(alloc: Global, action: &Action, form: &Form) -> Result<Form, FormS
         terms: Seq::new(alloc),
         constant: form.constant,
     };
-    for (unknown, m) in form.terms.as_slice() {
-        add_gains(alloc, &mut gained, action, unknown, *m)?;
+    for term in form.terms.as_slice() {
+        add_gains(alloc, &mut gained, action, term)?;
     }
     Ok(gained)
 }

@@ -4,7 +4,6 @@
 mod changes;
 mod errors;
 mod gains;
-pub mod laws;
 mod lins;
 mod preconditions;
 mod unders;

@@ -2,8 +2,8 @@
 ghost use Rattle.std.specs.Prelude.{◌≡◌, [], map, IfOk, OnOk};
 ghost use Rattle.std.specs.List.{list_any};
 ghost use Rattle.acc_base.specs.Sums.{TellsWide};
-ghost use Rattle.acc_instances.specs.Coefficients.{with_coefficients, is_long};
-ghost use Rattle.acc_wp.specs.Differences.{all_enlarged, negated, coefficients, lin_minus, is_minus_long};
+ghost use Rattle.acc_instanced.specs.Coefficients.{with_coefficient, enlarged, with_coefficients, is_long};
+ghost use Rattle.acc_preconditions.specs.Differences.{all_enlarged, negated, coefficients, lin_minus, is_minus_long};
 
 use acc_base::forms::Lin;
 use acc_base::sequences::Seq;
@@ -11,13 +11,29 @@ use acc_base::sums::FormSum;
 use acc_instances::coefficients::{add_coefficient, drop_zeros, narrow_sum};
 use std::alloc::Global;
 
+/// Adds a coefficient.
+fn add_one(sums: &mut Vec<(u32, i64)>, term: &(u32, i64)) -> Result<(), FormSum>
+    ensures value { OnOk result (sums.new.items ≡ with_coefficient term.now sums.old.items) }
+    ensures wide { TellsWide result (is_long (enlarged term.now sums.old.items)) }
+{
+    add_coefficient(sums, term.0, i128::from(term.1))
+}
+
+/// Takes a coefficient away.
+fn take_one(sums: &mut Vec<(u32, i64)>, term: &(u32, i64)) -> Result<(), FormSum>
+    ensures value { OnOk result (sums.new.items ≡ with_coefficient (negated term.now) sums.old.items) }
+    ensures wide { TellsWide result (is_long (enlarged (negated term.now) sums.old.items)) }
+{
+    add_coefficient(sums, term.0, -i128::from(term.1))
+}
+
 /// Adds coefficients one after the other.
 fn add_coefficients(sums: &mut Vec<(u32, i64)>, coeffs: &[(u32, i64)]) -> Result<(), FormSum>
     ensures value { OnOk result (sums.new.items ≡ with_coefficients sums.old.items coeffs.now) }
     ensures wide { TellsWide result (list_any is_long (all_enlarged sums.old.items coeffs.now)) }
 {
-    for (variable, n) in coeffs {
-        add_coefficient(sums, *variable, i128::from(*n))?;
+    for term in coeffs {
+        add_one(sums, term)?;
     }
     Ok(())
 }
@@ -27,8 +43,8 @@ fn take_coefficients(sums: &mut Vec<(u32, i64)>, coeffs: &[(u32, i64)]) -> Resul
     ensures value { OnOk result (sums.new.items ≡ with_coefficients sums.old.items (map negated coeffs.now)) }
     ensures wide { TellsWide result (list_any is_long (all_enlarged sums.old.items (map negated coeffs.now))) }
 {
-    for (variable, n) in coeffs {
-        add_coefficient(sums, *variable, -i128::from(*n))?;
+    for term in coeffs {
+        take_one(sums, term)?;
     }
     Ok(())
 }

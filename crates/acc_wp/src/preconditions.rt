@@ -1,7 +1,7 @@
 //! The weakest precondition of actions.
 ghost use Rattle.std.specs.Prelude.{◌≡◌, IfOk};
-ghost use Rattle.acc_wp.specs.Preconditions.{before_action, before_actions, is_action_wide, are_actions_wide, wp_of, is_wp_wide};
-ghost use Rattle.acc_wp.specs.Laws.{IsWeakest};
+ghost use Rattle.acc_preconditions.specs.Preconditions.{before_action, before_actions, is_action_wide, are_actions_wide, wp_of, is_wp_wide};
+ghost use Rattle.acc_preconditions.specs.Laws.{IsWeakest};
 ghost use Rattle.acc_base.specs.Sums.{TellsWide as SumTellsWide};
 ghost use Rattle.acc_wp.specs.Causes.{TellsWide};
 

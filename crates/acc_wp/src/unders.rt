@@ -2,7 +2,7 @@
 ghost use Rattle.std.specs.Prelude.{◌≡◌, IfOk, OnOk};
 ghost use Rattle.std.specs.List.{list_any};
 ghost use Rattle.acc_base.specs.Sums.{TellsWide};
-ghost use Rattle.acc_wp.specs.Unders.{differences, are_long, is_zero, is_false, with_under, lengthened};
+ghost use Rattle.acc_preconditions.specs.Unders.{differences, are_long, is_zero, is_false, with_under, lengthened};
 
 use crate::lins::lin_minus;
 use acc_base::forms::Lin;

@@ -10,8 +10,8 @@ use Rattle.std.proofs.lemmas.Option.{same_Some}
 use Rattle.std.proofs.lemmas.Result.{IfOk-weaker}
 use Rattle.acc_inputs.specs.declared.words.Command.{Command}
 use Rattle.acc_inputs.specs.declared.words.Command.TheVariants.{Sched}
-use Rattle.acc_commands.specs.RunFiles.{LeavesFronts, LeavesSettled}
-use Rattle.acc_commands.proofs.Leaving.{leaves_weaker, told_weaker, told_nothing}
+use Rattle.acc_journal_commands.specs.RunFiles.{LeavesFronts, LeavesSettled}
+use Rattle.acc_journal_commands.proofs.Leaving.{leaves_weaker, told_weaker, told_nothing}
 use Rattle.acc_cli.specs.Replies.{Reply}
 use Rattle.acc_cli.specs.Fronts.{LeavesFrontsOf, LeavesSettledOf}
 use Rattle.acc_cli.specs.Meant.{LeavesOfLine}

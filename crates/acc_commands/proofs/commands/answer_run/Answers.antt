@@ -2,9 +2,9 @@ use Rattle.std.proofs.Common.{◌≡◌, ℕ, List, [], ◌∷◌, map, Vec, Glo
 use Rattle.std.proofs.lemmas.Result.{IfOk-weaker}
 use Rattle.acc_base.specs.declared.designs.Design.{Design}
 use Rattle.acc_running.specs.Crashes.{LeavesRun, LeavesDurable}
-use Rattle.acc_commands.specs.RunFiles.{IsOfFiles, LeavesFronts, LeavesSettled}
+use Rattle.acc_journal_commands.specs.RunFiles.{IsOfFiles, LeavesFronts, LeavesSettled}
 use Rattle.acc_commands.proofs.FirstTwo.{first_two}
-use Rattle.acc_commands.proofs.Leaving.{told_weaker}
+use Rattle.acc_journal_commands.proofs.Leaving.{told_weaker}
 use Rattle.acc_commands.proofs.commands.answer_run.Goals as goal
 
 pub returns-clause-told : goal.returns-clause-told

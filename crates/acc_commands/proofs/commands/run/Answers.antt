@@ -2,7 +2,7 @@ use Rattle.std.proofs.Common.{◌≡◌, ◌∙◌, ap, rules, map, sym, arith}
 use Rattle.acc_inputs.specs.declared.words.Command.TheVariants.{Sched}
 use Rattle.acc_inputs.specs.Words.{file_count}
 use Rattle.acc_commands.specs.Means.{LeavesOfFile}
-use Rattle.acc_commands.proofs.Leaving.{leaves_nothing}
+use Rattle.acc_journal_commands.proofs.Leaving.{leaves_nothing}
 use Rattle.acc_commands.proofs.Tables.{leaves_file}
 use Rattle.acc_commands.proofs.commands.run.Goals as goal
 

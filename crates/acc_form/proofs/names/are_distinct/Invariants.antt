@@ -1,5 +1,5 @@
 use Rattle.std.proofs.Common.{◌≡◌, length}
-use Rattle.acc_form.specs.Names.{are_distinct}
+use Rattle.acc_formed.specs.Names.{are_distinct}
 use Rattle.acc_form.proofs.names.are_distinct.Given as goal
 
 -- what is left decides

@@ -2,7 +2,7 @@ use Rattle.std.proofs.Common.{◌≡◌, rules, arith, ap, sym, ◌∙◌, Some,
 use Rattle.std.specs.Prelude.{FitsSigned, position}
 use Rattle.std.specs.Int.{w64, w128}
 use Rattle.std.proofs.lemmas.Int.{ints, to_z-of_z}
-use Rattle.acc_instances.specs.Coefficients.{is_long}
+use Rattle.acc_instanced.specs.Coefficients.{is_long}
 use Rattle.acc_instances.proofs.CoefficientSteps.{at, set_found, enlarged_found, push_new, enlarged_new}
 use Rattle.acc_base.proofs.HandedOn.{handed_on}
 use Rattle.acc_instances.proofs.coefficients.add_coefficient.Goals as goal

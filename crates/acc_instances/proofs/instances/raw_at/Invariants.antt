@@ -1,5 +1,5 @@
 use Rattle.std.proofs.Common.{◌≡◌, [], drop}
-use Rattle.acc_instances.specs.Instances.{raw_from, raw_at, are_terms_wide}
+use Rattle.acc_instanced.specs.Instances.{raw_from, raw_at, are_terms_wide}
 use Rattle.acc_instances.proofs.instances.raw_at.Given as goal
 
 abbrev pub invariant-loop-unknown : goal.invariant-loop-unknown

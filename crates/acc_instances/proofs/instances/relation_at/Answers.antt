@@ -1,4 +1,4 @@
-use Rattle.acc_instances.proofs.InstanceValues.{law_holds}
+use Rattle.acc_instanced.proofs.InstanceValues.{law_holds}
 use Rattle.acc_instances.proofs.instances.relation_at.Goals as goal
 
 pub returns-clause-law : goal.returns-clause-law

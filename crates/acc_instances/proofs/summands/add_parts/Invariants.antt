@@ -1,5 +1,5 @@
 use Rattle.std.proofs.Common.{◌≡◌, drop, map}
-use Rattle.acc_instances.specs.Summands.{part_summand, with_summands, are_summands_wide}
+use Rattle.acc_instanced.specs.Summands.{part_summand, with_summands, are_summands_wide}
 use Rattle.acc_instances.proofs.summands.add_parts.Given as goal
 
 abbrev pub invariant-loop-part : goal.invariant-loop-part

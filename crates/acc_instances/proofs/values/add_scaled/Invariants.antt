@@ -1,6 +1,6 @@
 use Rattle.std.proofs.Common.{◌≡◌, drop, map}
-use Rattle.acc_instances.specs.Coefficients.{with_coefficients}
-use Rattle.acc_instances.specs.Instances.{scaled, are_scaled_long}
+use Rattle.acc_instanced.specs.Coefficients.{with_coefficients}
+use Rattle.acc_instanced.specs.Instances.{scaled, are_scaled_long}
 use Rattle.acc_instances.proofs.values.add_scaled.Given as goal
 
 abbrev pub invariant-loop-j : goal.invariant-loop-j

@@ -1,6 +1,6 @@
 use Rattle.std.proofs.Common.{◌≡◌, ◌++◌, drop, map}
 use Rattle.std.specs.List.{list_any}
-use Rattle.acc_instances.specs.Instances.{lin_at, is_lin_long}
+use Rattle.acc_instanced.specs.Instances.{lin_at, is_lin_long}
 use Rattle.acc_instances.proofs.values.lins_at.Given as goal
 
 abbrev pub invariant-loop-l : goal.invariant-loop-l

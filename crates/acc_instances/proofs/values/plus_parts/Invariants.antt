@@ -1,5 +1,5 @@
 use Rattle.std.proofs.Common.{◌≡◌, drop}
-use Rattle.acc_instances.specs.Instances.{plus_parts, are_parts_long, zero_lin}
+use Rattle.acc_instanced.specs.Instances.{plus_parts, are_parts_long, zero_lin}
 use Rattle.acc_instances.proofs.values.plus_parts.Given as goal
 
 abbrev pub invariant-loop-variable : goal.invariant-loop-variable

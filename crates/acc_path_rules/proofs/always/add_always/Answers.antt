@@ -2,10 +2,10 @@ use Rattle.std.proofs.Common.{◌≡◌, ℕ, ◌+◌, List, map, drop, ap, sym,
 use Rattle.acc_base.specs.declared.forms.Clause.{Clause}
 use Rattle.acc_oblig.specs.Drafts.{each_from, each_path}
 use Rattle.acc_oblig.specs.PathPromises.{always_at, always_drafts}
-use Rattle.acc_obligations.specs.SeenPlaces.{stop}
-use Rattle.acc_obligations.specs.Stops.{joined, at_stop, stops_of}
+use Rattle.acc_places.specs.SeenPlaces.{stop}
+use Rattle.acc_places.specs.Stops.{joined, at_stop, stops_of}
 use Rattle.acc_obligations.proofs.Going.{Going, going_all, going_on, going_off, going_past, each_past}
-use Rattle.acc_obligations.proofs.Small.{design_small}
+use Rattle.acc_places.proofs.Small.{design_small}
 use Rattle.acc_path_rules.proofs.Walks.{paths_each_next}
 use Rattle.acc_path_rules.proofs.always.add_always.Goals as goal
 

@@ -2,8 +2,8 @@ use Rattle.std.proofs.Common.{◌≡◌, true, List, [], refl, ap, ◌∙◌}
 use Rattle.std.specs.Prelude.{None}
 use Rattle.acc_base.specs.declared.steps.Action.{Action}
 use Rattle.acc_oblig.specs.PathPromises.{clause_names}
-use Rattle.acc_obligations.specs.Seen.{seen}
-use Rattle.acc_obligations.specs.SeenPlaces.{stop}
+use Rattle.acc_assumptions.specs.Seen.{seen}
+use Rattle.acc_places.specs.SeenPlaces.{stop}
 use Rattle.acc_obligations.proofs.PathAdded.{path_added}
 use Rattle.acc_path_rules.proofs.Kept.{setting_at, always_added}
 use Rattle.acc_path_rules.proofs.always.add_path_always.Goals as goal

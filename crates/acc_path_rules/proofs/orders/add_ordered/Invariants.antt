@@ -1,6 +1,6 @@
 use Rattle.std.proofs.Common.{◌≡◌, ◌+◌, ◌*◌, ◌++◌, drop, false}
 use Rattle.acc_oblig.specs.Spares.{ordered_drafts}
-use Rattle.acc_obligations.specs.Causes.{sequents, at_case}
+use Rattle.acc_goals.specs.Causes.{sequents, at_case}
 use Rattle.acc_path_rules.proofs.orders.add_ordered.Given as goal
 
 abbrev pub invariant-loop-goal : goal.invariant-loop-goal

@@ -1,6 +1,6 @@
 use Rattle.acc_oblig.specs.PathPromises.{promise_at}
-use Rattle.acc_obligations.specs.SeenPlaces.{stop}
-use Rattle.acc_obligations.specs.Stops.{at_stop}
+use Rattle.acc_places.specs.SeenPlaces.{stop}
+use Rattle.acc_places.specs.Stops.{at_stop}
 use Rattle.acc_obligations.proofs.Going.{going_all, going_on, going_off, going_past, joined_next, joined_past}
 use Rattle.acc_path_rules.proofs.promises.add_number_promises.Goals as goal
 

@@ -3,8 +3,8 @@ use Rattle.std.specs.Prelude.{Some, None, Ok, option_copied, slice_get}
 use Rattle.acc_base.specs.declared.forms.Clause.{Clause}
 use Rattle.acc_oblig.specs.Settings.{Setting, last_now}
 use Rattle.acc_oblig.specs.PathPromises.{promised}
-use Rattle.acc_obligations.specs.Seen.{seen}
-use Rattle.acc_obligations.specs.SeenPlaces.{stop}
+use Rattle.acc_assumptions.specs.Seen.{seen}
+use Rattle.acc_places.specs.SeenPlaces.{stop}
 use Rattle.acc_obligations.proofs.Going.{none_added}
 use Rattle.acc_obligations.proofs.PathAdded.{path_added}
 use Rattle.acc_path_rules.proofs.Kept.{setting_at}

@@ -5,8 +5,8 @@ use Rattle.acc_base.specs.declared.designs.Entry.{Entry}
 use Rattle.acc_oblig.specs.Settings.{Setting}
 use Rattle.acc_oblig.specs.PathPromises.{clause_names}
 use Rattle.acc_oblig.specs.Spares.{entry_for, spare_drafts}
-use Rattle.acc_obligations.specs.Causes.{Adds, at_case}
-use Rattle.acc_obligations.specs.SeenPlaces.{rest, stop}
+use Rattle.acc_goals.specs.Causes.{Adds, at_case}
+use Rattle.acc_places.specs.SeenPlaces.{rest, stop}
 use Rattle.acc_path_rules.specs.Openings.{open_by}
 use Rattle.acc_path_rules.proofs.Kept.{setting_at, spare_opened}
 use Rattle.acc_path_rules.proofs.spares.add_path_spare.Goals as goal

@@ -2,8 +2,8 @@ use Rattle.std.proofs.Common.{◌≡◌, ℕ, ◌+◌, List, map, drop, sym, sub
 use Rattle.acc_base.specs.declared.forms.Clause.{Clause}
 use Rattle.acc_oblig.specs.Drafts.{each_from, each_path}
 use Rattle.acc_oblig.specs.Spares.{spare_at, held_drafts}
-use Rattle.acc_obligations.specs.SeenPlaces.{rest, stop}
-use Rattle.acc_obligations.specs.Stops.{joined, at_rest, at_stop, stops_of}
+use Rattle.acc_places.specs.SeenPlaces.{rest, stop}
+use Rattle.acc_places.specs.Stops.{joined, at_rest, at_stop, stops_of}
 use Rattle.acc_obligations.proofs.Going.{Going, going_all, going_on, going_off, going_past, each_past}
 use Rattle.acc_path_rules.proofs.Walks.{paths_each_next}
 use Rattle.acc_path_rules.proofs.spares.add_point_spares.Goals as goal

@@ -2,8 +2,8 @@ use Rattle.std.proofs.Common.{ℕ, drop}
 use Rattle.acc_base.specs.declared.forms.Clause.{Clause}
 use Rattle.acc_oblig.specs.Drafts.{each_from, each_path}
 use Rattle.acc_oblig.specs.Spares.{spare_at, held_drafts}
-use Rattle.acc_obligations.specs.SeenPlaces.{rest}
-use Rattle.acc_obligations.specs.Stops.{at_rest}
+use Rattle.acc_places.specs.SeenPlaces.{rest}
+use Rattle.acc_places.specs.Stops.{at_rest}
 use Rattle.acc_obligations.proofs.Going.{Going}
 use Rattle.acc_path_rules.proofs.spares.add_point_spares.Given as goal
 

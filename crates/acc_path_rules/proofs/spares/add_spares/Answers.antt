@@ -1,10 +1,10 @@
 use Rattle.std.proofs.Common.{◌≡◌, ◌+◌, map, drop, ap, sym, subst, ◌∙◌}
 use Rattle.acc_oblig.specs.Spares.{held_drafts, all_spare_drafts}
-use Rattle.acc_obligations.specs.SeenPlaces.{rest}
-use Rattle.acc_obligations.specs.Stops.{joined, at_rest}
-use Rattle.acc_obligations.proofs.EachPath.{each_point_is}
+use Rattle.acc_places.specs.SeenPlaces.{rest}
+use Rattle.acc_places.specs.Stops.{joined, at_rest}
+use Rattle.acc_places.proofs.EachPath.{each_point_is}
 use Rattle.acc_obligations.proofs.Going.{Going, going_all, going_on, going_off, joined_next}
-use Rattle.acc_obligations.proofs.Small.{design_small}
+use Rattle.acc_places.proofs.Small.{design_small}
 use Rattle.acc_path_rules.proofs.spares.add_spares.Goals as goal
 
 pub add_point_spares-requires-clause-design : goal.add_point_spares-requires-clause-design

@@ -1,7 +1,7 @@
 use Rattle.std.proofs.Common.{drop, map}
 use Rattle.acc_oblig.specs.Spares.{held_drafts, all_spare_drafts}
-use Rattle.acc_obligations.specs.SeenPlaces.{rest}
-use Rattle.acc_obligations.specs.Stops.{joined, at_rest}
+use Rattle.acc_places.specs.SeenPlaces.{rest}
+use Rattle.acc_places.specs.Stops.{joined, at_rest}
 use Rattle.acc_obligations.proofs.Going.{Going}
 use Rattle.acc_path_rules.proofs.spares.add_spares.Given as goal
 

@@ -2,8 +2,8 @@ use Rattle.std.proofs.Common.{◌≡◌, ◌++◌, List, [], ◌∷◌, refl, ap
 use Rattle.std.specs.Prelude.{Some, None}
 use Rattle.acc_base.specs.declared.steps.Action.{Action}
 use Rattle.acc_oblig.specs.Settings.{Setting, last_now}
-use Rattle.acc_obligations.specs.Seen.{seen}
-use Rattle.acc_obligations.specs.SeenPlaces.{stop}
+use Rattle.acc_assumptions.specs.Seen.{seen}
+use Rattle.acc_places.specs.SeenPlaces.{stop}
 use Rattle.acc_obligations.proofs.PathAdded.{path_added}
 use Rattle.acc_path_rules.specs.Rows.{needed_at}
 use Rattle.acc_path_rules.proofs.Rows.{before, row_added}

@@ -1,7 +1,7 @@
 use Rattle.std.proofs.Common.{drop, map}
 use Rattle.acc_oblig.specs.PathPromises.{there_at}
-use Rattle.acc_obligations.specs.SeenPlaces.{stop}
-use Rattle.acc_obligations.specs.Stops.{joined, at_stop}
+use Rattle.acc_places.specs.SeenPlaces.{stop}
+use Rattle.acc_places.specs.Stops.{joined, at_stop}
 use Rattle.acc_obligations.proofs.Going.{Going}
 use Rattle.acc_path_rules.proofs.there.add_rows.Given as goal
 

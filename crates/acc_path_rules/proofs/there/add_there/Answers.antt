@@ -2,10 +2,10 @@ use Rattle.std.proofs.Common.{◌≡◌, ◌+◌, ◌-◌, map, ap, ◌∙◌}
 use Rattle.acc_base.specs.declared.bounds.TheConstants.{MOST_ACTIONS}
 use Rattle.acc_oblig.specs.Drafts.{each_path, each_number}
 use Rattle.acc_oblig.specs.PathPromises.{there_at}
-use Rattle.acc_obligations.specs.SeenPlaces.{stop}
-use Rattle.acc_obligations.specs.Stops.{joined, at_stop, stops_of}
+use Rattle.acc_places.specs.SeenPlaces.{stop}
+use Rattle.acc_places.specs.Stops.{joined, at_stop, stops_of}
 use Rattle.acc_obligations.proofs.Going.{going_all, going_on, going_off, going_past, number_past}
-use Rattle.acc_obligations.proofs.Small.{design_small}
+use Rattle.acc_places.proofs.Small.{design_small}
 use Rattle.acc_path_rules.proofs.Walks.{paths_number_next}
 use Rattle.acc_path_rules.proofs.there.add_there.Goals as goal
 

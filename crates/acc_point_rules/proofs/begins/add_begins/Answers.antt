@@ -1,4 +1,4 @@
-use Rattle.acc_obligations.proofs.Small.{design_small}
+use Rattle.acc_places.proofs.Small.{design_small}
 use Rattle.acc_point_rules.proofs.begins.add_begins.Goals as goal
 
 pub add_first_begins-requires : goal.add_first_begins-requires

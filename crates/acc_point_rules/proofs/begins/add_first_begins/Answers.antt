@@ -4,7 +4,7 @@ use Rattle.acc_oblig.specs.Drafts.{each, each_number}
 use Rattle.acc_oblig.specs.PointRules.{begin_at}
 use Rattle.acc_oblig.specs.Drafts.{Draft}
 use Rattle.acc_obligations.proofs.Going.{Going, going_all, going_on, going_off, going_past, number_next, number_past}
-use Rattle.acc_point_rules.proofs.Items.{number_all}
+use Rattle.acc_obligations.proofs.Items.{number_all}
 use Rattle.acc_point_rules.proofs.begins.add_first_begins.Goals as goal
 
 pub loop-k-init : goal.loop-k-init

@@ -3,8 +3,8 @@ use Rattle.std.specs.Prelude.{ℕ, List, None}
 use Rattle.acc_oblig.specs.Settings.{Setting, last_now}
 use Rattle.acc_oblig.specs.Drafts.{setting_of}
 use Rattle.acc_oblig.specs.PointRules.{none_of}
-use Rattle.acc_obligations.specs.Seen.{seen}
-use Rattle.acc_obligations.specs.SeenPlaces.{stop}
+use Rattle.acc_assumptions.specs.Seen.{seen}
+use Rattle.acc_places.specs.SeenPlaces.{stop}
 use Rattle.acc_obligations.proofs.PathAdded.{path_added}
 use Rattle.acc_point_rules.proofs.clears.add_clear.Goals as goal
 

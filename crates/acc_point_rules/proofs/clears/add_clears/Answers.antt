@@ -3,10 +3,10 @@ use Rattle.std.specs.Prelude.{List, Ok, Err}
 use Rattle.acc_base.specs.declared.tables.Table.{Table}
 use Rattle.acc_oblig.specs.Drafts.{each, each_from, each_path}
 use Rattle.acc_oblig.specs.PointRules.{clear_at}
-use Rattle.acc_obligations.specs.SeenPlaces.{stop}
+use Rattle.acc_places.specs.SeenPlaces.{stop}
 use Rattle.acc_obligations.proofs.Going.{Going, going_all, going_on, going_off, going_past, each_next, each_past}
 use Rattle.acc_obligations.proofs.PathAdded.{paths_added}
-use Rattle.acc_obligations.proofs.Small.{design_small}
+use Rattle.acc_places.proofs.Small.{design_small}
 use Rattle.acc_point_rules.proofs.clears.add_clears.Goals as goal
 
 pub add_table_clears-requires-clause-design : goal.add_table_clears-requires-clause-design

@@ -2,7 +2,7 @@ use Rattle.std.proofs.Common.{◌≡◌, true, sym, ◌∙◌, rules}
 use Rattle.std.specs.Prelude.{◌&&◌, Some}
 use Rattle.acc_base.specs.PrivateRows.{type_puts}
 use Rattle.acc_oblig.specs.PointRules.{is_end}
-use Rattle.acc_obligations.specs.SeenPlaces.{stop}
+use Rattle.acc_places.specs.SeenPlaces.{stop}
 use Rattle.acc_point_rules.specs.Clears.{path_clears}
 use Rattle.acc_point_rules.proofs.Assembled.{chosen_added}
 use Rattle.acc_point_rules.proofs.clears.add_path_clear.Goals as goal

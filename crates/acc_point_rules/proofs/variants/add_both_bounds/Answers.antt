@@ -1,10 +1,10 @@
 use Rattle.std.proofs.Common.{map, refl}
-use Rattle.acc_obligations.specs.SeenPlaces.{rest}
-use Rattle.acc_obligations.specs.Stops.{joined, at_rest}
+use Rattle.acc_places.specs.SeenPlaces.{rest}
+use Rattle.acc_places.specs.Stops.{joined, at_rest}
 use Rattle.acc_obligations.proofs.Going.{going_all, going_on, going_off}
 use Rattle.acc_point_rules.specs.declared.variants.Bound.TheVariants.{Lowest, Highest}
 use Rattle.acc_point_rules.specs.Bounds.{bound_drafts, both_bounds}
-use Rattle.acc_point_rules.proofs.Items.{going_then}
+use Rattle.acc_obligations.proofs.Items.{going_then}
 use Rattle.acc_point_rules.proofs.variants.add_both_bounds.Goals as goal
 
 pub returns-in_err-add_bounds : goal.returns-in_err-add_bounds

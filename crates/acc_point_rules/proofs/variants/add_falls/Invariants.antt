@@ -1,7 +1,7 @@
 use Rattle.std.proofs.Common.{drop, map}
 use Rattle.acc_oblig.specs.PointRules.{fall_at}
-use Rattle.acc_obligations.specs.SeenPlaces.{stop}
-use Rattle.acc_obligations.specs.Stops.{joined, at_stop}
+use Rattle.acc_places.specs.SeenPlaces.{stop}
+use Rattle.acc_places.specs.Stops.{joined, at_stop}
 use Rattle.acc_obligations.proofs.Going.{Going}
 use Rattle.acc_point_rules.proofs.variants.add_falls.Given as goal
 

@@ -2,13 +2,13 @@ use Rattle.std.proofs.Common.{◌++◌, map, ap, sym, ◌∙◌, append_assoc}
 use Rattle.std.specs.Prelude.{List, Ok, Err}
 use Rattle.acc_oblig.specs.Drafts.{Draft, each_path}
 use Rattle.acc_oblig.specs.PointRules.{each_point, fall_at}
-use Rattle.acc_obligations.specs.SeenPlaces.{rest, stop}
+use Rattle.acc_places.specs.SeenPlaces.{rest, stop}
 use Rattle.acc_obligations.proofs.Going.{going_all, going_on, going_off}
 use Rattle.acc_obligations.proofs.PathAdded.{paths_added}
-use Rattle.acc_obligations.proofs.Small.{design_small}
+use Rattle.acc_places.proofs.Small.{design_small}
 use Rattle.acc_point_rules.specs.declared.variants.Bound.TheVariants.{Lowest, Highest}
 use Rattle.acc_point_rules.specs.Bounds.{bound_drafts}
-use Rattle.acc_point_rules.proofs.Items.{going_then, both_points_added}
+use Rattle.acc_obligations.proofs.Items.{going_then, both_points_added}
 use Rattle.acc_point_rules.proofs.variants.add_variants.Goals as goal
 
 pub add_both_bounds-requires-clause-design : goal.add_both_bounds-requires-clause-design

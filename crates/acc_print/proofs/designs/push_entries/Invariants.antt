@@ -1,9 +1,10 @@
 -- What is written so far, and then the entries that are left, is all of it.
-use Rattle.std.proofs.Common.{◌≡◌, ◌++◌, drop}
+use Rattle.acc_page.specs.Written.{Owes}
+use Rattle.std.proofs.Common.{drop}
 use Rattle.std.specs.List.{flat_map}
 use Rattle.acc_print.specs.Designs.{entry_line}
 use Rattle.acc_print.proofs.designs.push_entries.Given as goal
 
 abbrev pub invariant-loop-entry : goal.invariant-loop-entry
-invariant-loop-entry l = l.out.items ++ flat_map (entry_line l.d) (drop l.entry-index l.entries) ≡ l.fn.out.items ++ flat_map
-    (entry_line l.d) l.entries
+invariant-loop-entry l =
+    Owes l.fn.out l.out (flat_map (entry_line l.d) (drop l.entry-index l.entries)) (flat_map (entry_line l.d) l.entries)

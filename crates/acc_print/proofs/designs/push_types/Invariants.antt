@@ -1,9 +1,10 @@
 -- What is written so far, and then the types that are left, is all of it.
-use Rattle.std.proofs.Common.{◌≡◌, ◌++◌, drop}
+use Rattle.acc_page.specs.Written.{Owes}
+use Rattle.std.proofs.Common.{drop}
 use Rattle.std.specs.List.{flat_map}
 use Rattle.acc_print.specs.Types.{type_lines}
 use Rattle.acc_print.proofs.designs.push_types.Given as goal
 
 abbrev pub invariant-loop-ty : goal.invariant-loop-ty
-invariant-loop-ty l = l.out.items ++ flat_map (type_lines l.tables) (drop l.ty-index l.types) ≡ l.fn.out.items ++ flat_map
-    (type_lines l.tables) l.types
+invariant-loop-ty l =
+    Owes l.fn.out l.out (flat_map (type_lines l.tables) (drop l.ty-index l.types)) (flat_map (type_lines l.tables) l.types)

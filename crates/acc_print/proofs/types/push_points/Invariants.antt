@@ -1,9 +1,11 @@
 -- What is written so far, and then the points that are left, is all of it.
-use Rattle.std.proofs.Common.{◌≡◌, ◌++◌, drop}
+use Rattle.acc_page.specs.Written.{Owes}
+use Rattle.std.proofs.Common.{drop}
 use Rattle.std.specs.List.{flat_map}
 use Rattle.acc_print.specs.Types.{point_lines}
 use Rattle.acc_print.proofs.types.push_points.Given as goal
 
 abbrev pub invariant-loop-point : goal.invariant-loop-point
-invariant-loop-point l = l.out.items ++ flat_map (point_lines l.surroundings l.points) (drop l.point-index l.points) ≡ l.fn.out.items ++
-    flat_map (point_lines l.surroundings l.points) (l.points)
+invariant-loop-point l =
+    Owes l.fn.out l.out (flat_map (point_lines l.surroundings l.points) (drop l.point-index l.points))
+    (flat_map (point_lines l.surroundings l.points) (l.points))

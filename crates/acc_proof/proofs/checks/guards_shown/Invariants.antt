@@ -1,6 +1,6 @@
 use Rattle.std.proofs.Common.{◌≡◌, ◌++◌, drop, map}
 use Rattle.acc_proof.specs.Facts.{all_shown}
-use Rattle.acc_instances.specs.Instances.{fact_at}
+use Rattle.acc_instanced.specs.Instances.{fact_at}
 use Rattle.acc_proof.proofs.checks.guards_shown.Given as goal
 
 abbrev pub invariant-loop-guard : goal.invariant-loop-guard

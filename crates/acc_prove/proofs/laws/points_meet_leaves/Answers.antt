@@ -1,7 +1,7 @@
 use Rattle.std.specs.Prelude.{Ok}
 use Rattle.acc_prover.specs.declared.found.Found.TheVariants.{Unproved}
 use Rattle.acc_prover.proofs.Searched.{leaf_told}
-use Rattle.acc_prove.specs.Hints.{hints_of}
+use Rattle.acc_hints.specs.Hints.{hints_of}
 use Rattle.acc_prove.proofs.laws.points_meet_leaves.Goals as goal
 
 pub returns : goal.returns

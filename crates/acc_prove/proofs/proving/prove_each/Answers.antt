@@ -10,8 +10,8 @@ loop-q-preserved g c =
     let left = left_at qs i q c.loop-q-test.true c.q-item.is in
     record {
       lines =
-          next_lines d qs i q c.args.lines.now.items c.loop-q.lines.items c.prove_one.new.lines.items left
-          c.in_ok-prove_one.ensures.lines c.loop-q.invariant.lines;
+          next_lines d qs i q c.args.lines.now c.loop-q.lines c.prove_one.new.lines left c.in_ok-prove_one.ensures.lines
+          c.loop-q.invariant.lines;
       proofs =
           next_proofs d qs i q c.args.proofs.now.items c.loop-q.proofs.items c.prove_one.new.proofs.items left
           c.in_ok-prove_one.ensures.proofs c.loop-q.invariant.proofs;

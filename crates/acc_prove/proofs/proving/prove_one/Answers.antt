@@ -3,7 +3,7 @@ use Rattle.acc_prove.proofs.proving.prove_one.Goals as goal
 
 pub returns-clause-lines : goal.returns-clause-lines
 returns-clause-lines c =
-    one_line c.args.d.now c.args.q.now c.searched-found.result c.add_found.result c.args.lines.now.items c.add_found.new.lines.items
+    one_line c.args.d.now c.args.q.now c.searched-found.result c.add_found.result c.args.lines.now c.add_found.new.lines
     c.searched-found.ensures.kind c.add_found.ensures.lines c.add_found.ensures.other
 
 pub returns-clause-proofs : goal.returns-clause-proofs

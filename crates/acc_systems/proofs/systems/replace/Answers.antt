@@ -1,5 +1,5 @@
 use Rattle.std.proofs.Common.{◌≡◌, true, false, rules}
-use Rattle.acc_systems.specs.Rows.{has}
+use Rattle.acc_rows.specs.Rows.{has}
 use Rattle.acc_systems.proofs.Apart.{kept_told, together_told, on_ok}
 use Rattle.acc_systems.proofs.Behind.{kept_behind, made_behind}
 use Rattle.acc_systems.proofs.systems.replace.Goals as goal

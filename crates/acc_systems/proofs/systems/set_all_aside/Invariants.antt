@@ -1,5 +1,5 @@
 use Rattle.std.proofs.Common.{◌≡◌, ◌-◌}
-use Rattle.acc_systems.specs.Answers.{steps}
+use Rattle.acc_rows.specs.Answers.{steps}
 use Rattle.acc_systems.specs.Systems.{set_aside, whole, counted}
 use Rattle.acc_systems.specs.Repetitions.{AreApart}
 use Rattle.acc_systems.proofs.systems.set_all_aside.Given as goal

@@ -1,6 +1,6 @@
 use Rattle.std.proofs.Common.{◌∙◌}
 use Rattle.acc_base.proofs.HandedOn.{handed_on}
-use Rattle.acc_wp.proofs.CoefficientLoops.{first_long, second_long, collected_is}
+use Rattle.acc_preconditions.proofs.CoefficientLoops.{first_long, second_long, collected_is}
 use Rattle.acc_wp.proofs.lins.collected.Goals as goal
 
 pub returns-in_err-add_coefficients-clause-wide : goal.returns-in_err-add_coefficients-clause-wide

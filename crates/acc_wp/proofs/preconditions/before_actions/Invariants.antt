@@ -1,5 +1,5 @@
 use Rattle.std.proofs.Common.{◌≡◌, ◌-◌, length, take}
-use Rattle.acc_wp.specs.Preconditions.{before_actions, are_actions_wide}
+use Rattle.acc_preconditions.specs.Preconditions.{before_actions, are_actions_wide}
 use Rattle.acc_wp.proofs.preconditions.before_actions.Given as goal
 
 abbrev pub invariant-loop-action : goal.invariant-loop-action

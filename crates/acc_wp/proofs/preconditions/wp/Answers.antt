@@ -1,7 +1,7 @@
 use Rattle.std.proofs.Common.{sym, subst}
 use Rattle.acc_base.specs.declared.forms.Form.{Form}
-use Rattle.acc_wp.specs.Laws.{IsWeakest}
-use Rattle.acc_wp.proofs.LawTurns.{wp_is_weakest}
+use Rattle.acc_preconditions.specs.Laws.{IsWeakest}
+use Rattle.acc_preconditions.proofs.LawTurns.{wp_is_weakest}
 use Rattle.acc_wp.proofs.preconditions.wp.Goals as goal
 
 pub returns-clause-law : goal.returns-clause-law

@@ -1,6 +1,6 @@
 use Rattle.std.proofs.Common.{◌≡◌, rules, min, length, sym, ap, ◌∙◌}
 use Rattle.std.proofs.lemmas.Slice.Zip.{zip_end}
-use Rattle.acc_wp.specs.Unders.{lengthened}
+use Rattle.acc_preconditions.specs.Unders.{lengthened}
 use Rattle.acc_wp.proofs.UnderLoops.{differences_end, long_end}
 use Rattle.acc_wp.proofs.unders.lengthened.Goals as goal
 

@@ -1,5 +1,5 @@
 use Rattle.std.proofs.Common.{◌≡◌, drop, length}
-use Rattle.acc_wp.specs.Unders.{differences, are_long, lengthened}
+use Rattle.acc_preconditions.specs.Unders.{differences, are_long, lengthened}
 use Rattle.acc_wp.proofs.unders.lengthened.Given as goal
 
 abbrev pub invariant-loop-q : goal.invariant-loop-q

@@ -1,4 +1,4 @@
-use Rattle.acc_form.proofs.Runs.{well_formed_runs}
+use Rattle.acc_formed.proofs.Runs.{well_formed_runs}
 use Rattle.acc_lift.proofs.acceptance.Accepted.new.Goals as goal
 
 pub invariant_of-result : goal.invariant_of-result

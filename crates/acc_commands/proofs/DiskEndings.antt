@@ -1,0 +1,39 @@
+-- How a command over a journal ends.
+use Rattle.std.proofs.Common.{ℕ, List, [], ◌∷◌}
+use Rattle.acc_io.specs.Causes.{Rose}
+use Rattle.acc_inputs.specs.declared.words.Command.{Command}
+use Rattle.acc_inputs.specs.declared.words.Command.TheVariants as command
+use Rattle.acc_journalled.specs.declared.answers.Wanted.TheVariants.{Counts, Rows}
+use Rattle.acc_journalled.specs.Tellings.{Telling}
+use Rattle.acc_journal_commands.specs.Disks.{Seen}
+use Rattle.acc_commands.specs.Means.{MeansOverDisk}
+use Rattle.acc_journal_commands.proofs.JournalEndings.{EndsOverDisk, init_ends, recover_ends, run_ends}
+
+pub ends_over_disk : (c : Command) (files : List (List ℕ)) (old new : Seen) (t : Telling) → MeansOverDisk c files old new t
+    → EndsOverDisk (Rose old.faults new.faults) t
+unfolding MeansOverDisk
+ends_over_disk command.Init [] old new t h = absurd h
+ends_over_disk command.Init (design ∷ []) old new t h = init_ends design old new t h
+ends_over_disk command.Init (design ∷ more ∷ rest) old new t h = absurd h
+ends_over_disk command.Recover [] old new t h = absurd h
+ends_over_disk command.Recover (design ∷ []) old new t h = absurd h
+ends_over_disk command.Recover (design ∷ certificate ∷ []) old new t h = recover_ends Counts old new t design certificate h
+ends_over_disk command.Recover (design ∷ certificate ∷ more ∷ rest) old new t h = absurd h
+ends_over_disk command.Dump [] old new t h = absurd h
+ends_over_disk command.Dump (design ∷ []) old new t h = absurd h
+ends_over_disk command.Dump (design ∷ certificate ∷ []) old new t h = recover_ends Rows old new t design certificate h
+ends_over_disk command.Dump (design ∷ certificate ∷ more ∷ rest) old new t h = absurd h
+ends_over_disk command.Play files old new t h = absurd h
+ends_over_disk command.Rehearse files old new t h = absurd h
+ends_over_disk command.Sched [] old new t h = absurd h
+ends_over_disk command.Sched (design ∷ []) old new t h = absurd h
+ends_over_disk command.Sched (design ∷ certificate ∷ []) old new t h = absurd h
+ends_over_disk command.Sched (design ∷ certificate ∷ script ∷ []) old new t h = absurd h
+ends_over_disk command.Sched (design ∷ certificate ∷ script ∷ order ∷ []) old new t h =
+    run_ends old new t design certificate script order h
+ends_over_disk command.Sched (design ∷ certificate ∷ script ∷ order ∷ more ∷ rest) old new t h = absurd h
+ends_over_disk command.Print files old new t h = absurd h
+ends_over_disk command.Check files old new t h = absurd h
+ends_over_disk command.Prove files old new t h = absurd h
+ends_over_disk command.Help files old new t h = absurd h
+ends_over_disk command.Version files old new t h = absurd h

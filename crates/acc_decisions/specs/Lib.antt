@@ -1,0 +1,4 @@
+pub mod Causes
+pub mod Decisions
+pub mod Evidence
+pub mod Readings

@@ -1,0 +1,5 @@
+pub mod PlayFiles
+pub mod ScheduleFiles
+pub mod PrintFiles
+pub mod CheckFiles
+pub mod ProveFiles

@@ -1,0 +1,7 @@
+//! What each command without a journal makes of the files that it is given.
+#![tactic(auto)]
+
+pub mod designs;
+pub mod plays;
+pub mod provings;
+pub mod schedules;

@@ -1,0 +1,105 @@
+//! Playing a script by the rules of locks.
+ghost use Rattle.std.specs.Prelude.{◌≡◌, IfOk};
+ghost use Rattle.acc_inputs.specs.Responses.{said_of};
+ghost use Rattle.acc_play.specs.Stages.{AllFit};
+ghost use Rattle.acc_inputs.specs.Scripts.{SaysOfScript, SaysOfOrder};
+ghost use Rattle.acc_file_commands.specs.ScheduleFiles.{SchedulesFiles, SaysOfCertificate, SaysSchedule, ending_at};
+
+use acc_base::designs::Design;
+use acc_base::machines::Call;
+use acc_check::{Admission, admit};
+use acc_inputs::{
+    ReadDesign, ReadOrder, ReadScript, Response, read_design, read_order, read_script, refused,
+};
+use acc_journalled::Ending;
+use acc_lift::Accepted;
+use acc_schedule::{Scheduled, schedule};
+use std::alloc::{AllocError, Global};
+
+/// The answer of a schedule.
+fn scheduled_answer(told: Scheduled) -> Response
+    ensures { said_of result ≡ record { ending = ending_at told.all_begun; text = told.text.items; history = told.history } }
+{
+    let Scheduled {
+        text,
+        history,
+        all_begun,
+    } = told;
+    let ending = if all_begun {
+        Ending::Done
+    } else {
+        Ending::Unbegun
+    };
+    Response {
+        ending,
+        text,
+        history,
+    }
+}
+
+/// Schedules the calls in the order that the file gives.
+fn schedule_order(
+    alloc: Global,
+    accepted: &Accepted,
+    asked: &[Call],
+    file: &[u8],
+) -> Result<Response, AllocError>
+    requires fit { AllFit accepted.now asked.now }
+    ensures { IfOk result (λ a. SaysOfOrder (SaysSchedule accepted.now) asked.now file.now (said_of a)) }
+{
+    match read_order(alloc, asked, file)? {
+        ReadOrder::Read(places) => {
+            let told = schedule(alloc, accepted, asked, places.as_slice())?;
+            Ok(scheduled_answer(told))
+        }
+        ReadOrder::Refused(response) => Ok(response),
+    }
+}
+
+/// Schedules the calls of a script.
+fn schedule_script(
+    alloc: Global,
+    accepted: &Accepted,
+    script: &[u8],
+    file: &[u8],
+) -> Result<Response, AllocError>
+    ensures { IfOk result (λ a. SaysOfScript (SaysSchedule accepted.now) accepted.now script.now file.now (said_of a)) }
+{
+    match read_script(alloc, accepted.design(), script)? {
+        ReadScript::Read(asked) => schedule_order(alloc, accepted, asked.as_slice(), file),
+        ReadScript::Refused(response) => Ok(response),
+    }
+}
+
+/// Schedules the calls of a script on a design, if it is accepted with its certificate.
+fn schedule_design(
+    alloc: Global,
+    d: Design,
+    certificate: &[u8],
+    script: &[u8],
+    file: &[u8],
+) -> Result<Response, AllocError>
+    ensures { IfOk result (λ a. SaysOfCertificate d certificate.now script.now file.now (said_of a)) }
+{
+    match admit(alloc, d, certificate)? {
+        Admission::Accepted(accepted) => schedule_script(alloc, &accepted, script, file),
+        Admission::Refused(text) => Ok(refused(alloc, text)),
+    }
+}
+
+/// Plays a script's calls in the order that is given and then to their end, by the rules of locks, on a design that is accepted with
+/// its certificate.
+pub fn schedule_files(
+    alloc: Global,
+    design: &[u8],
+    certificate: &[u8],
+    script: &[u8],
+    file: &[u8],
+) -> Result<Response, AllocError>
+    ensures { IfOk result (λ a. SchedulesFiles design.now certificate.now script.now file.now (said_of a)) }
+{
+    match read_design(alloc, design)? {
+        ReadDesign::Read(d) => schedule_design(alloc, d, certificate, script, file),
+        ReadDesign::Refused(response) => Ok(response),
+    }
+}

@@ -1,0 +1,4 @@
+pub mod InRange
+pub mod Runs
+pub mod Uses
+pub mod Open

@@ -1,0 +1,6 @@
+pub mod CoefficientValues
+pub mod PartValues
+pub mod SummandValues
+pub mod InstanceValues
+pub mod RowPlaces
+pub mod RowSums

@@ -1,0 +1,4 @@
+pub mod Coefficients
+pub mod Summands
+pub mod Instances
+pub mod Meanings

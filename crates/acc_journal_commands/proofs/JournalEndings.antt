@@ -1,0 +1,189 @@
+-- How the commands over a journal end.
+use Rattle.std.proofs.Common.{◌≡◌, ℕ, Bool, true, false, List, [], ◌∷◌, Option, inl, inr, sym, ◌∙◌, refl}
+use Rattle.std.specs.Prelude.{◌≢◌, ◌⊎◌}
+use Rattle.acc_io.specs.Causes.{Rose}
+use Rattle.acc_base.specs.declared.designs.Design.{Design}
+use Rattle.acc_base.specs.declared.machines.Call.{Call}
+use Rattle.acc_base.specs.Machine.{World}
+use Rattle.acc_parse.specs.declared.errors.ParseError.{ParseError}
+use Rattle.acc_parse.specs.declared.errors.ParseError.TheVariants as errors
+use Rattle.acc_wal.specs.declared.errors.WalError.{WalError}
+use Rattle.acc_wal.specs.declared.errors.WalError.TheVariants as wal
+use Rattle.acc_recover.specs.Refusals.{RefusesRecovery, IsOfBytes}
+use Rattle.acc_recover.specs.declared.errors.RecoverError.{RecoverError}
+use Rattle.acc_recover.specs.declared.errors.RecoverError.TheVariants as recovery
+use Rattle.acc_journalled.specs.declared.answers.Ending.{Ending}
+use Rattle.acc_journalled.specs.declared.answers.Ending.TheVariants.{Done, DesignRefused, ScriptRefused, JournalRefused}
+use Rattle.acc_journalled.specs.declared.answers.Ending.TheVariants.{DiskFailed, Unbegun, Open}
+use Rattle.acc_journalled.specs.declared.answers.Wanted.{Wanted}
+use Rattle.acc_journalled.specs.declared.answers.Wanted.TheVariants.{Counts, Rows}
+use Rattle.acc_journalled.specs.Making.{FindsOne, MakesJournal}
+use Rattle.acc_journalled.specs.Recovering.{SaysNotRead, SaysNotRecovered, RefusesSo, RecoversJournal, text_of}
+use Rattle.acc_journalled.specs.Tellings.{Telling}
+use Rattle.acc_inputs.specs.Text.{Said, said_in, IsEarly}
+use Rattle.acc_journal_commands.specs.Disks.{Seen}
+use Rattle.acc_inputs.specs.Refusals.{SaysError, RefusesDesign}
+use Rattle.acc_journal_commands.specs.InitFiles.{InitsJournal, InitsFile}
+use Rattle.acc_running.specs.Running.{RunsJournal}
+use Rattle.acc_running.specs.Engines.{ending_at}
+use Rattle.acc_journal_commands.specs.RunFiles.{RunsSeen, RunsOfOrder, RunsOfScript, RunsCertified, RunsFiles}
+use Rattle.acc_journal_commands.specs.RecoverFiles.{RecoversSeen, RecoversCertified, RecoversFiles}
+
+-- ---- the journal decides
+
+-- it is all done, or the journal is refused, or a call of the disk failed
+abbrev pub EndsOver : Type 0 → Telling → Type 0
+EndsOver fault t = (t.ending ≡ Done) ⊎ (t.ending ≡ JournalRefused) ⊎ ((t.ending ≡ DiskFailed) × fault)
+
+pub making_ends : (d : Design) (told told' : Option (List ℕ)) (fault : Type 0) (t : Telling) → MakesJournal d told told' fault t
+    → EndsOver fault t
+making_ends d told told' fault t (inl h) = inl h.says.0
+making_ends d told told' fault t (inr (inl h)) = inr (inl h.says.0)
+making_ends d told told' fault t (inr (inr h)) = inr (inr (h.says.0, h.failed))
+
+not_read_ends : (error : WalError) (t : Telling) → SaysNotRead error t → t.ending ≡ JournalRefused
+not_read_ends wal.NotJournal t says = says.0
+not_read_ends (wal.OtherVersion version) t says = says.0
+not_read_ends (wal.Damaged place) t says = says.0
+not_read_ends wal.Exists t says = absurd says
+not_read_ends wal.Disk t says = absurd says
+not_read_ends wal.Spent t says = absurd says
+not_read_ends wal.Memory t says = absurd says
+
+pub unrecovered_ends : (error : RecoverError) (d : Design) (told : Option (List ℕ)) (fault : Type 0) (t : Telling)
+    → RefusesRecovery d error told fault → SaysNotRecovered error t → EndsOver fault t
+unrecovered_ends (recovery.Journal error) d told fault t why says = inr (inl (not_read_ends error t says))
+unrecovered_ends recovery.OtherDesign d told fault t why says = inr (inl says.0)
+unrecovered_ends (recovery.Unlawful at) d told fault t why says = inr (inl says.0)
+unrecovered_ends recovery.Disk d told fault t why says = inr (inr (says.0, why))
+unrecovered_ends recovery.Memory d told fault t why says = absurd says
+
+pub recovering_ends : (text : World → ℕ → List ℕ) (d : Design) (told told' : Option (List ℕ)) (fault : Type 0) (t : Telling)
+    → RecoversJournal text d told told' fault t → EndsOver fault t
+recovering_ends text d told told' fault t (inl h) = inl h.says.0
+recovering_ends text d told told' fault t (inr h) = unrecovered_ends h.error d told fault t h.cause h.says
+
+pub other_end : (a b : Ending) (t : Telling) → a ≢ b → t.ending ≡ a → t.ending ≡ b → ⊥
+other_end a b t differs is so = differs (sym is ∙ so)
+
+-- that isn't an ending before the journal
+pub over_late : (fault : Type 0) (t : Telling) → EndsOver fault t → IsEarly t.ending → ⊥
+over_late fault t (inl is) (inl e) = other_end Done DesignRefused t (λ e. cc) is e
+over_late fault t (inl is) (inr e) = other_end Done ScriptRefused t (λ e. cc) is e
+over_late fault t (inr (inl is)) (inl e) = other_end JournalRefused DesignRefused t (λ e. cc) is e
+over_late fault t (inr (inl is)) (inr e) = other_end JournalRefused ScriptRefused t (λ e. cc) is e
+over_late fault t (inr (inr is)) (inl e) = other_end DiskFailed DesignRefused t (λ e. cc) is.0 e
+over_late fault t (inr (inr is)) (inr e) = other_end DiskFailed ScriptRefused t (λ e. cc) is.0 e
+
+-- ---- a refusal of the design stands before it
+
+error_ends : (e : ParseError) (said : Said) → SaysError e said → said.ending ≡ DesignRefused
+error_ends (errors.Syntax at) said says = says.0
+error_ends (errors.Name at) said says = says.0
+error_ends (errors.Limit at which) said says = says.0
+error_ends errors.Memory said says = absurd says
+
+error_tells_none : (e : ParseError) (said : Said) → SaysError e said → said.history ≡ []
+error_tells_none (errors.Syntax at) said says = says.2
+error_tells_none (errors.Name at) said says = says.2
+error_tells_none (errors.Limit at which) said says = says.2
+error_tells_none errors.Memory said says = absurd says
+
+pub refusal_tells_none : (design : List ℕ) (said : Said) → RefusesDesign design said → said.history ≡ []
+refusal_tells_none design said (inl h) = error_tells_none h.error said h.says
+refusal_tells_none design said (inr h) = h.says.2
+
+pub refusal_ends : (design : List ℕ) (said : Said) → RefusesDesign design said → said.ending ≡ DesignRefused
+refusal_ends design said (inl h) = error_ends h.error said h.says
+refusal_ends design said (inr h) = h.says.0
+
+-- how running ends: besides, a place couldn't begin
+abbrev pub EndsRun : Type 0 → Telling → Type 0
+EndsRun fault t = EndsOver fault t ⊎ (t.ending ≡ Unbegun)
+
+running_ends : (d : Design) (calls : List Call) (order : List ℕ) (told told' : Option (List ℕ)) (fault : Type 0) (t : Telling)
+    → RunsJournal d calls order told told' fault t → EndsRun fault t
+running_ends d calls order told told' fault t (inl h) = by h.all_begun h.ending
+  where
+    by : (all_begun : Bool) → t.ending ≡ ending_at all_begun → EndsRun fault t
+    by true e = inl (inl e)
+    by false e = inr e
+running_ends d calls order told told' fault t (inr (inl h)) = inl (inr (inr (h.ending, h.failed)))
+running_ends d calls order told told' fault t (inr (inr h)) = inl (unrecovered_ends h.error d told fault t h.cause h.says)
+
+pub run_late : (fault : Type 0) (t : Telling) → EndsRun fault t → IsEarly t.ending → ⊥
+run_late fault t (inl h) early = over_late fault t h early
+run_late fault t (inr is) (inl e) = other_end Unbegun DesignRefused t (λ e. cc) is e
+run_late fault t (inr is) (inr e) = other_end Unbegun ScriptRefused t (λ e. cc) is e
+
+pub seen_late : (d : Design) (calls : List Call) (order : List ℕ) (told told' : Option (List ℕ)) (fault : Type 0) (t : Telling)
+    → RunsJournal d calls order told told' fault t → IsEarly t.ending → ⊥
+seen_late d calls order told told' fault t h = run_late fault t (running_ends d calls order told told' fault t h)
+
+-- a refusal before the journal, or how it ends by that
+abbrev pub EndsOverDisk : Type 0 → Telling → Type 0
+EndsOverDisk fault t = IsEarly t.ending ⊎ EndsRun fault t
+
+pub init_ends : (design : List ℕ) (old new : Seen) (t : Telling) → InitsFile design old new t → EndsOverDisk (Rose old.faults new.faults) t
+init_ends design old new t (inl h) = inl (inl (refusal_ends design (said_in t) h.2))
+init_ends design old new t (inr h) = inr (inl (making_ends h.d old.told new.told (Rose old.faults new.faults) t h.ends))
+
+module _ (wanted : Wanted) (old new : Seen) (t : Telling) where
+  certified_ends : (d : Design) (certificate : List ℕ) → RecoversCertified wanted d certificate old new t
+      → EndsOverDisk (Rose old.faults new.faults) t
+  certified_ends d certificate (inl h) = inl (inl h.2.ending)
+  certified_ends d certificate (inr h) =
+      inr (inl (recovering_ends (text_of wanted d) d old.told new.told (Rose old.faults new.faults) t h.ends))
+
+  pub recover_ends : (design certificate : List ℕ) → RecoversFiles wanted design certificate old new t
+      → EndsOverDisk (Rose old.faults new.faults) t
+  recover_ends design certificate (inl h) = inl (inl (refusal_ends design (said_in t) h.2))
+  recover_ends design certificate (inr h) = certified_ends h.d certificate h.says
+
+module _ (old new : Seen) (t : Telling) where
+  order_ends : (d : Design) (calls : List Call) (order : List ℕ) → RunsOfOrder d calls order old new t
+      → EndsOverDisk (Rose old.faults new.faults) t
+  order_ends d calls order (inl h) = inl (inr h.2.says.0)
+  order_ends d calls order (inr h) = inr (running_ends d calls h.numbers old.told new.told (Rose old.faults new.faults) t h.ends)
+
+  script_ends : (d : Design) (script order : List ℕ) → RunsOfScript d script order old new t
+      → EndsOverDisk (Rose old.faults new.faults) t
+  script_ends d script order (inl h) = inl (inr h.2.says.0)
+  script_ends d script order (inr h) = order_ends d h.calls order h.says
+
+  run_certified_ends : (d : Design) (certificate script order : List ℕ) → RunsCertified d certificate script order old new t
+      → EndsOverDisk (Rose old.faults new.faults) t
+  run_certified_ends d certificate script order (inl h) = inl (inl h.2.ending)
+  run_certified_ends d certificate script order (inr h) = script_ends d script order h.says
+
+  pub run_ends : (design certificate script order : List ℕ) → RunsFiles design certificate script order old new t
+      → EndsOverDisk (Rose old.faults new.faults) t
+  run_ends design certificate script order (inl h) = inl (inl (refusal_ends design (said_in t) h.2))
+  run_ends design certificate script order (inr h) = run_certified_ends h.d certificate script order h.says
+
+pub over_unbegun : (fault : Type 0) (t : Telling) → EndsOver fault t → t.ending ≡ Unbegun → ⊥
+over_unbegun fault t (inl is) e = other_end Done Unbegun t (λ e. cc) is e
+over_unbegun fault t (inr (inl is)) e = other_end JournalRefused Unbegun t (λ e. cc) is e
+over_unbegun fault t (inr (inr is)) e = other_end DiskFailed Unbegun t (λ e. cc) is.0 e
+
+over_failed : (fault : Type 0) (t : Telling) → EndsOver fault t → t.ending ≡ DiskFailed → fault
+over_failed fault t (inl is) e = absurd (other_end Done DiskFailed t (λ e. cc) is e)
+over_failed fault t (inr (inl is)) e = absurd (other_end JournalRefused DiskFailed t (λ e. cc) is e)
+over_failed fault t (inr (inr is)) e = is.1
+
+pub failed_by : (fault : Type 0) (t : Telling) → EndsOverDisk fault t → t.ending ≡ DiskFailed → fault
+failed_by fault t (inl (inl is)) e = absurd (other_end DesignRefused DiskFailed t (λ e. cc) is e)
+failed_by fault t (inl (inr is)) e = absurd (other_end ScriptRefused DiskFailed t (λ e. cc) is e)
+failed_by fault t (inr (inl h)) e = over_failed fault t h e
+failed_by fault t (inr (inr is)) e = absurd (other_end Unbegun DiskFailed t (λ e. cc) is e)
+
+over_open : (fault : Type 0) (t : Telling) → EndsOver fault t → t.ending ≡ Open → ⊥
+over_open fault t (inl is) e = other_end Done Open t (λ e. cc) is e
+over_open fault t (inr (inl is)) e = other_end JournalRefused Open t (λ e. cc) is e
+over_open fault t (inr (inr is)) e = other_end DiskFailed Open t (λ e. cc) is.0 e
+
+pub never_open : (fault : Type 0) (t : Telling) → EndsOverDisk fault t → t.ending ≡ Open → ⊥
+never_open fault t (inl (inl is)) e = other_end DesignRefused Open t (λ e. cc) is e
+never_open fault t (inl (inr is)) e = other_end ScriptRefused Open t (λ e. cc) is e
+never_open fault t (inr (inl h)) e = over_open fault t h e
+never_open fault t (inr (inr is)) e = other_end Unbegun Open t (λ e. cc) is e

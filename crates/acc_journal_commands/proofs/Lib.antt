@@ -1,0 +1,4 @@
+pub mod Leaving
+pub mod JournalEndings
+pub mod ToldAs
+pub mod CertificateRefusals

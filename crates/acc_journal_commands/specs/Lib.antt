@@ -1,0 +1,4 @@
+pub mod Disks
+pub mod InitFiles
+pub mod RecoverFiles
+pub mod RunFiles

@@ -1,0 +1,55 @@
+-- The commands recover and dump: the journal of a design that is accepted with its certificate is recovered, and what is wanted of it is
+-- told.
+use Rattle.std.specs.Prelude.{◌≡◌, ◌⊎◌, ℕ, List}
+use Rattle.acc_base.specs.declared.designs.Design.{Design}
+use Rattle.acc_io.specs.Causes.{Rose}
+use Rattle.acc_check.specs.Admissions.{IsAcceptedWith}
+use Rattle.acc_formed.specs.WellFormed.{IsWellFormed}
+use Rattle.acc_parse.specs.Texts.{IsDesignText}
+use Rattle.acc_recover.specs.Recoveries.{LeavesRecovery}
+use Rattle.acc_journalled.specs.declared.answers.Wanted.{Wanted}
+use Rattle.acc_journalled.specs.Recovering.{RecoversJournal, text_of}
+use Rattle.acc_journalled.specs.Tellings.{Telling}
+use Rattle.acc_journal_commands.specs.Disks.{Seen, WithoutDisk}
+use Rattle.acc_inputs.specs.Refusals.{RefusesDesign, RefusesCertificate}
+
+-- the journal is recovered, or isn't for some cause
+abbrev pub RecoversSeen : Wanted → Design → Seen → Seen → Telling → Type 0
+RecoversSeen wanted d old new t = RecoversJournal (text_of wanted d) d old.told new.told (Rose old.faults new.faults) t
+
+-- the design is accepted with the certificate, and so it is sound, and then the disk decides
+pub record RecoversAccepted (wanted : Wanted) (d : Design) (certificate : List ℕ) (old new : Seen) (t : Telling) : Type 0 where
+  pub accepted : IsAcceptedWith d certificate
+  pub ends : RecoversSeen wanted d old new t
+
+abbrev pub RecoversCertified : Wanted → Design → List ℕ → Seen → Seen → Telling → Type 0
+RecoversCertified wanted d certificate old new t =
+    WithoutDisk (RefusesCertificate d certificate) old new t ⊎ RecoversAccepted wanted d certificate old new t
+
+-- the text is that of this design, which is well-formed, and then the certificate decides
+pub record RecoversDesign (wanted : Wanted) (design certificate : List ℕ) (old new : Seen) (t : Telling) : Type 0 where
+  pub d : Design
+  pub is_text : IsDesignText design d
+  pub formed : IsWellFormed d
+  pub says : RecoversCertified wanted d certificate old new t
+
+-- the order of the refusals: the design, the certificate, the journal
+abbrev pub RecoversFiles : Wanted → List ℕ → List ℕ → Seen → Seen → Telling → Type 0
+RecoversFiles wanted design certificate old new t =
+    WithoutDisk (RefusesDesign design) old new t ⊎ RecoversDesign wanted design certificate old new t
+
+-- the design is accepted with the certificate, and this is what its recovery leaves of the file
+abbrev pub LeavesAccepted : Design → List ℕ → List ℕ → List ℕ → Type 0
+LeavesAccepted d certificate file image = (image ≡ file) ⊎ (IsAcceptedWith d certificate × LeavesRecovery d file image)
+
+-- A crash leaves the file; or, where neither the design nor its certificate is refused and the file is a journal, one of what it counts,
+-- or of the recovered history.
+pub record LeavesByDesign (design certificate file image : List ℕ) : Type 0 where
+  pub d : Design
+  pub is_text : IsDesignText design d
+  pub formed : IsWellFormed d
+  pub accepted : IsAcceptedWith d certificate
+  pub left : LeavesRecovery d file image
+
+abbrev pub RecoverLeaves : List ℕ → List ℕ → List ℕ → List ℕ → Type 0
+RecoverLeaves design certificate file image = (image ≡ file) ⊎ LeavesByDesign design certificate file image

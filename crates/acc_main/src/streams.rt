@@ -1,0 +1,24 @@
+//! The descriptors of the standard streams.
+use std::fs::File;
+use std::os::fd::AsRawFd;
+use std::{fs, io};
+
+/// What is opened in the place of a stream that was closed: it can't be written to, as a closed stream can't.
+const PLACEHOLDER: &str = "/";
+
+/// The highest descriptor of a standard stream.
+const STDERR: i32 = 2;
+
+/// Takes the descriptor of each standard stream that was closed, so that no file that is opened later gets it, and with it what is printed.
+/// They are free again where the answer is dropped.
+pub fn hold_streams(rt: &HostRuntime) -> io::Result<Vec<File>> {
+    let mut held = Vec::new(rt.alloc());
+    for _ in 0..=STDERR {
+        let file = fs::open(rt, PLACEHOLDER)?;
+        if file.as_raw_fd() > STDERR {
+            break;
+        }
+        held.push(file)?;
+    }
+    Ok(held)
+}

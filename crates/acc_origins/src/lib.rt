@@ -1,0 +1,4 @@
+//! Where an obligation comes from, as text; and numbers and paths as text.
+#![tactic(auto)]
+
+pub mod origins;

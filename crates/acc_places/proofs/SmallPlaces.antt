@@ -1,0 +1,47 @@
+-- The listed points and paths of a well-formed design are small.
+use Rattle.std.proofs.Common.{◌≡◌, ℕ, ◌<◌, ◌≤◌, List, [], ◌∷◌, map, length, get_or, sym, ap, subst, ◌∙◌}
+use Rattle.std.specs.Prelude.{All}
+use Rattle.std.specs.List.{AllByRecursion}
+use Rattle.std.proofs.lemmas.List.Elements.{All-from_recursion, recursion_from_All}
+use Rattle.acc_base.specs.declared.designs.TxType.{TxType}
+use Rattle.acc_base.specs.declared.designs.Design.{Design}
+use Rattle.acc_formed.specs.WellFormed.{IsWellFormed}
+use Rattle.acc_places.specs.declared.places.PointPlace.{PointPlace}
+use Rattle.acc_places.specs.declared.places.PathPlace.{PathPlace}
+use Rattle.acc_places.specs.Rooms.{IsSmallRest, IsSmallStop}
+use Rattle.acc_places.specs.SeenPlaces.{rest, stop}
+use Rattle.acc_places.specs.Stops.{joined, rest_stops, rests_of}
+use Rattle.acc_places.proofs.Small.{all_joined, small_stops, rests_small}
+
+module _ {S T : Type 0} (f : T → S) (P : S → Type 0) where
+  all_back : (xs : List T) → AllByRecursion P (map f xs) → AllByRecursion (λ x. P (f x)) xs
+  all_back [] h = tt
+  all_back (x ∷ xs) h = (h.0, all_back xs h.1)
+
+  all_over : (xs : List T) → AllByRecursion (λ x. P (f x)) xs → AllByRecursion P (map f xs)
+  all_over [] h = tt
+  all_over (x ∷ xs) h = (h.0, all_over xs h.1)
+
+pub points_small :
+    (d : Design) → IsWellFormed d → (ps : List PointPlace) → map rest ps ≡ rests_of d → All (λ (q : PointPlace). IsSmallRest (rest q)) ps
+points_small d wf ps e =
+    All-from_recursion (λ (q : PointPlace). IsSmallRest (rest q)) ps
+    (all_back rest IsSmallRest ps (subst (AllByRecursion IsSmallRest) (sym e) (rests_small d wf)))
+
+pub paths_small :
+    (ps : List PointPlace) (qs : List PathPlace) → All (λ (q : PointPlace). IsSmallRest (rest q)) ps
+    → map stop qs ≡ joined rest_stops (map rest ps) → All (λ (q : PathPlace). IsSmallStop (stop q)) qs
+paths_small ps qs h e =
+    let rests = all_over rest IsSmallRest ps (recursion_from_All (λ (q : PointPlace). IsSmallRest (rest q)) ps h) in
+    All-from_recursion (λ (q : PathPlace). IsSmallStop (stop q)) qs
+    (all_back stop IsSmallStop qs
+    (subst (AllByRecursion IsSmallStop) (sym e) (all_joined IsSmallStop IsSmallRest rest_stops (map rest ps) small_stops rests)))
+
+pub few_points :
+    (d : Design) → IsWellFormed d → (xs : List TxType) → xs ≡ d.types → (i : ℕ) → i < length xs → (x : TxType) → x ≡ get_or xs i x
+    → length x.points ≤ 32
+few_points d wf xs e i l x f =
+    let within : i < length d.types = subst (λ (ys : List TxType). i < length ys) e l in
+    let same : x ≡ get_or d.types i x = f ∙ ap (λ (ys : List TxType). get_or ys i x) e in
+    let few = (wf.types i x within).few_points in
+    subst (λ (y : TxType). length y.points ≤ 32) (sym same) few

@@ -1,0 +1,3 @@
+pub mod Rooms
+pub mod SeenPlaces
+pub mod Stops

@@ -1,0 +1,4 @@
+//! The points and the paths of a design, each with where it stands, and how few there are of them.
+#![tactic(auto)]
+
+pub mod places;

@@ -1,0 +1,15 @@
+pub mod CoefficientLoops
+pub mod RowSums
+pub mod RowTurns
+pub mod PartValues
+pub mod Growths
+pub mod DifferenceValues
+pub mod Meetings
+pub mod AtomTurns
+pub mod UnderTurns
+pub mod FormTurns
+pub mod Alls
+pub mod FormShapes
+pub mod RowShapes
+pub mod LawTurns
+pub mod PathRows

@@ -1,0 +1,4 @@
+//! What a relation's weakest precondition is, and that it is true before actions exactly where the relation is true after them.
+#![tactic(auto)]
+
+pub mod laws;

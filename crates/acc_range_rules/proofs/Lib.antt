@@ -1,0 +1,2 @@
+pub mod PointRanges
+pub mod Standing

@@ -1,0 +1,4 @@
+//! Relations read into rows of numbered unknowns.
+#![tactic(auto)]
+
+pub mod readings;

@@ -1,0 +1,5 @@
+pub mod Chains
+pub mod SparseSteps
+pub mod DivisorSteps
+pub mod Worths
+pub mod Entries

@@ -1,0 +1,5 @@
+pub mod Answers
+pub mod Numbers
+pub mod Sparse
+pub mod Divisors
+pub mod Rows

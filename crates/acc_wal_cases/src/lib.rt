@@ -1,0 +1,45 @@
+//! Cases of calls on a journal over a disk in memory: what each answers.
+//!
+//! `disk BYTES FAILS FROM` gives the disk of the lines behind it. Bytes are spelled by two digits each, and '-' is none.
+//! `file PATH BATCHES STEPS` and `open PATH` make and attach a journal on a real file; a benchmark asks them too.
+#![tactic(auto)]
+
+mod answers;
+mod events;
+mod files;
+mod journals;
+mod stops;
+mod words;
+
+use crate::files::{push_count, push_filled};
+use acc_disk_cases::words::split;
+pub use journals::Held;
+use std::alloc::AllocError;
+use std::fs::File;
+use std::rt::Files;
+
+/// Pushes what the call of a line answers.
+fn push_answer<R: Files<File = File> + AllocGlobal>(
+    rt: &R,
+    out: &mut String,
+    held: &mut Held,
+    line: &str,
+) -> Result<(), AllocError> {
+    let (name, rest) = split(line);
+    match name {
+        "file" => push_filled(rt, rt.alloc(), out, rest),
+        "open" => push_count(rt, rt.alloc(), out, rest),
+        _ => journals::play(rt.alloc(), out, held, line),
+    }
+}
+
+/// What the call of a line answers.
+pub fn answer<R: Files<File = File> + AllocGlobal>(
+    rt: &R,
+    held: &mut Held,
+    line: &str,
+) -> Result<String, AllocError> {
+    let mut out = String::new(rt.alloc());
+    push_answer(rt, &mut out, held, line)?;
+    Ok(out)
+}

@@ -1,5 +1,0 @@
-use Rattle.acc_wp.proofs.PathRows.{leaves_rows_after}
-use Rattle.acc_wp.proofs.laws.a_path_leaves_the_rows_after_its_actions.Goals as goal
-
-pub returns : goal.returns
-returns c = leaves_rows_after
