@@ -49,3 +49,14 @@ pub fn tell<R: Print + AllocGlobal>(rt: &R, design: &str) -> io::Result<()> {
     let told = told(rt.alloc(), design)?;
     print!(rt; "{told}")
 }
+
+/// Tells whether the command `prove` prints this certificate of a design, and its status.
+pub fn compare<R: Print + AllocGlobal>(rt: &R, design: &str, certificate: &str) -> io::Result<()> {
+    let (status, text) = proved(rt.alloc(), design)?;
+    let said = if text.as_str() == certificate {
+        "the same"
+    } else {
+        "another"
+    };
+    println!(rt; "{said}\nstatus {status}")
+}

@@ -1,12 +1,14 @@
 //! The cases by their verbs.
 use crate::commands::{SCRIPT, check, journal, play, run};
+use crate::journals::{cut, room};
 use crate::progress::{found, replay};
 use acc_case_commands::memory;
 use acc_case_commands::texts::{self, first_word};
 use acc_diagnose::system_reason;
 use std::alloc::{AllocError, Global};
-use std::io;
+use std::fs::File;
 use std::rt::Files;
+use std::{fs, io};
 
 /// The numbers of the calls that fail: none, the first, the first two.
 const NONE: &[u64] = &[];
@@ -52,6 +54,8 @@ fn answer(alloc: Global, base: &str, verb: &str, rest: &str) -> Result<String, A
         "certificate" => check(alloc, base, rest),
         "replay" => replay(alloc, rest),
         "found" => found(alloc, rest),
+        "room" => room(alloc, rest),
+        "cut" => cut(alloc, rest),
         _ => answer_line(alloc, base, verb, rest),
     }
 }
@@ -80,8 +84,18 @@ fn take(base: &mut String, design: &str) -> Result<(), AllocError> {
     base.push_str(design)
 }
 
+/// Takes a design of the program's folder.
+fn take_file<R: Files<File = File> + AllocGlobal>(
+    rt: &R,
+    base: &mut String,
+    name: &str,
+) -> io::Result<()> {
+    let design = fs::read_to_string(rt, name)?;
+    Ok(take(base, design.as_str())?)
+}
+
 /// Tells the answer of a case without escapes.
-fn tell_case<R: Files + Print + AllocGlobal>(
+fn tell_case<R: Files<File = File> + Print + AllocGlobal>(
     rt: &R,
     base: &mut String,
     line: &str,
@@ -89,13 +103,14 @@ fn tell_case<R: Files + Print + AllocGlobal>(
     let (verb, rest) = first_word(line);
     match verb {
         "base" => Ok(take(base, rest)?),
+        "file" => take_file(rt, base, rest),
         "reason" => tell_reason(rt, rest),
         _ => tell_answer(rt, base, verb, rest),
     }
 }
 
 /// Tells the answer of a case over that design, or takes another.
-pub fn tell<R: Files + Print + AllocGlobal>(
+pub fn tell<R: Files<File = File> + Print + AllocGlobal>(
     rt: &R,
     base: &mut String,
     line: &str,

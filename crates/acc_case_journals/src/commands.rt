@@ -39,6 +39,7 @@ fn closed(alloc: Global, design: &Accepted, name: &str, disk: MemDisk) -> Option
         "init" => made(alloc, design.design(), disk),
         "recover" => Some(recover_journal(alloc, design, Wanted::Counts, disk, &mut Silent)),
         "dump" => Some(recover_journal(alloc, design, Wanted::Rows, disk, &mut Silent)),
+        "replies" => Some(recover_journal(alloc, design, Wanted::Replies, disk, &mut Silent)),
         _ => None,
     }
 }

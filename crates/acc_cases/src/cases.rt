@@ -91,6 +91,17 @@ fn proved<R: Files<File = File> + Print + AllocGlobal>(rt: &R, name: &str) -> io
     proofs::tell(rt, design.as_str())
 }
 
+/// `kept DESIGN CERT`: whether the certificate of the folder is the one that `prove` makes of the design.
+fn kept<R: Files<File = File> + Print + AllocGlobal>(
+    rt: &R,
+    name: &str,
+    certificate: &str,
+) -> io::Result<()> {
+    let design = fs::read_to_string(rt, name)?;
+    let certificate = fs::read_to_string(rt, certificate)?;
+    proofs::compare(rt, design.as_str(), certificate.as_str())
+}
+
 /// `fails ABSENT READS WRITES TAKES WORDS`: a command line over a shelf in memory that lacks a file and some of whose reads
 /// fail, and over a sink in memory some of whose writes fail or take less.
 fn fails<R: Files<File = File> + Print + AllocGlobal>(rt: &R, text: &str) -> io::Result<()> {
@@ -116,6 +127,7 @@ fn answer_design<R: Files<File = File> + Print + AllocGlobal>(
         "sched" => sched(rt, name, behind),
         "many" => many(rt, name, behind),
         "proved" => proved(rt, name),
+        "kept" => kept(rt, name, behind),
         _ => show(rt, verb, rest),
     }
 }

@@ -127,25 +127,22 @@ pub fn push_path(out: &mut Page, d: &Design, origin: &Origin) {
     out.push(b"`")
 }
 
-/// What an obligation is about: an assertion as it stands in the text, a variant or a number.
-fn push_subject(out: &mut Page, d: &Design, origin: &Origin, statement: &[u8]) {
+/// What an obligation is about: an assertion as it stands in the text, a variant, or a number, as it is spelled.
+fn push_subject(out: &mut Page, d: &Design, origin: &Origin, statement: &[u8], number: &[u8]) {
     match (origin.rule, origin.at) {
         (6, Some(at)) => {
             out.push(b"the variant of `");
             push_at(out, d, at);
             out.push(b"`")
         }
-        (5, _) => {
-            out.push(b"number ");
-            out.push_number(origin.clause)
-        }
+        (5, _) => push_quoted(out, number),
         _ => push_quoted(out, statement),
     }
 }
 
 /// What isn't shown, in words.
-fn push_lack(out: &mut Page, d: &Design, origin: &Origin, statement: &[u8]) {
-    push_subject(out, d, origin, statement);
+fn push_lack(out: &mut Page, d: &Design, origin: &Origin, statement: &[u8], number: &[u8]) {
+    push_subject(out, d, origin, statement, number);
     out.push(lack_text(origin.rule, origin.clause));
     push_path(out, d, origin);
     out.push(b" (rule S");
@@ -153,13 +150,15 @@ fn push_lack(out: &mut Page, d: &Design, origin: &Origin, statement: &[u8]) {
     out.push(b")")
 }
 
-/// The mark of the assertion that an obligation is about, or else of its path, and what isn't shown.
+/// The mark of the assertion that an obligation is about, or else of its path, and what isn't shown. `number` is the number, as it is
+/// spelled, that an obligation on ranges is about.
 pub fn asserted_mark(
     alloc: Global,
     text: &[u8],
     tokens: &[Token],
     d: &Design,
     origin: &Origin,
+    number: &[u8],
 ) -> Option<Marked> {
     let found = match asserted_from(text, tokens, d, origin) {
         Some(found) => found,
@@ -171,7 +170,13 @@ pub fn asserted_mark(
     let Some(mut mark) = statement_mark(alloc, text, found) else {
         return None;
     };
-    push_lack(&mut mark.spot.what, d, origin, statement_in(text, found));
+    push_lack(
+        &mut mark.spot.what,
+        d,
+        origin,
+        statement_in(text, found),
+        number,
+    );
     Some(mark)
 }
 

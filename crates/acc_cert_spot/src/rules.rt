@@ -22,13 +22,14 @@ pub fn obligation_hint(rule: u32) -> &'static [u8] {
     match rule {
         0 => b"hold less at the first point, and let the first step look",
         1 =>
-            b"hold at the point of the step what this needs, or let the path's relations tell more",
-        2 => b"let the path's relations tell more, or write the further action that keeps it true",
+            b"hold what this needs, at the point of the step or always, or let the path's relations tell more",
+        2 =>
+            b"hold what this needs at the step's point, let the path's relations tell more, or write a further action that keeps it true",
         3 => b"write an entry that keeps the step out, or hold less",
         4 =>
             b"hold at the point that the row is there, or read it by `has` and let the path ask for 1",
         5 => b"bound the number, by `holds` or `always`",
-        6 => b"let the variant count what is left to undo",
+        6 => b"let the variant count what is left to undo, and bound it by `holds`",
         7 => b"drop the rows in the last step, and in the last undo step",
         _ => b"say it of rows that are there: `forall k : has T[k] = 1 => ..`",
     }

@@ -185,6 +185,13 @@ of_command held words command.Dump w disk disk' old new code (design ∷ certifi
 of_command held words command.Dump w disk disk' old new code [] t is given h = absurd h
 of_command held words command.Dump w disk disk' old new code (design ∷ []) t is given h = absurd h
 of_command held words command.Dump w disk disk' old new code (design ∷ certificate ∷ more ∷ rest) t is given h = absurd h
+of_command held words command.Replies w disk disk' old new code (design ∷ certificate ∷ []) t is given h =
+    let same : wanted.Replies ≡ w = cc in
+    of_files held words command.Replies w disk disk' old new code design certificate t given
+    (subst (λ x. RecoversFiles x design certificate disk disk' t) same h)
+of_command held words command.Replies w disk disk' old new code [] t is given h = absurd h
+of_command held words command.Replies w disk disk' old new code (design ∷ []) t is given h = absurd h
+of_command held words command.Replies w disk disk' old new code (design ∷ certificate ∷ more ∷ rest) t is given h = absurd h
 of_command held words command.Init w disk disk' old new code files t is given h = absurd cc
 of_command held words command.Play w disk disk' old new code files t is given h = absurd cc
 of_command held words command.Rehearse w disk disk' old new code files t is given h = absurd cc

@@ -77,10 +77,10 @@ pub record FindsJournal (c : Command) (disk disk' : Seen) : Type 0 where
   pub there : IfSome disk.told IsThere
   pub same : disk'.told ≡ disk.told
 
--- It is `sched`, `recover` or `dump`, and the bytes of the disk give this cause why nothing is recovered. What is no journal is left as it
--- is; a journal that is refused counts what it counted.
+-- It is `sched`, `recover`, `dump` or `replies`, and the bytes of the disk give this cause why nothing is recovered. What is no journal is
+-- left as it is; a journal that is refused counts what it counted.
 pub record RefusesRecovering (c : Command) (disk disk' : Seen) : Type 0 where
-  pub is_over : (c ≡ command.Sched) ⊎ (c ≡ command.Recover) ⊎ (c ≡ command.Dump)
+  pub is_over : (c ≡ command.Sched) ⊎ (c ≡ command.Recover) ⊎ (c ≡ command.Dump) ⊎ (c ≡ command.Replies)
   pub d : Design
   pub error : RecoverError
   pub of_bytes : IsOfBytes error

@@ -1,4 +1,4 @@
--- What stands behind the answers of `recover` and `dump`, and what a refused journal is afterwards.
+-- What stands behind the answers of `recover`, `dump` and `replies`, and what a refused journal is afterwards.
 use Rattle.std.specs.Prelude.{◌≡◌, ◌≢◌, ◌⊎◌, ℕ, List, [], ◌∷◌, Option, Some, None, IfSome}
 use Rattle.std.specs.Io.KnownBytes.{Appends}
 use Rattle.acc_base.specs.declared.designs.Design.{Design}
@@ -21,6 +21,7 @@ use Rattle.acc_inputs.specs.Files.{AreFiles}
 abbrev pub wanted_by : Command → Option Wanted
 wanted_by command.Recover = Some wanted.Counts
 wanted_by command.Dump = Some wanted.Rows
+wanted_by command.Replies = Some wanted.Replies
 wanted_by _ = None
 
 -- The files spell this design, which is accepted with its certificate, and the disk held a journal of it. This is the recovered history,

@@ -309,8 +309,8 @@ pub fn acc<H: Shelf, K: Sink, D: Disk, P: Progress>(
     // Where `prove` ended with status 0, what it said is a certificate with which the design is accepted, and so it is sound.
     ensures proved { command_of (map string_bytes words.now) ≡ Some Prove → result.status ≡ 0
         → IsProved (H.held shelf.old) (map string_bytes words.now) (K.bytes out.old) (K.bytes out.new) }
-    // Where `recover` or `dump` ended with status 0 or 7, the history is the recovered one, all of it durable, and the disk holds a journal
-    // of just that; else none is told.
+    // Where `recover`, `dump` or `replies` ended with status 0 or 7, the history is the recovered one, all of it durable, and the disk
+    // holds a journal of just that; with 0 what is wanted of it was said. Else none is told.
     ensures recovered { (c : TheCommand) (w : Wanted) → command_of (map string_bytes words.now) ≡ Some c → wanted_by c ≡ Some w
         → TellsRecovery (H.held shelf.old) (map string_bytes words.now) c w (D.told disk) (D.told result.disk) (K.bytes out.old)
         (K.bytes out.new) result.status result.history result.settled }

@@ -3,7 +3,7 @@ use Rattle.std.proofs.Common.{ℕ, List, [], ◌∷◌}
 use Rattle.acc_io.specs.Causes.{Rose}
 use Rattle.acc_inputs.specs.declared.words.Command.{Command}
 use Rattle.acc_inputs.specs.declared.words.Command.TheVariants as command
-use Rattle.acc_journalled.specs.declared.answers.Wanted.TheVariants.{Counts, Rows}
+use Rattle.acc_journalled.specs.declared.answers.Wanted.TheVariants.{Counts, Rows, Replies}
 use Rattle.acc_journalled.specs.Tellings.{Telling}
 use Rattle.acc_journal_commands.specs.Disks.{Seen}
 use Rattle.acc_commands.specs.Means.{MeansOverDisk}
@@ -23,6 +23,10 @@ ends_over_disk command.Dump [] old new t h = absurd h
 ends_over_disk command.Dump (design ∷ []) old new t h = absurd h
 ends_over_disk command.Dump (design ∷ certificate ∷ []) old new t h = recover_ends Rows old new t design certificate h
 ends_over_disk command.Dump (design ∷ certificate ∷ more ∷ rest) old new t h = absurd h
+ends_over_disk command.Replies [] old new t h = absurd h
+ends_over_disk command.Replies (design ∷ []) old new t h = absurd h
+ends_over_disk command.Replies (design ∷ certificate ∷ []) old new t h = recover_ends Replies old new t design certificate h
+ends_over_disk command.Replies (design ∷ certificate ∷ more ∷ rest) old new t h = absurd h
 ends_over_disk command.Play files old new t h = absurd h
 ends_over_disk command.Rehearse files old new t h = absurd h
 ends_over_disk command.Sched [] old new t h = absurd h

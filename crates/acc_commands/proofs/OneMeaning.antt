@@ -13,7 +13,7 @@ use Rattle.acc_io.specs.Causes.{Rose}
 use Rattle.acc_journalled.specs.declared.answers.Ending.{Ending}
 use Rattle.acc_journalled.specs.declared.answers.Ending.TheVariants.{Done}
 use Rattle.acc_journalled.specs.declared.answers.Wanted.{Wanted}
-use Rattle.acc_journalled.specs.declared.answers.Wanted.TheVariants.{Counts, Rows}
+use Rattle.acc_journalled.specs.declared.answers.Wanted.TheVariants.{Counts, Rows, Replies}
 use Rattle.acc_journalled.specs.Making.{MakesJournal}
 use Rattle.acc_journalled.specs.Recovering.{RecoversJournal, text_of}
 use Rattle.acc_journalled.specs.Tellings.{Telling}
@@ -109,6 +109,7 @@ one_of_files command.Init files a b h k = absurd h
 one_of_files command.Sched files a b h k = absurd h
 one_of_files command.Recover files a b h k = absurd h
 one_of_files command.Dump files a b h k = absurd h
+one_of_files command.Replies files a b h k = absurd h
 one_of_files command.Help [] a b h k = inl (said_same Done help_text help_text a b refl h k)
 one_of_files command.Help (more ∷ rest) a b h k = absurd h
 one_of_files command.Version [] a b h k = inl (said_same Done version_text version_text a b refl h k)
@@ -240,6 +241,11 @@ one_over_disk command.Dump (design ∷ []) old one other a b all h k = absurd h
 one_over_disk command.Dump (design ∷ certificate ∷ []) old one other a b all h k =
     one_recover old one other a b all Rows design certificate h k
 one_over_disk command.Dump (design ∷ certificate ∷ more ∷ rest) old one other a b all h k = absurd h
+one_over_disk command.Replies [] old one other a b all h k = absurd h
+one_over_disk command.Replies (design ∷ []) old one other a b all h k = absurd h
+one_over_disk command.Replies (design ∷ certificate ∷ []) old one other a b all h k =
+    one_recover old one other a b all Replies design certificate h k
+one_over_disk command.Replies (design ∷ certificate ∷ more ∷ rest) old one other a b all h k = absurd h
 one_over_disk command.Play files old one other a b all h k = absurd h
 one_over_disk command.Rehearse files old one other a b all h k = absurd h
 one_over_disk command.Sched [] old one other a b all h k = absurd h

@@ -16,7 +16,7 @@ use Rattle.acc_journalled.specs.declared.answers.Ending.{Ending}
 use Rattle.acc_journalled.specs.declared.answers.Ending.TheVariants.{Done, DesignRefused, ScriptRefused, JournalRefused}
 use Rattle.acc_journalled.specs.declared.answers.Ending.TheVariants.{DiskFailed, Unbegun}
 use Rattle.acc_journalled.specs.declared.answers.Wanted.{Wanted}
-use Rattle.acc_journalled.specs.declared.answers.Wanted.TheVariants.{Counts, Rows}
+use Rattle.acc_journalled.specs.declared.answers.Wanted.TheVariants.{Counts, Rows, Replies}
 use Rattle.acc_journalled.specs.Making.{FindsOne, MakesJournal}
 use Rattle.acc_journalled.specs.Recovering.{SaysNotRead, SaysNotRecovered, RefusesSo, RecoversJournal, text_of}
 use Rattle.acc_journalled.specs.Tellings.{Telling}
@@ -39,7 +39,7 @@ use Rattle.acc_journal_commands.proofs.JournalEndings.{other_end, refusal_ends, 
 
 -- it recovers a journal
 abbrev pub IsRecovering : Command → Type 0
-IsRecovering c = (c ≡ command.Sched) ⊎ (c ≡ command.Recover) ⊎ (c ≡ command.Dump)
+IsRecovering c = (c ≡ command.Sched) ⊎ (c ≡ command.Recover) ⊎ (c ≡ command.Dump) ⊎ (c ≡ command.Replies)
 
 -- It is `init`, and a journal is there; or a command that recovers one, and nothing is recovered for some cause.
 abbrev pub RefusesOver : Command → Seen → Seen → Telling → Type 0
@@ -121,8 +121,13 @@ refused_over command.Recover (design ∷ certificate ∷ more ∷ rest) old new 
 refused_over command.Dump [] old new t e h = absurd h
 refused_over command.Dump (design ∷ []) old new t e h = absurd h
 refused_over command.Dump (design ∷ certificate ∷ []) old new t e h =
-    let r = recover_refused Rows old new t e design certificate h in inr (inr (inr refl), r.0, r.1)
+    let r = recover_refused Rows old new t e design certificate h in inr (inr (inr (inl refl)), r.0, r.1)
 refused_over command.Dump (design ∷ certificate ∷ more ∷ rest) old new t e h = absurd h
+refused_over command.Replies [] old new t e h = absurd h
+refused_over command.Replies (design ∷ []) old new t e h = absurd h
+refused_over command.Replies (design ∷ certificate ∷ []) old new t e h =
+    let r = recover_refused Replies old new t e design certificate h in inr (inr (inr (inr refl)), r.0, r.1)
+refused_over command.Replies (design ∷ certificate ∷ more ∷ rest) old new t e h = absurd h
 refused_over command.Play files old new t e h = absurd h
 refused_over command.Rehearse files old new t e h = absurd h
 refused_over command.Sched [] old new t e h = absurd h
@@ -213,6 +218,10 @@ unbegun_over command.Dump [] old new t e h = absurd h
 unbegun_over command.Dump (design ∷ []) old new t e h = absurd h
 unbegun_over command.Dump (design ∷ certificate ∷ []) old new t e h = absurd (recover_unbegun old new t e Rows design certificate h)
 unbegun_over command.Dump (design ∷ certificate ∷ more ∷ rest) old new t e h = absurd h
+unbegun_over command.Replies [] old new t e h = absurd h
+unbegun_over command.Replies (design ∷ []) old new t e h = absurd h
+unbegun_over command.Replies (design ∷ certificate ∷ []) old new t e h = absurd (recover_unbegun old new t e Replies design certificate h)
+unbegun_over command.Replies (design ∷ certificate ∷ more ∷ rest) old new t e h = absurd h
 unbegun_over command.Rehearse files old new t e h = absurd h
 unbegun_over command.Play files old new t e h = absurd h
 unbegun_over command.Print files old new t e h = absurd h

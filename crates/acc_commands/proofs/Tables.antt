@@ -22,6 +22,7 @@ unfolding LeavesOfFile
 leaves_file command.Init files file is = (let e : true ≡ false = is in absurd cc)
 leaves_file command.Recover files file is = (let e : true ≡ false = is in absurd cc)
 leaves_file command.Dump files file is = (let e : true ≡ false = is in absurd cc)
+leaves_file command.Replies files file is = (let e : true ≡ false = is in absurd cc)
 leaves_file command.Play files file is = refl
 leaves_file command.Rehearse files file is = refl
 leaves_file command.Sched files file is = (let e : true ≡ false = is in absurd cc)

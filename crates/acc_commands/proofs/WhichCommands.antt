@@ -152,6 +152,7 @@ module _ (other : Ending) (done_other : Done ≢ other) (design_other : DesignRe
   ends_scheduled command.Sched files said e h = absurd h
   ends_scheduled command.Recover files said e h = absurd h
   ends_scheduled command.Dump files said e h = absurd h
+  ends_scheduled command.Replies files said e h = absurd h
   ends_scheduled command.Help [] said e h = absurd (not_so Done said done_other h.0 e)
   ends_scheduled command.Help (more ∷ rest) said e h = absurd h
   ends_scheduled command.Version [] said e h = absurd (not_so Done said done_other h.0 e)

@@ -4,7 +4,7 @@ use Rattle.acc_inputs.specs.declared.words.Command.{Command}
 use Rattle.acc_inputs.specs.declared.words.Command.TheVariants as command
 use Rattle.acc_inputs.specs.Words.{is_journalled}
 use Rattle.acc_journalled.specs.declared.answers.Ending.TheVariants.{Done}
-use Rattle.acc_journalled.specs.declared.answers.Wanted.TheVariants.{Counts, Rows}
+use Rattle.acc_journalled.specs.declared.answers.Wanted.TheVariants.{Counts, Rows, Replies}
 use Rattle.acc_journalled.specs.Tellings.{Telling}
 use Rattle.acc_inputs.specs.Text.{Said, Says}
 use Rattle.acc_journal_commands.specs.Disks.{Seen, WithoutDisk}
@@ -35,6 +35,7 @@ MeansOverDisk command.Init (design ∷ []) = InitsFile design
 MeansOverDisk command.Sched (design ∷ certificate ∷ script ∷ order ∷ []) = RunsFiles design certificate script order
 MeansOverDisk command.Recover (design ∷ certificate ∷ []) = RecoversFiles Counts design certificate
 MeansOverDisk command.Dump (design ∷ certificate ∷ []) = RecoversFiles Rows design certificate
+MeansOverDisk command.Replies (design ∷ certificate ∷ []) = RecoversFiles Replies design certificate
 MeansOverDisk _ _ = λ old new t. ⊥
 
 abbrev pub MeansBy : Bool → Command → List (List ℕ) → Seen → Seen → Telling → Type 0
@@ -51,4 +52,5 @@ LeavesOfFile command.Init (design ∷ []) = InitLeaves design
 LeavesOfFile command.Sched (design ∷ certificate ∷ script ∷ order ∷ []) = RunLeaves design certificate
 LeavesOfFile command.Recover (design ∷ certificate ∷ []) = RecoverLeaves design certificate
 LeavesOfFile command.Dump (design ∷ certificate ∷ []) = RecoverLeaves design certificate
+LeavesOfFile command.Replies (design ∷ certificate ∷ []) = RecoverLeaves design certificate
 LeavesOfFile _ _ = λ file image. image ≡ file

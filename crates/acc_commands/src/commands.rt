@@ -136,6 +136,9 @@ fn answer_over_disk<D: Disk, P: Progress>(
         (Command::Dump, [design, certificate]) => {
             recover_files(alloc, design, certificate, Wanted::Rows, disk, progress)
         }
+        (Command::Replies, [design, certificate]) => {
+            recover_files(alloc, design, certificate, Wanted::Replies, disk, progress)
+        }
         _ => unreachable!(),
     }
 }

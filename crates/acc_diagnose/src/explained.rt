@@ -1,9 +1,10 @@
 //! What is told of a command line that ended with another status than 0.
 ghost use Rattle.acc_formed.specs.WellFormed.{IsWellFormed};
 
-use crate::journals::{push_disk, push_journal};
+use crate::journals::{push_disk, push_full, push_journal};
 use crate::obligations::{File, push_fault};
 use crate::openings::push_unproved;
+use crate::usage::push_usage;
 use acc_base::designs::Design;
 use acc_base::sequences::Seq;
 use acc_explain::{
@@ -24,6 +25,16 @@ fn file_text(error: ShelfError) -> &'static [u8] {
         ShelfError::Long(_) => long_text(),
         ShelfError::Memory => memory_text(),
     }
+}
+
+/// A design without tables and types.
+fn empty_text() -> &'static [u8] {
+    b"the design is empty: it has neither tables nor types"
+}
+
+/// Where a design to begin with is found.
+fn empty_hint() -> &'static [u8] {
+    b"docs/DESIGN-LANGUAGE.md has a whole one to begin with; a line that begins with `#` is a comment"
 }
 
 /// Reads the files of these names; says of the first that isn't given why, and answers none then.
@@ -168,13 +179,31 @@ fn push_names<H: Shelf>(
     }
 }
 
-/// Says what a command line is, where its words are none.
-fn push_usage(out: &mut Page, usage: &[u8]) {
-    out.push(b"acc: these words are no command. The commands are\n");
-    out.push(usage);
+/// Says that a design is empty, if it is.
+fn push_if_empty(out: &mut Page, name: &str, d: &Design) {
+    if d.tables.is_empty() && d.types.is_empty() {
+        push_note(out, name.as_bytes(), empty_text(), empty_hint());
+    }
 }
 
-/// Says why a command line ended with this status.
+/// Says of a file that was printed as nothing that its design is empty, if it is.
+fn push_nothing<H: Shelf>(
+    alloc: Global,
+    out: &mut Page,
+    name: &str,
+    shelf: &mut H,
+) -> Result<(), AllocError> {
+    let Ok(text) = shelf.read(alloc, name) else {
+        return Ok(());
+    };
+    match diagnose(alloc, &text)? {
+        Diagnosed::Read(d) => push_if_empty(out, name, &d),
+        Diagnosed::Refused(_) => {}
+    }
+    Ok(())
+}
+
+/// Says why a command line ended with this status, or what is left out where it proved a design.
 fn push_status<H: Shelf>(
     alloc: Global,
     out: &mut Page,
@@ -185,11 +214,18 @@ fn push_status<H: Shelf>(
     usage: &[u8],
 ) -> Result<(), AllocError> {
     match (status, words) {
+        (0, [verb, name]) if verb.as_str() == "print" && printed.is_empty() => {
+            return push_nothing(alloc, out, name.as_str(), shelf);
+        }
+        (0, [verb, names @ ..]) if verb.as_str() == "prove" => {
+            return push_names(alloc, out, names, shelf, printed);
+        }
         (0, _) => {}
-        (1, _) => push_usage(out, usage),
+        (1, _) => push_usage(out, words, usage),
         (4, _) => return push_journal(alloc, out, printed),
         (5, [verb, ..]) => push_disk(out, verb.as_str()),
         (7, _) => push_note(out, b"acc", sink_text(), b""),
+        (8, _) => push_full(out),
         (9, _) => push_note(out, b"acc", memory_text(), b""),
         (_, [_, names @ ..]) => return push_names(alloc, out, names, shelf, printed),
         _ => {}
@@ -197,9 +233,9 @@ fn push_status<H: Shelf>(
     Ok(())
 }
 
-/// What is told of a command line that ended with this status: nothing after 0, and the front of it where memory runs out. The
-/// files are read anew, and what is told is of what is read then; of a journal and of open obligations it is of what was printed. `usage`
-/// lists the commands.
+/// What is told of a command line that ended with this status: after 0 nothing but that a design is empty, or the columns of which a proved
+/// one says nothing; and the front of it where memory runs out. The files are read anew, and what is told is of what is read then; of a
+/// journal and of open obligations it is of what was printed. `usage` lists the commands.
 pub fn explain<H: Shelf>(
     alloc: Global,
     status: u8,

@@ -14,7 +14,7 @@ fn said_of(why: &str) -> Said {
     match why {
         "exists" => Said {
             what: b"a journal is there already, and nothing of it was changed",
-            hint: b"`acc recover` and `acc dump` tell what it holds; a new one wants another name",
+            hint: b"`acc recover`, `acc dump` and `acc replies` tell what it holds; a new one wants another name",
         },
         "none" => Said {
             what: b"this file is no journal, and nothing of it was changed",
@@ -26,7 +26,7 @@ fn said_of(why: &str) -> Said {
         },
         "damaged" => Said {
             what: b"this journal is damaged, as no crash leaves one, and nothing of it was changed; it can't be read from its byte ",
-            hint: b"take another copy of it; docs/JOURNAL.md tells how its bytes are to be read, and which events stand before that byte",
+            hint: b"take another copy of it; or go on with the events before that byte, and lose the ends that were acknowledged behind it",
         },
         "design" => Said {
             what: b"this journal is of another design, and holds what it held",
@@ -80,5 +80,15 @@ pub fn push_disk(out: &mut Page, verb: &str) {
         b"the journal",
         b"the file can't be opened, read or written, or the device failed",
         standing(verb),
+    )
+}
+
+/// Says why a place stayed unbegun.
+pub fn push_full(out: &mut Page) {
+    push_note(
+        out,
+        b"acc",
+        b"no call begins behind 1,048,576 events of a run, or of a journal; each place that is told as unbegun came behind them",
+        b"what is told of the other places stands",
     )
 }

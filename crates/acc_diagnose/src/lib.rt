@@ -2,6 +2,7 @@
 //! one, how far it is.
 #![tactic(auto)]
 
+mod damage;
 mod explained;
 mod journals;
 mod keeping;
@@ -9,8 +10,12 @@ mod obligations;
 mod openings;
 mod progress;
 mod reasons;
+mod room;
+mod usage;
 
+pub use damage::cut_line;
 pub use explained::explain;
 pub use keeping::Keeping;
 pub use progress::{found_line, replay_line, search_line};
 pub use reasons::system_reason;
+pub use room::room_line;

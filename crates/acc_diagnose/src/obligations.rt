@@ -10,6 +10,7 @@ use acc_cert_spot::{
 use acc_explain::{begin_note, end_note, push_note, push_report};
 use acc_faults::{CertFault, tokens_of};
 use acc_goals::ObligError;
+use acc_openings::push_number;
 use acc_page::Page;
 use std::alloc::{AllocError, Global};
 
@@ -59,6 +60,13 @@ fn push_place(out: &mut Page, place: Place) {
     out.push_number(place.count);
 }
 
+/// The number that an obligation on ranges is about, as it is spelled; nothing for other obligations.
+fn number_of(alloc: Global, d: &Design, origin: &Origin) -> Vec<u8> {
+    let mut number = Page::new(alloc);
+    push_number(&mut number, d, origin);
+    number.into_bytes()
+}
+
 /// Says which assertion isn't shown, and by which path.
 pub fn push_assertion(
     alloc: Global,
@@ -68,7 +76,8 @@ pub fn push_assertion(
     origin: &Origin,
 ) -> Result<(), AllocError> {
     let tokens = tokens_of(alloc, design.text)?;
-    if let Some(mark) = asserted_mark(alloc, design.text, tokens.as_slice(), d, origin) {
+    let number = number_of(alloc, d, origin);
+    if let Some(mark) = asserted_mark(alloc, design.text, tokens.as_slice(), d, origin, &number) {
         push_mark(out, design, &mark);
     }
     if let Some(mark) = path_mark(alloc, design.text, tokens.as_slice(), origin) {

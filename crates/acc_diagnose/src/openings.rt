@@ -8,7 +8,7 @@ use acc_base::sequents::{Origin, Sequent};
 use acc_cert_spot::obligation_hint;
 use acc_explain::{begin_note, end_note};
 use acc_goals::ObligError;
-use acc_openings::push_values;
+use acc_openings::{push_cure, push_unspoken, push_values};
 use acc_origins::origins::push_origin;
 use acc_page::Page;
 use acc_prove::searched;
@@ -68,6 +68,33 @@ fn push_end(
     Ok(())
 }
 
+/// What helps with an open obligation: what is to be written for it, or else what helps for its rule.
+fn hint_of(
+    alloc: Global,
+    d: &Design,
+    origin: &Origin,
+    end: &Result<Found, SearchError>,
+) -> Result<Vec<u8>, AllocError> {
+    let mut hint = Page::new(alloc);
+    match end {
+        Ok(Found::Unproved(leaf, point)) => {
+            push_cure(
+                alloc,
+                &mut hint,
+                d,
+                origin,
+                leaf.as_slice(),
+                point.as_slice(),
+            )?;
+        }
+        Ok(Found::Proved(_)) | Err(_) => push_cure(alloc, &mut hint, d, origin, &[], &[])?,
+    }
+    if hint.is_empty() {
+        hint.push(obligation_hint(origin.rule));
+    }
+    Ok(hint.into_bytes())
+}
+
 /// Says which assertion isn't shown, by which path, and what ended the search for a proof.
 fn push_opening(
     alloc: Global,
@@ -81,11 +108,12 @@ fn push_opening(
 {
     push_assertion(alloc, out, d, design, &q.origin)?;
     let end = searched(alloc, d, q);
+    let hint = hint_of(alloc, d, &q.origin, &end)?;
     begin_note(out, design.name);
     out.push(head);
     out.push(b": ");
     push_end(alloc, out, d, &q.origin, &end)?;
-    end_note(out, obligation_hint(q.origin.rule));
+    end_note(out, &hint);
     Ok(())
 }
 
@@ -111,8 +139,21 @@ fn push_openings(
     Ok(())
 }
 
-/// Says which obligations of a design stay open, by the lines that were printed of them; or which one has a number that is too large. The
-/// search is made anew for those that have a line.
+/// Says which columns no assertion of a design speaks of, if there are some.
+fn push_columns(alloc: Global, out: &mut Page, d: &Design, design: File) {
+    let mut columns = Page::new(alloc);
+    push_unspoken(&mut columns, d);
+    if columns.is_empty() {
+        return;
+    }
+    begin_note(out, design.name);
+    out.push(b"no assertion speaks of these columns, so nothing is proved of what they hold: ");
+    out.push_page(&columns);
+    end_note(out, b"")
+}
+
+/// Says which obligations of a design stay open, by the lines that were printed of them, and which columns no assertion speaks of; or which
+/// obligation has a number that is too large. The search is made anew for those that have a line.
 pub fn push_unproved(
     alloc: Global,
     out: &mut Page,
@@ -123,12 +164,15 @@ pub fn push_unproved(
     requires { IsWellFormed d.now }
 {
     match obligations(alloc, d) {
-        Ok(sequents) => push_openings(alloc, out, d, design, sequents.as_slice(), printed),
+        Ok(sequents) => {
+            push_openings(alloc, out, d, design, sequents.as_slice(), printed)?;
+            push_columns(alloc, out, d, design);
+        }
         Err(ObligError::Wide(origin)) => {
             push_assertion(alloc, out, d, design, &origin)?;
             push_wide(out, design);
-            Ok(())
         }
-        Err(ObligError::Memory) => Err(AllocError),
+        Err(ObligError::Memory) => return Err(AllocError),
     }
+    Ok(())
 }

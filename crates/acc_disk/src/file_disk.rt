@@ -12,7 +12,7 @@ use std::io::ErrorKind;
 use std::rt::Files;
 
 /// A file of the machine, which is opened and locked at the first call, and stays locked as long as it is held: a second process that asks
-/// for it finds `Trouble::InUse`, and changes nothing. Each call that can't be done answers `Failed` and is counted, and `trouble` tells why
+/// for it finds `Trouble::InUse`, and changes nothing. A call that can't be done answers `Failed` and is counted, and `trouble` tells why
 /// the first one failed.
 ///
 /// Its clauses tell no content: what a machine's file holds between two calls no contract can say.

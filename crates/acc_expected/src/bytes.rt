@@ -1,4 +1,13 @@
 //! The first byte of a line with which no text goes on, and what is said of it.
+use crate::around::Around;
+use crate::asked::Asked::Front;
+use crate::asked::Could::Free;
+use crate::asked::Place::{Anywhere, BehindName, In};
+use crate::hints;
+use crate::mistakes::{Mistake, hint_among, push_hint};
+use crate::wanted::Wanted;
+use acc_page::Page;
+use std::alloc::Global;
 
 /// What the bytes before one are part of.
 #[derive(Clone, Copy)]
@@ -67,34 +76,57 @@ pub fn bad_byte(line: &[u8]) -> Option<usize> {
     None
 }
 
-/// How a byte that can't stand in a text is mended.
-pub fn byte_hint(byte: u8) -> &'static [u8] {
-    match byte {
-        b'<' => b"relations are `<=`, `>=` and `=`: `a < b` is `a + 1 <= b`",
-        b'>' => b"relations are `<=`, `>=` and `=`: `a > b` is `a >= b + 1`",
-        b'!' =>
-            b"relations are `<=`, `>=` and `=`: for `a != b` write two paths, one with `a + 1 <= b` and one with `a >= b + 1`",
-        b'#' => b"a comment is a line of its own, with `#` as its first byte past spaces",
-        b'\t' => b"this is a tab: words are parted by spaces",
-        b'\r' => b"this is a carriage return: lines end with a line feed alone",
-        b'(' | b')' | b'{' | b'}' =>
-            b"there are no parentheses and no braces: a key stands in `[ ]`",
-        b'/' | b'%' => b"a quotient, rounded down, is the read `div z = x 2`",
-        b'"' | b'\'' => b"values are whole numbers, and names stand without quotes",
-        b'&' | b'|' => b"relations that all have to hold are parted by `,`",
-        b'_' => b"a name begins with a letter; no letter and no `_` stands right behind a number",
-        _ => other_hint(byte),
+/// How many usual bytes that can't stand in a text there are.
+const COUNT: usize = 24;
+
+/// The usual bytes that can't stand in a text, with what stands behind them; where several fit, the first is told.
+const BYTES: [Mistake; COUNT] = [
+    (Anywhere, Free, Front(b"<>"), hints::UNEQUAL),
+    (Anywhere, Free, Front(b"<"), hints::LESS),
+    (Anywhere, Free, Front(b">"), hints::MORE),
+    (Anywhere, Free, Front(b"!"), hints::UNEQUAL),
+    (Anywhere, Free, Front(b"#"), hints::COMMENT),
+    (Anywhere, Free, Front(b"//"), hints::COMMENT),
+    (Anywhere, Free, Front(b"/*"), hints::COMMENT),
+    (Anywhere, Free, Front(b"/"), hints::QUOTIENT),
+    (Anywhere, Free, Front(b"%"), hints::REMAINDER),
+    (Anywhere, Free, Front(b"\t"), hints::TAB),
+    (Anywhere, Free, Front(b"\r"), hints::CARRIAGE_RETURN),
+    (In(b"table"), Free, Front(b"("), hints::COMPONENTS),
+    (In(b"private"), Free, Front(b"("), hints::COMPONENTS),
+    (In(b"type"), Free, Front(b"("), hints::PARAMETERS),
+    (BehindName, Free, Front(b"("), hints::NO_BRACKETS),
+    (Anywhere, Free, Front(b"("), hints::NO_PARENTHESES),
+    (Anywhere, Free, Front(b")"), hints::NO_PARENTHESES),
+    (Anywhere, Free, Front(b"{"), hints::NO_BRACES),
+    (Anywhere, Free, Front(b"}"), hints::NO_BRACES),
+    (Anywhere, Free, Front(b"\""), hints::NO_QUOTES),
+    (Anywhere, Free, Front(b"'"), hints::NO_QUOTES),
+    (Anywhere, Free, Front(b"&"), hints::NO_AND),
+    (Anywhere, Free, Front(b"|"), hints::NO_OR),
+    (Anywhere, Free, Front(b"_"), hints::UNDERSCORE),
+];
+
+/// How a byte that can't stand in a text is mended, whatever stands round it.
+fn plain_hint(byte: u8) -> &'static [u8] {
+    if byte.is_ascii_digit() {
+        hints::ZERO
+    } else if byte.is_ascii_alphabetic() {
+        hints::LETTER
+    } else if byte < b' ' || byte > b'~' {
+        hints::NO_TEXT
+    } else {
+        hints::MARKS
     }
 }
 
-fn other_hint(byte: u8) -> &'static [u8] {
-    if byte.is_ascii_digit() {
-        b"a number has no leading zeros"
-    } else if byte.is_ascii_alphabetic() {
-        b"no letter stands right behind a number; a name begins with a letter"
-    } else if byte < b' ' || byte > b'~' {
-        b"a design has the bytes from the space to `~`, and line feeds"
+/// Writes how a byte that can't stand in a text is mended; what was found begins with it.
+pub fn push_byte_hint(alloc: Global, out: &mut Page, around: Around, byte: u8) {
+    let usual = hint_among(&BYTES, around, &Wanted::nothing(alloc));
+    let hint = if usual.is_empty() {
+        plain_hint(byte)
     } else {
-        b"the marks are `[ ] , . : = <= >= => + - *` and `;`"
-    }
+        usual
+    };
+    push_hint(out, hint, around)
 }

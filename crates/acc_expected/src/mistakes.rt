@@ -1,147 +1,161 @@
-//! The usual mistakes, each by how it is mended.
-use crate::signs::{is_head, is_of_path, is_read, is_word};
+//! The usual mistakes, each by where it stands, and how it is mended.
+use crate::around::Around;
+use crate::asked::Asked::{Any, Is, Name, Number, Of, Relation};
+use crate::asked::Could::{Free, Takes, TakesName, TakesNameOrEnd, TakesNumber, TakesOnly};
+use crate::asked::Place::{Behind, BehindName, Head, HeadBehindPath, In, InClause, InRead, Within};
+use crate::asked::{Asked, Could, Group, Place, could_be, fits, is_there};
+use crate::hints;
 use crate::wanted::Wanted;
-use acc_lex::words::{Sign, Word};
+use acc_explain::push_quoted;
+use acc_lex::words::Sign;
+use acc_page::Page;
 
-/// What stands where no design goes on.
-#[derive(Clone, Copy)]
-pub enum Wrong {
-    Sign(Sign),
-    Name,
-    Number,
-    /// The text ends.
-    Nothing,
-}
+/// A usual mistake: where it stands, what could stand there, and what stands there; and how it is mended.
+pub type Mistake = (Place, Could, Asked, &'static [u8]);
 
-/// What the word at a place is.
-pub fn wrong_at(words: &[Word], place: usize) -> Wrong {
-    match words.get(place) {
-        Some(Word::Sign(sign)) => Wrong::Sign(*sign),
-        Some(Word::Name(_)) => Wrong::Name,
-        Some(Word::Number(_)) => Wrong::Number,
-        None => Wrong::Nothing,
-    }
-}
+/// How many usual mistakes there are.
+const COUNT: usize = 89;
 
-const NO_NAME: &[u8] = b"this is a word of the language, and so no name: choose another name";
+/// The usual mistakes; where several fit, the first is told.
+const MISTAKES: [Mistake; COUNT] = [
+    (Head, Free, Is(b"-"), hints::COMMENT),
+    (Head, Free, Is(b"if"), hints::NO_IF),
+    (Head, Free, Is(b"else"), hints::NO_ELSE),
+    (Head, Free, Is(b"insert"), hints::INSERT),
+    (Head, Free, Is(b"update"), hints::UPDATE),
+    (Head, Free, Is(b"delete"), hints::DELETE),
+    (Head, Free, Is(b"select"), hints::SELECT),
+    (Head, Free, Is(b"return"), hints::RETURN),
+    (Head, Free, Is(b"abort"), hints::GIVE_UP),
+    (Head, Free, Is(b"rollback"), hints::GIVE_UP),
+    (Head, Takes(Sign::Let), Name, hints::NO_LET),
+    (Head, Takes(Sign::Put), Name, hints::LET_BEFORE),
+    (Head, Free, Name, hints::NO_HEAD),
+    (Head, Free, Number, hints::NO_HEAD),
+    (
+        HeadBehindPath,
+        Takes(Sign::Path),
+        Of(Group::OfPaths),
+        hints::PATH_ENDED,
+    ),
+    (
+        Head,
+        Takes(Sign::Path),
+        Of(Group::OfPaths),
+        hints::BEHIND_PATH,
+    ),
+    (Head, Takes(Sign::Put), Of(Group::Reads), hints::READS_FIRST),
+    (Head, Takes(Sign::Goto), Any, hints::PATH_ENDS),
+    (Head, Takes(Sign::Undo), Any, hints::TWO_STEPS),
+    (Head, Takes(Sign::Limit), Any, hints::TYPE_LIMIT),
+    (Head, Takes(Sign::Next), Of(Group::Reads), hints::NEXT_FIRST),
+    (
+        Head,
+        Takes(Sign::Next),
+        Of(Group::OfPaths),
+        hints::NEXT_FIRST,
+    ),
+    (Head, Takes(Sign::Next), Is(b"path"), hints::NEXT_FIRST),
+    (Head, Free, Of(Group::OfTypes), hints::TYPE_ORDER),
+    (Head, Free, Of(Group::OfPoints), hints::POINT_ORDER),
+    (Head, Free, Of(Group::Parts), hints::PARTS_ORDER),
+    (Head, Takes(Sign::Point), Any, hints::POINT_FIRST),
+    // Words of other languages within a statement, and statements with a number or an equality too many.
+    (Within, Free, Is(b"or"), hints::NO_OR),
+    (InClause, Free, Is(b"and"), hints::ONE_RELATION),
+    (Within, Free, Is(b"and"), hints::NO_AND),
+    (Within, Free, Is(b"then"), hints::NO_THEN),
+    (In(b"refuse"), TakesNumber, Any, hints::REFUSE),
+    (In(b"limit"), TakesNumber, Any, hints::TYPE_LIMIT),
+    (Behind(b"-"), Free, Is(b"-"), hints::TWO_SIGNS),
+    (Within, TakesNumber, Is(b"-"), hints::NO_SIGN),
+    (In(b"table"), TakesNumber, Any, hints::COMPONENTS),
+    (In(b"private"), TakesNumber, Any, hints::COMPONENTS),
+    (In(b"set"), Free, Is(b"="), hints::NO_EQUAL),
+    (In(b"add"), Free, Is(b"="), hints::NO_EQUAL),
+    (In(b"put"), Free, Is(b"="), hints::NO_EQUAL),
+    (Behind(b"="), Free, Is(b"="), hints::ONE_EQUAL),
+    // The next statement, a read within a value, a word of the language as a name.
+    (
+        Within,
+        TakesNameOrEnd,
+        Of(Group::Heads),
+        hints::NAME_OR_HEAD,
+    ),
+    (Within, Takes(Sign::End), Of(Group::Heads), hints::PARTED),
+    (Within, Takes(Sign::Minus), Is(b"has"), hints::NO_READ),
+    (Within, Takes(Sign::Minus), Is(b"count"), hints::NO_READ),
+    (Within, Takes(Sign::Minus), Is(b"sum"), hints::NO_READ),
+    (Behind(b","), Free, Of(Group::Heads), hints::NO_SEMICOLON),
+    (Within, Takes(Sign::Minus), Of(Group::Reads), hints::NO_READ),
+    (In(b"entry"), Takes(Sign::Next), Any, hints::STEP),
+    (In(b"hint"), Takes(Sign::Next), Any, hints::STEP),
+    (In(b"entry"), Takes(Sign::By), Any, hints::ENTRY),
+    (In(b"entry"), Takes(Sign::Dot), Any, hints::POINT),
+    (In(b"hint"), Takes(Sign::Dot), Any, hints::POINT),
+    (In(b"entry"), Takes(Sign::Colon), Any, hints::PAIRS),
+    (In(b"entry"), Takes(Sign::Comma), Any, hints::PAIRS),
+    (In(b"entry"), Takes(Sign::Equal), Any, hints::PAIR),
+    (In(b"entry"), TakesName, Number, hints::PAIR),
+    (Within, Takes(Sign::Colon), Any, hints::FORALL),
+    (Within, Free, Is(b"self"), hints::OWN),
+    (Within, TakesName, Of(Group::All), hints::NO_NAME),
+    // Statements of names alone.
+    (In(b"type"), TakesNameOrEnd, Any, hints::PARAMETERS),
+    (Within, TakesNameOrEnd, Is(b","), hints::NO_COMMA),
+    (In(b"local"), TakesNameOrEnd, Any, hints::LOCALS),
+    (In(b"goto"), Free, Any, hints::GOTO),
+    (In(b"mul"), Free, Any, hints::MUL),
+    (In(b"div"), Free, Any, hints::DIV),
+    // Products, rows and their columns.
+    (Within, Free, Is(b"*"), hints::PRODUCT),
+    (Behind(b"*"), Free, Any, hints::FACTOR),
+    (InRead, Takes(Sign::Equal), Any, hints::ASSIGNED),
+    (In(b"get"), Takes(Sign::Dot), Any, hints::GET),
+    (In(b"sum"), Takes(Sign::Dot), Any, hints::SUM),
+    (In(b"set"), Takes(Sign::Dot), Any, hints::SET),
+    (In(b"add"), Takes(Sign::Dot), Any, hints::SET),
+    (Within, Takes(Sign::Dot), Any, hints::COLUMN),
+    (In(b"has"), TakesOnly(Sign::End), Is(b"."), hints::HAS),
+    (BehindName, TakesOnly(Sign::Open), Any, hints::KEY),
+    (BehindName, Takes(Sign::Open), Is(b"."), hints::KEY),
+    (BehindName, Takes(Sign::Plus), Is(b"["), hints::NO_ROW),
+    (BehindName, Takes(Sign::Plus), Is(b"."), hints::NO_ROW),
+    (Behind(b"["), Free, Is(b"]"), hints::EMPTY_KEY),
+    (Within, Takes(Sign::Close), Any, hints::KEY_ENDS),
+    // Values, relations and clauses.
+    (In(b"put"), Takes(Sign::Comma), Any, hints::VALUES),
+    (Within, Takes(Sign::AtMost), Any, hints::RELATION),
+    (In(b"path"), Free, Relation, hints::CHAIN),
+    (InClause, Free, Relation, hints::CHAIN),
+    (In(b"path"), Takes(Sign::Comma), Any, hints::NO_AND),
+    (InClause, Takes(Sign::Implies), Any, hints::ONE_RELATION),
+    (InClause, Takes(Sign::End), Any, hints::ONE_RELATION),
+    (Within, Takes(Sign::End), Any, hints::PARTED),
+];
 
-const NAME_OR_HEAD: &[u8] =
-    b"a word of the language is no name; where it begins a statement, the one before ends with `;` or with its line";
-
-const PARTED: &[u8] = b"a statement ends with `;` or with its line";
-
-const ONE_EQUAL: &[u8] = b"equality is written with one `=`";
-
-const PRODUCT: &[u8] =
-    b"in a product the number stands first, as in `2 * x`; two variables are multiplied by the read `mul z = x y`";
-
-const NO_COMMA: &[u8] = b"names are parted by spaces alone";
-
-const OWN: &[u8] =
-    b"`self` is the number of the transaction: it stands in values, within types alone";
-
-const NO_SIGN: &[u8] = b"a number that stands alone has no sign";
-
-const NO_HEAD: &[u8] =
-    b"no statement begins with a name or a number; each begins with a word of the language";
-
-const BEHIND_PATH: &[u8] =
-    b"actions, and where a step leads, stand behind a `path`, which may be without relations";
-
-const READS_FIRST: &[u8] = b"the reads of a step stand before its first `path`";
-
-const PATH_ENDS: &[u8] = b"each path ends with `goto POINT`, `commit`, `undone` or `refuse NUMBER`";
-
-const TWO_STEPS: &[u8] = b"each point has two steps: `next`, and behind it `undo`";
-
-const TYPE_LIMIT: &[u8] =
-    b"behind `type` stands `limit NUMBER`: the most steps forward of one transaction";
-
-const TYPE_ORDER: &[u8] =
-    b"a type has, in this order, `type`, `limit`, `returns`, `local`, `ensures`, `repairs`, and then its points";
-
-const POINT_ORDER: &[u8] =
-    b"a point has, in this order, `point`, `variant`, `holds`, `next` and `undo`";
-
-const PARTS_ORDER: &[u8] =
-    b"a design has, in this order, its tables, `always`, the types, the entries and the hints";
-
-/// What is said of a mark that is wrong within a statement.
-fn of_mark(sign: Sign, wanted: &Wanted, before: Wrong) -> &'static [u8] {
-    match (sign, before) {
-        (Sign::Equal, Wrong::Sign(Sign::Equal)) => ONE_EQUAL,
-        (Sign::Times, _) => PRODUCT,
-        (Sign::Comma, _) if wanted.name && wanted.has(Sign::End) => NO_COMMA,
-        (Sign::Oneself, _) => OWN,
-        (Sign::Minus, _) if wanted.number => NO_SIGN,
-        _ => b"",
-    }
-}
-
-/// What is said of a word that is wrong within a statement.
-fn within_statement(wrong: Wrong, wanted: &Wanted, before: Wrong) -> &'static [u8] {
-    match wrong {
-        Wrong::Sign(sign) if is_head(sign) && wanted.has(Sign::End) => {
-            if wanted.name { NAME_OR_HEAD } else { PARTED }
+/// How a mistake is mended, where it is one of these: the first of them that stands there so; else nothing.
+pub fn hint_among(mistakes: &[Mistake], around: Around, wanted: &Wanted) -> &'static [u8] {
+    for (place, could, asked, hint) in mistakes {
+        if is_there(*place, around) && fits(*asked, around.found) && could_be(*could, wanted) {
+            return *hint;
         }
-        Wrong::Sign(sign) if is_word(sign) && wanted.name && sign != Sign::Oneself => NO_NAME,
-        Wrong::Sign(sign) => of_mark(sign, wanted, before),
-        _ => b"",
+    }
+    b""
+}
+
+/// Writes a hint, with the words of the text that it names.
+pub fn push_hint(out: &mut Page, hint: &[u8], around: Around) {
+    for byte in hint {
+        match *byte {
+            hints::FOUND => push_quoted(out, around.found),
+            hints::BEFORE => push_quoted(out, around.before),
+            other => out.push(&[other]),
+        }
     }
 }
 
-/// What is said of a sign with which no statement can begin at its place, within a type.
-fn of_type(sign: Sign, wanted: &Wanted) -> Option<&'static [u8]> {
-    if is_of_path(sign) && wanted.has(Sign::Path) {
-        Some(BEHIND_PATH)
-    } else if is_read(sign) && wanted.has(Sign::Put) {
-        Some(READS_FIRST)
-    } else if wanted.has(Sign::Goto) {
-        Some(PATH_ENDS)
-    } else if wanted.has(Sign::Undo) {
-        Some(TWO_STEPS)
-    } else if wanted.has(Sign::Limit) {
-        Some(TYPE_LIMIT)
-    } else {
-        None
-    }
-}
-
-/// What is said of a sign that stands out of its order.
-fn of_order(sign: Sign) -> &'static [u8] {
-    match sign {
-        Sign::Limit | Sign::Returns | Sign::Local | Sign::Ensures | Sign::Repairs => TYPE_ORDER,
-        Sign::Point | Sign::Variant | Sign::Holds | Sign::Next | Sign::Undo => POINT_ORDER,
-        Sign::Table | Sign::Private | Sign::Always => PARTS_ORDER,
-        Sign::Type | Sign::Entry | Sign::Hint => PARTS_ORDER,
-        _ => b"",
-    }
-}
-
-/// What is said of the end of a text.
-fn of_the_end(wanted: &Wanted) -> &'static [u8] {
-    match of_type(Sign::End, wanted) {
-        Some(hint) => hint,
-        None => b"",
-    }
-}
-
-/// What is said of a word with which no statement can begin at its place.
-fn at_head(wrong: Wrong, wanted: &Wanted) -> &'static [u8] {
-    match wrong {
-        Wrong::Sign(sign) => match of_type(sign, wanted) {
-            Some(hint) => hint,
-            None => of_order(sign),
-        },
-        Wrong::Nothing => of_the_end(wanted),
-        Wrong::Name | Wrong::Number => NO_HEAD,
-    }
-}
-
-/// How the mistake is mended, where it is a usual one; `before` stands before the wrong word.
-pub fn mending(wrong: Wrong, wanted: &Wanted, before: Wrong) -> &'static [u8] {
-    match before {
-        Wrong::Nothing | Wrong::Sign(Sign::End) => at_head(wrong, wanted),
-        _ => within_statement(wrong, wanted, before),
-    }
+/// Writes how a mistake is mended, where it is a usual one.
+pub fn push_mending(out: &mut Page, around: Around, wanted: &Wanted) {
+    push_hint(out, hint_among(&MISTAKES, around, wanted), around)
 }

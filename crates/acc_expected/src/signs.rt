@@ -60,7 +60,7 @@ pub const SIGNS: [Sign; COUNT] = [
 ];
 
 /// A sign that begins a design's part, or a statement of a type or of a point.
-fn of_part(sign: Sign) -> Option<&'static [u8]> {
+fn of_outline(sign: Sign) -> Option<&'static [u8]> {
     match sign {
         Sign::Table => Some(b"`table`"),
         Sign::Private => Some(b"`private`"),
@@ -132,7 +132,7 @@ fn within(sign: Sign) -> &'static [u8] {
 
 /// A sign as messages name it.
 pub fn sign_text(sign: Sign) -> &'static [u8] {
-    match of_part(sign) {
+    match of_outline(sign) {
         Some(text) => text,
         None => match of_step(sign) {
             Some(text) => text,
@@ -145,7 +145,7 @@ pub fn sign_text(sign: Sign) -> &'static [u8] {
 pub fn is_word(sign: Sign) -> bool {
     match sign {
         Sign::By | Sign::Forall | Sign::Oneself => true,
-        _ => of_part(sign).is_some() || of_step(sign).is_some(),
+        _ => of_outline(sign).is_some() || of_step(sign).is_some(),
     }
 }
 
@@ -169,5 +169,46 @@ pub fn is_of_path(sign: Sign) -> bool {
 
 /// Whether a sign begins a statement.
 pub fn is_head(sign: Sign) -> bool {
-    of_part(sign).is_some() || of_step(sign).is_some()
+    of_outline(sign).is_some() || of_step(sign).is_some()
+}
+
+/// Whether a sign begins the statement that ends a path.
+pub fn is_path_end(sign: Sign) -> bool {
+    match sign {
+        Sign::Goto | Sign::Commit | Sign::Undone | Sign::Refuse => true,
+        _ => false,
+    }
+}
+
+/// Whether a sign begins a clause.
+pub fn is_clause(sign: Sign) -> bool {
+    match sign {
+        Sign::Always | Sign::Holds | Sign::Ensures | Sign::Repairs => true,
+        _ => false,
+    }
+}
+
+/// Whether a sign begins a statement that stands in a type before its points.
+pub fn is_of_type(sign: Sign) -> bool {
+    match sign {
+        Sign::Limit | Sign::Returns | Sign::Local | Sign::Ensures | Sign::Repairs => true,
+        _ => false,
+    }
+}
+
+/// Whether a sign begins a point, or a part of one.
+pub fn is_of_point(sign: Sign) -> bool {
+    match sign {
+        Sign::Point | Sign::Variant | Sign::Holds | Sign::Next | Sign::Undo => true,
+        _ => false,
+    }
+}
+
+/// Whether a sign begins a part of a design.
+pub fn is_of_part(sign: Sign) -> bool {
+    match sign {
+        Sign::Table | Sign::Private | Sign::Always => true,
+        Sign::Type | Sign::Entry | Sign::Hint => true,
+        _ => false,
+    }
 }

@@ -1,6 +1,7 @@
 //! The word with which no design goes on, and what could stand there.
-use crate::bytes::{bad_byte, byte_hint};
-use crate::mistakes::{Wrong, mending, wrong_at};
+use crate::around::{Around, around_at};
+use crate::bytes::{bad_byte, push_byte_hint};
+use crate::mistakes::push_mending;
 use crate::wanted::{Wanted, could_stand};
 use acc_base::sequences::Seq;
 use acc_designs::{SyntaxError, syntax};
@@ -37,14 +38,6 @@ fn token_at(tokens: &[Token], number: usize) -> Option<Token> {
     None
 }
 
-/// What stands before the word with this number.
-fn before_of(words: &[Word], place: usize) -> Wrong {
-    match place.checked_sub(1) {
-        Some(before) => wrong_at(words, before),
-        None => Wrong::Nothing,
-    }
-}
-
 /// What was found, behind what could stand there.
 fn push_found(spot: &mut Spot, found: &[u8]) {
     if found.is_empty() || found == b";".as_slice() || found == b"\n".as_slice() {
@@ -68,44 +61,59 @@ fn push_wanted(spot: &mut Spot, wanted: &Wanted) {
 fn word_spot(
     alloc: Global,
     text: &[u8],
+    tokens: &[Token],
     words: &mut Seq<Word>,
     place: usize,
     token: &Token,
 ) -> Result<Spot, AllocError> {
-    let wrong = wrong_at(words.as_slice(), place);
-    let before = before_of(words.as_slice(), place);
     words.truncate(place);
     let wanted = could_stand(alloc, words)?;
     let mut spot = spot_at(alloc, text, token);
     push_wanted(&mut spot, &wanted);
     push_found(&mut spot, bytes_of(text, token));
-    spot.hint.push(mending(wrong, &wanted, before));
+    let around = around_at(text, tokens, token.from);
+    push_mending(&mut spot.hint, around, &wanted);
     Ok(spot)
 }
 
 /// The spot of a text that ends too early.
-fn end_spot(alloc: Global, words: &mut Seq<Word>) -> Result<Spot, AllocError> {
-    let before = before_of(words.as_slice(), words.len());
+fn end_spot(
+    alloc: Global,
+    text: &[u8],
+    tokens: &[Token],
+    words: &mut Seq<Word>,
+) -> Result<Spot, AllocError> {
     let wanted = could_stand(alloc, words)?;
     let mut spot = line_spot(alloc);
     spot.what.push(b"the design ends too early: ");
     push_wanted(&mut spot, &wanted);
-    spot.hint.push(mending(Wrong::Nothing, &wanted, before));
+    let around = around_at(text, tokens, u64::MAX);
+    push_mending(&mut spot.hint, around, &wanted);
     Ok(spot)
 }
 
-/// The spot of a byte of a line with which no text goes on.
-fn byte_spot(alloc: Global, line: &[u8]) -> Spot {
+/// Says that a byte can't stand at a spot.
+fn push_byte(spot: &mut Spot, byte: u8) {
+    if byte.is_ascii() {
+        push_quoted(&mut spot.what, &[byte]);
+    } else {
+        spot.what.push(b"the byte ");
+        spot.what.push_number(byte);
+    }
+    spot.what.push(b" can't stand here")
+}
+
+/// The spot of a byte of a line with which no text goes on; this stands round it.
+fn byte_spot<'a>(alloc: Global, line: &'a [u8], around: Around<'a>) -> Spot {
     let mut spot = line_spot(alloc);
-    let place = bad_byte(line);
-    spot.column = place.unwrap_or(0);
-    match line.get(spot.column) {
-        Some(byte) if place.is_some() => {
-            push_quoted(&mut spot.what, &[*byte]);
-            spot.what.push(b" can't stand here");
-            spot.hint.push(byte_hint(*byte));
+    match bad_byte(line) {
+        Some(place) if place < line.len() => {
+            let around = around.with(&line[place..]);
+            spot.column = place;
+            push_byte(&mut spot, line[place]);
+            push_byte_hint(alloc, &mut spot.hint, around, line[place]);
         }
-        _ => spot.what.push(b"this line is no words of the language"),
+        Some(_) | None => spot.what.push(b"this line is no words of the language"),
     }
     spot
 }
@@ -136,38 +144,59 @@ fn spot_in_words(alloc: Global, text: &[u8], tokens: &[Token]) -> Result<Option<
     };
     let place = good_words(alloc, words.as_slice())?;
     match token_at(tokens, place) {
-        Some(token) => Ok(Some(word_spot(alloc, text, &mut words, place, &token)?)),
-        None => Ok(Some(end_spot(alloc, &mut words)?)),
+        Some(token) => {
+            let spot = word_spot(alloc, text, tokens, &mut words, place, &token)?;
+            Ok(Some(spot))
+        }
+        None => Ok(Some(end_spot(alloc, text, tokens, &mut words)?)),
     }
 }
 
-/// The spot before the bad byte of a line, if a word before it is wrong.
-fn spot_before(alloc: Global, front: &[u8], line: u64) -> Result<Option<Spot>, AllocError> {
-    let Ok(tokens) = lex(alloc, front) else {
-        return Ok(None);
-    };
+/// The spot before the bad byte of a line, behind these bytes, if a word there is wrong.
+fn spot_before(
+    alloc: Global,
+    front: &[u8],
+    tokens: &[Token],
+    line: u64,
+) -> Result<Option<Spot>, AllocError> {
     let Ok(words) = words(alloc, front) else {
         return Ok(None);
     };
     let place = good_words(alloc, words.as_slice())?;
-    match token_at(tokens.as_slice(), place) {
+    match token_at(tokens, place) {
         Some(token) if token.from < token.to && token.line <= line => {
-            spot_in_words(alloc, front, tokens.as_slice())
+            spot_in_words(alloc, front, tokens)
         }
         _ => Ok(None),
+    }
+}
+
+/// The spot on a refused line of a text with a byte on the line `bad` with which no text goes on: that byte, or a word before it.
+fn spot_of_bad(alloc: Global, text: &[u8], line: u64, bad: u64) -> Result<Spot, AllocError> {
+    let refused = line_at(text, line);
+    let front = front_of(text, bad);
+    let Ok(tokens) = lex(alloc, front) else {
+        return Ok(byte_spot(alloc, refused, Around::nothing()));
+    };
+    match spot_before(alloc, front, tokens.as_slice(), line)? {
+        Some(spot) => Ok(spot),
+        None => {
+            let around = around_at(front, tokens.as_slice(), front.len() as u64);
+            Ok(byte_spot(alloc, refused, around))
+        }
     }
 }
 
 /// The spot on a refused line of a text that is none of the grammar: the first word, or byte, with which no design goes on, and
 /// what could stand there.
 pub fn syntax_spot(alloc: Global, text: &[u8], line: u64) -> Result<Spot, AllocError> {
-    let found = match lex(alloc, text) {
-        Ok(tokens) => spot_in_words(alloc, text, tokens.as_slice())?,
-        Err(LexError::Bad(bad)) => spot_before(alloc, front_of(text, bad), line)?,
+    let tokens = match lex(alloc, text) {
+        Ok(tokens) => tokens,
+        Err(LexError::Bad(bad)) => return spot_of_bad(alloc, text, line, bad),
         Err(LexError::Memory) => return Err(AllocError),
     };
-    match found {
+    match spot_in_words(alloc, text, tokens.as_slice())? {
         Some(spot) => Ok(spot),
-        None => Ok(byte_spot(alloc, line_at(text, line))),
+        None => Ok(byte_spot(alloc, line_at(text, line), Around::nothing())),
     }
 }

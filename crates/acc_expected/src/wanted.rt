@@ -21,9 +21,25 @@ pub struct Wanted {
 }
 
 impl Wanted {
+    /// It isn't told what could stand there.
+    pub fn nothing(alloc: Global) -> Self {
+        Wanted {
+            signs: Vec::new(alloc),
+            name: false,
+            number: false,
+            end: false,
+        }
+    }
+
+    /// How many things could stand there.
+    pub fn count(&self) -> u64 {
+        let others = u64::from(self.name) + u64::from(self.number) + u64::from(self.end);
+        (self.signs.len() as u64).saturating_add(others)
+    }
+
     /// Whether it isn't told what could stand there.
     pub fn is_empty(&self) -> bool {
-        self.signs.is_empty() && !self.name && !self.number && !self.end
+        self.count() == 0
     }
 
     pub fn has(&self, sign: Sign) -> bool {
@@ -32,8 +48,7 @@ impl Wanted {
 
     /// Writes what could stand there, with commas and an `or`.
     pub fn push(&self, out: &mut Page) {
-        let mut left = self.signs.len() as u64 + u64::from(self.name) + u64::from(self.number);
-        left += u64::from(self.end);
+        let mut left = self.count();
         if self.name {
             push_item(out, b"a name", &mut left);
         }
@@ -109,15 +124,10 @@ fn push_signs(
 
 /// What could stand behind words that are the front of a design's, where they aren't too many.
 pub fn could_stand(alloc: Global, words: &mut Seq<Word>) -> Result<Wanted, AllocError> {
-    let mut signs = Vec::new(alloc);
     if words.len() > MOST_WORDS {
-        return Ok(Wanted {
-            signs,
-            name: false,
-            number: false,
-            end: false,
-        });
+        return Ok(Wanted::nothing(alloc));
     }
+    let mut signs = Vec::new(alloc);
     push_signs(alloc, words, &mut signs)?;
     let name = some_name(alloc)?;
     let name = takes(alloc, words, name)?;

@@ -28,9 +28,10 @@ pub fn rule_text(rule: u32) -> &'static [u8] {
 /// How to mend a design that breaks the form rule with this number.
 pub fn rule_hint(rule: u32) -> &'static [u8] {
     match rule {
-        2 => b"compare the statement with the line of its table: `table NAME COMPONENTS COLUMNS`",
+        2 =>
+            b"its table's line, `table NAME COMPONENTS COLUMNS`, says how many values stand in `[ ]`, and how many behind a `put`",
         3 => b"leave out the last component: the answer is the next component behind the prefix",
-        5 => b"change the number",
+        5 => b"write a number of that range, as in `limit 2`, `refuse 1` or `div z = x 2`",
         6 => b"choose another name for one of the two",
         7 =>
             b"let a further `path` without relations follow, which is taken where no other is open",

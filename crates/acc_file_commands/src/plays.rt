@@ -3,7 +3,7 @@ ghost use Rattle.std.specs.Prelude.{◌≡◌, IfOk};
 ghost use Rattle.acc_base.specs.Runnable.{IsRunnable};
 ghost use Rattle.acc_journalled.specs.declared.answers.Ending.TheVariants.{Done};
 ghost use Rattle.acc_inputs.specs.Responses.{said_of};
-ghost use Rattle.acc_play.specs.Stages.{AllFit};
+ghost use Rattle.acc_player.specs.Playing.{AllFit};
 ghost use Rattle.acc_inputs.specs.Scripts.{SaysOfScript, SaysOfOrder};
 ghost use Rattle.acc_file_commands.specs.PlayFiles.{PlaysFiles, SaysPlay};
 

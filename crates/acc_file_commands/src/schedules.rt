@@ -1,7 +1,7 @@
 //! Playing a script by the rules of locks.
 ghost use Rattle.std.specs.Prelude.{◌≡◌, IfOk};
 ghost use Rattle.acc_inputs.specs.Responses.{said_of};
-ghost use Rattle.acc_play.specs.Stages.{AllFit};
+ghost use Rattle.acc_player.specs.Playing.{AllFit};
 ghost use Rattle.acc_inputs.specs.Scripts.{SaysOfScript, SaysOfOrder};
 ghost use Rattle.acc_file_commands.specs.ScheduleFiles.{SchedulesFiles, SaysOfCertificate, SaysSchedule, ending_at};
 

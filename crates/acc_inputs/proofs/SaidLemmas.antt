@@ -9,7 +9,7 @@ use Rattle.acc_script.specs.Pieces.{lines_of, is_skipped}
 use Rattle.acc_script.specs.LineReadings.{Says, AreSaid}
 use Rattle.acc_script.specs.CallLines.{SaysCall, IsScript}
 use Rattle.acc_script.specs.OrderLines.{IsPlace, SaysPlaces, IsOrder}
-use Rattle.acc_play.specs.Stages.{AllFit}
+use Rattle.acc_player.specs.Playing.{AllFit}
 
 pub if_ok : {T E : Type 0} {P Q : T → Type 0} (r : Result T E) → ((x : T) → P x → Q x) → IfOk r P → IfOk r Q
 if_ok (Ok x) f h = f x h

@@ -15,6 +15,7 @@ help_text = flat_map line (
     codes "acc sched DESIGN CERT SCRIPT ORDER JOURNAL  recovers the journal, and goes on as `rehearse`; each end is kept in it" ∷
     codes "acc recover DESIGN CERT JOURNAL             ends what its events left unfinished, and tells how many events there are then" ∷
     codes "acc dump DESIGN CERT JOURNAL                does the same, and prints the rows that its events lead to" ∷
+    codes "acc replies DESIGN CERT JOURNAL             does the same, and prints how each transaction ended, by its number" ∷
     codes "acc --help                                  prints these lines" ∷
     codes "acc --version                               prints the version of acc, and of the toolchain that proved it" ∷
     codes "README.md tells what acc is for, and docs/DESIGN-LANGUAGE.md how a design is written and how to mend one that is refused." ∷

@@ -2,7 +2,7 @@
 use Rattle.std.specs.Prelude.{ℕ, ◌*◌, ◌≤◌, List, All, length}
 use Rattle.acc_base.specs.declared.designs.Design.{Design}
 use Rattle.acc_base.specs.declared.machines.Call.{Call}
-use Rattle.acc_play.specs.Stages.{AllFit}
+use Rattle.acc_player.specs.Playing.{AllFit}
 use Rattle.acc_script.specs.BeginSizes.{begins_size}
 use Rattle.acc_script.specs.CallLines.{IsScript}
 use Rattle.acc_script.specs.OrderLines.{IsPlace, IsOrder}

@@ -12,7 +12,7 @@ is_form verb count (first ∷ rest) = bytes_eq first verb && (length rest == cou
 
 -- the command that the words ask for: `play DESIGN SCRIPT ORDER`, `rehearse DESIGN CERT SCRIPT ORDER`, `print DESIGN`,
 -- `check DESIGN CERT`, `prove DESIGN`, `init DESIGN`, `sched DESIGN CERT SCRIPT ORDER`, `recover DESIGN CERT`, `dump DESIGN CERT`,
--- `--help`, `--version`
+-- `replies DESIGN CERT`, `--help`, `--version`
 unfoldable pub command_of : List (List ℕ) → Option Command
 command_of words =
     if is_form (codes "play") 3 words then Some command.Play else
@@ -24,9 +24,10 @@ command_of words =
     (if is_form (codes "sched") 4 words then Some command.Sched else
     (if is_form (codes "recover") 2 words then Some command.Recover else
     (if is_form (codes "dump") 2 words then Some command.Dump else
+    (if is_form (codes "replies") 2 words then Some command.Replies else
     (if is_form (codes "--help") 0 words then Some command.Help else
     (if is_form (codes "--version") 0 words then Some command.Version else
-    None))))))))))
+    None)))))))))))
 
 -- how many files a command reads: the first words behind the verb name them
 unfoldable pub file_count : Command → ℕ
@@ -39,6 +40,7 @@ file_count command.Init = 1
 file_count command.Sched = 4
 file_count command.Recover = 2
 file_count command.Dump = 2
+file_count command.Replies = 2
 file_count command.Help = 0
 file_count command.Version = 0
 
@@ -51,6 +53,7 @@ is_journalled command.Init = true
 is_journalled command.Sched = true
 is_journalled command.Recover = true
 is_journalled command.Dump = true
+is_journalled command.Replies = true
 is_journalled _ = false
 
 -- Whether the first word is the verb of a command over a journal. Then the program's own last word names the journal's file, and isn't one
@@ -59,4 +62,4 @@ abbrev pub asks_journal : List (List ℕ) → Bool
 asks_journal [] = false
 asks_journal (first ∷ rest) =
     bytes_eq first (codes "init") || (bytes_eq first (codes "sched") || (bytes_eq first (codes "recover")
-    || bytes_eq first (codes "dump")))
+    || (bytes_eq first (codes "dump") || bytes_eq first (codes "replies"))))

@@ -18,6 +18,7 @@ acc init DESIGN JOURNAL                     makes JOURNAL a journal of the desig
 acc sched DESIGN CERT SCRIPT ORDER JOURNAL  recovers the journal, and goes on as `rehearse`; each end is kept in it
 acc recover DESIGN CERT JOURNAL             ends what its events left unfinished, and tells how many events there are then
 acc dump DESIGN CERT JOURNAL                does the same, and prints the rows that its events lead to
+acc replies DESIGN CERT JOURNAL             does the same, and prints how each transaction ended, by its number
 acc --help                                  prints these lines
 acc --version                               prints the version of acc, and of the toolchain that proved it
 README.md tells what acc is for, and docs/DESIGN-LANGUAGE.md how a design is written and how to mend one that is refused.

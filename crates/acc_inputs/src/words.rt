@@ -23,6 +23,8 @@ pub enum Command {
     Recover,
     /// `dump DESIGN CERT`, over a journal
     Dump,
+    /// `replies DESIGN CERT`, over a journal
+    Replies,
     /// `--help`
     Help,
     /// `--version`
@@ -64,6 +66,8 @@ pub fn command_of(words: &[String]) -> Option<Command>
         Some(Command::Recover)
     } else if is_form(words, "dump", 2) {
         Some(Command::Dump)
+    } else if is_form(words, "replies", 2) {
+        Some(Command::Replies)
     } else if is_form(words, "--help", 0) {
         Some(Command::Help)
     } else if is_form(words, "--version", 0) {
@@ -82,7 +86,7 @@ pub fn file_count(command: Command) -> usize
         Command::Play => 3,
         Command::Rehearse | Command::Sched => 4,
         Command::Print | Command::Prove | Command::Init => 1,
-        Command::Check | Command::Recover | Command::Dump => 2,
+        Command::Check | Command::Recover | Command::Dump | Command::Replies => 2,
         Command::Help | Command::Version => 0,
     }
 }
@@ -93,7 +97,7 @@ pub fn is_journalled(command: Command) -> bool
 {
     matches!(
         command,
-        Command::Init | Command::Sched | Command::Recover | Command::Dump
+        Command::Init | Command::Sched | Command::Recover | Command::Dump | Command::Replies
     )
 }
 
@@ -105,7 +109,8 @@ pub fn asks_journal(words: &[String]) -> bool
         [first, ..] => {
             first.as_str() == "init"
                 || (first.as_str() == "sched"
-                    || (first.as_str() == "recover" || first.as_str() == "dump"))
+                    || (first.as_str() == "recover"
+                        || (first.as_str() == "dump" || first.as_str() == "replies")))
         }
         [] => false,
     }

@@ -1,5 +1,5 @@
--- The commands recover and dump: the journal of a design that is accepted with its certificate is recovered, and what is wanted of it is
--- told.
+-- The commands recover, dump and replies: the journal of a design that is accepted with its certificate is recovered, and what is wanted of
+-- it is told.
 use Rattle.std.specs.Prelude.{◌≡◌, ◌⊎◌, ℕ, List}
 use Rattle.acc_base.specs.declared.designs.Design.{Design}
 use Rattle.acc_io.specs.Causes.{Rose}

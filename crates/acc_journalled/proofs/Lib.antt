@@ -1,3 +1,4 @@
 pub mod Endings
 pub mod Lawfuls
+pub mod Numbered
 pub mod Once

@@ -1,8 +1,9 @@
 -- Recovering a design's journal, and what is said of it.
-use Rattle.std.specs.Prelude.{◌≡◌, ◌⊎◌, ⊤, ◌++◌, ℕ, List, length, Option, IfSome, codes}
+use Rattle.std.specs.Prelude.{◌≡◌, ◌⊎◌, ⊤, ◌++◌, ℕ, List, length, Option, Some, IfSome, codes}
+use Rattle.std.specs.List.{flat_map, range_with_len}
 use Rattle.std.specs.Fmt.{decimal}
 use Rattle.acc_base.specs.Annotated.{IsIdle}
-use Rattle.acc_base.specs.Lines.{line}
+use Rattle.acc_base.specs.Lines.{line, reply_text}
 use Rattle.acc_base.specs.Machine.{World}
 use Rattle.acc_base.specs.declared.designs.Design.{Design}
 use Rattle.acc_base.specs.declared.machines.Event.{Event}
@@ -30,10 +31,22 @@ counts_text w compensated = line (codes "events " ++ (decimal (length w.events) 
 abbrev pub rows_text : Design → World → ℕ → List ℕ
 rows_text d w compensated = dump_text d w.rows
 
+-- the reply line of the transaction with this number, as a play prints that of a place
+abbrev pub number_line : World → ℕ → List ℕ
+number_line w t = line (decimal t ++ reply_text w (Some t))
+
+-- the reply line of each transaction, by number
+abbrev pub replies_of : World → List ℕ
+replies_of w = flat_map (number_line w) (range_with_len 1 (length w.transactions))
+
+abbrev pub replies_text : World → ℕ → List ℕ
+replies_text w compensated = replies_of w
+
 -- what is wanted of it
 abbrev pub text_of : Wanted → Design → World → ℕ → List ℕ
 text_of wanted.Counts d = counts_text
 text_of wanted.Rows d = rows_text d
+text_of wanted.Replies d = replies_text
 
 -- ---- what is said where nothing is recovered
 

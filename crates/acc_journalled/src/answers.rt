@@ -28,6 +28,8 @@ pub enum Wanted {
     Counts,
     /// The rows, a line each.
     Rows,
+    /// The reply of each transaction, a line each, by number.
+    Replies,
 }
 
 /// How a command ends, the text to print, the events of its machine, and how many of the first of them the journal holds as durable. A

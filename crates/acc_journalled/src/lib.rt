@@ -5,6 +5,7 @@ mod answers;
 mod commands;
 pub mod laws;
 mod lines;
+mod replies;
 
 pub use answers::{Answer, Closed, Ending, Wanted};
 pub use commands::{init_journal, recover_journal};

@@ -1,13 +1,15 @@
 //! What is said of a journal.
-ghost use Rattle.std.specs.Prelude.{◌≡◌, ◌≢◌, IfOk};
+ghost use Rattle.std.specs.Prelude.{◌≡◌, ◌≢◌, [], IfOk};
 ghost use Rattle.acc_base.specs.Lines.{line};
+ghost use Rattle.acc_base.specs.Machine.{unfinished};
 ghost use Rattle.acc_journalled.specs.declared.answers.Ending.TheVariants.{Done};
 ghost use Rattle.acc_journalled.specs.Tellings.{telling_of, Says, SaysOf};
 ghost use Rattle.acc_journalled.specs.Making.{IsMakingError, SaysNotMade};
 ghost use Rattle.acc_journalled.specs.Recovering.{IsReadingError, IsRecoverError, SaysNotRead, SaysUnlawful, SaysNotRecovered};
-ghost use Rattle.acc_journalled.specs.Recovering.{counts_text, rows_text, text_of};
+ghost use Rattle.acc_journalled.specs.Recovering.{counts_text, rows_text, replies_text, text_of};
 
 use crate::answers::{Answer, Ending, Wanted};
+use crate::replies::reply_lines;
 use acc_base::designs::Design;
 use acc_base::sequences::Seq;
 use acc_dump::dump;
@@ -119,7 +121,16 @@ fn dumped(
     Ok(told(state, text))
 }
 
-/// Says what is wanted of a recovered state.
+/// Says the replies of a recovered state, a line each transaction.
+fn replied(alloc: Global, state: State<MapStore>, compensated: u64) -> Result<Answer, AllocError>
+    requires ended { unfinished state.world ≡ [] }
+    ensures { IfOk result (λ a. SaysOf (replies_text state.entry.world compensated) state.entry.world (telling_of a)) }
+{
+    let text = reply_lines(alloc, &state)?;
+    Ok(told(state, text))
+}
+
+/// Says what is wanted of a recovered state, in which nothing is unfinished.
 pub fn tell_state(
     alloc: Global,
     d: &Design,
@@ -127,10 +138,12 @@ pub fn tell_state(
     state: State<MapStore>,
     compensated: u64,
 ) -> Result<Answer, AllocError>
+    requires ended { unfinished state.world ≡ [] }
     ensures { IfOk result (λ a. SaysOf (text_of wanted d.now state.entry.world compensated) state.entry.world (telling_of a)) }
 {
     match wanted {
         Wanted::Counts => counted(alloc, state, compensated),
         Wanted::Rows => dumped(alloc, d, state, compensated),
+        Wanted::Replies => replied(alloc, state, compensated),
     }
 }

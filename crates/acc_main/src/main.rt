@@ -9,13 +9,16 @@ use crate::journal::{is_let_alone, journal_disk, take_journal, trouble_line, unl
 use crate::streams::hold_streams;
 use crate::terminal::TerminalProgress;
 use acc_cli::{acc, help_text};
-use acc_diagnose::{Keeping, explain, system_reason};
+use acc_diagnose::{Keeping, cut_line, explain, room_line, system_reason};
 use acc_disk::{Disk, MemDisk};
 use acc_io::{FolderShelf, StdSink};
 use std::alloc::AllocError;
 use std::io::{ErrorKind, Write};
 use std::process::ExitCode;
 use std::{env, io};
+
+/// The status for a journal that is refused.
+const JOURNAL: u8 = 4;
 
 /// The status for a disk that failed.
 const DISK: u8 = 5;
@@ -29,11 +32,12 @@ const SINK: u8 = 7;
 /// The status for want of memory.
 const MEMORY: u8 = 9;
 
-/// How a command line ended: the status, the disk that was handed in, and what was printed.
+/// How a command line ended: the status, the disk that was handed in, how many events the history has that is told, and what was printed.
 #[derive(Drop)]
 struct Answered<'a, D> {
     status: u8,
     disk: D,
+    events: usize,
     out: Keeping<StdSink<'a, HostRuntime>>,
 }
 
@@ -43,11 +47,9 @@ fn words(rt: &HostRuntime) -> io::Result<Vec<String>> {
     Ok(words)
 }
 
-/// Tells on standard error why a command line ended with a status that isn't 0. What fails here changes nothing else.
+/// Tells on standard error why a command line ended with a status that isn't 0, or what a design leaves out. What fails here changes
+/// nothing else.
 fn tell(rt: &HostRuntime, status: u8, words: &[String], printed: &[u8]) {
-    if status == 0 {
-        return;
-    }
     let usage = match help_text(rt.alloc()) {
         Ok(usage) => usage,
         Err(_) => Vec::new(rt.alloc()),
@@ -81,6 +83,13 @@ fn tell_line(rt: &HostRuntime, line: Result<String, AllocError>) {
     }
 }
 
+/// Writes a line to standard error, if there is one, and memory lasted to make it.
+fn tell_if_any(rt: &HostRuntime, line: Result<Option<String>, AllocError>) {
+    if let Ok(Some(line)) = line {
+        tell_line(rt, Ok(line));
+    }
+}
+
 /// Answers a command line over a disk; what was printed is kept, and the disk handed back.
 fn answer<'a, D: Disk>(rt: &'a HostRuntime, words: &[String], disk: D) -> Answered<'a, D> {
     let mut shelf = FolderShelf::new(rt);
@@ -91,6 +100,7 @@ fn answer<'a, D: Disk>(rt: &'a HostRuntime, words: &[String], disk: D) -> Answer
     Answered {
         status: done.status,
         disk: done.disk,
+        events: done.history.len(),
         out,
     }
 }
@@ -98,7 +108,12 @@ fn answer<'a, D: Disk>(rt: &'a HostRuntime, words: &[String], disk: D) -> Answer
 /// Answers a command line over the journal's file, and tells on standard error why, where it isn't answered with status 0.
 fn answer_over(rt: &HostRuntime, words: &[String], path: String) -> Result<u8, AllocError> {
     let disk = journal_disk(rt, words, path.clone()?);
-    let Answered { status, disk, out } = answer(rt, words, disk);
+    let Answered {
+        status,
+        disk,
+        events,
+        out,
+    } = answer(rt, words, disk);
     if disk.is_unlocked() {
         tell_line(rt, unlocked_line(rt.alloc(), path.as_str()));
     }
@@ -111,6 +126,10 @@ fn answer_over(rt: &HostRuntime, words: &[String], path: String) -> Result<u8, A
         }
         _ => tell(rt, status, words, out.kept()),
     }
+    if status == JOURNAL {
+        tell_if_any(rt, cut_line(rt.alloc(), path.as_str(), out.kept()));
+    }
+    tell_if_any(rt, room_line(rt.alloc(), path.as_str(), events));
     Ok(status)
 }
 

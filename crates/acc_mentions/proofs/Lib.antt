@@ -4,6 +4,4 @@ pub mod Chains
 pub mod Settling
 pub mod Counts
 pub mod Marks
-pub mod Preceding
-pub mod Leading
 pub mod Fronts

@@ -1,18 +1,22 @@
 -- The numbers of the places, and which of them an engine has begun.
 use Rattle.std.proofs.Common.{◌≡◌, ◌⊎◌, inl, inr, ◌<◌, ℕ, zero, suc, List, [], ◌∷◌, length, Bool, false, Option}
-use Rattle.std.proofs.Common.{Some, None, ◌-◌, refl, ap, ◌∙◌, set, arith}
-use Rattle.std.specs.Prelude.{◌≢◌, slice_get, option_and_then}
+use Rattle.std.proofs.Common.{Some, None, ◌-◌, refl, ◌∙◌, set, arith}
+use Rattle.std.specs.Prelude.{◌≢◌, slice_get}
 use Rattle.std.proofs.lemmas.Option.{none-some}
 use Rattle.acc_base.specs.declared.machines.Call.{Call}
-use Rattle.acc_base.specs.Plays.{Play, number_of}
+use Rattle.acc_base.specs.declared.designs.Design.{Design}
+use Rattle.acc_base.specs.declared.machines.Event.TheVariants.{Begin}
+use Rattle.acc_base.specs.Machine.{World, next_number, after_event}
 use Rattle.acc_machine.specs.Begun.{HasRoom}
 use Rattle.acc_engine.specs.Calls.{Draws}
 use Rattle.acc_engine.specs.Keeping.{Journalled, is_begun}
 use Rattle.acc_engine.specs.declared.errors.Drawn.{Drawn}
 use Rattle.acc_engine.specs.declared.errors.Drawn.TheVariants.{Full, Crowd}
 use Rattle.acc_lift.proofs.Transactions.{got_set}
-use Rattle.acc_play.proofs.Orders.{item_is}
-use Rattle.acc_schedule.proofs.LockPlays.{no_room_when_full, no_room_in_a_crowd}
+use Rattle.acc_player.proofs.Items.{item_is}
+use Rattle.acc_player.specs.Players.{BeginsAt}
+use Rattle.acc_lock_rules.specs.LockRules.{with_locks}
+use Rattle.acc_lock_rules.proofs.Rooms.{no_room_when_full, no_room_in_a_crowd}
 
 -- where a place begins and gets its number, each that still has none isn't begun
 pub unbegun_others : (numbers : List (Option ℕ)) (i t : ℕ) (marks new : List Bool)
@@ -24,10 +28,6 @@ unbegun_others numbers i t marks new before others at h = by (got_set numbers i 
     by : ((at ≡ i) × (None ≡ Some t)) ⊎ ((at ≢ i) × (slice_get numbers at ≡ Some None)) → is_begun new at ≡ false
     by (inl k) = absurd (none-some t k.1)
     by (inr k) = others at k.0 ∙ before at k.1
-
--- a place whose number isn't there has none
-pub unnumbered : (p : Play) (place : ℕ) → 0 < place → slice_get p.numbers (place - 1) ≡ Some None → number_of p place ≡ None
-unnumbered p place above at = ap (option_and_then (λ n. n)) (item_is place p.numbers None above at)
 
 -- each place has its call
 pub call_there : (calls : List Call) (i : ℕ) → i < length calls → (call : Call) × (slice_get calls i ≡ Some call)
@@ -45,3 +45,26 @@ no_room drawn place old new (inl is) h =
 no_room drawn place old new (inr is) h =
     let crowd = rw is at h in
     (no_room_in_a_crowd old.state crowd.1, crowd.2.state)
+
+module _ (d : Design) (calls : List Call) (place : ℕ) (w v : World) (call : Call) (above : 0 < place)
+    (at : slice_get calls (place - 1) ≡ Some call) where
+  -- a call begins where there is room
+  pub begins_so : (t : ℕ) → HasRoom w → after_event d w (Begin call) ≡ Some v → t ≡ next_number w
+      → BeginsAt (with_locks d) calls place w (Some t) v
+  begins_so t room begins number = record {
+    call = call;
+    is_call = item_is place calls call above at;
+    world = Some v;
+    allowed = (room, begins);
+    comes = (number, refl);
+  }
+
+  -- or can't, where there is none
+  pub cannot_so : ¬ HasRoom w → v ≡ w → BeginsAt (with_locks d) calls place w None v
+  cannot_so full same = record {
+    call = call;
+    is_call = item_is place calls call above at;
+    world = None;
+    allowed = full;
+    comes = same;
+  }

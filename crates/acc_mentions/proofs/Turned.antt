@@ -1,4 +1,4 @@
--- A turn changes no other transaction's reply, and its own only where it ends; the state before it is on the way to that after it.
+-- A turn changes no other transaction's reply, and its own only where it ends.
 use Rattle.std.proofs.Common.{◌≡◌, ◌⊎◌, inl, inr, ℕ, ◌-◌, ◌<◌, List, [], ◌∷◌, ◌++◌, length, Bool, true, false, Option, Some, None, refl}
 use Rattle.std.proofs.Common.{sym, ap, subst, ◌∙◌, set, arith, length-set}
 use Rattle.std.specs.Prelude.{◌≢◌, ◌==◌, if◌then◌else◌, option_and_then, IsSome, IsSomeAnd, slice_get}
@@ -24,7 +24,6 @@ use Rattle.acc_lift.proofs.Becoming.{number_cases}
 use Rattle.acc_lift.proofs.Transactions.{set_other, set_new, at_within}
 use Rattle.acc_plain.specs.Turned.{IsUnfinished}
 use Rattle.acc_machine.specs.Turns.{IsTurn, goes, victim, blocked, AddsBy}
-use Rattle.acc_mentions.specs.Ways.{Precedes}
 
 -- ---- what an event leaves of the transaction
 
@@ -158,52 +157,3 @@ turn_adds old new t (turn.Blocked h n) a = ([], ap (λ (w : World). w.events) a 
 turn_adds old new t (turn.Turned c) a = (a.event ∷ [], a.added)
 turn_adds old new t (turn.Back at) a = (a.event ∷ [], a.added)
 turn_adds old new t turn.Ended a = (a.event ∷ [], a.added)
-
--- an unfinished one has no reply
-pub unfinished_unreplied : (t : ℕ) (w : World) → IsUnfinished t w → reply_at t w ≡ None
-unfinished_unreplied t w unfinished = let at = open_of t w unfinished in ap (option_and_then reply_in) at.at ∙ at.no_reply
-
--- ---- on the way
-
--- only an unfinished transaction has a turn
-turning_unfinished : (d : Design) (w : World) (t : ℕ) (x : Turn × World) → turn_of d w t ≡ Some x → IsUnfinished t w
-turning_unfinished d w t x is = by (transaction_at t w.transactions) is
-  where
-    by : (o : Option Transaction)
-        → option_and_then (λ e. said_of w e t (changed d w.rows e (transaction_at t w.transactions))) (next_event d w.rows o) ≡ Some x
-        → IsSomeAnd o (λ z. IsSome (frame_in z))
-    by None e = absurd (none-some x e)
-    by (Some (Forward f)) e = refl
-    by (Some (Undoing f c)) e = refl
-    by (Some (Ended reply)) e = absurd (none-some x e)
-
-forward_unfinished : (w : World) (t : ℕ) (f : Frame) → transaction_at t w.transactions ≡ Some (Forward f) → IsUnfinished t w
-forward_unfinished w t f at = subst (λ o. IsSomeAnd o (λ x. IsSome (frame_in x))) (sym at) refl
-
-becomes_precedes : (d : Design) (old new : World) (t : ℕ) (x : Turn) → IsUnfinished t old → Becomes old new t x → Precedes old new
-becomes_precedes d old new t x unfinished b = record {
-  more = b.event ∷ [];
-  history = sym (ap (λ (z : World). z.events) b.is);
-  count =
-      let same = length-set old.transactions (t - 1) b.after.1 in
-      let is = ap (λ (z : World). length z.transactions) b.is in
-      omega (arith, same, is);
-  replies = λ u reply is. by u reply is (number_cases u t);
-}
-  where
-    by : (u : ℕ) (reply : Reply) → reply_at u old ≡ Some reply → (u ≡ t) ⊎ (u ≢ t) → reply_at u new ≡ Some reply
-    by u reply is (inl same) =
-        absurd (none-some reply (sym (unfinished_unreplied t old unfinished) ∙ ap (λ n. reply_at n old) (sym same) ∙ is))
-    by u reply is (inr other) = others_by d old new t x unfinished b u other ∙ is
-
-pub turn_precedes : (d : Design) (old new : World) (t : ℕ) (x : Turn) → IsTurn d old new t x → Precedes old new
-turn_precedes d old new t x (goes y is free) =
-    becomes_precedes d old new t y (turning_unfinished d old t (y, new) is) (by_turn d old new t y is)
-turn_precedes d old new t x (victim f at stuck is) =
-    becomes_precedes d old new t (turn.Turned Victim) (forward_unfinished old t f at) (by_victim d old new t is)
-turn_precedes d old new t x (blocked f h n at stop low loose same) = record {
-  more = [];
-  history = ap (λ (w : World). w.events) same ∙ sym (append-nil old.events);
-  count = let is = ap (λ (w : World). length w.transactions) same in omega (arith, is);
-  replies = λ u reply is. ap (reply_at u) same ∙ is;
-}

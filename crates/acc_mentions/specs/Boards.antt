@@ -6,7 +6,7 @@ use Rattle.acc_base.specs.Machine.{World, reply_at}
 use Rattle.acc_base.specs.Plays.{Play, Told, number_of, Goes, Mentions}
 use Rattle.acc_base.specs.Lines.{mention_line}
 use Rattle.acc_engine.specs.Keeping.{Journalled, is_begun}
-use Rattle.acc_schedule.specs.LockRules.{with_locks}
+use Rattle.acc_lock_rules.specs.LockRules.{with_locks}
 use Rattle.acc_mentions.specs.declared.boards.Board.{Board}
 
 -- the engine's state, the number of each place's transaction, and the place of each number

@@ -3,11 +3,12 @@ ghost use Rattle.std.specs.Prelude.{◌≡◌, ◌-◌, length, false, Some, IfO
 ghost use Rattle.acc_base.specs.Plays.{number_of};
 ghost use Rattle.acc_plain.specs.Turned.{IsUnfinished};
 ghost use Rattle.acc_script.specs.OrderLines.{IsPlace};
-ghost use Rattle.acc_schedule.specs.Stages.{HasBegun};
+ghost use Rattle.acc_player.specs.Boards.{HasBegun, IsAfterBegin, IsAfterGoing, IsAfterMention};
+ghost use Rattle.acc_player.specs.Ways.{PlayPrecedesEach};
+ghost use Rattle.acc_lock_rules.specs.LockRules.{with_locks};
 ghost use Rattle.acc_mentions.specs.Boards.{play_of, IsBoardOf, KeepsBegun, TakesItsTurn, IsMentioned};
 ghost use Rattle.acc_mentions.specs.Runs.{RunsOn, IsReadyAgain};
 ghost use Rattle.acc_mentions.specs.Stops.{Stops};
-ghost use Rattle.acc_mentions.specs.Ways.{PlayPrecedesEach, IsAfterBegin, IsAfterGoing, IsAfterMention};
 
 use crate::boards::Board;
 use crate::errors::Stop;
@@ -27,8 +28,9 @@ pub fn number<S: Store, D: Disk>(
     requires board { IsBoardOf engine.old board.old }
     requires place { IsPlace (length engine.old.calls) place }
     requires unfailed { engine.old.failed ≡ false }
-    ensures begun { IfOk result (λ found. HasBegun engine.old.design engine.old.calls place (play_of engine.old.state board.old)
-        (number_of (play_of engine.old.state board.old) place) found (play_of engine.new.state board.new)) }
+    ensures begun { IfOk result (λ found. HasBegun (with_locks engine.old.design) engine.old.calls place
+        (play_of engine.old.state board.old) (number_of (play_of engine.old.state board.old) place) found
+        (play_of engine.new.state board.new)) }
     ensures here { IfOk result (λ found. IfSome found (λ t. slice_get board.new.numbers.items (place - 1) ≡ Some (Some t))) }
     ensures board { IsBoardOf engine.new board.new }
     ensures kept { KeepsBegun board.old board.new }
@@ -36,7 +38,7 @@ pub fn number<S: Store, D: Disk>(
     ensures runs { RunsOn D.clock D.left_since D.told D.may_leave D.faults engine.old engine.new }
     ensures again { OnOk result (IsReadyAgain D.told D.may_leave engine.old engine.new) }
     ensures front { OnErr result (PlayPrecedesEach (play_of engine.new.state board.new)
-        (IsAfterBegin engine.old.design engine.old.calls place (play_of engine.old.state board.old))) }
+        (IsAfterBegin (with_locks engine.old.design) engine.old.calls place (play_of engine.old.state board.old))) }
     ensures why { IfErr result (λ stop. Stops D.faults stop engine.old engine.new) }
 {
     let at = (place - 1) as usize;
@@ -73,7 +75,7 @@ fn take_open_turn<S: Store, D: Disk>(
     ensures runs { RunsOn D.clock D.left_since D.told D.may_leave D.faults engine.old engine.new }
     ensures again { OnOk result (IsReadyAgain D.told D.may_leave engine.old engine.new) }
     ensures front { OnErr result (PlayPrecedesEach (play_of engine.new.state board.new)
-        (IsAfterGoing d.now place t (play_of engine.old.state board.old))) }
+        (IsAfterGoing (with_locks d.now) place t (play_of engine.old.state board.old))) }
     ensures why { IfErr result (λ stop. Stops D.faults stop engine.old engine.new) }
 {
     let turn = take(engine, t)?;
@@ -97,7 +99,7 @@ fn take_turn<S: Store, D: Disk>(
     ensures runs { RunsOn D.clock D.left_since D.told D.may_leave D.faults engine.old engine.new }
     ensures again { OnOk result (IsReadyAgain D.told D.may_leave engine.old engine.new) }
     ensures front { OnErr result (PlayPrecedesEach (play_of engine.new.state board.new)
-        (IsAfterGoing d.now place t (play_of engine.old.state board.old))) }
+        (IsAfterGoing (with_locks d.now) place t (play_of engine.old.state board.old))) }
     ensures why { IfErr result (λ stop. Stops D.faults stop engine.old engine.new) }
 {
     if engine.state().is_unfinished(t) {
@@ -126,7 +128,7 @@ pub fn mention<S: Store, D: Disk>(
     ensures runs { RunsOn D.clock D.left_since D.told D.may_leave D.faults engine.old engine.new }
     ensures again { OnOk result (IsReadyAgain D.told D.may_leave engine.old engine.new) }
     ensures front { OnErr result (PlayPrecedesEach (play_of engine.new.state board.new)
-        (IsAfterMention d.now engine.old.calls place (play_of engine.old.state board.old))) }
+        (IsAfterMention (with_locks d.now) engine.old.calls place (play_of engine.old.state board.old))) }
     ensures why { IfErr result (λ stop. Stops D.faults stop engine.old engine.new) }
 {
     match number(engine, board, place)? {

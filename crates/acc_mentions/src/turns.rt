@@ -4,7 +4,8 @@ ghost use Rattle.acc_plain.specs.Turned.{IsUnfinished};
 ghost use Rattle.acc_machine.specs.Turns.{IsTurn, AddsBy};
 ghost use Rattle.acc_mentions.specs.Runs.{RunsOn, IsReadyAgain, IsAcked, IsAckedButOne};
 ghost use Rattle.acc_mentions.specs.Stops.{Stops};
-ghost use Rattle.acc_mentions.specs.Ways.{PrecedesEach, IsAfterTurn};
+ghost use Rattle.acc_player.specs.Ways.{PrecedesEach};
+ghost use Rattle.acc_mentions.specs.Ways.{IsAfterTurn};
 
 use crate::errors::Stop;
 use acc_base::machines::Turn;

@@ -3,7 +3,7 @@ use acc_base::designs::{At, Design, Point, Side, TxType};
 use acc_base::forms::Clause;
 use acc_base::sequences::Text;
 use acc_base::sequents::Origin;
-use acc_base::steps::{Read, Step, Target};
+use acc_base::steps::{Path, Read, Step, Target};
 use acc_page::Page;
 
 /// What a variable of an obligation is.
@@ -23,19 +23,24 @@ enum Variable<'a> {
     HeldOwn,
     /// A name behind the `forall` of the assertion.
     Named(&'a [u8]),
+    /// A name behind the `forall` of the assertion that a local of the step's transaction has too.
+    Shared(&'a [u8]),
     /// A key component of a row that isn't to be there, with its number, from 1.
     Component(u64),
 }
 
-fn type_at(d: &Design, at: At) -> Option<&TxType> {
+/// The type of a point.
+pub fn type_at(d: &Design, at: At) -> Option<&TxType> {
     d.types.as_slice().get(at.ty as usize)
 }
 
-fn point_at(d: &Design, at: At) -> Option<&Point> {
+/// A point.
+pub fn point_at(d: &Design, at: At) -> Option<&Point> {
     type_at(d, at)?.points.as_slice().get(at.point as usize)
 }
 
-fn step_at(d: &Design, at: At, side: Side) -> Option<&Step> {
+/// A step of a point.
+pub fn step_at(d: &Design, at: At, side: Side) -> Option<&Step> {
     let point = point_at(d, at)?;
     match side {
         Side::Next => Some(&point.next),
@@ -43,8 +48,17 @@ fn step_at(d: &Design, at: At, side: Side) -> Option<&Step> {
     }
 }
 
+/// The path of an obligation, if it has one.
+pub fn path_of<'a>(d: &'a Design, origin: &Origin) -> Option<&'a Path> {
+    let number = origin.path.checked_sub(1)?;
+    step_at(d, origin.at?, origin.side)?
+        .paths
+        .as_slice()
+        .get(number as usize)
+}
+
 /// The locals of a point's type.
-fn locals_of(d: &Design, at: At) -> &[Text] {
+pub fn locals_of(d: &Design, at: At) -> &[Text] {
     match type_at(d, at) {
         Some(ty) => ty.locals.as_slice(),
         None => &[],
@@ -64,13 +78,8 @@ fn reads_of<'a>(d: &'a Design, at: At, origin: &Origin) -> &'a [Read] {
 
 /// The clauses that the target of an obligation's path promises.
 fn promised<'a>(d: &'a Design, at: At, origin: &Origin) -> Option<&'a [Clause]> {
-    let number = origin.path.checked_sub(1)?;
-    let path = step_at(d, at, origin.side)?
-        .paths
-        .as_slice()
-        .get(number as usize)?;
     let ty = type_at(d, at)?;
-    match path.target {
+    match path_of(d, origin)?.target {
         Target::Point(point) => Some(point_at(d, At { ty: at.ty, point })?.clauses.as_slice()),
         Target::Commit => Some(ty.posts.as_slice()),
         Target::Undone => Some(ty.repairs.as_slice()),
@@ -97,9 +106,28 @@ fn clause_name<'a>(d: &'a Design, origin: &Origin, place: usize) -> Option<&'a [
     Some(name.as_slice())
 }
 
+/// Whether one of some names is this one.
+fn is_one_of(names: &[Text], name: &[u8]) -> bool {
+    for other in names {
+        if other.as_slice() == name {
+            return true;
+        }
+    }
+    false
+}
+
+/// Whether a local of the transaction that takes the step of an obligation has this name.
+fn is_local(d: &Design, origin: &Origin, name: &[u8]) -> bool {
+    match origin.at {
+        Some(at) => is_one_of(locals_of(d, at), name),
+        None => false,
+    }
+}
+
 /// The variable of an obligation's assertion that has this place among them.
 fn of_clause<'a>(d: &'a Design, origin: &Origin, place: usize) -> Variable<'a> {
     match clause_name(d, origin, place) {
+        Some(name) if is_local(d, origin, name) => Variable::Shared(name),
         Some(name) => Variable::Named(name),
         None => Variable::Component((place as u64).saturating_add(1)),
     }
@@ -122,7 +150,8 @@ fn behind_step<'a>(d: &'a Design, origin: &Origin, place: usize) -> Variable<'a>
     }
 }
 
-fn assigns(reads: &[Read], local: usize) -> bool {
+/// Whether one of some reads assigns a local.
+pub fn assigns(reads: &[Read], local: usize) -> bool {
     reads.iter().any(|read| read.assigned() as usize == local)
 }
 
@@ -163,6 +192,27 @@ fn variable_of<'a>(d: &'a Design, origin: &Origin, place: usize) -> Variable<'a>
     }
 }
 
+/// Whether a variable of an obligation is the number of a transaction.
+pub fn is_number(d: &Design, origin: &Origin, variable: u32) -> bool {
+    matches!(
+        variable_of(d, origin, variable as usize),
+        Variable::Own | Variable::HeldOwn
+    )
+}
+
+/// An origin whose variables are the locals of a point's type and `self`, as the design has them.
+pub fn resting_at(at: At) -> Origin {
+    Origin {
+        rule: 0,
+        held: None,
+        clause: 0,
+        at: Some(at),
+        side: Side::Next,
+        path: 0,
+        case: 1,
+    }
+}
+
 /// Writes what a variable of an obligation is called.
 pub fn push_variable(out: &mut Page, d: &Design, origin: &Origin, variable: u32) {
     match variable_of(d, origin, variable as usize) {
@@ -175,6 +225,10 @@ pub fn push_variable(out: &mut Page, d: &Design, origin: &Origin, variable: u32)
             out.push(name);
             out.push(b" of read ");
             out.push_number(read)
+        }
+        Variable::Shared(name) => {
+            out.push(name);
+            out.push(b" of the assertion")
         }
         Variable::Own => out.push(b"self"),
         Variable::Held(name) => {

@@ -1,4 +1,5 @@
 //! The values that a point gives.
+use crate::known::is_told;
 use crate::values::push_atom;
 use acc_base::designs::Design;
 use acc_base::forms::{Rel, Unknown};
@@ -24,7 +25,8 @@ fn push_value(out: &mut Page, d: &Design, origin: &Origin, unknown: &Unknown, va
 }
 
 /// Writes the values that a point gives to the unknowns of an open leaf, behind the opening: `a = 1, has T[a] = 0`, those of variables and
-/// rows. What counts only under a condition follows from these, and isn't said.
+/// rows. What counts only under a condition follows from these, and isn't said; nor is a value of which nothing is known, an end of its
+/// range.
 pub fn push_values(
     alloc: Global,
     out: &mut Page,
@@ -37,7 +39,7 @@ pub fn push_values(
     let unknowns = unknowns_of(alloc, leaf)?;
     let mut before = opening;
     for (unknown, value) in unknowns.as_slice().iter().zip(point.iter()) {
-        if unknown.under.is_empty() {
+        if is_told(d, origin, leaf, unknown, *value) {
             out.push(before);
             push_value(out, d, origin, unknown, *value);
             before = b", ";

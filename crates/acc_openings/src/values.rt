@@ -27,7 +27,7 @@ fn push_sign(out: &mut Page, number: i64, is_first: bool) {
 }
 
 /// Writes a linear value.
-fn push_lin(out: &mut Page, d: &Design, origin: &Origin, value: &Lin) {
+pub fn push_lin(out: &mut Page, d: &Design, origin: &Origin, value: &Lin) {
     let mut is_first = true;
     for term in value.coeffs.as_slice() {
         push_term(out, d, origin, term, is_first);
@@ -40,7 +40,7 @@ fn push_lin(out: &mut Page, d: &Design, origin: &Origin, value: &Lin) {
 }
 
 /// Writes the name of a table, with a key or the front of one.
-fn push_row(out: &mut Page, d: &Design, origin: &Origin, table: u32, key: &[Lin]) {
+pub fn push_row(out: &mut Page, d: &Design, origin: &Origin, table: u32, key: &[Lin]) {
     if let Some(table) = d.tables.as_slice().get(table as usize) {
         out.push(table.name.as_slice());
     }

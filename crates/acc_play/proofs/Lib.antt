@@ -1,3 +1,2 @@
-pub mod Orders
-pub mod Mentioning
+pub mod Telling
 pub mod OneTold

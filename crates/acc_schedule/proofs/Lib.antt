@@ -1,7 +1,3 @@
-pub mod LockPlays
-pub mod Waiting
-pub mod Ends
+pub mod Beginning
 pub mod Closing
-pub mod OneTurn
-pub mod OnePlay
 pub mod OneSchedule

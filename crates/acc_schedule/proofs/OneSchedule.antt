@@ -1,38 +1,19 @@
 -- One thing is told of a schedule.
 use Rattle.std.proofs.Common.{◌≡◌, ℕ, ◌<◌, ◌++◌, Bool, true, false, List, length, Option, Some, None, get_or, refl, sym, ap, subst, ◌∙◌}
 use Rattle.std.specs.Prelude.{IsSome, All, slice_get}
-use Rattle.std.specs.List.{flat_map, range_with_len}
+use Rattle.std.specs.List.{flat_map}
 use Rattle.std.proofs.lemmas.Option.{same_Some, none-some, slice_get-get_or}
 use Rattle.acc_base.specs.declared.designs.Design.{Design}
 use Rattle.acc_base.specs.declared.machines.Call.{Call}
 use Rattle.acc_base.specs.declared.machines.Event.{Event}
 use Rattle.acc_base.specs.Lines.{mention_line, ending_text}
-use Rattle.acc_base.specs.Machine.{World}
-use Rattle.acc_base.specs.Plays.{Play, Told, opening, play_after}
+use Rattle.acc_base.specs.Plays.{Play, opening}
 use Rattle.acc_lift.proofs.Transactions.{got_within}
-use Rattle.acc_schedule.specs.LockRules.{with_locks}
-use Rattle.acc_schedule.specs.Endings.{EndsAll, EndsPlaces}
-use Rattle.acc_schedule.specs.Schedules.{in_state, Schedules, TellsBegun}
+use Rattle.acc_lock_rules.specs.LockRules.{with_locks}
+use Rattle.acc_lock_rules.proofs.Orderly.{locks_are_orderly}
+use Rattle.acc_player.proofs.Wholes.{one_schedule}
+use Rattle.acc_schedule.specs.Schedules.{TellsBegun, TellsScheduleFrom}
 use Rattle.acc_schedule.specs.Laws.{SchedulesOnce}
-use Rattle.acc_schedule.proofs.OneTurn.{locks_are_determined}
-use Rattle.acc_schedule.proofs.OnePlay.{one_play, one_end, one_ending}
-
-module _ (d : Design) (calls : List Call) (first : Play) (order : List ℕ) where
-  pub one_schedule :
-      (xs ys : List (Told × Play)) (p q : Play) → Schedules d calls first order xs p → Schedules d calls first order ys q
-      → (xs ≡ ys) × (p ≡ q)
-  one_schedule xs ys p q h k =
-      let m = with_locks d in
-      let one = locks_are_determined d in
-      let played : xs ≡ ys = one_play m one calls first order xs ys h.is_played k.is_played in
-      let after : play_after first xs ≡ play_after first ys = ap (play_after first) played in
-      let rest : h.rest ≡ k.rest =
-      one_end m one (play_after first ys).world h.rest (subst (λ (z : Play). EndsAll m z.world h.rest) after h.ends) k.rest k.ends in
-      let places =
-      subst (λ (w : World). EndsPlaces m calls (in_state (play_after first ys) w) (range_with_len 1 (length calls)) p) rest
-      (subst (λ (z : Play). EndsPlaces m calls (in_state z h.rest) (range_with_len 1 (length calls)) p) after h.places) in
-      let last = in_state (play_after first ys) k.rest in
-      (played, one_ending m one calls (range_with_len 1 (length calls)) last p q places k.places)
 
 none_is_some : (o : Option ℕ) → o ≡ None → IsSome o → ⊥
 none_is_some None e h = cc
@@ -54,9 +35,12 @@ one_answer numbers history true false h k = absurd (not_all numbers k.0.0 k.0.1 
 one_answer numbers history false true h k = absurd (not_all numbers h.0.0 h.0.1 k)
 one_answer numbers history false false h k = refl
 
-pub schedules_once : SchedulesOnce
-schedules_once d calls order t u h k a b x y =
-    let same = one_schedule d calls (opening calls) order x.mentions y.mentions x.ended y.ended x.schedules y.schedules in
+-- from the same play on
+pub tells_once : (d : Design) (calls : List Call) (first : Play) (order t u : List ℕ) (h k : List Event) (a b : Bool)
+    → TellsScheduleFrom d calls first order t h a → TellsScheduleFrom d calls first order u k b → (t ≡ u) × (h ≡ k) × (a ≡ b)
+tells_once d calls first order t u h k a b x y =
+    let same =
+    one_schedule (with_locks d) (locks_are_orderly d) calls first order x.mentions y.mentions x.ended y.ended x.schedules y.schedules in
     let text : t ≡ u =
     x.text_is ∙ (λ i. flat_map (mention_line d) (same.0 i) ++ ending_text calls (same.1 i)) ∙ sym y.text_is in
     let history : h ≡ k = x.history_is ∙ ap (λ (p : Play). p.world.events) same.1 ∙ sym y.history_is in
@@ -64,3 +48,6 @@ schedules_once d calls order t u h k a b x y =
     subst (λ (p : Play). TellsBegun a p.numbers k) same.1
     (subst (λ (es : List Event). TellsBegun a x.ended.numbers es) history x.begun) in
     (text, history, one_answer y.ended.numbers k a b begun y.begun)
+
+pub schedules_once : SchedulesOnce
+schedules_once d calls order t u h k a b x y = tells_once d calls (opening calls) order t u h k a b x y

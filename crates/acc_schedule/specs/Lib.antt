@@ -1,6 +1,3 @@
-pub mod LockRules
-pub mod Endings
-pub mod Passes
-pub mod Stages
 pub mod Schedules
+pub mod Closings
 pub mod Laws

@@ -9,25 +9,10 @@ use Rattle.acc_base.specs.declared.machines.Event.{Event}
 use Rattle.acc_base.specs.Annotated.{IsAnnotated, IsIdle}
 use Rattle.acc_base.specs.Invariant.{IsGood}
 use Rattle.acc_base.specs.Machine.{World, world, unfinished}
-use Rattle.acc_base.specs.Plays.{Play, Told, opening, PlaysOn, play_after}
+use Rattle.acc_base.specs.Plays.{Play, Told, opening}
 use Rattle.acc_base.specs.Lines.{mention_line, ending_text, line}
-use Rattle.acc_schedule.specs.declared.stages.Stage.{Stage}
-use Rattle.acc_schedule.specs.declared.schedules.Scheduled.{Scheduled}
-use Rattle.acc_schedule.specs.LockRules.{with_locks}
-use Rattle.acc_schedule.specs.Endings.{EndsAll, EndsPlaces}
-
--- the play with its machine in that state
-abbrev pub in_state : Play → World → Play
-in_state p w = record p { world = w }
-
--- From the first play on the calls take their turns in the order; then what is unfinished is ended, and each place that hasn't begun.
-pub record Schedules (d : Design) (calls : List Call) (first : Play) (order : List ℕ) (mentions : List (Told × Play)) (ended : Play) :
-    Type 0
-  where
-    pub is_played : PlaysOn (with_locks d) calls first order mentions
-    pub rest : World
-    pub ends : EndsAll (with_locks d) (play_after first mentions).world rest
-    pub places : EndsPlaces (with_locks d) calls (in_state (play_after first mentions) rest) (range_with_len 1 (length calls)) ended
+use Rattle.acc_player.specs.Schedules.{Schedules}
+use Rattle.acc_lock_rules.specs.LockRules.{with_locks}
 
 -- whenever nothing is unfinished, what is asserted for all times is true of the rows, and none of them is private
 abbrev pub IsIdleBetween : Design → List Event → Type 0
@@ -55,7 +40,7 @@ pub record TellsScheduleFrom (d : Design) (calls : List Call) (first : Play) (or
     : Type 0 where
   pub mentions : List (Told × Play)
   pub ended : Play
-  pub schedules : Schedules d calls first order mentions ended
+  pub schedules : Schedules (with_locks d) calls first order mentions ended
   pub text_is : text ≡ flat_map (mention_line d) mentions ++ ending_text calls ended
   pub history_is : history ≡ ended.world.events
   pub ends_well : EndsWell d history ended.world
@@ -64,19 +49,3 @@ pub record TellsScheduleFrom (d : Design) (calls : List Call) (first : Play) (or
 -- from the start on, where no event has come
 abbrev pub TellsSchedule : Design → List Call → List ℕ → List ℕ → List Event → Bool → Type 0
 TellsSchedule d calls order text history all_begun = TellsScheduleFrom d calls (opening calls) order text history all_begun
-
--- ---- parts of it
-
--- the play after the mentions of an order, and their lines
-pub record IsPlayed (d : Design) (calls : List Call) (first : Play) (order text : List ℕ) (p : Play) : Type 0 where
-  pub mentions : List (Told × Play)
-  pub is_played : PlaysOn (with_locks d) calls first order mentions
-  pub text_is : text ≡ flat_map (mention_line d) mentions
-  pub now : play_after first mentions ≡ p
-
--- what is told of a stage on which nothing is unfinished
-pub record IsClosed (stage : Stage) (s : Scheduled) : Type 0 where
-  pub text : s.text.items ≡ stage.text.items ++ line (codes "events " ++ decimal (length stage.state.world.events))
-  pub history : s.history ≡ stage.state.world.events
-  pub ends_well : EndsWell stage.state.design s.history stage.state.world
-  pub begun : TellsBegun s.all_begun stage.numbers.items s.history

@@ -1,22 +1,19 @@
-//! Calls that are scheduled in an order, and the lines of it.
-ghost use Rattle.std.specs.Prelude.{◌≡◌, ◌++◌, ◌≤◌, ℕ, [], length, All, IfOk, OnOk, IsTrue, IsFalse, IsSome, None, Some, slice_get};
+//! Calls that are scheduled in an order by the rules of locks, and then ended; and what is told of it.
+ghost use Rattle.std.specs.Prelude.{◌≡◌, ◌≤◌, ℕ, [], length, All, IfOk};
 ghost use Rattle.acc_base.specs.declared.bounds.TheConstants.{MOST_EVENTS};
 ghost use Rattle.acc_base.specs.Machine.{unfinished};
-ghost use Rattle.acc_base.specs.Plays.{opening};
-ghost use Rattle.acc_play.specs.Stages.{AllFit};
 ghost use Rattle.acc_script.specs.OrderLines.{IsPlace};
-ghost use Rattle.acc_schedule.specs.Stages.{play_of, IsStage, IsUnbegun};
-ghost use Rattle.acc_schedule.specs.Schedules.{TellsSchedule, IsPlayed, IsClosed};
+ghost use Rattle.acc_player.specs.Boards.{IsUnbegun};
+ghost use Rattle.acc_player.specs.Playing.{AllFit};
+ghost use Rattle.acc_schedule.specs.Schedules.{TellsSchedule};
+ghost use Rattle.acc_schedule.specs.Closings.{IsClosed};
 
-use crate::endings::{end_all, end_places};
-use crate::mentions::mention;
-use crate::replies::push_replies;
-use crate::stages::Stage;
-use acc_base::designs::Design;
+use crate::locked::Locked;
 use acc_base::machines::{Call, Event};
 use acc_base::sequences::Seq;
 use acc_lift::Accepted;
-use acc_machine::{State, StateError};
+use acc_machine::State;
+use acc_player::{Board, all_begun, push_replies, run};
 use acc_script::push_events;
 use acc_store::MapStore;
 use std::alloc::{AllocError, Global};
@@ -30,75 +27,19 @@ pub struct Scheduled {
     pub all_begun: bool,
 }
 
-/// The stage before the first mention, for so many calls.
-fn open<'a>(alloc: Global, accepted: &'a Accepted, calls: &[Call]) -> Result<Stage<'a>, AllocError>
-    ensures stage { IfOk result (λ s. IsStage accepted.now calls.now s) }
-    ensures opens { IfOk result (λ s. play_of s ≡ opening calls.now) }
-    ensures text { IfOk result (λ s. s.text.items ≡ []) }
+/// Tells the replies and how many events there were, behind the lines of a schedule that has run.
+fn close(player: Locked, mut board: Board) -> Result<Scheduled, AllocError>
+    requires over { unfinished player.world ≡ [] }
+    requires full { (at : ℕ) → IsUnbegun at board → MOST_EVENTS ≤ length player.world.events }
+    ensures { IfOk result (IsClosed player.entry board) }
 {
-    let numbers = vec![in alloc; None; calls.len()]?;
-    match State::new(alloc, accepted, MapStore::new(alloc)) {
-        Ok(state) => Ok(Stage {
-            state,
-            numbers,
-            places: Vec::new(alloc),
-            text: Vec::new(alloc),
-        }),
-        Err((StateError::Memory, _)) => Err(AllocError),
-    }
-}
-
-/// Mentions the places of an order, one after the other.
-fn mention_all(
-    stage: &mut Stage,
-    d: &Design,
-    calls: &[Call],
-    order: &[u64],
-) -> Result<(), AllocError>
-    requires stage { IsStage d.now calls.now stage.old }
-    requires opens { play_of stage.old ≡ opening calls.now }
-    requires text { stage.old.text.items ≡ [] }
-    requires fit { AllFit d.now calls.now }
-    requires places { All (IsPlace (length calls.now)) order.now }
-    ensures played { OnOk result (IsPlayed d.now calls.now (opening calls.now) order.now stage.new.text.items (play_of stage.new)) }
-    ensures stage { IsStage d.now calls.now stage.new }
-{
-    for place in order {
-        mention(stage, d, calls, *place)?;
-    }
-    Ok(())
-}
-
-/// Whether each place has begun.
-fn all_begun(numbers: &[Option<u64>]) -> bool
-    ensures all { IsTrue result → All IsSome numbers.now }
-    ensures some { IsFalse result → (at : ℕ) × (slice_get numbers.now at ≡ Some None) }
-{
-    for number in numbers {
-        if number.is_none() {
-            return false;
-        }
-    }
-    true
-}
-
-/// Tells how many events there were, behind the lines of a stage on which nothing is unfinished.
-fn close(stage: Stage) -> Result<Scheduled, AllocError>
-    requires over { unfinished stage.state.world ≡ [] }
-    requires full { (at : ℕ) → IsUnbegun at stage → MOST_EVENTS ≤ length stage.state.world.events }
-    ensures { IfOk result (IsClosed stage.entry) }
-{
-    let Stage {
-        state,
-        numbers,
-        places: _,
-        mut text,
-    } = stage;
-    let all_begun = all_begun(&numbers);
-    push_events(&mut text, state.events().len() as u64)?;
+    push_replies(&player, board.numbers.as_slice(), &mut board.text)?;
+    let Locked { state, calls: _ } = player;
+    push_events(&mut board.text, state.events().len() as u64)?;
+    let all_begun = all_begun(board.numbers.as_slice());
     let (_, history) = state.into_parts();
     Ok(Scheduled {
-        text,
+        text: board.text,
         history,
         all_begun,
     })
@@ -118,11 +59,13 @@ pub fn schedule(
     requires places { All (IsPlace (length calls.now)) order.now }
     ensures { IfOk result (λ s. TellsSchedule accepted.now calls.now order.now s.text.items s.history s.all_begun) }
 {
-    let d = accepted.design();
-    let mut stage = open(alloc, accepted, calls)?;
-    mention_all(&mut stage, d, calls, order)?;
-    end_all(alloc, &mut stage.state)?;
-    end_places(alloc, &mut stage, d, calls)?;
-    push_replies(&mut stage)?;
-    close(stage)
+    let Ok(state) = State::new(alloc, accepted, MapStore::new(alloc)) else {
+        return Err(AllocError);
+    };
+    let mut player = Locked { state, calls };
+    let mut board = Board::open(alloc, calls.len(), 0)?;
+    match run(alloc, &mut player, &mut board, accepted.design(), order) {
+        Ok(()) => close(player, board),
+        Err(_) => Err(AllocError),
+    }
 }

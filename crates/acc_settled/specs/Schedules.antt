@@ -14,7 +14,7 @@ use Rattle.acc_mentions.specs.declared.errors.Stop.{Stop}
 use Rattle.acc_mentions.specs.declared.errors.Stop.TheVariants.{Disk as DiskFails}
 use Rattle.acc_settled.specs.declared.schedules.Stopped.{Stopped}
 use Rattle.acc_settled.specs.declared.schedules.Stopped.TheVariants.{Disk, Memory}
-use Rattle.acc_settled.specs.Replies.{line_after}
+use Rattle.acc_player.specs.Schedules.{line_after}
 use Rattle.acc_settled.specs.Stops.{AreNumbersOf, TellsSettled}
 use Rattle.acc_settled.specs.Wholes.{IsAfterSchedule, TellsDurablePart}
 

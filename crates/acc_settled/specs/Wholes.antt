@@ -7,18 +7,17 @@ use Rattle.acc_base.specs.declared.machines.Event.{Event}
 use Rattle.acc_base.specs.declared.machines.Reply.{Reply}
 use Rattle.acc_base.specs.Lines.{settled_line}
 use Rattle.acc_base.specs.Machine.{World, world, reply_at}
-use Rattle.acc_base.specs.Plays.{Play, Told}
-use Rattle.acc_schedule.specs.Schedules.{Schedules}
+use Rattle.acc_base.specs.Plays.{Play}
+use Rattle.acc_player.specs.Schedules as whole
+use Rattle.acc_lock_rules.specs.LockRules.{with_locks}
 
 -- the play after a whole schedule of the calls in this order, from the first play on
-pub record IsAfterSchedule (d : Design) (calls : List Call) (order : List ℕ) (first ended : Play) : Type 0 where
-  pub mentions : List (Told × Play)
-  pub schedules : Schedules d calls first order mentions ended
+abbrev pub IsAfterSchedule : Design → List Call → List ℕ → Play → Play → Type 0
+IsAfterSchedule d = whole.IsAfterSchedule (with_locks d)
 
 -- the events are the first of those of each whole schedule, of which there is one at most
 abbrev pub IsFrontOfSchedule : Design → List Call → List ℕ → Play → List Event → Type 0
-IsFrontOfSchedule d calls order first history =
-    (ended : Play) → IsAfterSchedule d calls order first ended → (more : List Event) × (ended.world.events ≡ history ++ more)
+IsFrontOfSchedule d = whole.IsFrontOfSchedule (with_locks d)
 
 -- The lines are those of the whole schedule's places after the durable events alone: a place's reply, which is the whole schedule's too,
 -- or that it is unsettled.

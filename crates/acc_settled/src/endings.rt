@@ -6,13 +6,13 @@ ghost use Rattle.acc_base.specs.Invariant.{IsGood};
 ghost use Rattle.acc_base.specs.Machine.{unfinished};
 ghost use Rattle.acc_base.specs.Plays.{number_of};
 ghost use Rattle.acc_script.specs.OrderLines.{IsPlace};
-ghost use Rattle.acc_schedule.specs.LockRules.{with_locks};
-ghost use Rattle.acc_schedule.specs.Endings.{TurnsEach, unfinished_numbers, EndsAll, EndsPlace, EndsPlaces};
-ghost use Rattle.acc_schedule.specs.Passes.{Takes, Moves};
+ghost use Rattle.acc_lock_rules.specs.LockRules.{with_locks};
+ghost use Rattle.acc_player.specs.Endings.{TurnsEach, unfinished_numbers, EndsAll, EndsPlace, EndsPlaces, Takes};
+ghost use Rattle.acc_lock_rules.specs.Passes.{Moves};
 ghost use Rattle.acc_mentions.specs.Boards.{play_of, IsBoardOf, IsUnbegun, KeepsBegun};
 ghost use Rattle.acc_mentions.specs.Runs.{RunsOn, IsReadyAgain};
 ghost use Rattle.acc_mentions.specs.Stops.{Stops};
-ghost use Rattle.acc_mentions.specs.Ways.{PrecedesEach, PlayPrecedesEach};
+ghost use Rattle.acc_player.specs.Ways.{PrecedesEach, PlayPrecedesEach};
 
 use acc_base::machines::Frame;
 use acc_disk::Disk;
@@ -35,12 +35,12 @@ fn numbers_of(alloc: Global, frames: &[Frame]) -> Result<Vec<u64>, AllocError>
 /// Gives a transaction the turn that it has.
 fn take_any<S: Store, D: Disk>(engine: &mut Engine<S, D>, t: u64) -> Result<(), Stop>
     requires unfailed { engine.old.failed ≡ false }
-    ensures takes { OnOk result (Takes engine.old.design engine.old.state t engine.new.state) }
+    ensures takes { OnOk result (Takes (with_locks engine.old.design) engine.old.state t engine.new.state) }
     ensures moves { OnOk result (Moves engine.old.design engine.old.state t engine.new.state) }
     ensures begun { engine.new.begun ≡ engine.old.begun }
     ensures runs { RunsOn D.clock D.left_since D.told D.may_leave D.faults engine.old engine.new }
     ensures again { OnOk result (IsReadyAgain D.told D.may_leave engine.old engine.new) }
-    ensures front { OnErr result (PrecedesEach engine.new.state (Takes engine.old.design engine.old.state t)) }
+    ensures front { OnErr result (PrecedesEach engine.new.state (Takes (with_locks engine.old.design) engine.old.state t)) }
     ensures why { IfErr result (λ stop. Stops D.faults stop engine.old engine.new) }
 {
     let state = engine.state();

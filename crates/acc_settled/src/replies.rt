@@ -2,7 +2,8 @@
 ghost use Rattle.std.specs.Prelude.{◌≡◌, ◌++◌, length, IfOk, OnOk};
 ghost use Rattle.std.specs.List.{flat_map, range_with_len};
 ghost use Rattle.acc_script.specs.OrderLines.{IsPlace};
-ghost use Rattle.acc_settled.specs.Replies.{line_after, durable_line};
+ghost use Rattle.acc_player.specs.Schedules.{line_after};
+ghost use Rattle.acc_settled.specs.Replies.{durable_line};
 
 use acc_disk::Disk;
 use acc_engine::Engine;

@@ -5,13 +5,15 @@ ghost use Rattle.acc_base.specs.declared.bounds.TheConstants.{MOST_EVENTS};
 ghost use Rattle.acc_base.specs.Machine.{unfinished};
 ghost use Rattle.acc_base.specs.Plays.{Play};
 ghost use Rattle.acc_script.specs.OrderLines.{IsPlace};
-ghost use Rattle.acc_schedule.specs.Schedules.{TellsScheduleFrom, IsPlayed};
+ghost use Rattle.acc_lock_rules.specs.LockRules.{with_locks};
+ghost use Rattle.acc_schedule.specs.Schedules.{TellsScheduleFrom};
+ghost use Rattle.acc_player.specs.Schedules.{IsPlayed, IsAfterOrder};
 ghost use Rattle.acc_mentions.specs.Boards.{play_of, IsBoardOf, IsUnbegun};
 ghost use Rattle.acc_mentions.specs.Openings.{opening_at, IsFresh};
 ghost use Rattle.acc_mentions.specs.Runs.{RunsOn, IsReadyAgain, IsAckedButOne};
 ghost use Rattle.acc_settled.specs.Schedules.{IsClosed, StopsSo, TellsStop, TellsPart, TellsPartOfSchedule};
 ghost use Rattle.acc_mentions.specs.Stops.{Stops};
-ghost use Rattle.acc_mentions.specs.Ways.{PlayPrecedes, PlayPrecedesEach, IsAfterOrder};
+ghost use Rattle.acc_player.specs.Ways.{PlayPrecedes, PlayPrecedesEach};
 ghost use Rattle.acc_settled.specs.Wholes.{IsAfterSchedule, IsFrontOfSchedule};
 
 use crate::endings::{end_all, end_places};
@@ -20,6 +22,7 @@ use acc_base::designs::Design;
 use acc_disk::Disk;
 use acc_engine::Engine;
 use acc_mentions::{Board, Stop, mention, open, settle};
+use acc_player::all_begun;
 use acc_script::push_events;
 use acc_store::Store;
 use std::alloc::{AllocError, Global};
@@ -52,32 +55,19 @@ fn mention_all<S: Store, D: Disk>(
     requires places { All (IsPlace (length engine.old.calls)) order.now }
     requires text { board.old.text.items ≡ [] }
     requires unfailed { engine.old.failed ≡ false }
-    ensures played { OnOk result (IsPlayed d.now engine.old.calls (play_of engine.old.state board.old) order.now board.new.text.items
-        (play_of engine.new.state board.new)) }
+    ensures played { OnOk result (IsPlayed (with_locks d.now) d.now engine.old.calls (play_of engine.old.state board.old) order.now
+        board.new.text.items (play_of engine.new.state board.new)) }
     ensures board { IsBoardOf engine.new board.new }
     ensures runs { RunsOn D.clock D.left_since D.told D.may_leave D.faults engine.old engine.new }
     ensures again { OnOk result (IsReadyAgain D.told D.may_leave engine.old engine.new) }
     ensures front { OnErr result (PlayPrecedesEach (play_of engine.new.state board.new)
-        (IsAfterOrder d.now engine.old.calls order.now (play_of engine.old.state board.old))) }
+        (IsAfterOrder (with_locks d.now) engine.old.calls order.now (play_of engine.old.state board.old))) }
     ensures why { IfErr result (λ stop. Stops D.faults stop engine.old engine.new) }
 {
     for place in order {
         mention(engine, board, d, *place)?;
     }
     Ok(())
-}
-
-/// Whether each place has begun.
-fn all_begun(numbers: &[Option<u64>]) -> bool
-    ensures all { IsTrue result → All IsSome numbers.now }
-    ensures some { IsFalse result → (at : ℕ) × (slice_get numbers.now at ≡ Some None) }
-{
-    for number in numbers {
-        if number.is_none() {
-            return false;
-        }
-    }
-    true
 }
 
 /// Tells the replies and how many events there were, behind the lines of a board whose engine has nothing unfinished.

@@ -121,7 +121,12 @@ fn variable_fault<'a>(
     if named_in(text, own, name).is_some() || local_named(text, of_type, name).is_some() {
         return None;
     }
-    undefined(token, Role::Variable)
+    let role = if of_type.is_empty() {
+        Role::Bound
+    } else {
+        Role::Variable
+    };
+    undefined(token, role)
 }
 
 /// Whether a token is this mark.

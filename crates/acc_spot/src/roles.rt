@@ -14,6 +14,8 @@ pub enum Role<'a> {
     Point(&'a [u8]),
     /// A local of a type, or of a `forall`.
     Variable,
+    /// A name of a `forall` outside of types.
+    Bound,
 }
 
 /// A name that isn't defined, or that is defined a second time.
@@ -39,6 +41,7 @@ fn push_role(out: &mut Page, role: Role) {
             push_quoted(out, ty)
         }
         Role::Variable => out.push(b"local"),
+        Role::Bound => out.push(b"name of a `forall`"),
     }
 }
 
@@ -52,6 +55,8 @@ fn definition_hint(role: Role) -> &'static [u8] {
         Role::Point(_) => b"a point is defined by `point NAME`, within the type",
         Role::Variable =>
             b"a type's locals are its parameters and the names behind `local`; in a clause also the names of its `forall`",
+        Role::Bound =>
+            b"outside of types a clause has the names of its `forall` alone, as in `always forall s : RELATION`",
     }
 }
 

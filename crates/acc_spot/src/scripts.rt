@@ -191,16 +191,25 @@ fn push_rest_fault(spot: &mut Spot, line: &[u8], ty: &TxType, from: usize) {
     }
 }
 
+/// Says which types a design has.
+fn push_types(out: &mut Page, d: &Design) {
+    let types = d.types.as_slice();
+    if types.is_empty() {
+        return out.push(b"the design has no types: each begins with `type NAME PARAMETERS`");
+    }
+    out.push(b"the types of the design are");
+    for ty in types {
+        out.push(b" ");
+        push_quoted(out, ty.name.as_slice());
+    }
+}
+
 /// Says that a word is no type's name, and which there are.
 fn push_type_fault(spot: &mut Spot, d: &Design, word: LineWord) {
     mark(spot, word);
     spot.what.push(b"there is no type called ");
     push_quoted(&mut spot.what, word.bytes);
-    spot.hint.push(b"the types of the design are");
-    for ty in d.types.as_slice() {
-        spot.hint.push(b" ");
-        push_quoted(&mut spot.hint, ty.name.as_slice());
-    }
+    push_types(&mut spot.hint, d)
 }
 
 /// The spot of a refused line of a script over a design, and what the type's parameters are.

@@ -1,5 +1,5 @@
 //! Schedules of a script's calls.
-ghost use Rattle.acc_play.specs.Stages.{AllFit};
+ghost use Rattle.acc_player.specs.Playing.{AllFit};
 
 use acc_base::machines::Call;
 use acc_case_words::words::{parted, push_lines};

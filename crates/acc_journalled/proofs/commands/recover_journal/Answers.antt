@@ -10,9 +10,15 @@ use Rattle.acc_journalled.specs.declared.answers.Ending.TheVariants.{DiskFailed}
 use Rattle.acc_journalled.specs.Recovering.{text_of}
 use Rattle.acc_journalled.specs.Tellings.{telling_of, SaysOf}
 use Rattle.acc_journalled.proofs.Endings.{recovered_so, not_recovered_so, was_of_bytes}
+use Rattle.acc_journalled.proofs.Numbered.{none_unfinished}
 use Rattle.acc_journalled.proofs.commands.recover_journal.Goals as goal
 
 -- ---- it is recovered
+
+pub tell_state-requires : goal.tell_state-requires
+tell_state-requires g c =
+    let ok = c.in-Ok.ensures.ok in
+    record { ended = none_unfinished c.args.d.now ok.found c.in-Ok.found.state.world c.design.ensures.accepted ok.recovery }
 
 pub returns-in-Ok-clause-answer : goal.returns-in-Ok-clause-answer
 returns-in-Ok-clause-answer g c =

@@ -1,16 +1,18 @@
-use Rattle.std.proofs.Common.{◌∙◌, ◌++◌, List, ℕ, Some, None, ap, subst}
+use Rattle.std.proofs.Common.{◌∙◌, ◌++◌, List, ℕ, Some, None, ap, subst, refl}
 use Rattle.std.specs.Fmt.{decimal}
 use Rattle.std.specs.Prelude.{codes}
 use Rattle.acc_base.specs.declared.designs.Design.{Design}
 use Rattle.acc_base.specs.Lines.{line, mention_line}
 use Rattle.acc_base.specs.Plays.{IsFull, number_of}
-use Rattle.acc_play.proofs.Orders.{on_ok}
-use Rattle.acc_schedule.specs.Stages.{HasBegun}
-use Rattle.acc_schedule.proofs.LockPlays.{mention_full, mention_goes}
+use Rattle.acc_player.proofs.Items.{on_ok, on_err, if_stopped}
+use Rattle.acc_player.specs.Boards.{HasBegun, IsAfterBegin}
+use Rattle.acc_player.proofs.Mentioning.{mention_is}
+use Rattle.acc_lock_rules.specs.LockRules.{with_locks}
+use Rattle.acc_lock_rules.proofs.Orderly.{locks_are_orderly}
 use Rattle.acc_mentions.specs.Boards.{play_of}
 use Rattle.acc_mentions.proofs.Chains.{runs_more}
-use Rattle.acc_mentions.specs.Ways.{PlayPrecedesEach, IsAfterBegin}
-use Rattle.acc_mentions.proofs.Fronts.{on_err, if_stopped, front_begun, front_mentioned, front_opened}
+use Rattle.acc_player.specs.Ways.{PlayPrecedesEach}
+use Rattle.acc_player.proofs.Leading.{front_begun, front_mentioned, front_opened}
 use Rattle.acc_mentions.proofs.mentions.mention.Goals as goal
 
 pub returns-in-Some-clause-mention : goal.returns-in-Some-clause-mention
@@ -23,10 +25,10 @@ returns-in-Some-clause-mention g c =
     let q = play_of c.number.new.engine.state c.number.new.board in
     let r = play_of c.take_turn.new.engine.state c.take_turn.new.board in
     let begun = rw c.in-Some.is at c.in_ok-t.ensures.begun in
-    let has = subst (λ (x : Design). HasBegun x old.calls place p (number_of p place) (Some t) q) c.requires.design begun in
+    let has = subst (λ (x : Design). HasBegun (with_locks x) old.calls place p (number_of p place) (Some t) q) c.requires.design begun in
     on_ok c.take_turn.result (λ turn. record {
       told = turn.told;
-      is_mention = mention_goes d old.calls p q place t (turn.told, r) has turn.goes;
+      is_mention = mention_is (with_locks d) old.calls place p q (turn.told, r) (Some t) has turn.goes;
       text = turn.text ∙ ap (λ (z : List ℕ). z ++ mention_line d (turn.told, r)) c.number.ensures.text;
     }) c.take_turn.ensures.turn
 
@@ -42,10 +44,10 @@ returns-in_ok-push_full-in-None-clause-mention g c =
     let p = play_of old.state c.args.board.now in
     let q = play_of c.number.new.engine.state c.number.new.board in
     let begun = rw c.in-None.is at c.in_ok-t.ensures.begun in
-    let has = subst (λ (x : Design). HasBegun x old.calls place p (number_of p place) None q) c.requires.design begun in
+    let has = subst (λ (x : Design). HasBegun (with_locks x) old.calls place p (number_of p place) None q) c.requires.design begun in
     record {
       told = IsFull place;
-      is_mention = mention_full c.args.d.now old.calls p q place has;
+      is_mention = mention_is (with_locks c.args.d.now) old.calls place p q (IsFull place, q) None has refl;
       text = c.in_ok-push_full-in-None.ensures.ok ∙ ap (λ (z : List ℕ). z ++ line (decimal place ++ codes " full")) c.number.ensures.text;
     }
 
@@ -56,8 +58,9 @@ returns-in_err-t-clause-front g c =
     let p = play_of old.state c.args.board.now in
     let now = play_of c.number.new.engine.state c.number.new.board in
     if_stopped c.from_residual.result
-    (front_begun c.args.d.now old.calls place p now
-    (subst (λ (d : Design). PlayPrecedesEach now (IsAfterBegin d old.calls place p)) c.requires.design c.in_err-t.ensures.front))
+    (front_begun (with_locks c.args.d.now) (locks_are_orderly c.args.d.now) old.calls place p now
+    (subst (λ (d : Design). PlayPrecedesEach now (IsAfterBegin (with_locks d) old.calls place p)) c.requires.design
+    c.in_err-t.ensures.front))
 
 pub returns-in-Some-clause-front : goal.returns-in-Some-clause-front
 returns-in-Some-clause-front g c =
@@ -69,8 +72,8 @@ returns-in-Some-clause-front g c =
     let q = play_of c.number.new.engine.state c.number.new.board in
     let now = play_of c.take_turn.new.engine.state c.take_turn.new.board in
     let begun = rw c.in-Some.is at c.in_ok-t.ensures.begun in
-    let has = subst (λ (x : Design). HasBegun x old.calls place p (number_of p place) (Some t) q) c.requires.design begun in
-    on_err c.take_turn.result (front_mentioned d old.calls place t p q now has) c.take_turn.ensures.front
+    let has = subst (λ (x : Design). HasBegun (with_locks x) old.calls place p (number_of p place) (Some t) q) c.requires.design begun in
+    on_err c.take_turn.result (front_mentioned (with_locks d) (locks_are_orderly d) old.calls place p t q now has) c.take_turn.ensures.front
 
 pub returns-in_err-push_full-in-None-clause-front : goal.returns-in_err-push_full-in-None-clause-front
 returns-in_err-push_full-in-None-clause-front g c =
@@ -79,5 +82,6 @@ returns-in_err-push_full-in-None-clause-front g c =
     let p = play_of old.state c.args.board.now in
     let q = play_of c.number.new.engine.state c.number.new.board in
     let begun = rw c.in-None.is at c.in_ok-t.ensures.begun in
-    let has = subst (λ (x : Design). HasBegun x old.calls place p (number_of p place) None q) c.requires.design begun in
-    if_stopped c.from_residual-in_err-push_full-in-None.result (front_opened c.args.d.now old.calls place p q None has)
+    let has = subst (λ (x : Design). HasBegun (with_locks x) old.calls place p (number_of p place) None q) c.requires.design begun in
+    if_stopped c.from_residual-in_err-push_full-in-None.result
+    (front_opened (with_locks c.args.d.now) (locks_are_orderly c.args.d.now) old.calls place p q None has)

@@ -4,13 +4,17 @@ use Rattle.std.proofs.lemmas.Option.{slice_get_read}
 use Rattle.acc_base.specs.declared.machines.Event.TheVariants.{Begin}
 use Rattle.acc_base.specs.Machine.{World}
 use Rattle.acc_base.specs.Plays.{Play}
-use Rattle.acc_schedule.proofs.LockPlays.{begins_here, cannot_begin, set_keeps}
+use Rattle.acc_player.proofs.Mentioning.{begins_here, cannot_begin}
+use Rattle.acc_player.proofs.Items.{set_keeps, if_stopped}
+use Rattle.acc_lock_rules.specs.LockRules.{with_locks}
+use Rattle.acc_lock_rules.proofs.Orderly.{locks_are_orderly}
 use Rattle.acc_mentions.specs.Boards.{play_of}
-use Rattle.acc_mentions.specs.Ways.{PlayPrecedesEach, IsAfterBegin}
+use Rattle.acc_player.specs.Ways.{PlayPrecedesEach}
+use Rattle.acc_player.specs.Boards.{IsAfterBegin}
 use Rattle.acc_mentions.proofs.Acks.{but_one, begin_history, acked_begun}
 use Rattle.acc_mentions.proofs.Chains.{runs_stays, again_stays}
-use Rattle.acc_mentions.proofs.Marks.{call_there, no_room, unbegun_others}
-use Rattle.acc_mentions.proofs.Fronts.{if_stopped, before_begin, behind_begin}
+use Rattle.acc_mentions.proofs.Marks.{call_there, no_room, unbegun_others, begins_so, cannot_so}
+use Rattle.acc_player.proofs.Leading.{before_begin, behind_begin}
 use Rattle.acc_mentions.proofs.mentions.number.Goals as goal
 
 pub returns-in_err-push-in-Begun-clause-runs : goal.returns-in_err-push-in-Begun-clause-runs
@@ -58,8 +62,9 @@ returns-in_ok-push-in-Begun-clause-begun g c =
     let number_at = slice_get_read b.numbers.items (length old.calls) (place - 1) None (sym c.requires.board.numbers) within
     (search rules) in
     let drawn = rw c.in-Begun.is at c.in_ok-t.ensures.ok in
-    begins_here old.design old.calls place (play_of old.state b) _ drawn.0.call c.in-Begun.t above number_at drawn.0.is_call
-    (drawn.1, drawn.2) drawn.0.begins drawn.0.number refl c.in_ok-push-in-Begun.ensures.items
+    begins_here (with_locks old.design) old.calls place (play_of old.state b) above _ c.in-Begun.t number_at
+    (begins_so old.design old.calls place old.state c.begin_at.new.self.state drawn.0.call above drawn.0.is_call c.in-Begun.t
+    (drawn.1, drawn.2) drawn.0.begins drawn.0.number) refl c.in_ok-push-in-Begun.ensures.items
 
 pub returns-in_ok-push-in-Begun-clause-board : goal.returns-in_ok-push-in-Begun-clause-board
 returns-in_ok-push-in-Begun-clause-board g c =
@@ -88,8 +93,8 @@ returns-in-Full-clause-begun g c =
     (search rules) in
     let call = call_there old.calls (place - 1) within in
     let none = no_room c.in_ok-t.field-0 (place - 1) old c.begin_at.new.self c.in-Full.is c.in_ok-t.ensures.ok in
-    cannot_begin old.design old.calls place (play_of old.state b) (play_of c.begin_at.new.self.state b) call.0 above number_at call.1 none.0
-    (ap (λ (w : World). play_of w b) none.1)
+    cannot_begin (with_locks old.design) old.calls place (play_of old.state b) above c.begin_at.new.self.state number_at
+    (cannot_so old.design old.calls place old.state c.begin_at.new.self.state call.0 above call.1 none.0 none.1)
 
 pub returns-in_err-t-clause-front : goal.returns-in_err-t-clause-front
 returns-in_err-t-clause-front g c =
@@ -98,9 +103,9 @@ returns-in_err-t-clause-front g c =
     let new = c.begin_at.new.self in
     let p = play_of old.state b in
     if_stopped c.from_residual.result
-    (subst (λ (w : World). PlayPrecedesEach (play_of w b) (IsAfterBegin old.design old.calls c.args.place p))
+    (subst (λ (w : World). PlayPrecedesEach (play_of w b) (IsAfterBegin (with_locks old.design) old.calls c.args.place p))
     (sym c.in_err-t.ensures.err.state)
-    (before_begin old.design old.calls c.args.place p))
+    (before_begin (with_locks old.design) (locks_are_orderly old.design) old.calls c.args.place p))
 
 pub returns-in_err-push-in-Begun-clause-front : goal.returns-in_err-push-in-Begun-clause-front
 returns-in_err-push-in-Begun-clause-front g c =
@@ -118,6 +123,7 @@ returns-in_err-push-in-Begun-clause-front g c =
     let q : Play = record { world = new.state; numbers = numbers; places = b.places.items ++ place ∷ [] } in
     let now : Play = record { world = new.state; numbers = numbers; places = c.push.new.self.items } in
     if_stopped c.from_residual-in_err-push-in-Begun.result
-    (behind_begin old.design old.calls place (play_of old.state b) q now (Some t)
-    (begins_here old.design old.calls place (play_of old.state b) q drawn.0.call t above number_at drawn.0.is_call (drawn.1, drawn.2)
-    drawn.0.begins drawn.0.number refl refl) refl refl)
+    (behind_begin (with_locks old.design) (locks_are_orderly old.design) old.calls place (play_of old.state b) q now (Some t)
+    (begins_here (with_locks old.design) old.calls place (play_of old.state b) above q t number_at
+    (begins_so old.design old.calls place old.state new.state drawn.0.call above drawn.0.is_call t (drawn.1, drawn.2) drawn.0.begins
+    drawn.0.number) refl refl) refl refl)

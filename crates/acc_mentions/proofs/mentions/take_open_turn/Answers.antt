@@ -1,10 +1,13 @@
 use Rattle.std.proofs.Common.{refl, subst}
 use Rattle.acc_base.specs.declared.designs.Design.{Design}
 use Rattle.acc_base.specs.Plays.{Turns}
-use Rattle.acc_schedule.proofs.LockPlays.{open_goes}
+use Rattle.acc_player.proofs.Mentioning.{open_goes}
+use Rattle.acc_lock_rules.specs.LockRules.{with_locks}
 use Rattle.acc_mentions.specs.Boards.{play_of}
-use Rattle.acc_mentions.specs.Ways.{PrecedesEach, IsAfterTurn}
-use Rattle.acc_mentions.proofs.Fronts.{if_stopped, front_going, behind_turn}
+use Rattle.acc_player.specs.Ways.{PrecedesEach}
+use Rattle.acc_mentions.specs.Ways.{IsAfterTurn}
+use Rattle.acc_player.proofs.Items.{if_stopped}
+use Rattle.acc_mentions.proofs.Fronts.{front_going, behind_turn}
 use Rattle.acc_mentions.proofs.mentions.take_open_turn.Goals as goal
 
 pub returns-clause-turn : goal.returns-clause-turn
@@ -14,7 +17,7 @@ returns-clause-turn g c =
     let turned = rw c.requires.design at c.in_ok-turn.ensures.turn in
     record {
       told = Turns c.args.place turn;
-      goes = open_goes c.args.d.now c.args.place (play_of old.state c.args.board.now) c.args.t turn c.take.new.engine.state
+      goes = open_goes (with_locks c.args.d.now) c.args.place c.args.t (play_of old.state c.args.board.now) turn c.take.new.engine.state
           c.requires.unfinished turned;
       text = rw c.as_slice.ensures.value at c.in_ok-push_turn.ensures.ok;
     }

@@ -6,7 +6,8 @@ use Rattle.acc_mentions.proofs.Acks.{one_same, acked_turned, acked_unended}
 use Rattle.acc_mentions.proofs.Chains.{ready_stays, again_stays, runs_stays, runs_behind, stops_since}
 use Rattle.acc_mentions.proofs.Settling.{turning_stops, stops_by}
 use Rattle.acc_mentions.proofs.Turned.{turn_adds}
-use Rattle.acc_mentions.proofs.Fronts.{if_stopped, before_turn, behind_turn}
+use Rattle.acc_player.proofs.Items.{if_stopped}
+use Rattle.acc_mentions.proofs.Fronts.{before_turn, behind_turn}
 use Rattle.acc_mentions.proofs.turns.take.Goals as goal
 
 pub returns-in_err-turn-clause-runs : goal.returns-in_err-turn-clause-runs

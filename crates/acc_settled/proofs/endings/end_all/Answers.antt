@@ -2,13 +2,14 @@ use Rattle.std.proofs.Common.{◌≡◌, ◌∙◌, [], subst, arith, rules}
 use Rattle.std.specs.Prelude.{◌≢◌}
 use Rattle.acc_base.specs.declared.designs.Design.{Design}
 use Rattle.acc_base.specs.Machine.{unfinished}
-use Rattle.acc_schedule.specs.LockRules.{with_locks}
-use Rattle.acc_schedule.specs.Endings.{TurnsEach, unfinished_numbers}
-use Rattle.acc_schedule.proofs.Ends.{ends_more, all_ended}
+use Rattle.acc_lock_rules.specs.LockRules.{with_locks}
+use Rattle.acc_player.specs.Endings.{TurnsEach, unfinished_numbers}
+use Rattle.acc_player.proofs.Ends.{ends_more, all_ended}
 use Rattle.acc_mentions.proofs.Chains.{runs_more, again_more}
-use Rattle.acc_mentions.specs.Ways.{PrecedesEach}
-use Rattle.acc_mentions.proofs.Fronts.{if_stopped}
-use Rattle.acc_settled.proofs.Remaining.{leaves_ends, stops_ends}
+use Rattle.acc_player.specs.Ways.{PrecedesEach}
+use Rattle.acc_player.proofs.Items.{if_stopped}
+use Rattle.acc_player.proofs.Remaining.{leaves_ends, stops_ends}
+use Rattle.acc_lock_rules.proofs.Orderly.{locks_are_orderly}
 use Rattle.acc_settled.proofs.endings.end_all.Goals as goal
 
 pub loop-alloc-preserved : goal.loop-alloc-preserved
@@ -23,7 +24,7 @@ loop-alloc-preserved g c =
     c.in_ok-pass.ensures.turns in
     record {
       so_far = ends_more (with_locks was.design) was.state old.state new.state inv.so_far some turns;
-      left = leaves_ends was.design was.state old.state new.state inv.left some turns;
+      left = leaves_ends (with_locks was.design) (locks_are_orderly was.design) was.state old.state new.state inv.left some turns;
       grows = omega (arith, inv.grows, c.in_ok-pass.ensures.more);
       begun = c.pass.ensures.begun ∙ inv.begun;
       runs = runs_more g.D.Disk.told g.D.Disk.may_leave g.D.Disk.clock g.D.Disk.left_since g.D.Disk.faults g.met.D.Disk.only_now was old new
@@ -49,6 +50,6 @@ returns-in_err-pass-clause-front g c =
     let inv = c.loop-alloc.invariant in
     let some : unfinished old.state ≢ [] = search rules in
     if_stopped c.from_residual.result
-    (stops_ends was.design was.state old.state now inv.left some
+    (stops_ends (with_locks was.design) (locks_are_orderly was.design) was.state old.state now inv.left some
     (subst (λ (d : Design). PrecedesEach now (TurnsEach (with_locks d) old.state (unfinished_numbers old.state))) inv.runs.goes_on.design
     c.in_err-pass.ensures.front))

@@ -1,14 +1,15 @@
 use Rattle.std.proofs.Common.{◌≡◌, ◌≤◌, ◌-◌, ◌+◌, length}
-use Rattle.acc_schedule.specs.LockRules.{with_locks}
-use Rattle.acc_schedule.proofs.Ends.{EndsSoFar, most_ever}
+use Rattle.acc_lock_rules.specs.LockRules.{with_locks}
+use Rattle.acc_player.proofs.Ends.{EndsSoFar}
+use Rattle.acc_player.specs.Endings.{most_ever}
 use Rattle.acc_mentions.specs.Runs.{RunsOn, IsReadyAgain}
-use Rattle.acc_settled.proofs.Remaining.{LeavesEnds}
+use Rattle.acc_player.proofs.Remaining.{LeavesEnds}
 use Rattle.acc_settled.proofs.endings.end_all.Given as goal
 
 abbrev pub invariant-loop-alloc : goal.invariant-loop-alloc
 invariant-loop-alloc g l = record {
   so_far : EndsSoFar (with_locks l.fn.engine.design) l.fn.engine.state l.engine.state;
-  left : LeavesEnds l.fn.engine.design l.fn.engine.state l.engine.state;
+  left : LeavesEnds (with_locks l.fn.engine.design) l.fn.engine.state l.engine.state;
   grows : length l.fn.engine.state.events ≤ length l.engine.state.events;
   begun : l.engine.begun ≡ l.fn.engine.begun;
   runs : RunsOn g.D.Disk.clock g.D.Disk.left_since g.D.Disk.told g.D.Disk.may_leave g.D.Disk.faults l.fn.engine l.engine;

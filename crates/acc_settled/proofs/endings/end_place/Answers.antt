@@ -1,16 +1,15 @@
 use Rattle.std.proofs.Common.{◌≡◌, ◌<◌, ◌-◌, length, Some, None, sym, ◌∙◌, subst, arith, rules}
 use Rattle.std.proofs.lemmas.Option.{slice_get_read, same_Some, none-some}
 use Rattle.acc_base.specs.declared.designs.Design.{Design}
-use Rattle.acc_play.proofs.Orders.{on_ok}
-use Rattle.acc_schedule.specs.LockRules.{with_locks}
-use Rattle.acc_schedule.specs.Endings.{EndsAll}
-use Rattle.acc_schedule.proofs.Ends.{begun_ends}
+use Rattle.acc_player.proofs.Items.{on_ok, unnumbered, on_err, if_stopped}
+use Rattle.acc_lock_rules.specs.LockRules.{with_locks}
+use Rattle.acc_player.specs.Endings.{EndsAll}
+use Rattle.acc_player.proofs.Ends.{begun_ends}
 use Rattle.acc_mentions.specs.Boards.{play_of}
 use Rattle.acc_mentions.proofs.Chains.{runs_more, again_more}
-use Rattle.acc_mentions.proofs.Marks.{unnumbered}
-use Rattle.acc_mentions.specs.Ways.{PrecedesEach}
-use Rattle.acc_mentions.proofs.Fronts.{on_err, if_stopped}
-use Rattle.acc_settled.proofs.Fronts.{front_place, front_ended}
+use Rattle.acc_player.specs.Ways.{PrecedesEach}
+use Rattle.acc_player.proofs.Wholes.{front_place, front_ended}
+use Rattle.acc_lock_rules.proofs.Orderly.{locks_are_orderly}
 use Rattle.acc_settled.proofs.endings.end_place.Goals as goal
 
 pub returns-in-Some-clause-ends : goal.returns-in-Some-clause-ends
@@ -27,8 +26,8 @@ returns-in-Some-clause-ends g c =
     (search rules) in
     let begun = rw c.in-Some.is at c.in_ok-number.ensures.begun in
     on_ok c.end_all.result (λ ends.
-    begun_ends old.design old.calls place (play_of old.state b) (play_of mid.state c.number.new.board) c.in-Some.field-0 new.state above
-    number_at
+    begun_ends (with_locks old.design) old.calls place (play_of old.state b) (play_of mid.state c.number.new.board) c.in-Some.field-0
+    new.state above number_at
     begun (subst (λ (d : Design). EndsAll (with_locks d) mid.state new.state) c.number.ensures.runs.goes_on.design ends))
     c.end_all.ensures.ends
 
@@ -61,7 +60,8 @@ returns-in_err-number-clause-front g c =
     let number_at = slice_get_read b.numbers.items (length old.calls) (place - 1) None (sym c.requires.board.numbers) within
     (search rules) in
     if_stopped c.from_residual.result
-    (front_place old.design old.calls place (play_of old.state b) (play_of c.number.new.engine.state c.number.new.board)
+    (front_place (with_locks old.design) (locks_are_orderly old.design) old.calls place (play_of old.state b)
+    (play_of c.number.new.engine.state c.number.new.board)
     (unnumbered (play_of old.state b) place above number_at) c.in_err-number.ensures.front)
 
 pub returns-in-Some-clause-front : goal.returns-in-Some-clause-front
@@ -78,7 +78,8 @@ returns-in-Some-clause-front g c =
     (search rules) in
     let begun = rw c.in-Some.is at c.in_ok-number.ensures.begun in
     on_err c.end_all.result (λ front.
-    front_ended old.design old.calls place c.in-Some.field-0 (play_of old.state b) (play_of mid.state c.number.new.board) new.state
+    front_ended (with_locks old.design) (locks_are_orderly old.design) old.calls place c.in-Some.field-0 (play_of old.state b)
+    (play_of mid.state c.number.new.board) new.state
     (unnumbered (play_of old.state b) place above number_at) begun
     (subst (λ (d : Design). PrecedesEach new.state (EndsAll (with_locks d) mid.state)) c.number.ensures.runs.goes_on.design front))
     c.end_all.ensures.front

@@ -8,15 +8,16 @@ use Rattle.acc_base.specs.declared.machines.Call.{Call}
 use Rattle.acc_base.specs.Plays.{number_of}
 use Rattle.acc_lift.proofs.Becoming.{number_cases}
 use Rattle.acc_lift.proofs.Transactions.{got_within}
-use Rattle.acc_play.proofs.Orders.{range_more}
-use Rattle.acc_schedule.specs.LockRules.{with_locks}
-use Rattle.acc_schedule.specs.Endings.{EndsPlace, EndsPlaces}
-use Rattle.acc_schedule.proofs.Ends.{places_more}
+use Rattle.acc_player.proofs.Orders.{range_more}
+use Rattle.acc_lock_rules.specs.LockRules.{with_locks}
+use Rattle.acc_player.specs.Endings.{EndsPlace, EndsPlaces}
+use Rattle.acc_player.proofs.Ends.{places_more}
 use Rattle.acc_mentions.specs.Boards.{play_of, IsUnbegun}
 use Rattle.acc_mentions.proofs.Chains.{runs_more, again_more, grows}
-use Rattle.acc_mentions.specs.Ways.{PlayPrecedesEach}
-use Rattle.acc_mentions.proofs.Fronts.{if_stopped}
-use Rattle.acc_settled.proofs.Remaining.{LeavesPlaces, leaves_places, stops_places, range_from}
+use Rattle.acc_player.specs.Ways.{PlayPrecedesEach}
+use Rattle.acc_player.proofs.Items.{if_stopped}
+use Rattle.acc_player.proofs.Remaining.{LeavesPlaces, leaves_places, stops_places, range_from}
+use Rattle.acc_lock_rules.proofs.Orderly.{locks_are_orderly}
 use Rattle.acc_settled.proofs.endings.end_places.Goals as goal
 
 pub loop-at-preserved : goal.loop-at-preserved
@@ -57,8 +58,9 @@ loop-at-preserved g c =
       board = c.end_place.ensures.board;
       ends = subst (λ (ps : List ℕ). EndsPlaces (with_locks was.design) was.calls first ps after) (sym range)
           (places_more (with_locks was.design) was.calls first before after (range_with_len 1 i) place inv.ends ends);
-      left = leaves_places was.design was.calls first before after all (drop place all) place
-          (subst (λ (ps : List ℕ). LeavesPlaces was.design was.calls first all before ps) (range_from 1 many i within ∙ here) inv.left)
+      left = leaves_places (with_locks was.design) (locks_are_orderly was.design) was.calls first before after all (drop place all) place
+          (subst (λ (ps : List ℕ). LeavesPlaces (with_locks was.design) was.calls first all before ps)
+          (range_from 1 many i within ∙ here) inv.left)
           ends;
       over = h.over;
       full = λ k less unbegun. full_at k less (number_cases k i) unbegun;
@@ -104,5 +106,6 @@ returns-in_err-end_place-clause-front g c =
     (subst (λ (d : Design). PlayPrecedesEach now (EndsPlace (with_locks d) old.calls place before (number_of before place)))
     inv.runs.goes_on.design c.in_err-end_place.ensures.front) in
     if_stopped c.from_residual.result
-    (stops_places was.design was.calls first before now all (drop place all) place
-    (subst (λ (ps : List ℕ). LeavesPlaces was.design was.calls first all before ps) (range_from 1 many i within ∙ here) inv.left) front)
+    (stops_places (with_locks was.design) (locks_are_orderly was.design) was.calls first before now all (drop place all) place
+    (subst (λ (ps : List ℕ). LeavesPlaces (with_locks was.design) was.calls first all before ps)
+    (range_from 1 many i within ∙ here) inv.left) front)

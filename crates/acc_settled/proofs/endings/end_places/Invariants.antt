@@ -2,11 +2,11 @@ use Rattle.std.proofs.Common.{◌≡◌, ◌≤◌, ◌<◌, ℕ, [], length, dr
 use Rattle.std.specs.List.{range_with_len}
 use Rattle.acc_base.specs.declared.bounds.TheConstants.{MOST_EVENTS}
 use Rattle.acc_base.specs.Machine.{unfinished}
-use Rattle.acc_schedule.specs.LockRules.{with_locks}
-use Rattle.acc_schedule.specs.Endings.{EndsPlaces}
+use Rattle.acc_lock_rules.specs.LockRules.{with_locks}
+use Rattle.acc_player.specs.Endings.{EndsPlaces}
 use Rattle.acc_mentions.specs.Boards.{play_of, IsBoardOf, IsUnbegun}
 use Rattle.acc_mentions.specs.Runs.{RunsOn, IsReadyAgain}
-use Rattle.acc_settled.proofs.Remaining.{LeavesPlaces}
+use Rattle.acc_player.proofs.Remaining.{LeavesPlaces}
 use Rattle.acc_settled.proofs.endings.end_places.Given as goal
 
 abbrev pub invariant-loop-at : goal.invariant-loop-at
@@ -14,7 +14,7 @@ invariant-loop-at g l = record {
   board : IsBoardOf l.engine l.board;
   ends : EndsPlaces (with_locks l.fn.engine.design) l.fn.engine.calls (play_of l.fn.engine.state l.fn.board) (range_with_len 1 l.at)
       (play_of l.engine.state l.board);
-  left : LeavesPlaces l.fn.engine.design l.fn.engine.calls (play_of l.fn.engine.state l.fn.board)
+  left : LeavesPlaces (with_locks l.fn.engine.design) l.fn.engine.calls (play_of l.fn.engine.state l.fn.board)
       (range_with_len 1 (length l.fn.engine.calls)) (play_of l.engine.state l.board)
       (drop l.at (range_with_len 1 (length l.fn.engine.calls)));
   over : unfinished l.engine.state ≡ [];

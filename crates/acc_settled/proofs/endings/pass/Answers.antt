@@ -6,16 +6,17 @@ use Rattle.std.proofs.lemmas.Option.{slice_get_read}
 use Rattle.acc_base.specs.declared.designs.Design.{Design}
 use Rattle.acc_base.specs.declared.machines.Frame.{Frame}
 use Rattle.acc_base.specs.Machine.{unfinished}
-use Rattle.acc_schedule.specs.LockRules.{with_locks}
-use Rattle.acc_schedule.specs.Endings.{unfinished_numbers, TurnsEach}
-use Rattle.acc_schedule.specs.Passes.{Takes, Moves}
-use Rattle.acc_schedule.proofs.Ends.{TurnsSoFar, turns_more, all_turned}
-use Rattle.acc_schedule.proofs.Waiting.{passes_more, pass_goes_on, frame_of, as_many}
+use Rattle.acc_lock_rules.specs.LockRules.{with_locks}
+use Rattle.acc_player.specs.Endings.{unfinished_numbers, TurnsEach, Takes}
+use Rattle.acc_lock_rules.specs.Passes.{Moves}
+use Rattle.acc_player.proofs.Ends.{TurnsSoFar, turns_more, all_turned}
+use Rattle.acc_lock_rules.proofs.Waiting.{passes_more, pass_goes_on, frame_of, as_many}
 use Rattle.acc_mentions.proofs.Chains.{runs_more, again_more}
-use Rattle.acc_mentions.specs.Ways.{PrecedesEach}
-use Rattle.acc_mentions.proofs.Fronts.{if_stopped}
-use Rattle.acc_mentions.proofs.Preceding.{pass_precedes}
-use Rattle.acc_settled.proofs.Remaining.{LeavesTurns, leaves_turns, stops_turns, split_at}
+use Rattle.acc_player.specs.Ways.{PrecedesEach}
+use Rattle.acc_player.proofs.Items.{if_stopped}
+use Rattle.acc_player.proofs.Wholes.{pass_precedes}
+use Rattle.acc_player.proofs.Remaining.{LeavesTurns, leaves_turns, stops_turns, split_at}
+use Rattle.acc_lock_rules.proofs.Orderly.{locks_are_orderly}
 use Rattle.acc_settled.proofs.endings.pass.Goals as goal
 
 pub loop-i-preserved : goal.loop-i-preserved
@@ -30,17 +31,18 @@ loop-i-preserved g c =
     let t : ℕ = c.index.result.now in
     let here : slice_get numbers i ≡ Some t = slice_get_read numbers (length numbers) i t refl within (search rules) in
     let split : drop i numbers ≡ t ∷ drop (i + 1) numbers = split_at numbers i t within here in
-    let takes = subst (λ (d : Design). Takes d old.state t new.state) inv.runs.goes_on.design c.in_ok-take_any.ensures.takes in
+    let takes = subst (λ (d : Design). Takes (with_locks d) old.state t new.state) inv.runs.goes_on.design c.in_ok-take_any.ensures.takes in
     let frames = c.unfinished.ensures.frames ∙ ap unfinished c.state.ensures.state.0 in
     let listed : numbers ≡ map (λ (f : Frame). f.t) (unfinished was.state) = c.in_ok-numbers.ensures ∙ ap (map (λ (f : Frame). f.t))
     frames in
     let frame = frame_of (unfinished was.state) i t (ap (λ (ts : List ℕ). slice_get ts i) (sym listed) ∙ here) in
     record {
-      turned = turns_more was.design was.state old.state new.state numbers (drop (i + 1) numbers) t
+      turned = turns_more (with_locks was.design) was.state old.state new.state numbers (drop (i + 1) numbers) t
           (subst (λ (ts : List ℕ). TurnsSoFar (with_locks was.design) was.state numbers old.state ts) split inv.turned)
           takes;
-      left = leaves_turns was.design was.state old.state new.state numbers (drop (i + 1) numbers) t
-          (subst (λ (ts : List ℕ). LeavesTurns was.design was.state numbers old.state ts) split inv.left) takes;
+      left = leaves_turns (with_locks was.design) (locks_are_orderly was.design) was.state old.state new.state numbers
+          (drop (i + 1) numbers) t
+          (subst (λ (ts : List ℕ). LeavesTurns (with_locks was.design) was.state numbers old.state ts) split inv.left) takes;
       passes = passes_more was.design was.state old.state new.state c.requires.good.steady i frame.0 frame.1 inv.passes
           (subst (λ (n : ℕ). Moves was.design old.state n new.state) (sym frame.2)
           (subst (λ (d : Design). Moves d old.state t new.state) inv.runs.goes_on.design c.in_ok-take_any.ensures.moves));
@@ -82,7 +84,7 @@ pub returns-in_err-numbers-clause-front : goal.returns-in_err-numbers-clause-fro
 returns-in_err-numbers-clause-front g c =
     let was = c.args.engine.now in
     let front : PrecedesEach was.state (TurnsEach (with_locks was.design) was.state (unfinished_numbers was.state)) =
-    λ v h. pass_precedes was.design was.state v (unfinished_numbers was.state) h in
+    λ v h. pass_precedes (with_locks was.design) (locks_are_orderly was.design) was.state v (unfinished_numbers was.state) h in
     if_stopped c.from_residual.result front
 
 pub returns-in_err-take_any-clause-front : goal.returns-in_err-take_any-clause-front
@@ -100,6 +102,7 @@ returns-in_err-take_any-clause-front g c =
     let listed : numbers ≡ unfinished_numbers was.state = c.in_ok-numbers.ensures ∙ ap (map (λ (f : Frame). f.t)) frames in
     if_stopped c.from_residual-in_err-take_any.result
     (subst (λ (ts : List ℕ). PrecedesEach now (TurnsEach (with_locks was.design) was.state ts)) listed
-    (stops_turns was.design was.state old.state now numbers (drop (i + 1) numbers) t
-    (subst (λ (ts : List ℕ). LeavesTurns was.design was.state numbers old.state ts) (split_at numbers i t within here) inv.left)
-    (subst (λ (d : Design). PrecedesEach now (Takes d old.state t)) inv.runs.goes_on.design c.in_err-take_any.ensures.front)))
+    (stops_turns (with_locks was.design) (locks_are_orderly was.design) was.state old.state now numbers (drop (i + 1) numbers) t
+    (subst (λ (ts : List ℕ). LeavesTurns (with_locks was.design) was.state numbers old.state ts) (split_at numbers i t within here) inv.left)
+    (subst (λ (d : Design). PrecedesEach now (Takes (with_locks d) old.state t)) inv.runs.goes_on.design
+    c.in_err-take_any.ensures.front)))

@@ -1,8 +1,8 @@
 use Rattle.std.proofs.Common.{refl, rules}
 use Rattle.std.specs.Prelude.{Some}
 use Rattle.acc_plain.specs.Turned.{IsUnfinished}
-use Rattle.acc_schedule.proofs.Waiting.{turn_moves}
-use Rattle.acc_mentions.proofs.Fronts.{if_stopped}
+use Rattle.acc_lock_rules.proofs.Living.{turn_moves}
+use Rattle.acc_player.proofs.Items.{if_stopped}
 use Rattle.acc_settled.proofs.Fronts.{front_taken}
 use Rattle.acc_settled.proofs.endings.take_any.Goals as goal
 
@@ -14,7 +14,7 @@ pub returns-clause-moves : goal.returns-clause-moves
 returns-clause-moves g c =
     let was = c.args.engine.now in
     turn_moves was.design was.state c.take.new.engine.state c.state-state.ensures.kept.good.steady c.args.t c.in_ok-take.field-0
-    c.in_ok-take.ensures.turn c.in_ok-take.ensures.adds
+    c.in_ok-take.ensures.turn
 
 pub returns-in_err-take-clause-front : goal.returns-in_err-take-clause-front
 returns-in_err-take-clause-front g c =

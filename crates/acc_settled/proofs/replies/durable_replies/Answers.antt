@@ -1,5 +1,5 @@
 use Rattle.std.proofs.Common.{[]}
-use Rattle.acc_settled.proofs.Lines.{lines_more}
+use Rattle.acc_player.proofs.Lines.{lines_more}
 use Rattle.acc_settled.specs.Replies.{durable_line}
 use Rattle.acc_settled.proofs.replies.durable_replies.Goals as goal
 

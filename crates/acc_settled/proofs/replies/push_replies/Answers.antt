@@ -1,5 +1,5 @@
-use Rattle.acc_settled.proofs.Lines.{lines_more}
-use Rattle.acc_settled.specs.Replies.{line_after}
+use Rattle.acc_player.proofs.Lines.{lines_more}
+use Rattle.acc_player.specs.Schedules.{line_after}
 use Rattle.acc_settled.proofs.replies.push_replies.Goals as goal
 
 pub loop-at-preserved : goal.loop-at-preserved

@@ -1,6 +1,6 @@
 use Rattle.std.proofs.Common.{◌≡◌, ◌++◌}
 use Rattle.std.specs.List.{flat_map, range_with_len}
-use Rattle.acc_settled.specs.Replies.{line_after}
+use Rattle.acc_player.specs.Schedules.{line_after}
 use Rattle.acc_settled.proofs.replies.push_replies.Given as goal
 
 abbrev pub invariant-loop-at : goal.invariant-loop-at

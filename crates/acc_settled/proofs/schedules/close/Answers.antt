@@ -7,7 +7,7 @@ use Rattle.acc_base.specs.Lines.{line}
 use Rattle.acc_base.specs.Machine.{World, unfinished}
 use Rattle.acc_schedule.specs.Schedules.{EndsWell}
 use Rattle.acc_schedule.proofs.Closing.{idle_between, begun_by}
-use Rattle.acc_settled.specs.Replies.{line_after}
+use Rattle.acc_player.specs.Schedules.{line_after}
 use Rattle.acc_settled.proofs.schedules.close.Goals as goal
 
 pub returns-clause-closed : goal.returns-clause-closed

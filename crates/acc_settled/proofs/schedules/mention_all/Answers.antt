@@ -1,14 +1,15 @@
 use Rattle.std.proofs.Common.{◌≡◌, ℕ, ◌+◌, ◌∷◌, ◌<◌, ◌≤◌, [], List, length, drop, get_or, refl, subst, arith, add-one, drop-cons}
 use Rattle.std.proofs.lemmas.List.{drop_all}
 use Rattle.acc_base.specs.declared.machines.Call.{Call}
-use Rattle.acc_play.proofs.Orders.{IsPlayedSoFar, opens_play, played_more}
-use Rattle.acc_schedule.specs.LockRules.{with_locks}
-use Rattle.acc_schedule.proofs.Closing.{played}
+use Rattle.acc_player.proofs.Orders.{IsPlayedSoFar, opens_play, played_more, played}
+use Rattle.acc_lock_rules.specs.LockRules.{with_locks}
 use Rattle.acc_mentions.specs.Boards.{play_of, IsMentioned}
 use Rattle.acc_mentions.proofs.Chains.{runs_more, again_more, runs_none, again_none}
-use Rattle.acc_mentions.specs.Ways.{PlayPrecedesEach, IsAfterMention}
-use Rattle.acc_mentions.proofs.Fronts.{if_stopped}
-use Rattle.acc_settled.proofs.Remaining.{LeavesPlay, leaves_play, stops_play}
+use Rattle.acc_player.specs.Ways.{PlayPrecedesEach}
+use Rattle.acc_player.specs.Boards.{IsAfterMention}
+use Rattle.acc_player.proofs.Items.{if_stopped}
+use Rattle.acc_player.proofs.Remaining.{LeavesPlay, leaves_play, stops_play}
+use Rattle.acc_lock_rules.proofs.Orderly.{locks_are_orderly}
 use Rattle.acc_settled.proofs.schedules.mention_all.Goals as goal
 
 pub loop-place-init : goal.loop-place-init
@@ -49,9 +50,10 @@ loop-place-preserved g c =
           (subst (λ (zs : List ℕ). IsPlayedSoFar (with_locks d) d was.calls first order zs before.text.items (play_of old.state before))
           split
           inv.played) m.is_mention m.text;
-      left = leaves_play d was.calls first (play_of old.state before) order (drop (i + 1) order) (get_or order i 0)
-          (m.told, play_of new.state after)
-          (subst (λ (zs : List ℕ). LeavesPlay d was.calls first order (play_of old.state before) zs) split inv.left) m.is_mention;
+      left = leaves_play (with_locks d) (locks_are_orderly d) was.calls first (play_of old.state before) order (drop (i + 1) order)
+          (get_or order i 0) (m.told, play_of new.state after)
+          (subst (λ (zs : List ℕ). LeavesPlay (with_locks d) was.calls first order (play_of old.state before) zs) split inv.left)
+          m.is_mention;
       runs = runs_more g.D.Disk.told g.D.Disk.may_leave g.D.Disk.clock g.D.Disk.left_since g.D.Disk.faults g.met.D.Disk.only_now was old new
           inv.runs inv.again c.mention.ensures.runs;
       again = again_more g.D.Disk.told g.D.Disk.may_leave was old new inv.again c.in_ok-mention.ensures.again;
@@ -67,7 +69,7 @@ returns-clause-played g c =
     let b = c.loop-place.board in
     let past : length order ≤ c.loop-place.place-index = omega arith in
     let over : drop c.loop-place.place-index order ≡ [] = drop_all c.loop-place.place-index order past in
-    played d was.calls first order b.text.items (play_of e.state b)
+    played (with_locks d) d was.calls first order b.text.items (play_of e.state b)
     (subst (λ (zs : List ℕ). IsPlayedSoFar (with_locks d) d was.calls first order zs b.text.items (play_of e.state b)) over
     c.loop-place.invariant.played)
 
@@ -89,7 +91,7 @@ returns-in_err-mention-clause-front g c =
     let within : i < length order = omega arith in
     let split : drop i order ≡ get_or order i 0 ∷ drop (i + 1) order = rw (add-one, drop-cons order i 0) in
     if_stopped c.from_residual.result
-    (stops_play d was.calls first old now order (drop (i + 1) order) (get_or order i 0)
-    (subst (λ (zs : List ℕ). LeavesPlay d was.calls first order old zs) split inv.left)
-    (subst (λ (cs : List Call). PlayPrecedesEach now (IsAfterMention d cs (get_or order i 0) old)) inv.runs.goes_on.calls
+    (stops_play (with_locks d) (locks_are_orderly d) was.calls first old now order (drop (i + 1) order) (get_or order i 0)
+    (subst (λ (zs : List ℕ). LeavesPlay (with_locks d) was.calls first order old zs) split inv.left)
+    (subst (λ (cs : List Call). PlayPrecedesEach now (IsAfterMention (with_locks d) cs (get_or order i 0) old)) inv.runs.goes_on.calls
     c.in_err-mention.ensures.front))

@@ -3,16 +3,18 @@ use Rattle.std.specs.List.{flat_map, range_with_len}
 use Rattle.acc_base.specs.declared.designs.Design.{Design}
 use Rattle.acc_base.specs.declared.machines.Call.{Call}
 use Rattle.acc_base.specs.Machine.{World}
-use Rattle.acc_schedule.specs.Endings.{EndsAll, EndsPlaces}
-use Rattle.acc_schedule.specs.LockRules.{with_locks}
+use Rattle.acc_player.specs.Endings.{EndsAll, EndsPlaces}
+use Rattle.acc_lock_rules.specs.LockRules.{with_locks}
 use Rattle.acc_schedule.specs.Schedules.{EndsWell}
-use Rattle.acc_schedule.proofs.Closing.{tells_from, ending_text_is}
+use Rattle.acc_lock_rules.proofs.Orderly.{locks_are_orderly}
+use Rattle.acc_settled.proofs.Telling.{tells_from}
+use Rattle.acc_player.proofs.Lines.{ending_text_is}
 use Rattle.acc_mentions.specs.Boards.{play_of}
-use Rattle.acc_settled.specs.Replies.{line_after}
-use Rattle.acc_mentions.specs.Ways.{PrecedesEach, PlayPrecedesEach}
+use Rattle.acc_player.specs.Schedules.{line_after}
+use Rattle.acc_player.specs.Ways.{PrecedesEach, PlayPrecedesEach}
 use Rattle.acc_mentions.proofs.Chains.{runs_more, again_more}
-use Rattle.acc_mentions.proofs.Fronts.{if_stopped}
-use Rattle.acc_settled.proofs.Fronts.{front_order, front_passes, front_places, behind_places}
+use Rattle.acc_player.proofs.Items.{if_stopped}
+use Rattle.acc_player.proofs.Wholes.{front_order, front_passes, front_places, behind_places}
 use Rattle.acc_settled.proofs.schedules.run.Goals as goal
 
 pub returns-in_err-end_all-clause-runs : goal.returns-in_err-end_all-clause-runs
@@ -122,7 +124,7 @@ pub returns-in_err-mention_all-clause-front : goal.returns-in_err-mention_all-cl
 returns-in_err-mention_all-clause-front g c =
     let e0 = c.args.engine.now in
     if_stopped c.from_residual.result
-    (front_order c.args.d.now e0.calls c.args.order.now (play_of e0.state c.args.board.now)
+    (front_order (with_locks c.args.d.now) (locks_are_orderly c.args.d.now) e0.calls c.args.order.now (play_of e0.state c.args.board.now)
     (play_of c.mention_all.new.engine.state c.mention_all.new.board) c.in_err-mention_all.ensures.front)
 
 pub returns-in_err-end_all-clause-front : goal.returns-in_err-end_all-clause-front
@@ -134,7 +136,8 @@ returns-in_err-end_all-clause-front g c =
     let now = c.end_all.new.engine.state in
     let d1 : e1.design ≡ d = c.mention_all.ensures.runs.goes_on.design ∙ c.requires.design in
     if_stopped c.from_residual-in_err-end_all.result
-    (front_passes d e0.calls c.args.order.now (play_of e0.state c.args.board.now) b1.text.items (play_of e1.state b1)
+    (front_passes (with_locks d) (locks_are_orderly d) e0.calls c.args.order.now (play_of e0.state c.args.board.now) d
+    b1.text.items (play_of e1.state b1)
     c.in_ok-mention_all.ensures.played now
     (subst (λ (x : Design). PrecedesEach now (EndsAll (with_locks x) e1.state)) d1 c.in_err-end_all.ensures.front))
 
@@ -153,7 +156,8 @@ returns-in_err-end_places-clause-front g c =
     let d1 : e1.design ≡ d = on1.design ∙ c.requires.design in
     let ends = subst (λ (x : Design). EndsAll (with_locks x) e1.state e2.state) d1 c.in_ok-end_all.ensures.ends in
     if_stopped c.from_residual-in_err-end_places.result
-    (front_places d e0.calls c.args.order.now (play_of e0.state c.args.board.now) b1.text.items p c.in_ok-mention_all.ensures.played
+    (front_places (with_locks d) (locks_are_orderly d) e0.calls c.args.order.now (play_of e0.state c.args.board.now) d
+    b1.text.items p c.in_ok-mention_all.ensures.played
     e2.state now ends
     (subst (λ (cs : List Call). PlayPrecedesEach now (EndsPlaces (with_locks d) cs q (range_with_len 1 (length cs))))
     (on2.calls ∙ on1.calls)
@@ -180,7 +184,8 @@ returns-in_err-settle-clause-front g c =
     (subst (λ (x : Design). EndsPlaces (with_locks x) e2.calls q (range_with_len 1 (length e2.calls)) r) (on2.design ∙ d1)
     c.in_ok-end_places.ensures.ends) in
     if_stopped c.from_residual-in_err-settle.result
-    (behind_places d e0.calls c.args.order.now (play_of e0.state c.args.board.now) b1.text.items p c.in_ok-mention_all.ensures.played
+    (behind_places (with_locks d) (locks_are_orderly d) e0.calls c.args.order.now (play_of e0.state c.args.board.now) d
+    b1.text.items p c.in_ok-mention_all.ensures.played
     e2.state r (play_of c.settle.new.engine.state c.end_places.new.board) ends places (sym c.settle.ensures.state) refl)
 
 pub returns-in_err-close-clause-front : goal.returns-in_err-close-clause-front
@@ -203,5 +208,6 @@ returns-in_err-close-clause-front g c =
     (subst (λ (x : Design). EndsPlaces (with_locks x) e2.calls q (range_with_len 1 (length e2.calls)) r) (on2.design ∙ d1)
     c.in_ok-end_places.ensures.ends) in
     if_stopped c.from_residual-in_err-close.result
-    (behind_places d e0.calls c.args.order.now (play_of e0.state c.args.board.now) b1.text.items p c.in_ok-mention_all.ensures.played
+    (behind_places (with_locks d) (locks_are_orderly d) e0.calls c.args.order.now (play_of e0.state c.args.board.now) d
+    b1.text.items p c.in_ok-mention_all.ensures.played
     e2.state r (play_of c.settle.new.engine.state c.close.new.board) ends places (sym c.settle.ensures.state) (sym c.close.ensures.numbers))

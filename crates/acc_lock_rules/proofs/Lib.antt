@@ -1,0 +1,5 @@
+pub mod Rooms
+pub mod OneTurn
+pub mod Orderly
+pub mod Waiting
+pub mod Living

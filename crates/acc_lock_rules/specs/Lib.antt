@@ -1,0 +1,2 @@
+pub mod LockRules
+pub mod Passes

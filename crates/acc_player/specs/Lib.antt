@@ -1,0 +1,6 @@
+pub mod Playing
+pub mod Ways
+pub mod Players
+pub mod Boards
+pub mod Endings
+pub mod Schedules

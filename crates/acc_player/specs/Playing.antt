@@ -1,0 +1,14 @@
+-- A machine with the calls of a script, as contracts see it.
+use Rattle.std.specs.Prelude.{◌≡◌, true, List, All, slice_get}
+use Rattle.acc_base.specs.declared.designs.Design.{Design}
+use Rattle.acc_base.specs.declared.machines.Call.{Call}
+use Rattle.acc_base.specs.Machine.{World, call_fits}
+
+-- each call fits its type
+abbrev pub AllFit : Design → List Call → Type 0
+AllFit d calls = All (λ (call : Call). call_fits (slice_get d.types call.ty) call ≡ true) calls
+
+pub record Playing : Type 0 where
+  pub design : Design
+  pub world : World
+  pub calls : List Call
