@@ -1,11 +1,17 @@
 //! The journal's file: its name among the words, how it is opened, and why it can't be used.
+ghost use Rattle.std.specs.Prelude.{◌≡◌, ◌++◌, ◌<◌, ◌↔◌, true, map, length, string_bytes, IsSome, option_to_list};
+ghost use Rattle.acc_inputs.specs.Words.{asks_journal};
+
 use acc_cli::asks_journal;
 use acc_disk::{FileDisk, Opening, Trouble};
 use acc_wal::FIRST_BYTES;
 use std::alloc::{AllocError, Global};
 
 /// The name of the journal's file, where the words ask for a command over one: the last word behind the verb, which is taken away.
-pub fn take_journal(words: &mut Vec<String>) -> Option<String> {
+pub fn take_journal(words: &mut Vec<String>) -> Option<String>
+    ensures last { words.old.items ≡ words.new.items ++ option_to_list result }
+    ensures asked { IsSome result ↔ ((asks_journal (map string_bytes words.old.items) ≡ true) × (1 < length words.old.items)) }
+{
     if asks_journal(words) && words.len() > 1 {
         words.pop()
     } else {
