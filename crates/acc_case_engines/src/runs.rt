@@ -14,7 +14,7 @@ use acc_disk::MemDisk;
 use acc_lift::Accepted;
 use acc_progress::Silent;
 use acc_recover::{Recovered, recover};
-use acc_settled::over_journal;
+use acc_settling::over_journal;
 use acc_store::MapStore;
 use acc_wal::Wal;
 use std::alloc::{AllocError, Global};

@@ -7,7 +7,7 @@ use crate::recoveries::{fresh, push_counts};
 use acc_base::designs::Design;
 use acc_case_words::words::{number, push_lines};
 use acc_disk::MemDisk;
-use acc_journalled::{Answer, Closed, Ending, Wanted, init_journal, recover_journal};
+use acc_journalled::{Answer, Ended, Ending, Wanted, init_journal, recover_journal};
 use acc_lift::Accepted;
 use acc_print::print;
 use acc_progress::Silent;
@@ -25,7 +25,7 @@ fn is_short(alloc: Global, design: &Design) -> bool
 }
 
 /// What making a journal answers, where its text can be the design's.
-fn made(alloc: Global, design: &Design, disk: MemDisk) -> Option<Closed<MemDisk>> {
+fn made(alloc: Global, design: &Design, disk: MemDisk) -> Option<Ended<MemDisk>> {
     if is_short(alloc, design) {
         Some(init_journal(alloc, design, disk))
     } else {
@@ -34,7 +34,7 @@ fn made(alloc: Global, design: &Design, disk: MemDisk) -> Option<Closed<MemDisk>
 }
 
 /// What a command answers of a disk, if there is one of that name.
-fn closed(alloc: Global, design: &Accepted, name: &str, disk: MemDisk) -> Option<Closed<MemDisk>> {
+fn ended(alloc: Global, design: &Accepted, name: &str, disk: MemDisk) -> Option<Ended<MemDisk>> {
     match name {
         "init" => made(alloc, design.design(), disk),
         "recover" => Some(recover_journal(alloc, design, Wanted::Counts, disk, &mut Silent)),
@@ -55,31 +55,32 @@ fn ending_word(ending: Ending) -> &'static str {
     }
 }
 
-/// Pushes how a command ended, its lines with ` / ` between two, and how many events it tells and how many of them are durable.
+/// Pushes how a command ended, and its lines with ` / ` between two.
 fn push_said(out: &mut String, answer: &Answer) -> Result<(), AllocError> {
     out.push_str(ending_word(answer.ending))?;
-    push_lines(out, &answer.text)?;
-    write!(
-        out,
-        "; events {} settled {}",
-        answer.history.len(),
-        answer.settled
-    )
+    push_lines(out, &answer.text)
 }
 
-/// Pushes what a command answered, how many calls the disk has had, and what recovery makes of its bytes.
-fn push_closed(
+/// Pushes what a command answered, how many events it tells and how many of them are durable, how many calls the disk has had, and what
+/// recovery makes of its bytes.
+fn push_ended(
     alloc: Global,
     out: &mut String,
     design: &Accepted,
-    closed: &Closed<MemDisk>,
+    ended: &Ended<MemDisk>,
 ) -> Result<(), AllocError> {
-    match &closed.answer {
+    match &ended.answer {
         Ok(answer) => push_said(out, answer)?,
         Err(_) => out.push_str("memory")?,
     }
-    write!(out, " calls {} | ", closed.disk.calls())?;
-    push_counts(alloc, out, design, closed.disk.bytes())
+    write!(
+        out,
+        "; events {} settled {} calls {} | ",
+        ended.history.len(),
+        ended.settled,
+        ended.disk.calls()
+    )?;
+    push_counts(alloc, out, design, ended.disk.bytes())
 }
 
 /// A disk with the bytes of a word, one of whose calls fails.
@@ -99,8 +100,8 @@ fn push_words(
         return out.push_str("no command");
     };
     let disk = disk(alloc, design, word, number(fails))?;
-    match closed(alloc, design, name, disk) {
-        Some(closed) => push_closed(alloc, out, design, &closed),
+    match ended(alloc, design, name, disk) {
+        Some(ended) => push_ended(alloc, out, design, &ended),
         None => out.push_str("no command"),
     }
 }

@@ -1,5 +1,5 @@
 -- The causes of the statuses, from the one clause on the answer.
-use Rattle.std.proofs.Common.{◌≡◌, ℕ, List, Option, None, Some, refl, sym, ◌∙◌, inl, inr}
+use Rattle.std.proofs.Common.{◌≡◌, ℕ, Bool, List, Option, None, Some, refl, sym, ◌∙◌, inl, inr}
 use Rattle.std.specs.Prelude.{◌⊎◌}
 use Rattle.acc_base.specs.declared.machines.Event.{Event}
 use Rattle.acc_io.specs.Causes.{Rose}
@@ -156,10 +156,10 @@ module _ (held : List ℕ → Told) (counts counts' : Counts) (disk disk' : Seen
         ran = λ ending h. cc;
       }
 
-  pub causes_of : (sink_fault : Type 0) (old new : Option (List ℕ)) (status : Status) (history : List Event) (settled : ℕ)
-      → Answered (Meant held counts counts' disk disk' words) old new sink_fault status history settled
+  pub causes_of : (over : Bool) (sink_fault : Type 0) (old new : Option (List ℕ)) (status : Status) (history : List Event) (settled : ℕ)
+      → Answered over (Meant held counts counts' disk disk' words) old new sink_fault status history settled
       → HasCauses held counts counts' disk disk' words sink_fault status
-  causes_of sink_fault old new status history settled (inl none) = record {
+  causes_of over sink_fault old new status history settled (inl none) = record {
     usage = λ h. let e : Memory ≡ Usage = sym none.0 ∙ h in absurd cc;
     usage_only = λ _. inr none.0;
     file = λ h. let e : Memory ≡ File = sym none.0 ∙ h in cc;
@@ -170,7 +170,7 @@ module _ (held : List ℕ → Told) (counts counts' : Counts) (disk disk' : Seen
     disk_fault = λ h. let e : Memory ≡ Ran DiskFailed = sym none.0 ∙ h in absurd cc;
     ran = λ ending h. let e : Memory ≡ Ran ending = sym none.0 ∙ h in cc;
   }
-  causes_of sink_fault old new status history settled (inr (meant, means, ends)) =
+  causes_of over sink_fault old new status history settled (inr (meant, means, ends)) =
       elim ends.given_is [
         | inl same ↦ rw same (meant_causes sink_fault (command_of words) meant refl means)
         | inr sunk ↦ rw sunk.1 (sink_causes sink_fault (command_of words) meant refl means sunk.0 sunk.2)

@@ -1,5 +1,5 @@
 -- Where `init` ended as done, the journal was made.
-use Rattle.std.proofs.Common.{◌≡◌, ℕ, List, [], ◌∷◌, Option, Some, inl, inr, sym, subst, ◌∙◌}
+use Rattle.std.proofs.Common.{◌≡◌, ℕ, Bool, List, [], ◌∷◌, Option, Some, inl, inr, sym, subst, ◌∙◌}
 use Rattle.std.specs.Prelude.{◌⊎◌}
 use Rattle.std.specs.Io.KnownBytes.{Appends}
 use Rattle.acc_base.specs.declared.machines.Event.{Event}
@@ -60,13 +60,13 @@ module _ (held : List ℕ → Told) (words : List (List ℕ)) (disk disk' : Seen
       of_files files (record { ending = ending; text = reply.text; history = reply.history; settled = reply.settled }) same given appends
       means
 
-  pub is_created : (counts counts' : Counts) (fault : Type 0) (status : Status) (history : List Event) (settled : ℕ)
+  pub is_created : (counts counts' : Counts) (over : Bool) (fault : Type 0) (status : Status) (history : List Event) (settled : ℕ)
       → command_of words ≡ Some command.Init → status ≡ Ran Done
-      → Answered (Meant held counts counts' disk disk' words) old new fault status history settled
+      → Answered over (Meant held counts counts' disk disk' words) old new fault status history settled
       → IsCreated held words disk.told disk'.told old new
-  is_created counts counts' fault status history settled is done (inl none) =
+  is_created counts counts' over fault status history settled is done (inl none) =
       (let e : Ran Done ≡ Memory = sym done ∙ none.0 in absurd cc)
-  is_created counts counts' fault status history settled is done (inr (meant, means, ends)) =
+  is_created counts counts' over fault status history settled is done (inr (meant, means, ends)) =
       of_form counts counts' meant (subst (λ (o : Option Command). MeansForm held counts counts' disk disk' words o meant) is means)
       (by ends.given_is) (ends.done done)
     where

@@ -1,5 +1,5 @@
 -- What the files that are given, and the endings of commands, say of the disk.
-use Rattle.std.proofs.Common.{◌≤◌, ◌^◌, ℕ, List, [], ◌∷◌, length, map, Vec, Global, refl, inl, inr, arith}
+use Rattle.std.proofs.Common.{◌≤◌, ◌^◌, ℕ, List, [], ◌∷◌, length, refl, inl, inr, arith}
 use Rattle.std.specs.Prelude.{◌≢◌, All}
 use Rattle.std.proofs.lemmas.List.Elements.{All-nil, All-cons}
 use Rattle.acc_io.specs.Shelves.{Told}
@@ -12,13 +12,12 @@ use Rattle.acc_cli.specs.declared.status.Status.TheVariants.{Ran}
 use Rattle.acc_cli.specs.Status.{code_of, IsBeforeJournal}
 
 -- files that are given have at most 2^26 bytes each
-pub short_files : (held : List ℕ → Told) (names : List (List ℕ)) (files : List (Vec ℕ Global)) →
-    AreFiles held names (map (λ v. v.items) files)
-    → All (λ (v : Vec ℕ Global). length v.items ≤ 2 ^ 26) files
-short_files held names [] h = All-nil (λ (v : Vec ℕ Global). length v.items ≤ 2 ^ 26)
+pub short_files : (held : List ℕ → Told) (names files : List (List ℕ)) → AreFiles held names files
+    → All (λ (file : List ℕ). length file ≤ 2 ^ 26) files
+short_files held names [] h = All-nil (λ (file : List ℕ). length file ≤ 2 ^ 26)
 short_files held [] (file ∷ files) h = absurd h
 short_files held (name ∷ names) (file ∷ files) h =
-    All-cons (λ (v : Vec ℕ Global). length v.items ≤ 2 ^ 26) file files h.0.0 (short_files held names files h.1)
+    All-cons (λ (file : List ℕ). length file ≤ 2 ^ 26) file files h.0.0 (short_files held names files h.1)
 
 -- the statuses before the journal are those of the endings before it
 pub early : (ending : Ending) → IsBeforeJournal (code_of (Ran ending)) → IsEarly ending

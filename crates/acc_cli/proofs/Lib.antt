@@ -6,4 +6,6 @@ pub mod DiskLemmas
 pub mod CreationLemmas
 pub mod ProvingLemmas
 pub mod RecoveryLemmas
-pub mod RunLemmas
+pub mod AnswerLemmas
+pub mod LineLemmas
+pub mod Surviving

@@ -14,11 +14,11 @@ use Rattle.acc_cli.specs.declared.status.Status.TheVariants.{Ran}
 use Rattle.acc_journalled.specs.Tellings.{Telling}
 use Rattle.acc_journal_commands.specs.Disks.{Seen, TellsAll}
 use Rattle.acc_cli.specs.Replies.{Reply}
-use Rattle.acc_inputs.specs.Words.{command_of, files_of, is_journalled}
+use Rattle.acc_inputs.specs.Words.{command_of, files_of, is_journalled, is_over_journal}
 use Rattle.acc_inputs.specs.Files.{AreFiles, SaysRefused}
 use Rattle.acc_commands.specs.Means.{Means}
 use Rattle.acc_commands.specs.Alike.{AreAlike as Alike}
-use Rattle.acc_cli.specs.Meant.{RefusesFile, Runs, MeansForm, Meant, is_over_journal}
+use Rattle.acc_cli.specs.Meant.{RefusesFile, Runs, MeansForm, Meant}
 use Rattle.acc_cli.specs.Provings.{AreAlike}
 use Rattle.acc_commands.proofs.OneMeaning.{one_meaning}
 

@@ -1,5 +1,5 @@
 -- What rehearse tells is no event, or a run of an accepted design.
-use Rattle.std.proofs.Common.{◌≡◌, ℕ, List, [], ◌∷◌, Option, Some, inl, inr, sym, subst}
+use Rattle.std.proofs.Common.{◌≡◌, ℕ, List, [], ◌∷◌, Option, Some, inl, inr, sym, ap, subst}
 use Rattle.std.specs.Prelude.{◌⊎◌}
 use Rattle.acc_base.specs.declared.designs.Design.{Design}
 use Rattle.acc_base.specs.declared.machines.Call.{Call}
@@ -15,7 +15,7 @@ use Rattle.acc_inputs.specs.declared.words.Command.TheVariants as command
 use Rattle.acc_cli.specs.declared.status.Status.{Status}
 use Rattle.acc_inputs.specs.Text.{Said}
 use Rattle.acc_cli.specs.Replies.{Reply}
-use Rattle.acc_inputs.specs.Words.{command_of, files_of}
+use Rattle.acc_inputs.specs.Words.{command_of, files_of, is_over_journal}
 use Rattle.acc_inputs.specs.Files.{AreFiles}
 use Rattle.acc_inputs.specs.Refusals.{SaysError, RefusesDesign}
 use Rattle.acc_inputs.specs.Scripts.{SaysOfScript, SaysOfOrder}
@@ -103,9 +103,9 @@ module _ (held : List ℕ → Told) (words : List (List ℕ)) where
   pub promise_kept :
       (counts counts' : Counts) (disk disk' : Seen) (old new : Option (List ℕ)) (fault : Type 0) (status : Status) (history : List Event)
       (settled : ℕ) → command_of words ≡ Some command.Rehearse
-      → Answered (Meant held counts counts' disk disk' words) old new fault status history settled
+      → Answered (is_over_journal (command_of words)) (Meant held counts counts' disk disk' words) old new fault status history settled
       → KeepsPromise held words history
-  promise_kept counts counts' disk disk' old new fault status history settled is (inl none) = inl none.2
+  promise_kept counts counts' disk disk' old new fault status history settled is (inl none) = inl (none.2 (ap is_over_journal is)).0
   promise_kept counts counts' disk disk' old new fault status history settled is (inr (meant, means, ends)) =
       subst (KeepsPromise held words) (sym ends.history_is)
       (of_form counts counts' disk disk' meant

@@ -1,5 +1,5 @@
 -- Where `prove` ended as done, what it said is a certificate.
-use Rattle.std.proofs.Common.{◌≡◌, ℕ, List, [], ◌∷◌, Option, Some, inl, inr, sym, subst, ◌∙◌}
+use Rattle.std.proofs.Common.{◌≡◌, ℕ, Bool, List, [], ◌∷◌, Option, Some, inl, inr, sym, subst, ◌∙◌}
 use Rattle.std.specs.Prelude.{◌⊎◌}
 use Rattle.std.specs.Io.KnownBytes.{Appends}
 use Rattle.acc_base.specs.declared.machines.Event.{Event}
@@ -59,12 +59,12 @@ module _ (held : List ℕ → Told) (words : List (List ℕ)) (old new : Option 
       let same : ending ≡ Done = (let e : Ran ending ≡ Ran Done = sym status ∙ done in cc) in
       of_files files (record { ending = ending; text = reply.text; history = reply.history }) same given appends means.2
 
-  pub is_proved : (counts counts' : Counts) (disk disk' : Seen) (fault : Type 0) (status : Status) (history : List Event) (settled : ℕ)
+  pub is_proved : (counts counts' : Counts) (disk disk' : Seen) (over : Bool) (fault : Type 0) (status : Status) (history : List Event) (settled : ℕ)
       → command_of words ≡ Some command.Prove → status ≡ Ran Done
-      → Answered (Meant held counts counts' disk disk' words) old new fault status history settled → IsProved held words old new
-  is_proved counts counts' disk disk' fault status history settled is done (inl none) =
+      → Answered over (Meant held counts counts' disk disk' words) old new fault status history settled → IsProved held words old new
+  is_proved counts counts' disk disk' over fault status history settled is done (inl none) =
       (let e : Ran Done ≡ Memory = sym done ∙ none.0 in absurd cc)
-  is_proved counts counts' disk disk' fault status history settled is done (inr (meant, means, ends)) =
+  is_proved counts counts' disk disk' over fault status history settled is done (inr (meant, means, ends)) =
       of_form counts counts' disk disk' meant
       (subst (λ (o : Option Command). MeansForm held counts counts' disk disk' words o meant) is means) (by ends.given_is)
       (ends.done done)

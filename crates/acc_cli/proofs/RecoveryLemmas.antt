@@ -1,5 +1,5 @@
 -- What `recover` and `dump` tell, and what a refused journal is afterwards.
-use Rattle.std.proofs.Common.{◌≡◌, ℕ, List, [], ◌∷◌, Option, Some, inl, inr, sym, subst, ◌∙◌, refl}
+use Rattle.std.proofs.Common.{◌≡◌, ℕ, Bool, List, [], ◌∷◌, Option, Some, inl, inr, sym, subst, ◌∙◌, refl}
 use Rattle.std.specs.Prelude.{◌≢◌, ◌⊎◌}
 use Rattle.std.specs.Io.KnownBytes.{Appends}
 use Rattle.acc_base.specs.declared.designs.Design.{Design}
@@ -10,8 +10,6 @@ use Rattle.acc_io.specs.declared.counts.Counts.{Counts}
 use Rattle.acc_base.proofs.Leasts.{some_weaker}
 use Rattle.acc_check.specs.Admissions.{IsAcceptedWith}
 use Rattle.acc_parse.specs.Texts.{IsDesignText}
-use Rattle.acc_parse.specs.declared.errors.ParseError.{ParseError}
-use Rattle.acc_parse.specs.declared.errors.ParseError.TheVariants as errors
 use Rattle.acc_print.specs.Designs.{printed}
 use Rattle.acc_wal.specs.declared.errors.WalError.{WalError}
 use Rattle.acc_wal.specs.declared.errors.WalError.TheVariants as wal
@@ -26,11 +24,10 @@ use Rattle.acc_journalled.specs.Recovering.{SaysNotRead, SaysNotRecovered, Recov
 use Rattle.acc_journalled.specs.Tellings.{Telling}
 use Rattle.acc_inputs.specs.declared.words.Command.{Command}
 use Rattle.acc_inputs.specs.declared.words.Command.TheVariants as command
-use Rattle.acc_inputs.specs.Text.{Said, said_in}
+use Rattle.acc_inputs.specs.Text.{said_in}
 use Rattle.acc_journal_commands.specs.Disks.{Seen}
 use Rattle.acc_inputs.specs.Words.{command_of, files_of}
 use Rattle.acc_inputs.specs.Files.{AreFiles}
-use Rattle.acc_inputs.specs.Refusals.{SaysError, RefusesDesign}
 use Rattle.acc_journal_commands.specs.RecoverFiles.{RecoversCertified, RecoversFiles}
 use Rattle.acc_commands.specs.Means.{MeansOverDisk, Means}
 use Rattle.acc_journal_commands.proofs.JournalEndings.{refusal_ends, refusal_tells_none}
@@ -216,14 +213,20 @@ module _ (held : List ℕ → Told) (words : List (List ℕ)) (c : Command) (w :
       (of_command held words c w disk disk' old new (code_of status) files
       (record { ending = ending; text = meant.text; history = meant.history; settled = meant.settled }) tells given means)
 
-  pub tells_recovery : (counts counts' : Counts) → command_of words ≡ Some c
-      → Answered (Meant held counts counts' disk disk' words) old new fault status history settled
+  pub tells_recovery : (over : Bool) (counts counts' : Counts) → command_of words ≡ Some c
+      → (code_of status ≢ 0 → ((history ≡ []) × (settled ≡ 0))
+      ⊎ IsRecovered held words c w disk.told disk'.told old new (code_of status) history settled)
+      → Answered over (Meant held counts counts' disk disk' words) old new fault status history settled
       → TellsRecovery held words c w disk.told disk'.told old new (code_of status) history settled
-  tells_recovery counts counts' form (inl none) = inl (
-    λ e. let s : Memory ≡ Ran Done = sym none.0 ∙ zero_is_done status e in absurd cc,
-    λ e. let s : Memory ≡ Sink = sym none.0 ∙ seven_is_sink status e in absurd cc,
-    none.2,
-    none.3,
-  )
-  tells_recovery counts counts' form (inr (meant, means, ends)) =
+  tells_recovery over counts counts' form lacking (inl none) = by (lacking unsaid)
+    where
+      unsaid : code_of status ≢ 0
+      unsaid e = (let s : Memory ≡ Ran Done = sym none.0 ∙ zero_is_done status e in absurd cc)
+
+      by : ((history ≡ []) × (settled ≡ 0)) ⊎ IsRecovered held words c w disk.told disk'.told old new (code_of status) history settled
+          → TellsRecovery held words c w disk.told disk'.told old new (code_of status) history settled
+      by (inl untold) =
+          inl (unsaid, λ e. let s : Memory ≡ Sink = sym none.0 ∙ seven_is_sink status e in absurd cc, untold.0, untold.1)
+      by (inr told) = inr told
+  tells_recovery over counts counts' form lacking (inr (meant, means, ends)) =
       of_form counts counts' meant (subst (λ (o : Option Command). MeansForm held counts counts' disk disk' words o meant) form means) ends

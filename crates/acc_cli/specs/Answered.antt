@@ -1,5 +1,5 @@
 -- How a program ends that is to answer a status and to print a text.
-use Rattle.std.specs.Prelude.{◌≡◌, ◌⊎◌, ℕ, List, [], Option}
+use Rattle.std.specs.Prelude.{◌≡◌, ◌⊎◌, ℕ, Bool, false, List, [], Option}
 use Rattle.std.specs.Io.KnownBytes.{Appends, Keeps}
 use Rattle.acc_base.specs.declared.machines.Event.{Event}
 use Rattle.acc_io.specs.Sinks.{WritesFront}
@@ -18,8 +18,8 @@ pub record Ends (meant : Reply) (old new : Option (List ℕ)) (fault : Type 0) (
   pub whole : Appends old new meant.text ⊎ fault
   pub done : given ≡ Ran Done → Appends old new meant.text
 
--- Want of memory prints nothing, and tells no event; else the answer is the meant one.
-abbrev pub Answered : (Reply → Type 0) → Option (List ℕ) → Option (List ℕ) → Type 0 → Status → List Event → ℕ → Type 0
-Answered Meant old new fault given history settled =
-    ((given ≡ Memory) × Keeps old new × (history ≡ []) × (settled ≡ 0))
+-- Want of memory prints nothing, and tells no event, unless the command goes over a journal; else the answer is the meant one.
+abbrev pub Answered : Bool → (Reply → Type 0) → Option (List ℕ) → Option (List ℕ) → Type 0 → Status → List Event → ℕ → Type 0
+Answered over Meant old new fault given history settled =
+    ((given ≡ Memory) × Keeps old new × (over ≡ false → (history ≡ []) × (settled ≡ 0)))
     ⊎ ((meant : Reply) × Meant meant × Ends meant old new fault given history settled)

@@ -8,7 +8,7 @@ use Rattle.acc_io.specs.Shelves.{Told}
 use Rattle.acc_io.specs.declared.counts.Counts.{Counts}
 use Rattle.acc_io.specs.declared.shelf.ShelfError.{ShelfError}
 use Rattle.acc_schedule.specs.Schedules.{TellsSchedule, TellsScheduleFrom}
-use Rattle.acc_mentions.specs.Openings.{opening_at}
+use Rattle.acc_settling.specs.Openings.{opening_at}
 use Rattle.acc_base.specs.Machine.{World}
 use Rattle.acc_wal.specs.Creating.{IsThere}
 use Rattle.acc_recover.specs.Refusals.{RefusesRecovery, IsOfJournal, IsOfBytes, CountsSame}

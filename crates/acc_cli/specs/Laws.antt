@@ -3,10 +3,10 @@ use Rattle.std.specs.Prelude.{◌≡◌, ◌≢◌, ℕ, true, List, None}
 use Rattle.acc_io.specs.Causes.{Rose}
 use Rattle.acc_io.specs.Shelves.{Told}
 use Rattle.acc_io.specs.declared.counts.Counts.{Counts}
-use Rattle.acc_inputs.specs.Words.{command_of}
+use Rattle.acc_inputs.specs.Words.{command_of, is_over_journal}
 use Rattle.acc_journal_commands.specs.Disks.{Seen, TellsAll}
 use Rattle.acc_cli.specs.Replies.{Reply}
-use Rattle.acc_cli.specs.Meant.{Meant, is_over_journal}
+use Rattle.acc_cli.specs.Meant.{Meant}
 use Rattle.acc_cli.specs.Provings.{AreAlike}
 
 -- On a shelf that tells what stands at each name, a command line means one answer where no read fails, and, if it asks for a command over

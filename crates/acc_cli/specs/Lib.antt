@@ -1,7 +1,7 @@
 pub mod Replies
 pub mod Status
-pub mod Responses
 pub mod Meant
+pub mod Leavings
 pub mod Answered
 pub mod Causes
 pub mod Provings
@@ -10,4 +10,4 @@ pub mod Promises
 pub mod Creations
 pub mod Recoveries
 pub mod Runs
-pub mod Fronts
+pub mod Headline

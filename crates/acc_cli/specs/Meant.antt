@@ -1,5 +1,5 @@
 -- What is answered to a command line, where memory lasts and each byte can be written.
-use Rattle.std.specs.Prelude.{◌≡◌, ℕ, Bool, false, List, [], length, ◌⊎◌, Option, Some, None, codes}
+use Rattle.std.specs.Prelude.{◌≡◌, ℕ, List, [], length, ◌⊎◌, Option, Some, None, codes}
 use Rattle.acc_io.specs.Counted.{after_files}
 use Rattle.acc_io.specs.Shelves.{Told}
 use Rattle.acc_io.specs.declared.counts.Counts.{Counts}
@@ -9,7 +9,7 @@ use Rattle.acc_journalled.specs.declared.answers.Ending.{Ending}
 use Rattle.acc_cli.specs.declared.status.Status.TheVariants.{Usage, File, Ran}
 use Rattle.acc_base.specs.Lines.{line}
 use Rattle.acc_cli.specs.Replies.{Reply}
-use Rattle.acc_inputs.specs.Words.{command_of, files_of, is_journalled}
+use Rattle.acc_inputs.specs.Words.{command_of, files_of}
 use Rattle.acc_journal_commands.specs.Disks.{Seen}
 use Rattle.acc_commands.specs.Means.{Means, LeavesOfFile}
 use Rattle.acc_inputs.specs.Files.{AreFiles, IsFirstRefused, SaysRefused}
@@ -48,11 +48,6 @@ MeansForm held counts counts' disk disk' words (Some command) reply =
 
 abbrev pub Meant : (List ℕ → Told) → Counts → Counts → Seen → Seen → List (List ℕ) → Reply → Type 0
 Meant held counts counts' disk disk' words = MeansForm held counts counts' disk disk' words (command_of words)
-
--- whether the words ask for a command over a journal
-abbrev pub is_over_journal : Option Command → Bool
-is_over_journal None = false
-is_over_journal (Some command) = is_journalled command
 
 -- the command's files are given, and this is so to the file that the disk held
 pub record LeavesByCommand (held : List ℕ → Told) (words : List (List ℕ)) (file image : List ℕ) : Type 0 where

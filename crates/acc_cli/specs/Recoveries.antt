@@ -25,7 +25,8 @@ wanted_by command.Replies = Some wanted.Replies
 wanted_by _ = None
 
 -- The files spell this design, which is accepted with its certificate, and the disk held a journal of it. This is the recovered history,
--- all of it durable: the disk holds a journal of just that now. With status 0 what is wanted of it was said.
+-- all of it durable: the disk holds a journal of just that now. With status 0 what is wanted of it was said; where memory ran out, the text
+-- is one that could be said.
 pub record IsRecovered (held : List ℕ → Told) (words : List (List ℕ)) (c : Command) (w : Wanted) (told told' : Option (List ℕ))
     (old new : Option (List ℕ)) (code : ℕ) (history : List Event) (settled : ℕ) : Type 0 where
   pub design : List ℕ

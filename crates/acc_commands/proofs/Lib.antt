@@ -2,8 +2,9 @@ pub mod OneRun
 pub mod OneProving
 pub mod ProvedAccepted
 pub mod OneMeaning
-pub mod FirstTwo
 pub mod RefusedOvers
 pub mod WhichCommands
 pub mod Tables
+pub mod InMemory
+pub mod LeavesFiles
 pub mod DiskEndings

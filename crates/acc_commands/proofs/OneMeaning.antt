@@ -1,7 +1,6 @@
 -- A command says one thing of its files.
 use Rattle.std.proofs.Common.{◌≡◌, ◌<◌, ◌^◌, length, arith, ℕ, Bool, true, false, List, [], ◌∷◌, Option, None, Some}
 use Rattle.std.proofs.Common.{refl, sym, ap, subst, ◌∙◌, inl, inr}
-use Rattle.std.specs.Prelude.{◌≢◌, IfSome}
 use Rattle.acc_base.specs.declared.designs.Design.{Design}
 use Rattle.acc_base.specs.declared.machines.Call.{Call}
 use Rattle.acc_print.specs.Designs.{printed}
@@ -10,7 +9,6 @@ use Rattle.acc_check.specs.Reports.{Reports}
 use Rattle.acc_inputs.specs.declared.words.Command.{Command}
 use Rattle.acc_inputs.specs.declared.words.Command.TheVariants as command
 use Rattle.acc_io.specs.Causes.{Rose}
-use Rattle.acc_journalled.specs.declared.answers.Ending.{Ending}
 use Rattle.acc_journalled.specs.declared.answers.Ending.TheVariants.{Done}
 use Rattle.acc_journalled.specs.declared.answers.Wanted.{Wanted}
 use Rattle.acc_journalled.specs.declared.answers.Wanted.TheVariants.{Counts, Rows, Replies}

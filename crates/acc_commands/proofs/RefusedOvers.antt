@@ -1,35 +1,25 @@
 -- Which journal is refused, and which run leaves a place unbegun.
-use Rattle.std.proofs.Common.{◌≡◌, ℕ, Bool, true, false, List, [], ◌∷◌, Option, inl, inr, sym, ◌∙◌, refl}
-use Rattle.std.specs.Prelude.{◌≢◌, ◌⊎◌}
+use Rattle.std.proofs.Common.{◌≡◌, ℕ, Bool, true, false, List, [], ◌∷◌, inl, inr, sym, ◌∙◌, refl}
+use Rattle.std.specs.Prelude.{◌⊎◌}
 use Rattle.acc_io.specs.Causes.{Rose}
 use Rattle.acc_base.specs.declared.designs.Design.{Design}
 use Rattle.acc_base.specs.declared.machines.Call.{Call}
 use Rattle.acc_base.specs.Machine.{World}
-use Rattle.acc_parse.specs.declared.errors.ParseError.{ParseError}
-use Rattle.acc_parse.specs.declared.errors.ParseError.TheVariants as errors
-use Rattle.acc_wal.specs.declared.errors.WalError.{WalError}
-use Rattle.acc_wal.specs.declared.errors.WalError.TheVariants as wal
-use Rattle.acc_recover.specs.Refusals.{RefusesRecovery, IsOfBytes}
-use Rattle.acc_recover.specs.declared.errors.RecoverError.{RecoverError}
-use Rattle.acc_recover.specs.declared.errors.RecoverError.TheVariants as recovery
-use Rattle.acc_journalled.specs.declared.answers.Ending.{Ending}
 use Rattle.acc_journalled.specs.declared.answers.Ending.TheVariants.{Done, DesignRefused, ScriptRefused, JournalRefused}
 use Rattle.acc_journalled.specs.declared.answers.Ending.TheVariants.{DiskFailed, Unbegun}
 use Rattle.acc_journalled.specs.declared.answers.Wanted.{Wanted}
 use Rattle.acc_journalled.specs.declared.answers.Wanted.TheVariants.{Counts, Rows, Replies}
-use Rattle.acc_journalled.specs.Making.{FindsOne, MakesJournal}
-use Rattle.acc_journalled.specs.Recovering.{SaysNotRead, SaysNotRecovered, RefusesSo, RecoversJournal, text_of}
+use Rattle.acc_journalled.specs.Making.{FindsOne}
+use Rattle.acc_journalled.specs.Recovering.{RefusesSo, text_of}
 use Rattle.acc_journalled.specs.Tellings.{Telling}
 use Rattle.acc_inputs.specs.declared.words.Command.{Command}
 use Rattle.acc_inputs.specs.declared.words.Command.TheVariants as command
-use Rattle.acc_inputs.specs.Text.{Said, said_in, IsEarly}
+use Rattle.acc_inputs.specs.Text.{said_in}
 use Rattle.acc_journal_commands.specs.Disks.{Seen}
-use Rattle.acc_inputs.specs.Refusals.{SaysError, RefusesDesign}
 use Rattle.acc_journal_commands.specs.InitFiles.{InitsJournal, InitsFile}
-use Rattle.acc_running.specs.Running.{RunsJournal}
 use Rattle.acc_running.specs.Engines.{ending_at}
 use Rattle.acc_schedule.specs.Schedules.{TellsScheduleFrom}
-use Rattle.acc_mentions.specs.Openings.{opening_at}
+use Rattle.acc_settling.specs.Openings.{opening_at}
 use Rattle.acc_journal_commands.specs.RunFiles.{RunsSeen, RunsOfOrder, RunsOfScript, RunsCertified, RunsFiles}
 use Rattle.acc_journal_commands.specs.RecoverFiles.{RecoversSeen, RecoversCertified, RecoversFiles}
 use Rattle.acc_commands.specs.Means.{MeansOverDisk}

@@ -4,5 +4,5 @@
 mod commands;
 pub mod laws;
 
-pub use acc_journalled::{Answer, Closed, Ending};
+pub use acc_journalled::{Answer, Ended, Ending};
 pub use commands::run;

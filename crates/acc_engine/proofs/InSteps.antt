@@ -275,21 +275,23 @@ count_more f xs x = by (f x) refl
         sum_none : count_by f xs ≡ count_by f xs + 0
         sum_none = omega arith
 
-set_here : (marks : List Bool) (p q : ℕ) → p < length marks → get_or marks p false ≡ false
-    → times_begun (get_or marks q false) + times_begun (p == q) ≡ times_begun (get_or (set marks p true) q false)
-set_here marks p q lt fresh = by (p == q) refl
+-- a place more is begun
+begun_here : (marks marked : List Bool) (p q : ℕ) → is_begun marks p ≡ false → is_begun marked p ≡ true
+    → ((r : ℕ) → r ≢ p → is_begun marked r ≡ is_begun marks r)
+    → times_begun (is_begun marks q) + times_begun (p == q) ≡ times_begun (is_begun marked q)
+begun_here marks marked p q fresh here others = by (p == q) refl
   where
     none : (n : ℕ) → n + 0 ≡ n
     none n = omega arith
 
-    by : (b : Bool) → (p == q) ≡ b → times_begun (get_or marks q false) + times_begun b ≡ times_begun (get_or (set marks p true) q false)
+    by : (b : Bool) → (p == q) ≡ b → times_begun (is_begun marks q) + times_begun b ≡ times_begun (is_begun marked q)
     by true e =
         let same : p ≡ q = grind (arith, nat_tests) in
-        ap (λ x. times_begun x + 1) (subst (λ k. get_or marks k false ≡ false) same fresh)
-        ∙ sym (ap times_begun (subst (λ k. get_or (set marks p true) k false ≡ true) same (get_or-set_same marks p true false lt)))
+        ap (λ x. times_begun x + 1) (subst (λ k. is_begun marks k ≡ false) same fresh)
+        ∙ sym (ap times_begun (subst (λ k. is_begun marked k ≡ true) same here))
     by false e =
         let other : q ≢ p = λ s. grind (arith, nat_tests) in
-        none (times_begun (get_or marks q false)) ∙ sym (ap times_begun (get_or-set_other marks p q true false other))
+        none (times_begun (is_begun marks q)) ∙ sym (ap times_begun (others q other))
 
 still_below : (marks : List Bool) (p q : ℕ) → get_or marks q false ≡ true → get_or (set marks p true) q false ≡ true
 still_below [] p q h = h
@@ -298,10 +300,10 @@ still_below (b ∷ marks) zero (suc q) h = h
 still_below (b ∷ marks) (suc p) zero h = h
 still_below (b ∷ marks) (suc p) (suc q) h = still_below marks p q h
 
-begin_begins : (calls : List Call) (marks : List Bool) (events : List Event) (p : ℕ) (call : Call) → p < length marks →
-    get_or marks p false ≡ false
-    → slice_get calls p ≡ Some call → BeginsFrom calls marks events → BeginsFrom calls (set marks p true) (events ++ Begin call ∷ [])
-begin_begins calls marks events p call lt fresh is b = record {
+pub begin_begins : (calls : List Call) (marks marked : List Bool) (events : List Event) (p : ℕ) (call : Call) → is_begun marks p ≡ false
+    → is_begun marked p ≡ true → ((q : ℕ) → q ≢ p → is_begun marked q ≡ is_begun marks q) → slice_get calls p ≡ Some call
+    → BeginsFrom calls marks events → BeginsFrom calls marked (events ++ Begin call ∷ [])
+begin_begins calls marks marked events p call fresh here others is b = record {
   no_crash = All-push IsNoCrash events (Begin call) b.no_crash tt;
   places = b.places ++ p ∷ [];
   are =
@@ -309,7 +311,8 @@ begin_begins calls marks events p call lt fresh is b = record {
       ∙ sym
       (filter_map-append (λ place. slice_get calls place) b.places (p ∷ [])
       ∙ ap (λ (o : Option Call). filter_map (λ place. slice_get calls place) b.places ++ cons_option o []) is);
-  once = λ q. count_more (λ x. x == q) b.places p ∙ ap (λ n. n + times_begun (p == q)) (b.once q) ∙ set_here marks p q lt fresh;
+  once = λ q.
+      count_more (λ x. x == q) b.places p ∙ ap (λ n. n + times_begun (p == q)) (b.once q) ∙ begun_here marks marked p q fresh here others;
 }
 
 -- other marks of the same places
@@ -366,7 +369,8 @@ module _ {D : Type 0} (d d2 : Design) (w w2 : World) (mid new : Journal D) (foun
             ∙ sym (append_assoc mid.durable mid.tail (Begin call ∷ [])) ∙ ap (λ (es : List Event). es ++ Begin call ∷ []) k.same ∙ sym more;
         within = omega (arith, k.within, ap length more, length-append w.events (Begin call ∷ []));
         begins = subst (BeginsFrom calls (set marks p true)) (sym later)
-            (begin_begins calls marks (drop found w.events) p call lt fresh is k.begins);
+            (begin_begins calls marks (set marks p true) (drop found w.events) p call fresh (get_or-set_same marks p true false lt)
+            (λ q other. get_or-set_other marks p q true false other) is k.begins);
         fits = subst (λ (x : Design). CallsFit x calls) (sym same) k.fits;
         spelled = k.spelled + length (event_bytes (Begin call));
         whole = omega (arith, k.whole, unbegun_set p marks calls call lt fresh is);
@@ -417,7 +421,7 @@ in_step_new d w durable tail found calls marks kept same none fits few no_marks 
 pub same_world : (d : Design) (old new : World) (call : Call) (error : BeginError) → Begins d old new call (Err error) → new ≡ old
 same_world d old new call Full a = a.0
 same_world d old new call Crowd a = a.0
-same_world d old new call Memory a = a
+same_world d old new call Memory a = a.0
 
 pub in_step_same : (d d2 : Design) (w w2 : World) (durable tail : List Event) (found : ℕ) (calls : List Call) (marks : List Bool)
     (lowest : ℕ)

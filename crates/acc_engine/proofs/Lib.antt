@@ -1,4 +1,5 @@
 pub mod CallFields
 pub mod Unbegun
 pub mod InSteps
+pub mod Standing
 pub mod Tails

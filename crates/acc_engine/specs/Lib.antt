@@ -3,3 +3,4 @@ pub mod Lags
 pub mod Calls
 pub mod Acks
 pub mod Ready
+pub mod Standing

@@ -21,7 +21,7 @@ use std::marker::Model;
 /// Contracts see the disk, the journal's base text, the design and the state, how many events are durable, how many the engine
 /// began with, the calls with a mark for each place that is begun, and whether the engine has failed. Its type keeps that the
 /// journal's events are the state's history; and that of the events that came since the engine was made none is a crash, and the
-/// calls that began are those of the places with a mark, each once.
+/// calls that began are those of the places with a mark, each once. Each call that changes it says what it keeps (`sound`).
 #[derive(Drop)]
 pub struct Engine<'a, S: Store, D: Disk> {
     state: State<'a, S>,
@@ -63,14 +63,16 @@ impl<'a, S: Store, D: Disk> Engine<'a, S, D> {
     ghost use Rattle.acc_disk.specs.Moments.{AtAnyMoment};
     ghost use Rattle.acc_wal.specs.Fronts.{CountsFront};
     ghost use Rattle.acc_wal.specs.Spellings.{body};
+    ghost use Rattle.acc_machine.specs.Begun.{HasRoom};
     ghost use Rattle.acc_plain.specs.Turned.{IsUnfinished};
     ghost use Rattle.acc_machine.specs.Kept.{IsKept};
     ghost use Rattle.acc_machine.specs.Turns.{IsTurn, AddsBy};
     ghost use Rattle.acc_engine.specs.Keeping.{CallsFit, begin_of, BeginsFrom, is_begun};
     ghost use Rattle.acc_engine.specs.Acks.{durable_reply};
-    ghost use Rattle.acc_engine.specs.Calls.{StaysBut, IsUnmoved, RefusesTurn, RefusesSettling, Draws, DrawsLowest};
+    ghost use Rattle.acc_engine.specs.Calls.{StaysBut, IsUnmoved, RefusesTurn, RefusesSettling, Begins, Draws, DrawsLowest};
     ghost use Rattle.acc_engine.specs.Ready.{IsReady};
-    ghost use Rattle.acc_engine.specs.declared.errors.EngineError.TheVariants.{Failed};
+    ghost use Rattle.acc_engine.specs.Standing.{IsSound, CountsDurableOrAll};
+    ghost use Rattle.acc_engine.specs.declared.errors.EngineError.TheVariants.{Failed, Memory};
 
     /// An engine over a state and its settled journal, for these calls, of which none is begun. It takes no memory.
     pub fn new(alloc: Global, state: State<'a, S>, wal: Wal<D>, calls: Seq<Call>) -> Self
@@ -83,8 +85,10 @@ impl<'a, S: Store, D: Disk> Engine<'a, S, D> {
         ensures journal { (result.disk ≡ wal.disk) × (result.base ≡ wal.base) × (result.failed ≡ false) }
         ensures all { (result.settled ≡ length result.state.events) × (result.found ≡ length result.state.events) }
         ensures calls { (result.calls ≡ calls) × (result.begun ≡ []) }
+        ensures sound { IsSound D.told result }
     {
         let found = state.events().len();
+        let _durable = wal.durable();
         Engine {
             state,
             wal,
@@ -133,6 +137,13 @@ impl<'a, S: Store, D: Disk> Engine<'a, S, D> {
         self.wal.durable().len()
     }
 
+    // What the engine keeps. It does nothing.
+    fn standing(&self)
+        ensures { IsSound D.told self.now }
+    {
+        let _durable = self.wal.durable();
+    }
+
     /// The reply of a transaction, once it has ended and its end is durable. It takes no memory, and goes over the events that aren't
     /// durable.
     pub fn ack(&self, t: u64) -> Option<&Reply>
@@ -147,8 +158,8 @@ impl<'a, S: Store, D: Disk> Engine<'a, S, D> {
 
     /// Makes the history durable, and tells how many events it has. It takes no memory.
     ///
-    /// From a calm disk a crash at any moment of the call leaves a journal of some first of the events, of all that were durable
-    /// before at least; and after Ok the disk is calm. `Disk` only where the disk's count of faults rose in this call.
+    /// From a calm disk a crash at any moment of the call leaves a journal of the events that were durable before, or of all events:
+    /// nothing between. After Ok the disk is calm. `Disk` only where the disk's count of faults rose in this call.
     pub fn settle(&mut self) -> Result<u64, EngineError>
         ensures kept { (self.new.state ≡ self.old.state) × (self.new.base ≡ self.old.base) × (self.new.design ≡ self.old.design) }
         ensures calls { (self.new.calls ≡ self.old.calls) × (self.new.begun ≡ self.old.begun) × (self.new.found ≡ self.old.found) }
@@ -164,11 +175,14 @@ impl<'a, S: Store, D: Disk> Engine<'a, S, D> {
         ensures moments { self.old.failed ≡ false → (file : List ℕ) → D.told self.old.disk ≡ Some file
             → Only file (D.may_leave self.old.disk)
             → AtAnyMoment D.clock D.left_since self.old.disk self.new.disk
-            (CountsFront self.old.base self.old.state.events self.old.settled) }
+            (CountsDurableOrAll self.old.base self.old.state.events self.old.settled) }
         ensures ready { IsReady D.told D.may_leave self.old → OnOk result (IsReady D.told D.may_leave self.new) }
+        ensures sound { IsSound D.told self.new }
     {
-        match self.wal.settle() {
-            Ok(()) => Ok(self.wal.durable().len() as u64),
+        let outcome = self.wal.settle();
+        let count = self.wal.durable().len() as u64;
+        match outcome {
+            Ok(()) => Ok(count),
             Err(WalError::Spent) => Err(EngineError::Failed),
             Err(_) => Err(EngineError::Disk),
         }
@@ -184,7 +198,9 @@ impl<'a, S: Store, D: Disk> Engine<'a, S, D> {
         ensures failed { self.old.failed ≡ true → (result ≡ Err Failed) × (self.new ≡ self.old) }
         ensures stays { StaysBut self.old self.new }
         ensures begun { self.new.begun ≡ self.old.begun }
+        ensures sound { IsSound D.told self.new }
     {
+        self.standing();
         match self.wal.reserve(14) {
             Ok(()) => (),
             Err(WalError::Spent) => return Err(EngineError::Failed),
@@ -199,7 +215,8 @@ impl<'a, S: Store, D: Disk> Engine<'a, S, D> {
         }
     }
 
-    /// Begins that place, counted from 1. It takes its memory first, and makes no call of the disk. `Empty` never comes.
+    /// Begins that place, counted from 1. It looks for room first, so `Full` and `Crowd` take no memory; then it takes its memory, and
+    /// makes no call of the disk. `Empty` never comes.
     pub fn begin_at(&mut self, place: u64) -> Result<Drawn, EngineError>
         requires low { 1 ≤ place }
         requires high { place ≤ length self.old.calls }
@@ -207,32 +224,56 @@ impl<'a, S: Store, D: Disk> Engine<'a, S, D> {
         ensures ok { IfOk result (λ drawn. Draws drawn (place - 1) self.old self.new) }
         ensures err { OnErr result (IsUnmoved self.old self.new) }
         ensures why { IfErr result (λ error. RefusesTurn error self.old.failed) }
+        ensures memory { IfErr result (λ error. error ≡ Memory → HasRoom self.old.state) }
         ensures failed { self.old.failed ≡ true → (result ≡ Err Failed) × (self.new ≡ self.old) }
         ensures stays { StaysBut self.old self.new }
+        ensures sound { IsSound D.told self.new }
     {
-        let index = (place - 1) as usize;
-        let event = match prepare(&mut self.wal, &mut self.begun, self.calls.as_slice(), index) {
-            Ok(event) => event,
-            Err(error) => return Err(error),
-        };
-        match self.state.begin(&self.calls.as_slice()[index]) {
-            Ok(t) => {
-                put(&mut self.wal, event);
-                self.begun[index] = true;
-                Ok(Drawn::Begun(t))
-            }
+        self.standing();
+        if self.wal.reserve(0).is_err() {
+            return Err(EngineError::Failed);
+        }
+        match self.state.room() {
+            Ok(()) => Ok(Drawn::Begun(self.begin_with_room(place)?)),
             Err(error) => not_begun(error),
         }
     }
 
-    /// Begins the lowest place that isn't begun. It makes no call of the disk.
+    // Begins that place, counted from 1, where there is room for a call.
+    fn begin_with_room(&mut self, place: u64) -> Result<u64, EngineError>
+        requires low { 1 ≤ place }
+        requires high { place ≤ length self.old.calls }
+        requires fresh { is_begun self.old.begun (place - 1) ≡ false }
+        requires unfailed { self.old.failed ≡ false }
+        requires room { HasRoom self.old.state }
+        ensures ok { IfOk result (λ t. Begins (place - 1) t self.old self.new) }
+        ensures err { OnErr result (IsUnmoved self.old self.new) }
+        ensures why { IfErr result (λ error. error ≡ Memory) }
+        ensures stays { StaysBut self.old self.new }
+    {
+        let index = (place - 1) as usize;
+        let event = prepare(&mut self.wal, &mut self.begun, self.calls.as_slice(), index)?;
+        match self.state.begin(&self.calls.as_slice()[index]) {
+            Ok(t) => {
+                put(&mut self.wal, event);
+                self.begun[index] = true;
+                Ok(t)
+            }
+            Err(_) => Err(EngineError::Memory),
+        }
+    }
+
+    /// Begins the lowest place that isn't begun. It looks for room first, as `begin_at` does, and makes no call of the disk.
     pub fn draw(&mut self) -> Result<Drawn, EngineError>
         ensures ok { IfOk result (λ drawn. DrawsLowest drawn self.old self.new) }
         ensures err { OnErr result (IsUnmoved self.old self.new) }
         ensures why { IfErr result (λ error. RefusesTurn error self.old.failed) }
+        ensures memory { IfErr result (λ error. error ≡ Memory → HasRoom self.old.state) }
         ensures failed { self.old.failed ≡ true → (result ≡ Err Failed) × (self.new ≡ self.old) }
         ensures stays { StaysBut self.old self.new }
+        ensures sound { IsSound D.told self.new }
     {
+        self.standing();
         let place = lowest(&self.begun, self.lowest);
         if place < self.calls.len() {
             self.lowest = place;

@@ -1,12 +1,12 @@
 //! What has to be ready before a place begins.
-ghost use Rattle.std.specs.Prelude.{◌≡◌, ◌≤◌, ◌<◌, List, ℕ, length, true, false, vec_len, All, IfOk, IfErr, OnOk, Err};
+ghost use Rattle.std.specs.Prelude.{◌≡◌, ◌≤◌, ◌<◌, List, ℕ, length, false, vec_len, All, IfOk, IfErr, OnOk};
 ghost use Rattle.acc_base.specs.declared.machines.Call.{Call as TheCall};
 ghost use Rattle.acc_base.specs.declared.machines.Event.TheVariants.{Begin};
 ghost use Rattle.acc_wal.specs.Spellings.{event_bytes, Fits};
 ghost use Rattle.acc_wal.specs.Settling.{SameButRoom};
 ghost use Rattle.acc_engine.specs.Keeping.{is_begun, unbegun};
-ghost use Rattle.acc_engine.specs.Calls.{RefusesTurn, IsBeginAt};
-ghost use Rattle.acc_engine.specs.declared.errors.EngineError.TheVariants.{Failed};
+ghost use Rattle.acc_engine.specs.Calls.{IsBeginAt};
+ghost use Rattle.acc_engine.specs.declared.errors.EngineError.TheVariants.{Memory};
 
 use crate::errors::EngineError;
 use crate::marks::widen;
@@ -22,6 +22,7 @@ pub fn prepare<D: Disk>(
     calls: &[Call],
     index: usize,
 ) -> Result<Event, EngineError>
+    requires unspent { wal.old.spent ≡ false }
     requires within { index < length calls.now }
     requires fits { All (λ call. Fits (Begin call)) calls.now }
     ensures event { IfOk result (IsBeginAt calls.now index) }
@@ -29,15 +30,11 @@ pub fn prepare<D: Disk>(
     ensures room { IfOk result (λ event. length (event_bytes event) ≤ wal.new.room) }
     ensures long { OnOk result (length calls.now ≤ vec_len begun.new) }
     ensures unspent { OnOk result (wal.new.spent ≡ false) }
-    ensures why { IfErr result (λ error. RefusesTurn error wal.old.spent) }
-    ensures failed { wal.old.spent ≡ true → (result ≡ Err Failed) × (wal.new ≡ wal.old) × (begun.new.items ≡ begun.old.items) }
+    ensures why { IfErr result (λ error. error ≡ Memory) }
     ensures lists { SameButRoom wal.old wal.new }
     ensures same { (calls : List TheCall) → unbegun begun.new.items calls ≡ unbegun begun.old.items calls }
     ensures marks { (p : ℕ) → is_begun begun.new.items p ≡ is_begun begun.old.items p }
 {
-    if wal.reserve(0).is_err() {
-        return Err(EngineError::Failed);
-    }
     let Ok(event) = begin_again(*begun.allocator(), &calls[index]) else {
         return Err(EngineError::Memory);
     };

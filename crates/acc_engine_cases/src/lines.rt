@@ -1,8 +1,7 @@
 //! How the answer of a schedule over a journal is spelled.
 use acc_case_words::words::push_lines;
 use acc_disk::MemDisk;
-use acc_journalled::Ending;
-use acc_running::{Run, Said};
+use acc_journalled::{Answer, Ended, Ending};
 use std::alloc::AllocError;
 use std::fmt::Write;
 
@@ -13,23 +12,23 @@ fn word(ending: Ending) -> &'static str {
         Ending::Unbegun => "unbegun",
         Ending::JournalRefused => "refused",
         Ending::DiskFailed => "failed",
-        _ => "otherwise",
+        Ending::DesignRefused | Ending::ScriptRefused | Ending::Open => "otherwise",
     }
 }
 
 /// Pushes the lines that were said, and how the run ended.
-fn push_said(out: &mut String, said: &Said) -> Result<(), AllocError> {
-    if !said.text.is_empty() {
-        push_lines(out, &said.text)?;
+fn push_said(out: &mut String, answer: &Answer) -> Result<(), AllocError> {
+    if !answer.text.is_empty() {
+        push_lines(out, &answer.text)?;
         out.push_str(" / ")?;
     }
-    out.push_str(word(said.ending))
+    out.push_str(word(answer.ending))
 }
 
 /// Pushes what a run answered, how many events are durable, of how many, and how many calls the disk has had.
-pub fn push_run(out: &mut String, run: &Run<MemDisk>) -> Result<(), AllocError> {
-    match &run.said {
-        Ok(said) => push_said(out, said)?,
+pub fn push_run(out: &mut String, run: &Ended<MemDisk>) -> Result<(), AllocError> {
+    match &run.answer {
+        Ok(answer) => push_said(out, answer)?,
         Err(_) => out.push_str("memory")?,
     }
     let all = run.history.len();

@@ -3,3 +3,4 @@ pub mod ScheduleFiles
 pub mod PrintFiles
 pub mod CheckFiles
 pub mod ProveFiles
+pub mod Runs

@@ -2,6 +2,7 @@
 #![tactic(auto)]
 
 pub mod designs;
+pub mod memory_runs;
 pub mod plays;
 pub mod provings;
 pub mod schedules;

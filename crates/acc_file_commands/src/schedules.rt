@@ -1,24 +1,26 @@
 //! Playing a script by the rules of locks.
 ghost use Rattle.std.specs.Prelude.{◌≡◌, IfOk};
-ghost use Rattle.acc_inputs.specs.Responses.{said_of};
+ghost use Rattle.acc_file_commands.specs.Runs.{told_by};
 ghost use Rattle.acc_player.specs.Playing.{AllFit};
 ghost use Rattle.acc_inputs.specs.Scripts.{SaysOfScript, SaysOfOrder};
 ghost use Rattle.acc_file_commands.specs.ScheduleFiles.{SchedulesFiles, SaysOfCertificate, SaysSchedule, ending_at};
 
+use crate::memory_runs::{Run, unplayed};
 use acc_base::designs::Design;
 use acc_base::machines::Call;
 use acc_check::{Admission, admit};
 use acc_inputs::{
-    ReadDesign, ReadOrder, ReadScript, Response, read_design, read_order, read_script, refused,
+    ReadDesign, ReadOrder, ReadScript, ScheduleFiles, design_refused, read_design, read_order,
+    read_script,
 };
-use acc_journalled::Ending;
+use acc_journalled::{Answer, Ending};
 use acc_lift::Accepted;
 use acc_schedule::{Scheduled, schedule};
 use std::alloc::{AllocError, Global};
 
-/// The answer of a schedule.
-fn scheduled_answer(told: Scheduled) -> Response
-    ensures { said_of result ≡ record { ending = ending_at told.all_begun; text = told.text.items; history = told.history } }
+/// The answer of a schedule, and its events.
+fn scheduled_answer(told: Scheduled) -> Run
+    ensures { told_by result ≡ record { ending = ending_at told.all_begun; text = told.text.items; history = told.history } }
 {
     let Scheduled {
         text,
@@ -30,9 +32,8 @@ fn scheduled_answer(told: Scheduled) -> Response
     } else {
         Ending::Unbegun
     };
-    Response {
-        ending,
-        text,
+    Run {
+        answer: Answer { ending, text },
         history,
     }
 }
@@ -43,16 +44,16 @@ fn schedule_order(
     accepted: &Accepted,
     asked: &[Call],
     file: &[u8],
-) -> Result<Response, AllocError>
+) -> Result<Run, AllocError>
     requires fit { AllFit accepted.now asked.now }
-    ensures { IfOk result (λ a. SaysOfOrder (SaysSchedule accepted.now) asked.now file.now (said_of a)) }
+    ensures { IfOk result (λ r. SaysOfOrder (SaysSchedule accepted.now) asked.now file.now (told_by r)) }
 {
     match read_order(alloc, asked, file)? {
         ReadOrder::Read(places) => {
             let told = schedule(alloc, accepted, asked, places.as_slice())?;
             Ok(scheduled_answer(told))
         }
-        ReadOrder::Refused(response) => Ok(response),
+        ReadOrder::Refused(answer) => Ok(unplayed(alloc, answer)),
     }
 }
 
@@ -62,12 +63,12 @@ fn schedule_script(
     accepted: &Accepted,
     script: &[u8],
     file: &[u8],
-) -> Result<Response, AllocError>
-    ensures { IfOk result (λ a. SaysOfScript (SaysSchedule accepted.now) accepted.now script.now file.now (said_of a)) }
+) -> Result<Run, AllocError>
+    ensures { IfOk result (λ r. SaysOfScript (SaysSchedule accepted.now) accepted.now script.now file.now (told_by r)) }
 {
     match read_script(alloc, accepted.design(), script)? {
         ReadScript::Read(asked) => schedule_order(alloc, accepted, asked.as_slice(), file),
-        ReadScript::Refused(response) => Ok(response),
+        ReadScript::Refused(answer) => Ok(unplayed(alloc, answer)),
     }
 }
 
@@ -78,28 +79,26 @@ fn schedule_design(
     certificate: &[u8],
     script: &[u8],
     file: &[u8],
-) -> Result<Response, AllocError>
-    ensures { IfOk result (λ a. SaysOfCertificate d certificate.now script.now file.now (said_of a)) }
+) -> Result<Run, AllocError>
+    ensures { IfOk result (λ r. SaysOfCertificate d certificate.now script.now file.now (told_by r)) }
 {
     match admit(alloc, d, certificate)? {
         Admission::Accepted(accepted) => schedule_script(alloc, &accepted, script, file),
-        Admission::Refused(text) => Ok(refused(alloc, text)),
+        Admission::Refused(text) => Ok(unplayed(alloc, design_refused(text))),
     }
 }
 
 /// Plays a script's calls in the order that is given and then to their end, by the rules of locks, on a design that is accepted with
 /// its certificate.
-pub fn schedule_files(
-    alloc: Global,
-    design: &[u8],
-    certificate: &[u8],
-    script: &[u8],
-    file: &[u8],
-) -> Result<Response, AllocError>
-    ensures { IfOk result (λ a. SchedulesFiles design.now certificate.now script.now file.now (said_of a)) }
+pub fn schedule_files(alloc: Global, files: ScheduleFiles) -> Result<Run, AllocError>
+    ensures { IfOk result (λ r. SchedulesFiles files.entry.design.now files.entry.certificate.now
+        files.entry.script.now files.entry.order.now
+        (told_by r)) }
 {
-    match read_design(alloc, design)? {
-        ReadDesign::Read(d) => schedule_design(alloc, d, certificate, script, file),
-        ReadDesign::Refused(response) => Ok(response),
+    match read_design(alloc, files.design)? {
+        ReadDesign::Read(d) => {
+            schedule_design(alloc, d, files.certificate, files.script, files.order)
+        }
+        ReadDesign::Refused(answer) => Ok(unplayed(alloc, answer)),
     }
 }

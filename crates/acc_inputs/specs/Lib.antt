@@ -5,5 +5,6 @@ pub mod Refusals
 pub mod ReadDesigns
 pub mod Notes
 pub mod Scripts
-pub mod Responses
+pub mod Answers
 pub mod ReadScripts
+pub mod Requests

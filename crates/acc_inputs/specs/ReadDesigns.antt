@@ -5,7 +5,7 @@ use Rattle.acc_parse.specs.Texts.{IsDesignText}
 use Rattle.acc_formed.specs.WellFormed.{IsWellFormed}
 use Rattle.acc_inputs.specs.declared.designs.ReadDesign.{ReadDesign}
 use Rattle.acc_inputs.specs.declared.designs.ReadDesign.TheVariants.{Read, Refused}
-use Rattle.acc_inputs.specs.Responses.{said_of}
+use Rattle.acc_inputs.specs.Answers.{said_alone}
 use Rattle.acc_inputs.specs.Refusals.{RefusesDesign}
 
 -- the text is that of the design, which is well-formed
@@ -15,4 +15,4 @@ pub record IsRead (text : List ℕ) (d : Design) : Type 0 where
 
 abbrev pub Reads : List ℕ → ReadDesign → Type 0
 Reads text (Read d) = IsRead text d
-Reads text (Refused a) = RefusesDesign text (said_of a)
+Reads text (Refused a) = RefusesDesign text (said_alone a)

@@ -1,32 +1,25 @@
 -- The forms of the command line.
-use Rattle.std.specs.Prelude.{ℕ, List, [], ◌∷◌, length, take, drop, Bool, true, false, ◌&&◌, ◌||◌, ◌==◌, if◌then◌else◌}
+use Rattle.std.specs.Prelude.{ℕ, List, [], ◌∷◌, length, take, drop, Bool, true, false, ◌==◌, if◌then◌else◌}
 use Rattle.std.specs.Prelude.{Option, Some, None, codes}
 use Rattle.std.specs.Str.{bytes_eq}
 use Rattle.acc_inputs.specs.declared.words.Command.{Command}
 use Rattle.acc_inputs.specs.declared.words.Command.TheVariants as command
 
--- a verb and this many words behind it
-abbrev pub is_form : List ℕ → ℕ → List (List ℕ) → Bool
-is_form verb count [] = false
-is_form verb count (first ∷ rest) = bytes_eq first verb && (length rest == count)
-
--- the command that the words ask for: `play DESIGN SCRIPT ORDER`, `rehearse DESIGN CERT SCRIPT ORDER`, `print DESIGN`,
--- `check DESIGN CERT`, `prove DESIGN`, `init DESIGN`, `sched DESIGN CERT SCRIPT ORDER`, `recover DESIGN CERT`, `dump DESIGN CERT`,
--- `replies DESIGN CERT`, `--help`, `--version`
-unfoldable pub command_of : List (List ℕ) → Option Command
-command_of words =
-    if is_form (codes "play") 3 words then Some command.Play else
-    (if is_form (codes "rehearse") 4 words then Some command.Rehearse else
-    (if is_form (codes "print") 1 words then Some command.Print else
-    (if is_form (codes "check") 2 words then Some command.Check else
-    (if is_form (codes "prove") 1 words then Some command.Prove else
-    (if is_form (codes "init") 1 words then Some command.Init else
-    (if is_form (codes "sched") 4 words then Some command.Sched else
-    (if is_form (codes "recover") 2 words then Some command.Recover else
-    (if is_form (codes "dump") 2 words then Some command.Dump else
-    (if is_form (codes "replies") 2 words then Some command.Replies else
-    (if is_form (codes "--help") 0 words then Some command.Help else
-    (if is_form (codes "--version") 0 words then Some command.Version else
+-- the command with this verb
+unfoldable pub verb_of : List ℕ → Option Command
+verb_of verb =
+    if bytes_eq verb (codes "play") then Some command.Play else
+    (if bytes_eq verb (codes "rehearse") then Some command.Rehearse else
+    (if bytes_eq verb (codes "print") then Some command.Print else
+    (if bytes_eq verb (codes "check") then Some command.Check else
+    (if bytes_eq verb (codes "prove") then Some command.Prove else
+    (if bytes_eq verb (codes "init") then Some command.Init else
+    (if bytes_eq verb (codes "sched") then Some command.Sched else
+    (if bytes_eq verb (codes "recover") then Some command.Recover else
+    (if bytes_eq verb (codes "dump") then Some command.Dump else
+    (if bytes_eq verb (codes "replies") then Some command.Replies else
+    (if bytes_eq verb (codes "--help") then Some command.Help else
+    (if bytes_eq verb (codes "--version") then Some command.Version else
     None)))))))))))
 
 -- how many files a command reads: the first words behind the verb name them
@@ -49,17 +42,35 @@ files_of c words = take (file_count c) (drop 1 words)
 
 -- whether a command goes over a journal
 abbrev pub is_journalled : Command → Bool
+is_journalled command.Play = false
+is_journalled command.Rehearse = false
+is_journalled command.Print = false
+is_journalled command.Check = false
+is_journalled command.Prove = false
 is_journalled command.Init = true
 is_journalled command.Sched = true
 is_journalled command.Recover = true
 is_journalled command.Dump = true
 is_journalled command.Replies = true
-is_journalled _ = false
+is_journalled command.Help = false
+is_journalled command.Version = false
+
+-- the command that the words ask for: its verb, and as many words behind it as it has files
+abbrev pub with_files : Option Command → ℕ → Option Command
+with_files None count = None
+with_files (Some c) count = if count == file_count c then Some c else None
+
+abbrev pub command_of : List (List ℕ) → Option Command
+command_of [] = None
+command_of (verb ∷ names) = with_files (verb_of verb) (length names)
+
+-- whether it is a command, and one over a journal
+abbrev pub is_over_journal : Option Command → Bool
+is_over_journal None = false
+is_over_journal (Some c) = is_journalled c
 
 -- Whether the first word is the verb of a command over a journal. Then the program's own last word names the journal's file, and isn't one
 -- of the words of a form.
 abbrev pub asks_journal : List (List ℕ) → Bool
 asks_journal [] = false
-asks_journal (first ∷ rest) =
-    bytes_eq first (codes "init") || (bytes_eq first (codes "sched") || (bytes_eq first (codes "recover")
-    || (bytes_eq first (codes "dump") || bytes_eq first (codes "replies"))))
+asks_journal (verb ∷ names) = is_over_journal (verb_of verb)

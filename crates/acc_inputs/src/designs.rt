@@ -1,13 +1,13 @@
 //! Reading a design, and what is said of one that is refused.
-ghost use Rattle.std.specs.Prelude.{IfOk};
-ghost use Rattle.acc_inputs.specs.Responses.{said_of};
+ghost use Rattle.std.specs.Prelude.{◌≡◌, [], IfOk};
+ghost use Rattle.acc_journalled.specs.declared.answers.Ending.TheVariants.{DesignRefused};
+ghost use Rattle.acc_inputs.specs.Answers.{said_alone};
 ghost use Rattle.acc_inputs.specs.Refusals.{SaysError, SaysRule};
 ghost use Rattle.acc_inputs.specs.ReadDesigns.{Reads};
 
-use crate::responses::{Response, one_line};
 use acc_base::designs::Design;
 use acc_form::{FormError, well_formed};
-use acc_journalled::Ending;
+use acc_journalled::{Answer, Ending, one_line};
 use acc_parse::{ParseError, parse};
 use std::alloc::{AllocError, Global};
 
@@ -15,12 +15,22 @@ use std::alloc::{AllocError, Global};
 #[derive(Drop)]
 pub enum ReadDesign {
     Read(Design),
-    Refused(Response),
+    Refused(Answer),
+}
+
+/// What is answered where a design is refused with its certificate, by the line that says why.
+pub fn design_refused(text: Vec<u8>) -> Answer
+    ensures { said_alone result ≡ record { ending = DesignRefused; text = text.items; history = [] } }
+{
+    Answer {
+        ending: Ending::DesignRefused,
+        text,
+    }
 }
 
 /// What is answered to a text that is no design's.
-fn text_refusal(alloc: Global, error: ParseError) -> Result<Response, AllocError>
-    ensures { IfOk result (λ a. SaysError error (said_of a)) }
+fn text_refusal(alloc: Global, error: ParseError) -> Result<Answer, AllocError>
+    ensures { IfOk result (λ a. SaysError error (said_alone a)) }
 {
     let text = match error {
         ParseError::Syntax(line) => format!(in alloc; "refused syntax {line}")?,
@@ -28,15 +38,15 @@ fn text_refusal(alloc: Global, error: ParseError) -> Result<Response, AllocError
         ParseError::Limit(line, which) => format!(in alloc; "refused limit {line} {which}")?,
         ParseError::Memory => return Err(AllocError),
     };
-    one_line(alloc, Ending::DesignRefused, text.as_str())
+    Ok(one_line(alloc, Ending::DesignRefused, text.as_str())?)
 }
 
 /// What is answered to a design that breaks a form rule.
-fn form_refusal(alloc: Global, rule: u32, line: u64) -> Result<Response, AllocError>
-    ensures { IfOk result (λ a. SaysRule rule line (said_of a)) }
+fn form_refusal(alloc: Global, rule: u32, line: u64) -> Result<Answer, AllocError>
+    ensures { IfOk result (λ a. SaysRule rule line (said_alone a)) }
 {
     let text = format!(in alloc; "refused form {rule} {line}")?;
-    one_line(alloc, Ending::DesignRefused, text.as_str())
+    Ok(one_line(alloc, Ending::DesignRefused, text.as_str())?)
 }
 
 /// Reads a design: its text, and then the form rules.

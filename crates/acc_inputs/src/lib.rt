@@ -2,18 +2,16 @@
 //! where one is refused.
 #![tactic(auto)]
 
-mod closings;
 mod designs;
 mod files;
 mod notes;
-mod responses;
+mod requests;
 mod scripts;
 mod words;
 
-pub use closings::unsettled;
-pub use designs::{ReadDesign, read_design};
+pub use designs::{ReadDesign, design_refused, read_design};
 pub use files::{Refusal, read_all};
 pub use notes::{help_text, version_text};
-pub use responses::{Response, ended, one_line, refused};
+pub use requests::{CertifiedFiles, PlayFiles, Request, ScheduleFiles};
 pub use scripts::{ReadOrder, ReadScript, read_order, read_script};
-pub use words::{Command, asks_journal, command_of, file_count, is_journalled};
+pub use words::{Command, asks_journal, command_of, file_count};

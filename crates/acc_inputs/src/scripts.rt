@@ -4,14 +4,13 @@ ghost use Rattle.std.specs.Fmt.{decimal};
 ghost use Rattle.acc_base.specs.Lines.{line};
 ghost use Rattle.acc_journalled.specs.declared.answers.Ending.TheVariants.{ScriptRefused};
 ghost use Rattle.acc_inputs.specs.ReadScripts.{ReadsScript, ReadsOrder};
-ghost use Rattle.acc_inputs.specs.Responses.{said_of};
+ghost use Rattle.acc_inputs.specs.Answers.{said_alone};
 ghost use Rattle.acc_inputs.specs.Text.{Says};
 
-use crate::responses::{Response, one_line};
 use acc_base::designs::Design;
 use acc_base::machines::Call;
 use acc_base::sequences::Seq;
-use acc_journalled::Ending;
+use acc_journalled::{Answer, Ending, one_line};
 use acc_script::{ScriptError, calls, order};
 use std::alloc::{AllocError, Global};
 
@@ -19,22 +18,22 @@ use std::alloc::{AllocError, Global};
 #[derive(Drop)]
 pub enum ReadScript {
     Read(Seq<Call>),
-    Refused(Response),
+    Refused(Answer),
 }
 
 /// The places of an order, or what is answered where it is refused.
 #[derive(Drop)]
 pub enum ReadOrder {
     Read(Seq<u64>),
-    Refused(Response),
+    Refused(Answer),
 }
 
 /// What is answered to a text of which a line is refused; the label says which text.
-fn line_refusal(alloc: Global, label: &str, at: u64) -> Result<Response, AllocError>
-    ensures { IfOk result (λ a. Says ScriptRefused (line (label.now ++ decimal at)) (said_of a)) }
+fn line_refusal(alloc: Global, label: &str, at: u64) -> Result<Answer, AllocError>
+    ensures { IfOk result (λ a. Says ScriptRefused (line (label.now ++ decimal at)) (said_alone a)) }
 {
     let text = format!(in alloc; "{label}{at}")?;
-    one_line(alloc, Ending::ScriptRefused, text.as_str())
+    Ok(one_line(alloc, Ending::ScriptRefused, text.as_str())?)
 }
 
 /// Reads a script: calls of a design's types.

@@ -1,5 +1,5 @@
 -- How the commands over a journal end.
-use Rattle.std.proofs.Common.{◌≡◌, ℕ, Bool, true, false, List, [], ◌∷◌, Option, inl, inr, sym, ◌∙◌, refl}
+use Rattle.std.proofs.Common.{◌≡◌, ℕ, Bool, true, false, List, [], Option, inl, inr, sym, ◌∙◌}
 use Rattle.std.specs.Prelude.{◌≢◌, ◌⊎◌}
 use Rattle.acc_io.specs.Causes.{Rose}
 use Rattle.acc_base.specs.declared.designs.Design.{Design}
@@ -9,25 +9,24 @@ use Rattle.acc_parse.specs.declared.errors.ParseError.{ParseError}
 use Rattle.acc_parse.specs.declared.errors.ParseError.TheVariants as errors
 use Rattle.acc_wal.specs.declared.errors.WalError.{WalError}
 use Rattle.acc_wal.specs.declared.errors.WalError.TheVariants as wal
-use Rattle.acc_recover.specs.Refusals.{RefusesRecovery, IsOfBytes}
+use Rattle.acc_recover.specs.Refusals.{RefusesRecovery}
 use Rattle.acc_recover.specs.declared.errors.RecoverError.{RecoverError}
 use Rattle.acc_recover.specs.declared.errors.RecoverError.TheVariants as recovery
 use Rattle.acc_journalled.specs.declared.answers.Ending.{Ending}
 use Rattle.acc_journalled.specs.declared.answers.Ending.TheVariants.{Done, DesignRefused, ScriptRefused, JournalRefused}
 use Rattle.acc_journalled.specs.declared.answers.Ending.TheVariants.{DiskFailed, Unbegun, Open}
 use Rattle.acc_journalled.specs.declared.answers.Wanted.{Wanted}
-use Rattle.acc_journalled.specs.declared.answers.Wanted.TheVariants.{Counts, Rows}
-use Rattle.acc_journalled.specs.Making.{FindsOne, MakesJournal}
-use Rattle.acc_journalled.specs.Recovering.{SaysNotRead, SaysNotRecovered, RefusesSo, RecoversJournal, text_of}
+use Rattle.acc_journalled.specs.Making.{MakesJournal}
+use Rattle.acc_journalled.specs.Recovering.{SaysNotRead, SaysNotRecovered, RecoversJournal, text_of}
 use Rattle.acc_journalled.specs.Tellings.{Telling}
 use Rattle.acc_inputs.specs.Text.{Said, said_in, IsEarly}
 use Rattle.acc_journal_commands.specs.Disks.{Seen}
 use Rattle.acc_inputs.specs.Refusals.{SaysError, RefusesDesign}
-use Rattle.acc_journal_commands.specs.InitFiles.{InitsJournal, InitsFile}
+use Rattle.acc_journal_commands.specs.InitFiles.{InitsFile}
 use Rattle.acc_running.specs.Running.{RunsJournal}
 use Rattle.acc_running.specs.Engines.{ending_at}
-use Rattle.acc_journal_commands.specs.RunFiles.{RunsSeen, RunsOfOrder, RunsOfScript, RunsCertified, RunsFiles}
-use Rattle.acc_journal_commands.specs.RecoverFiles.{RecoversSeen, RecoversCertified, RecoversFiles}
+use Rattle.acc_journal_commands.specs.RunFiles.{RunsOfOrder, RunsOfScript, RunsCertified, RunsFiles}
+use Rattle.acc_journal_commands.specs.RecoverFiles.{RecoversCertified, RecoversFiles}
 
 -- ---- the journal decides
 
@@ -74,6 +73,14 @@ over_late fault t (inr (inl is)) (inl e) = other_end JournalRefused DesignRefuse
 over_late fault t (inr (inl is)) (inr e) = other_end JournalRefused ScriptRefused t (λ e. cc) is e
 over_late fault t (inr (inr is)) (inl e) = other_end DiskFailed DesignRefused t (λ e. cc) is.0 e
 over_late fault t (inr (inr is)) (inr e) = other_end DiskFailed ScriptRefused t (λ e. cc) is.0 e
+
+pub making_late : (d : Design) (told told' : Option (List ℕ)) (fault : Type 0) (t : Telling) → MakesJournal d told told' fault t
+    → IsEarly t.ending → ⊥
+making_late d told told' fault t h = over_late fault t (making_ends d told told' fault t h)
+
+pub recovering_late : (text : World → ℕ → List ℕ) (d : Design) (told told' : Option (List ℕ)) (fault : Type 0) (t : Telling)
+    → RecoversJournal text d told told' fault t → IsEarly t.ending → ⊥
+recovering_late text d told told' fault t h = over_late fault t (recovering_ends text d told told' fault t h)
 
 -- ---- a refusal of the design stands before it
 

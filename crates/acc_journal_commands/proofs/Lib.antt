@@ -1,4 +1,2 @@
-pub mod Leaving
+pub mod Disks
 pub mod JournalEndings
-pub mod ToldAs
-pub mod CertificateRefusals

@@ -1,6 +1,7 @@
 -- The command init: a journal is made for a design, on a disk that holds none.
-use Rattle.std.specs.Prelude.{◌≡◌, ◌⊎◌, ℕ, List}
+use Rattle.std.specs.Prelude.{◌≡◌, ◌⊎◌, ℕ, List, [], Option}
 use Rattle.acc_base.specs.declared.designs.Design.{Design}
+use Rattle.acc_base.specs.declared.machines.Event.{Event}
 use Rattle.acc_io.specs.Causes.{Rose}
 use Rattle.acc_formed.specs.WellFormed.{IsWellFormed}
 use Rattle.acc_parse.specs.Texts.{IsDesignText}
@@ -8,7 +9,7 @@ use Rattle.acc_print.specs.Designs.{printed}
 use Rattle.acc_wal.specs.Creating.{LeavesNew}
 use Rattle.acc_journalled.specs.Making.{MakesJournal}
 use Rattle.acc_journalled.specs.Tellings.{Telling}
-use Rattle.acc_journal_commands.specs.Disks.{Seen, WithoutDisk}
+use Rattle.acc_journal_commands.specs.Disks.{Seen, WithoutDisk, LeavesSo}
 use Rattle.acc_inputs.specs.Refusals.{RefusesDesign}
 
 -- the journal is made, is there already, or the disk failed
@@ -35,3 +36,10 @@ pub record LeavesMade (design file image : List ℕ) : Type 0 where
 
 abbrev pub InitLeaves : List ℕ → List ℕ → List ℕ → Type 0
 InitLeaves design file image = (image ≡ file) ⊎ LeavesMade design file image
+
+-- no event is told, and this is what a crash leaves
+pub record InitLeft {D : Type 0} (clock : D → ℕ) (left_since : D → ℕ → List ℕ → Type 0) (told : D → Option (List ℕ))
+    (may_leave : D → List ℕ → Type 0) (design : List ℕ) (old new : D) (history : List Event) (settled : ℕ) : Type 0 where
+  pub leaves : LeavesSo clock left_since told may_leave (InitLeaves design) old new
+  pub none : history ≡ []
+  pub none_settled : settled ≡ 0

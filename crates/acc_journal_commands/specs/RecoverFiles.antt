@@ -1,16 +1,17 @@
 -- The commands recover, dump and replies: the journal of a design that is accepted with its certificate is recovered, and what is wanted of
 -- it is told.
-use Rattle.std.specs.Prelude.{◌≡◌, ◌⊎◌, ℕ, List}
+use Rattle.std.specs.Prelude.{◌≡◌, ◌⊎◌, ℕ, List, [], Option}
 use Rattle.acc_base.specs.declared.designs.Design.{Design}
+use Rattle.acc_base.specs.declared.machines.Event.{Event}
 use Rattle.acc_io.specs.Causes.{Rose}
 use Rattle.acc_check.specs.Admissions.{IsAcceptedWith}
 use Rattle.acc_formed.specs.WellFormed.{IsWellFormed}
 use Rattle.acc_parse.specs.Texts.{IsDesignText}
 use Rattle.acc_recover.specs.Recoveries.{LeavesRecovery}
 use Rattle.acc_journalled.specs.declared.answers.Wanted.{Wanted}
-use Rattle.acc_journalled.specs.Recovering.{RecoversJournal, text_of}
+use Rattle.acc_journalled.specs.Recovering.{Recovers, RecoversJournal, text_of, done_with}
 use Rattle.acc_journalled.specs.Tellings.{Telling}
-use Rattle.acc_journal_commands.specs.Disks.{Seen, WithoutDisk}
+use Rattle.acc_journal_commands.specs.Disks.{Seen, WithoutDisk, LeavesSo}
 use Rattle.acc_inputs.specs.Refusals.{RefusesDesign, RefusesCertificate}
 
 -- the journal is recovered, or isn't for some cause
@@ -53,3 +54,36 @@ pub record LeavesByDesign (design certificate file image : List ℕ) : Type 0 wh
 
 abbrev pub RecoverLeaves : List ℕ → List ℕ → List ℕ → List ℕ → Type 0
 RecoverLeaves design certificate file image = (image ≡ file) ⊎ LeavesByDesign design certificate file image
+
+-- the design is accepted with the certificate, and this is the recovered history of its journal, of which something can be said
+pub record TellsAccepted (wanted : Wanted) (d : Design) (certificate : List ℕ) (told told' : Option (List ℕ)) (history : List Event)
+    (settled : ℕ) : Type 0 where
+  pub accepted : IsAcceptedWith d certificate
+  pub text : List ℕ
+  pub recovers : Recovers (text_of wanted d) d told told' (done_with text history settled)
+
+-- the text is that of this design, and so
+pub record TellsDesign (wanted : Wanted) (design certificate : List ℕ) (told told' : Option (List ℕ)) (history : List Event) (settled : ℕ)
+    : Type 0 where
+  pub d : Design
+  pub is_text : IsDesignText design d
+  pub formed : IsWellFormed d
+  pub tells : TellsAccepted wanted d certificate told told' history settled
+
+-- no event is told; or what is
+abbrev pub TellsNoneOr : Type 0 → List Event → ℕ → Type 0
+TellsNoneOr Tells history settled = ((history ≡ []) × (settled ≡ 0)) ⊎ Tells
+
+-- what a crash leaves, and no event is told or the recovered history
+pub record RecoverLeft {D : Type 0} (clock : D → ℕ) (left_since : D → ℕ → List ℕ → Type 0) (told : D → Option (List ℕ))
+    (may_leave : D → List ℕ → Type 0) (wanted : Wanted) (design certificate : List ℕ) (old new : D) (history : List Event) (settled : ℕ)
+    : Type 0 where
+  pub leaves : LeavesSo clock left_since told may_leave (RecoverLeaves design certificate) old new
+  pub tells : TellsNoneOr (TellsDesign wanted design certificate (told old) (told new) history settled) history settled
+
+-- the same of a design, with its certificate
+pub record AcceptedLeft {D : Type 0} (clock : D → ℕ) (left_since : D → ℕ → List ℕ → Type 0) (told : D → Option (List ℕ))
+    (may_leave : D → List ℕ → Type 0) (wanted : Wanted) (d : Design) (certificate : List ℕ) (old new : D) (history : List Event)
+    (settled : ℕ) : Type 0 where
+  pub leaves : LeavesSo clock left_since told may_leave (LeavesAccepted d certificate) old new
+  pub tells : TellsNoneOr (TellsAccepted wanted d certificate (told old) (told new) history settled) history settled

@@ -1,7 +1,6 @@
 -- The command sched: a script's calls, in the order that is given and then to their end, by the rules of locks, for a design that is
 -- accepted with its certificate, over its journal: from the recovery to the last settling.
-use Rattle.std.specs.Prelude.{◌≡◌, ◌⊎◌, ℕ, List, [], ◌∷◌, length, Result, Ok, Err}
-use Rattle.std.specs.declared.alloc.AllocError.{AllocError}
+use Rattle.std.specs.Prelude.{◌≡◌, ◌⊎◌, ℕ, List, length, Option}
 use Rattle.acc_base.specs.declared.designs.Design.{Design}
 use Rattle.acc_base.specs.declared.machines.Call.{Call}
 use Rattle.acc_base.specs.declared.machines.Event.{Event}
@@ -12,11 +11,9 @@ use Rattle.acc_parse.specs.Texts.{IsDesignText}
 use Rattle.acc_script.specs.CallLines.{IsScript}
 use Rattle.acc_script.specs.OrderLines.{IsOrder}
 use Rattle.acc_journalled.specs.Tellings.{Telling}
-use Rattle.acc_running.specs.Crashes.{LeavesRun, LeavesDurable}
-use Rattle.acc_running.specs.declared.answers.Said.{Said}
-use Rattle.acc_running.specs.Recorded.{telling_of}
+use Rattle.acc_running.specs.Crashes.{LeavesRun, RunsOver}
 use Rattle.acc_running.specs.Running.{RunsJournal}
-use Rattle.acc_journal_commands.specs.Disks.{Seen, WithoutDisk}
+use Rattle.acc_journal_commands.specs.Disks.{Seen, WithoutDisk, OrUntouched}
 use Rattle.acc_inputs.specs.Refusals.{RefusesDesign, RefusesCertificate}
 use Rattle.acc_inputs.specs.Scripts.{RefusesScript, RefusesOrder}
 
@@ -63,18 +60,9 @@ abbrev pub RunsFiles : List ℕ → List ℕ → List ℕ → List ℕ → Seen 
 RunsFiles design certificate script order old new t =
     WithoutDisk (RefusesDesign design) old new t ⊎ RunsDesign design certificate script order old new t
 
--- what the code's values tell is what a run says
-abbrev pub IsToldAs : Result Said AllocError → List Event → ℕ → Telling → Type 0
-IsToldAs (Ok s) history settled t = t ≡ telling_of s history settled
-IsToldAs (Err e) history settled t = ⊥
-
 -- the file, or what a run of some history leaves of it
 abbrev pub LeavesSomeRun : Design → List ℕ → List ℕ → Type 0
 LeavesSomeRun d file image = (image ≡ file) ⊎ ((history : List Event) × LeavesRun d file history image)
-
--- the design is accepted with the certificate, and this is what a run leaves of the file
-abbrev pub LeavesAcceptedRun : Design → List ℕ → List ℕ → List ℕ → Type 0
-LeavesAcceptedRun d certificate file image = (image ≡ file) ⊎ (IsAcceptedWith d certificate × LeavesSomeRun d file image)
 
 -- a crash leaves the file; or, where nothing is refused before the journal, what a run may leave of it
 pub record LeavesByRun (design certificate file image : List ℕ) : Type 0 where
@@ -87,31 +75,40 @@ pub record LeavesByRun (design certificate file image : List ℕ) : Type 0 where
 abbrev pub RunLeaves : List ℕ → List ℕ → List ℕ → List ℕ → Type 0
 RunLeaves design certificate file image = (image ≡ file) ⊎ LeavesByRun design certificate file image
 
--- ---- what a run leaves, by the history that it tells
+-- ---- what a run leaves, and the events that it tells
 
--- the first text is that of a design, which is accepted with the second, and this is so to it
-pub record IsOfAccepted (design certificate : List ℕ) (P : Design → Type 0) : Type 0 where
-  pub d : Design
-  pub is_text : IsDesignText design d
-  pub formed : IsWellFormed d
-  pub accepted : IsAcceptedWith d certificate
-  pub so : P d
+module _ {D : Type 0} (clock : D → ℕ) (left_since : D → ℕ → List ℕ → Type 0) (told : D → Option (List ℕ)) (may_leave : D → List ℕ → Type 0)
+  where
+    -- the order has these numbers, and so the calls run
+    pub record OrderRuns (d : Design) (calls : List Call) (order : List ℕ) (old new : D) (history : List Event) (settled : ℕ) : Type 0 where
+      pub numbers : List ℕ
+      pub is_order : IsOrder (length calls) order numbers
+      pub runs : RunsOver clock left_since told may_leave d calls numbers old new history settled
 
--- of the first two of these files
-abbrev pub IsOfFiles : List (List ℕ) → (Design → Type 0) → Type 0
-IsOfFiles [] P = ⊥
-IsOfFiles (design ∷ []) P = ⊥
-IsOfFiles (design ∷ certificate ∷ others) P = IsOfAccepted design certificate P
+    -- the script has these calls, and so the order
+    pub record ScriptRuns (d : Design) (script order : List ℕ) (old new : D) (history : List Event) (settled : ℕ) : Type 0 where
+      pub calls : List Call
+      pub is_script : IsScript d script calls
+      pub runs : OrderRuns d calls order old new history settled
 
--- at any moment: the file; or what a run of this history leaves of it
-abbrev pub LeavesFronts : List (List ℕ) → List ℕ → List Event → List ℕ → Type 0
-LeavesFronts files file history image = (image ≡ file) ⊎ IsOfFiles files (λ d. LeavesRun d file history image)
+    -- the design is accepted with the certificate, and so the script
+    pub record AcceptedRuns (d : Design) (certificate script order : List ℕ) (old new : D) (history : List Event) (settled : ℕ) : Type 0
+      where
+        pub accepted : IsAcceptedWith d certificate
+        pub runs : ScriptRuns d script order old new history settled
 
--- nothing was asked of the disk, and nothing is told
-abbrev pub IsUntouched : List ℕ → List Event → ℕ → List ℕ → Type 0
-IsUntouched file history settled image = (image ≡ file) × (history ≡ []) × (settled ≡ 0)
+    -- The texts are those of this design, which is accepted with its certificate, of these calls and of this order; and so they run.
+    pub record FilesRun (design certificate script order : List ℕ) (old new : D) (history : List Event) (settled : ℕ) : Type 0 where
+      pub d : Design
+      pub is_text : IsDesignText design d
+      pub formed : IsWellFormed d
+      pub accepted : IsAcceptedWith d certificate
+      pub calls : List Call
+      pub is_script : IsScript d script calls
+      pub numbers : List ℕ
+      pub is_order : IsOrder (length calls) order numbers
+      pub runs : RunsOver clock left_since told may_leave d calls numbers old new history settled
 
--- behind it: the file, where nothing was asked of the disk; or a front of the history with all that is told as durable
-abbrev pub LeavesSettled : List (List ℕ) → List ℕ → List Event → ℕ → List ℕ → Type 0
-LeavesSettled files file history settled image =
-    IsUntouched file history settled image ⊎ IsOfFiles files (λ d. LeavesDurable d file history settled image)
+    -- nothing was asked of the disk, and nothing is told; or the files' calls ran
+    abbrev pub RunLeft : List ℕ → List ℕ → List ℕ → List ℕ → D → D → List Event → ℕ → Type 0
+    RunLeft design certificate script order = OrUntouched (FilesRun design certificate script order)

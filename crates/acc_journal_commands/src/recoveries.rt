@@ -1,17 +1,12 @@
 //! Recovering a journal.
-ghost use Rattle.std.specs.Prelude.{◌≡◌, ◌≢◌, IfOk};
-ghost use Rattle.acc_disk.specs.Crashes.{IsCalm};
-ghost use Rattle.acc_journalled.specs.Tellings.{telling_of};
-ghost use Rattle.acc_journal_commands.specs.Disks.{seen, Leaves};
-ghost use Rattle.acc_journal_commands.specs.RecoverFiles.{RecoversSeen, RecoversCertified, RecoversFiles, LeavesAccepted, RecoverLeaves};
-ghost use Rattle.acc_inputs.specs.Text.{IsEarly};
-ghost use Rattle.acc_journalled.specs.declared.answers.Ending.TheVariants.{DiskFailed};
+ghost use Rattle.acc_journal_commands.specs.Disks.{Ends};
+ghost use Rattle.acc_journal_commands.specs.RecoverFiles.{RecoversCertified, RecoversFiles, AcceptedLeft, RecoverLeft};
 
 use acc_base::designs::Design;
 use acc_check::{Admission, admit};
 use acc_disk::Disk;
-use acc_inputs::{ReadDesign, read_design, refused, unsettled};
-use acc_journalled::{Closed, Wanted, recover_journal};
+use acc_inputs::{CertifiedFiles, ReadDesign, design_refused, read_design};
+use acc_journalled::{Ended, Wanted, recover_journal, unrun};
 use acc_progress::Progress;
 use std::alloc::Global;
 
@@ -23,55 +18,37 @@ fn recover_design<D: Disk, P: Progress>(
     wanted: Wanted,
     disk: D,
     progress: &mut P,
-) -> Closed<D>
-    ensures recovers { IfOk result.answer (λ a. RecoversCertified wanted d certificate.now (seen (D.told disk) (D.faults disk))
-        (seen (D.told result.disk) (D.faults result.disk)) (telling_of a)) }
-    ensures refused { IfOk result.answer (λ a. IsEarly a.ending → result.disk ≡ disk) }
-    ensures leaves { Leaves D.clock D.left_since D.told D.may_leave D.faults disk result.disk (LeavesAccepted d certificate.now) }
-    ensures calm { IfOk result.answer (λ a. a.ending ≢ DiskFailed → IsCalm (D.told disk) (D.may_leave disk)
-        → IsCalm (D.told result.disk) (D.may_leave result.disk)) }
+) -> Ended<D>
+    ensures { Ends D.told D.may_leave D.faults (RecoversCertified wanted d certificate.now)
+        (AcceptedLeft D.clock D.left_since D.told D.may_leave wanted d certificate.now)
+        disk result.disk result.answer result.history result.settled }
 {
     match admit(alloc, d, certificate) {
         Ok(Admission::Accepted(accepted)) => {
             recover_journal(alloc, &accepted, wanted, disk, progress)
         }
-        Ok(Admission::Refused(text)) => Closed {
-            disk,
-            answer: Ok(unsettled(refused(alloc, text))),
-        },
-        Err(error) => Closed {
-            disk,
-            answer: Err(error),
-        },
+        Ok(Admission::Refused(text)) => unrun(alloc, disk, Ok(design_refused(text))),
+        Err(error) => unrun(alloc, disk, Err(error)),
     }
 }
 
 /// Recovers the journal of the design of a text, if it is accepted with its certificate.
 pub fn recover_files<D: Disk, P: Progress>(
     alloc: Global,
-    design: &[u8],
-    certificate: &[u8],
+    files: CertifiedFiles,
     wanted: Wanted,
     disk: D,
     progress: &mut P,
-) -> Closed<D>
-    ensures recovers { IfOk result.answer (λ a. RecoversFiles wanted design.now certificate.now (seen (D.told disk) (D.faults disk))
-        (seen (D.told result.disk) (D.faults result.disk)) (telling_of a)) }
-    ensures refused { IfOk result.answer (λ a. IsEarly a.ending → result.disk ≡ disk) }
-    ensures leaves { Leaves D.clock D.left_since D.told D.may_leave D.faults disk result.disk
-        (RecoverLeaves design.now certificate.now) }
-    ensures calm { IfOk result.answer (λ a. a.ending ≢ DiskFailed → IsCalm (D.told disk) (D.may_leave disk)
-        → IsCalm (D.told result.disk) (D.may_leave result.disk)) }
+) -> Ended<D>
+    ensures { Ends D.told D.may_leave D.faults (RecoversFiles wanted files.entry.design.now files.entry.certificate.now)
+        (RecoverLeft D.clock D.left_since D.told D.may_leave wanted files.entry.design.now files.entry.certificate.now)
+        disk result.disk result.answer result.history result.settled }
 {
-    match read_design(alloc, design) {
-        Ok(ReadDesign::Read(d)) => recover_design(alloc, d, certificate, wanted, disk, progress),
-        Ok(ReadDesign::Refused(response)) => Closed {
-            disk,
-            answer: Ok(unsettled(response)),
-        },
-        Err(error) => Closed {
-            disk,
-            answer: Err(error),
-        },
+    match read_design(alloc, files.design) {
+        Ok(ReadDesign::Read(d)) => {
+            recover_design(alloc, d, files.certificate, wanted, disk, progress)
+        }
+        Ok(ReadDesign::Refused(answer)) => unrun(alloc, disk, Ok(answer)),
+        Err(error) => unrun(alloc, disk, Err(error)),
     }
 }

@@ -1,83 +1,25 @@
 //! Running a script over a journal.
-ghost use Rattle.std.specs.Prelude.{◌≡◌, ◌≢◌, ◌⊎◌, [], ◌∷◌, ◌≤◌, ◌<◌, ◌^◌, length, All, IfOk};
-ghost use Rattle.acc_disk.specs.Crashes.{IsCalm};
+ghost use Rattle.std.specs.Prelude.{◌≤◌, ◌<◌, ◌^◌, length};
 ghost use Rattle.acc_engine.specs.Keeping.{CallsFit};
 ghost use Rattle.acc_script.specs.BeginSizes.{begins_size};
-ghost use Rattle.acc_script.specs.OrderLines.{IsPlace};
-ghost use Rattle.acc_journalled.specs.declared.answers.Ending.TheVariants.{DiskFailed};
-ghost use Rattle.acc_journalled.specs.Tellings.{telling_of};
-ghost use Rattle.acc_check.specs.Admissions.{IsAcceptedWith};
-ghost use Rattle.acc_running.specs.Crashes.{LeavesRun, LeavesDurable};
-ghost use Rattle.acc_journal_commands.specs.Disks.{seen, Leaves, LeavesTold};
-ghost use Rattle.acc_journal_commands.specs.RunFiles.{IsToldAs, RunsSeen, RunsOfOrder, RunsOfScript, RunsCertified, RunsFiles};
-ghost use Rattle.acc_journal_commands.specs.RunFiles.{LeavesSomeRun, LeavesAcceptedRun, RunLeaves, IsUntouched, LeavesFronts, LeavesSettled};
-ghost use Rattle.acc_inputs.specs.Text.{IsEarly};
+ghost use Rattle.acc_journal_commands.specs.Disks.{Ends, OrUntouched};
+ghost use Rattle.acc_journal_commands.specs.RunFiles.{RunsOfOrder, RunsOfScript, RunsCertified, RunsFiles};
+ghost use Rattle.acc_journal_commands.specs.RunFiles.{OrderRuns, ScriptRuns, AcceptedRuns, RunLeft};
 
 use acc_base::designs::Design;
-use acc_base::machines::{Call, Event};
+use acc_base::machines::Call;
 use acc_base::sequences::Seq;
 use acc_check::{Admission, admit};
 use acc_disk::Disk;
 use acc_inputs::{
-    ReadDesign, ReadOrder, ReadScript, read_design, read_order, read_script, refused, unsettled,
+    ReadDesign, ReadOrder, ReadScript, ScheduleFiles, design_refused, read_design, read_order,
+    read_script,
 };
-use acc_journalled::{Answer, Closed};
+use acc_journalled::{Ended, unrun};
 use acc_lift::Accepted;
 use acc_progress::Progress;
-use acc_running::{Run, Said, schedule_journal};
-use std::alloc::{AllocError, Global};
-
-/// What a run says, with its events and how many of them are durable.
-fn answer_of(
-    said: Result<Said, AllocError>,
-    history: Seq<Event>,
-    settled: u64,
-) -> Result<Answer, AllocError>
-    ensures { IfOk result (λ a. IsToldAs said history settled (telling_of a)) }
-{
-    let Said { ending, text } = said?;
-    Ok(Answer {
-        ending,
-        text,
-        history,
-        settled,
-    })
-}
-
-/// Runs calls in an order.
-fn run_calls<D: Disk, P: Progress>(
-    alloc: Global,
-    accepted: &Accepted,
-    asked: Seq<Call>,
-    places: &[u64],
-    disk: D,
-    progress: &mut P,
-) -> Closed<D>
-    requires fits { CallsFit accepted.now asked }
-    requires few { begins_size asked < 2 ^ 31 }
-    requires places { All (IsPlace (length asked)) places.now }
-    ensures runs { IfOk result.answer (λ a. RunsSeen accepted.now asked places.now (seen (D.told disk) (D.faults disk))
-        (seen (D.told result.disk) (D.faults result.disk)) (telling_of a)) }
-    ensures refused { IfOk result.answer (λ a. IsEarly a.ending → result.disk ≡ disk) }
-    ensures leaves { Leaves D.clock D.left_since D.told D.may_leave D.faults disk result.disk (LeavesSomeRun accepted.now) }
-    ensures told { IfOk result.answer (λ a. LeavesTold D.clock D.left_since D.told D.may_leave disk result.disk
-        (λ file image. LeavesRun accepted.now file a.history image)
-        (λ file image. LeavesDurable accepted.now file a.history a.settled image)) }
-    ensures calm { IfOk result.answer (λ a. a.ending ≢ DiskFailed → IsCalm (D.told disk) (D.may_leave disk)
-        → IsCalm (D.told result.disk) (D.may_leave result.disk)) }
-{
-    let run = schedule_journal(alloc, accepted, asked, places, disk, progress);
-    let Run {
-        disk,
-        history,
-        settled,
-        said,
-    } = run;
-    Closed {
-        disk,
-        answer: answer_of(said, history, settled),
-    }
-}
+use acc_running::schedule_journal;
+use std::alloc::Global;
 
 /// Runs the calls in the order that the file gives.
 fn run_order<D: Disk, P: Progress>(
@@ -87,33 +29,21 @@ fn run_order<D: Disk, P: Progress>(
     file: &[u8],
     disk: D,
     progress: &mut P,
-) -> Closed<D>
+) -> Ended<D>
     requires fits { CallsFit accepted.now asked }
     requires few { begins_size asked < 2 ^ 31 }
-    ensures runs { IfOk result.answer (λ a. RunsOfOrder accepted.now asked file.now (seen (D.told disk) (D.faults disk))
-        (seen (D.told result.disk) (D.faults result.disk)) (telling_of a)) }
-    ensures refused { IfOk result.answer (λ a. IsEarly a.ending → result.disk ≡ disk) }
-    ensures leaves { Leaves D.clock D.left_since D.told D.may_leave D.faults disk result.disk (LeavesSomeRun accepted.now) }
-    ensures told { IfOk result.answer (λ a. LeavesTold D.clock D.left_since D.told D.may_leave disk result.disk
-        (λ file image. LeavesRun accepted.now file a.history image)
-        (λ file image. LeavesDurable accepted.now file a.history a.settled image)) }
-    ensures calm { IfOk result.answer (λ a. a.ending ≢ DiskFailed → IsCalm (D.told disk) (D.may_leave disk)
-        → IsCalm (D.told result.disk) (D.may_leave result.disk)) }
+    ensures { Ends D.told D.may_leave D.faults (RunsOfOrder accepted.now asked file.now)
+        (OrUntouched (OrderRuns D.clock D.left_since D.told D.may_leave accepted.now asked file.now))
+        disk result.disk result.answer result.history result.settled }
 {
     let calls = asked.as_slice();
     match read_order(alloc, calls, file) {
         Ok(ReadOrder::Read(places)) => {
             let order = places.as_slice();
-            run_calls(alloc, accepted, asked, order, disk, progress)
+            schedule_journal(alloc, accepted, asked, order, disk, progress)
         }
-        Ok(ReadOrder::Refused(response)) => Closed {
-            disk,
-            answer: Ok(unsettled(response)),
-        },
-        Err(error) => Closed {
-            disk,
-            answer: Err(error),
-        },
+        Ok(ReadOrder::Refused(answer)) => unrun(alloc, disk, Ok(answer)),
+        Err(error) => unrun(alloc, disk, Err(error)),
     }
 }
 
@@ -125,28 +55,16 @@ fn run_script<D: Disk, P: Progress>(
     file: &[u8],
     disk: D,
     progress: &mut P,
-) -> Closed<D>
+) -> Ended<D>
     requires short { length script.now ≤ 2 ^ 26 }
-    ensures runs { IfOk result.answer (λ a. RunsOfScript accepted.now script.now file.now (seen (D.told disk) (D.faults disk))
-        (seen (D.told result.disk) (D.faults result.disk)) (telling_of a)) }
-    ensures refused { IfOk result.answer (λ a. IsEarly a.ending → result.disk ≡ disk) }
-    ensures leaves { Leaves D.clock D.left_since D.told D.may_leave D.faults disk result.disk (LeavesSomeRun accepted.now) }
-    ensures told { IfOk result.answer (λ a. LeavesTold D.clock D.left_since D.told D.may_leave disk result.disk
-        (λ file image. LeavesRun accepted.now file a.history image)
-        (λ file image. LeavesDurable accepted.now file a.history a.settled image)) }
-    ensures calm { IfOk result.answer (λ a. a.ending ≢ DiskFailed → IsCalm (D.told disk) (D.may_leave disk)
-        → IsCalm (D.told result.disk) (D.may_leave result.disk)) }
+    ensures { Ends D.told D.may_leave D.faults (RunsOfScript accepted.now script.now file.now)
+        (OrUntouched (ScriptRuns D.clock D.left_since D.told D.may_leave accepted.now script.now file.now))
+        disk result.disk result.answer result.history result.settled }
 {
     match read_script(alloc, accepted.design(), script) {
         Ok(ReadScript::Read(asked)) => run_order(alloc, accepted, asked, file, disk, progress),
-        Ok(ReadScript::Refused(response)) => Closed {
-            disk,
-            answer: Ok(unsettled(response)),
-        },
-        Err(error) => Closed {
-            disk,
-            answer: Err(error),
-        },
+        Ok(ReadScript::Refused(answer)) => unrun(alloc, disk, Ok(answer)),
+        Err(error) => unrun(alloc, disk, Err(error)),
     }
 }
 
@@ -159,67 +77,46 @@ fn run_design<D: Disk, P: Progress>(
     file: &[u8],
     disk: D,
     progress: &mut P,
-) -> Closed<D>
+) -> Ended<D>
     requires short { length script.now ≤ 2 ^ 26 }
-    ensures runs { IfOk result.answer (λ a. RunsCertified d certificate.now script.now file.now (seen (D.told disk) (D.faults disk))
-        (seen (D.told result.disk) (D.faults result.disk)) (telling_of a)) }
-    ensures refused { IfOk result.answer (λ a. IsEarly a.ending → result.disk ≡ disk) }
-    ensures leaves { Leaves D.clock D.left_since D.told D.may_leave D.faults disk result.disk (LeavesAcceptedRun d certificate.now) }
-    ensures told { IfOk result.answer (λ a. LeavesTold D.clock D.left_since D.told D.may_leave disk result.disk
-        (λ file image. (image ≡ file) ⊎ (IsAcceptedWith d certificate.now × LeavesRun d file a.history image))
-        (λ file image. IsUntouched file a.history a.settled image
-        ⊎ (IsAcceptedWith d certificate.now × LeavesDurable d file a.history a.settled image))) }
-    ensures calm { IfOk result.answer (λ a. a.ending ≢ DiskFailed → IsCalm (D.told disk) (D.may_leave disk)
-        → IsCalm (D.told result.disk) (D.may_leave result.disk)) }
+    ensures { Ends D.told D.may_leave D.faults (RunsCertified d certificate.now script.now file.now)
+        (OrUntouched (AcceptedRuns D.clock D.left_since D.told D.may_leave d certificate.now script.now file.now))
+        disk result.disk result.answer result.history result.settled }
 {
     match admit(alloc, d, certificate) {
         Ok(Admission::Accepted(accepted)) => {
             run_script(alloc, &accepted, script, file, disk, progress)
         }
-        Ok(Admission::Refused(text)) => Closed {
-            disk,
-            answer: Ok(unsettled(refused(alloc, text))),
-        },
-        Err(error) => Closed {
-            disk,
-            answer: Err(error),
-        },
+        Ok(Admission::Refused(text)) => unrun(alloc, disk, Ok(design_refused(text))),
+        Err(error) => unrun(alloc, disk, Err(error)),
     }
 }
 
 /// Runs the calls of a script over the journal of the design of a text, if it is accepted with its certificate.
 pub fn run_files<D: Disk, P: Progress>(
     alloc: Global,
-    design: &[u8],
-    certificate: &[u8],
-    script: &[u8],
-    file: &[u8],
+    files: ScheduleFiles,
     disk: D,
     progress: &mut P,
-) -> Closed<D>
-    requires short { length script.now ≤ 2 ^ 26 }
-    ensures runs { IfOk result.answer (λ a. RunsFiles design.now certificate.now script.now file.now (seen (D.told disk) (D.faults disk))
-        (seen (D.told result.disk) (D.faults result.disk)) (telling_of a)) }
-    ensures refused { IfOk result.answer (λ a. IsEarly a.ending → result.disk ≡ disk) }
-    ensures leaves { Leaves D.clock D.left_since D.told D.may_leave D.faults disk result.disk
-        (RunLeaves design.now certificate.now) }
-    ensures told { IfOk result.answer (λ a. LeavesTold D.clock D.left_since D.told D.may_leave disk result.disk
-        (λ file image. LeavesFronts (design.now ∷ certificate.now ∷ []) file a.history image)
-        (λ file image. LeavesSettled (design.now ∷ certificate.now ∷ []) file a.history a.settled image)) }
-    ensures calm { IfOk result.answer (λ a. a.ending ≢ DiskFailed → IsCalm (D.told disk) (D.may_leave disk)
-        → IsCalm (D.told result.disk) (D.may_leave result.disk)) }
+) -> Ended<D>
+    requires short { length files.script.now ≤ 2 ^ 26 }
+    ensures { Ends D.told D.may_leave D.faults
+        (RunsFiles files.entry.design.now files.entry.certificate.now files.entry.script.now files.entry.order.now)
+        (RunLeft D.clock D.left_since D.told D.may_leave
+        files.entry.design.now files.entry.certificate.now files.entry.script.now files.entry.order.now)
+        disk result.disk result.answer result.history result.settled }
 {
-    match read_design(alloc, design) {
-        Ok(ReadDesign::Read(d)) => {
-            run_design(alloc, d, certificate, script, file, disk, progress)
-        }
-        Ok(ReadDesign::Refused(response)) => Closed {
+    match read_design(alloc, files.design) {
+        Ok(ReadDesign::Read(d)) => run_design(
+            alloc,
+            d,
+            files.certificate,
+            files.script,
+            files.order,
             disk,
-            answer: Ok(unsettled(response)),
-        },
-        Err(error) => Closed {
-            disk,
-            answer: Err(error),
-        },
+            progress,
+        ),
+        Ok(ReadDesign::Refused(answer)) => unrun(alloc, disk, Ok(answer)),
+        Err(error) => unrun(alloc, disk, Err(error)),
     }
 }

@@ -1,6 +1,7 @@
 -- What a command's parts come to.
-use Rattle.std.proofs.Common.{◌≡◌, inl, inr, ℕ, List, [], ◌∷◌, Option, Some, None, refl, subst}
+use Rattle.std.proofs.Common.{◌≡◌, inl, inr, ℕ, List, [], ◌∷◌, length, Option, Some, None, Result, refl, sym, subst}
 use Rattle.std.specs.Prelude.{◌≢◌, IfSome, codes}
+use Rattle.std.specs.declared.alloc.AllocError.{AllocError}
 use Rattle.acc_base.specs.Lines.{line}
 use Rattle.acc_base.specs.declared.designs.Design.{Design}
 use Rattle.acc_base.specs.declared.machines.Event.{Event}
@@ -17,10 +18,11 @@ use Rattle.acc_recover.specs.Answers.{RecoversFile}
 use Rattle.acc_recover.specs.Refusals.{RefusesRecovery, IsOfBytes, IsOfJournal, CountsSame}
 use Rattle.acc_recover.specs.declared.errors.RecoverError.{RecoverError}
 use Rattle.acc_recover.specs.declared.errors.RecoverError.TheVariants as recovery
+use Rattle.acc_journalled.specs.declared.answers.Answer.{Answer}
 use Rattle.acc_journalled.specs.declared.answers.Ending.TheVariants.{Done, DiskFailed}
 use Rattle.acc_journalled.specs.Tellings.{Telling, Says, SaysOf}
 use Rattle.acc_journalled.specs.Making.{IsMakingError, SaysNotMade, MakesJournal}
-use Rattle.acc_journalled.specs.Recovering.{IsRecoverError, SaysNotRecovered, RecoversJournal}
+use Rattle.acc_journalled.specs.Recovering.{IsRecoverError, SaysNotRecovered, RecoversJournal, TellsRecovered}
 
 -- the disk of a journal that isn't spent holds its base text and its durable events
 pub holds : {D : Type 0} (wal : Journal D) (base : List ℕ) (events : List Event) (told : Option (List ℕ)) → IsOpened base events wal
@@ -109,9 +111,42 @@ was_of_bytes (recovery.Unlawful at) t says none = tt
 was_of_bytes recovery.Disk t says none = none says.0
 was_of_bytes recovery.Memory t says none = says
 
+-- whatever is said of it, the recovered history is told
+pub recovered_tells : {D : Type 0} (text : World → ℕ → List ℕ) (d : Design) (told told' : Option (List ℕ)) (w : World) (wal : Journal D)
+    (compensated : ℕ) (history : List Event) (settled : ℕ)
+    → RecoversFile d told w wal compensated → IsIdle d w.rows → ((file : List ℕ) → told' ≡ Some file → Counts file wal.base wal.durable)
+    → history ≡ w.events → settled ≡ length w.events → TellsRecovered text d told told' history settled
+recovered_tells text d told told' w wal compensated history settled file idle counts same all =
+    inr (
+      text w compensated,
+      record {
+        found = file.found;
+        counts = file.counts;
+        last = w;
+        recovery = file.recovery;
+        idle = idle;
+        compensated = compensated;
+        unfinished_were = file.unfinished_were;
+        holds = holds wal (printed d) w.events told' file.settled counts;
+        says = (refl, refl, same, all);
+      },
+    )
+
 pub not_recovered_so : (error : RecoverError) (text : World → ℕ → List ℕ) (d : Design) (told told' : Option (List ℕ)) (fault : Type 0)
     (t : Telling)
     → RefusesRecovery d error told fault → (IsOfJournal error → told' ≡ told) → (IsOfBytes error → CountsSame told told')
     → SaysNotRecovered error t → RecoversJournal text d told told' fault t
 not_recovered_so error text d told told' fault t why same kept says =
     inr (record { error = error; cause = why; same = same; kept = kept; says = says })
+
+-- ---- no machine ran
+
+-- what is so of an unrun ending's parts
+pub by_unrun : {D : Type 0} (P : D → Result Answer AllocError → List Event → ℕ → Type 0) (disk disk' : D)
+    (answer answer' : Result Answer AllocError) (history : List Event) (settled : ℕ)
+    → disk' ≡ disk → answer' ≡ answer → (history ≡ []) × (settled ≡ 0) → P disk answer [] 0 → P disk' answer' history settled
+by_unrun P disk disk' answer answer' history settled same answered none so =
+    subst (λ x. P x answer' history settled) (sym same)
+    (subst (λ (r : Result Answer AllocError). P disk r history settled) (sym answered)
+    (subst (λ (es : List Event). P disk answer es settled) (sym none.0)
+    (subst (λ (n : ℕ). P disk answer [] n) (sym none.1) so)))

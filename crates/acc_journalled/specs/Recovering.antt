@@ -1,5 +1,5 @@
 -- Recovering a design's journal, and what is said of it.
-use Rattle.std.specs.Prelude.{◌≡◌, ◌⊎◌, ⊤, ◌++◌, ℕ, List, length, Option, Some, IfSome, codes}
+use Rattle.std.specs.Prelude.{◌≡◌, ◌⊎◌, ⊤, ◌++◌, ℕ, List, [], length, Option, Some, IfSome, codes}
 use Rattle.std.specs.List.{flat_map, range_with_len}
 use Rattle.std.specs.Fmt.{decimal}
 use Rattle.acc_base.specs.Annotated.{IsIdle}
@@ -18,7 +18,7 @@ use Rattle.acc_recover.specs.declared.errors.RecoverError.{RecoverError}
 use Rattle.acc_recover.specs.declared.errors.RecoverError.TheVariants.{Journal, OtherDesign, Unlawful, Disk, Memory}
 use Rattle.acc_journalled.specs.declared.answers.Wanted.{Wanted}
 use Rattle.acc_journalled.specs.declared.answers.Wanted.TheVariants as wanted
-use Rattle.acc_journalled.specs.declared.answers.Ending.TheVariants.{JournalRefused, DiskFailed}
+use Rattle.acc_journalled.specs.declared.answers.Ending.TheVariants.{Done, JournalRefused, DiskFailed}
 use Rattle.acc_journalled.specs.Tellings.{Telling, Says, SaysOf}
 
 -- ---- what is said of a recovered state
@@ -104,3 +104,14 @@ pub record RefusesSo (d : Design) (told told' : Option (List ℕ)) (fault : Type
 abbrev pub RecoversJournal :
     (World → ℕ → List ℕ) → Design → Option (List ℕ) → Option (List ℕ) → Type 0 → Telling → Type 0
 RecoversJournal text d told told' fault t = Recovers text d told told' t ⊎ RefusesSo d told told' fault t
+
+-- ---- what is told, whatever is said
+
+-- all is done, with this text and this history
+abbrev pub done_with : List ℕ → List Event → ℕ → Telling
+done_with text history settled = record { ending = Done; text = text; history = history; settled = settled }
+
+-- nothing was recovered, and no event is told; or the history is the recovered one, of which something can be said
+abbrev pub TellsRecovered : (World → ℕ → List ℕ) → Design → Option (List ℕ) → Option (List ℕ) → List Event → ℕ → Type 0
+TellsRecovered text d told told' history settled =
+    ((history ≡ []) × (settled ≡ 0)) ⊎ ((said : List ℕ) × Recovers text d told told' (done_with said history settled))

@@ -1,8 +1,8 @@
 -- What a command says over a disk.
 use Rattle.std.specs.Prelude.{◌≡◌, ℕ, List, [], length}
 use Rattle.acc_base.specs.declared.machines.Event.{Event}
-use Rattle.acc_journalled.specs.declared.answers.Answer.{Answer}
 use Rattle.acc_base.specs.Machine.{World}
+use Rattle.acc_journalled.specs.declared.answers.Answer.{Answer}
 use Rattle.acc_journalled.specs.declared.answers.Ending.{Ending}
 use Rattle.acc_journalled.specs.declared.answers.Ending.TheVariants.{Done}
 
@@ -13,9 +13,13 @@ pub record Telling : Type 0 where
   pub history : List Event
   pub settled : ℕ
 
--- what the code's value says
-abbrev pub telling_of : Answer → Telling
-telling_of a = record { ending = a.ending; text = a.text.items; history = a.history; settled = a.settled }
+-- what the code's values say: an answer, the events, and how many of them are durable
+abbrev pub telling_of : Answer → List Event → ℕ → Telling
+telling_of a history settled = record { ending = a.ending; text = a.text.items; history = history; settled = settled }
+
+-- an answer without a machine
+abbrev pub unrun_telling : Answer → Telling
+unrun_telling a = telling_of a [] 0
 
 -- it ends so, prints this text, no machine ran, and no event is durable
 abbrev pub Says : Ending → List ℕ → Telling → Type 0

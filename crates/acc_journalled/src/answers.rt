@@ -1,7 +1,9 @@
-//! What a command answers.
+//! What a command answers, and how it ends.
+ghost use Rattle.std.specs.Prelude.{◌≡◌, []};
+
 use acc_base::machines::Event;
 use acc_base::sequences::Seq;
-use std::alloc::AllocError;
+use std::alloc::{AllocError, Global};
 
 /// How a command ends whose files were given.
 #[derive(Clone, Copy, Debug, PartialEq, Eq)]
@@ -32,19 +34,33 @@ pub enum Wanted {
     Replies,
 }
 
-/// How a command ends, the text to print, the events of its machine, and how many of the first of them the journal holds as durable. A
-/// command that runs no machine has no events.
+/// What a command says: how it ends, and the text to print.
 #[derive(Drop)]
 pub struct Answer {
     pub ending: Ending,
     pub text: Vec<u8>,
-    pub history: Seq<Event>,
-    pub settled: u64,
 }
 
-/// The disk that a command hands back, and what it answers, unless memory ran out.
+/// How a command ended: the disk that it hands back; the events of its machine as far as they came, none where no machine ran; how many of
+/// the first of them the journal holds as durable; and what it says, unless memory ran out.
 #[derive(Drop)]
-pub struct Closed<D> {
+pub struct Ended<D> {
     pub disk: D,
+    pub history: Seq<Event>,
+    pub settled: u64,
     pub answer: Result<Answer, AllocError>,
+}
+
+/// How a command ended that ran no machine.
+pub fn unrun<D>(alloc: Global, disk: D, answer: Result<Answer, AllocError>) -> Ended<D>
+    ensures none { (result.history ≡ []) × (result.settled ≡ 0) }
+    ensures disk { result.disk ≡ disk }
+    ensures answer { result.answer ≡ answer }
+{
+    Ended {
+        disk,
+        history: Seq::new(alloc),
+        settled: 0,
+        answer,
+    }
 }

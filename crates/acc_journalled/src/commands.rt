@@ -1,5 +1,5 @@
 //! The commands.
-ghost use Rattle.std.specs.Prelude.{◌≡◌, ◌≢◌, ◌≤◌, ◌<◌, ◌^◌, List, ℕ, length, codes, Some, IfOk, IfSome};
+ghost use Rattle.std.specs.Prelude.{◌≡◌, ◌≢◌, ◌≤◌, ◌<◌, ◌^◌, List, ℕ, [], length, codes, Some, IfOk, IfSome};
 ghost use Rattle.acc_io.specs.Causes.{Rose};
 ghost use Rattle.acc_base.specs.Lines.{line};
 ghost use Rattle.acc_print.specs.Designs.{printed};
@@ -8,11 +8,11 @@ ghost use Rattle.acc_disk.specs.Moments.{AtAnyMoment};
 ghost use Rattle.acc_wal.specs.Creating.{LeavesNew};
 ghost use Rattle.acc_recover.specs.Recoveries.{LeavesRecovery};
 ghost use Rattle.acc_journalled.specs.declared.answers.Ending.TheVariants.{Done, DiskFailed};
-ghost use Rattle.acc_journalled.specs.Tellings.{telling_of, Says};
+ghost use Rattle.acc_journalled.specs.Tellings.{telling_of, unrun_telling, Says};
 ghost use Rattle.acc_journalled.specs.Making.{MakesJournal};
-ghost use Rattle.acc_journalled.specs.Recovering.{RecoversJournal, text_of};
+ghost use Rattle.acc_journalled.specs.Recovering.{RecoversJournal, TellsRecovered, text_of};
 
-use crate::answers::{Answer, Closed, Ending, Wanted};
+use crate::answers::{Answer, Ended, Ending, Wanted, unrun};
 use crate::lines::{not_made, not_recovered, one_line, tell_state};
 use acc_base::designs::Design;
 use acc_disk::Disk;
@@ -34,7 +34,7 @@ struct Prepared {
 /// What making a journal needs, before the disk is asked.
 fn prepare(alloc: Global, d: &Design) -> Result<Prepared, AllocError>
     ensures text { IfOk result (λ p. p.text.items ≡ printed d.now) }
-    ensures created { IfOk result (λ p. Says Done (line (codes "created")) (telling_of p.created)) }
+    ensures created { IfOk result (λ p. Says Done (line (codes "created")) (unrun_telling p.created)) }
 {
     let text = match print(alloc, d) {
         Ok(text) => text,
@@ -48,31 +48,25 @@ fn prepare(alloc: Global, d: &Design) -> Result<Prepared, AllocError>
 ///
 /// From a calm disk a crash at any moment leaves no journal, the new one, or the old bytes with another first byte. Where a journal is
 /// there already, nothing changes. The disk is calm again, unless one of its calls failed.
-pub fn init_journal<D: Disk>(alloc: Global, d: &Design, disk: D) -> Closed<D>
+pub fn init_journal<D: Disk>(alloc: Global, d: &Design, disk: D) -> Ended<D>
     requires short { length (printed d.now) < 2 ^ 32 }
     ensures answer { IfOk result.answer (λ a. MakesJournal d.now (D.told disk) (D.told result.disk)
-        (Rose (D.faults disk) (D.faults result.disk)) (telling_of a)) }
+        (Rose (D.faults disk) (D.faults result.disk)) (telling_of a result.history result.settled)) }
     ensures moments { (file : List ℕ) → D.told disk ≡ Some file → Only file (D.may_leave disk)
         → AtAnyMoment D.clock D.left_since disk result.disk (LeavesNew file (printed d.now)) }
     ensures left { (file : List ℕ) → D.told disk ≡ Some file → Only file (D.may_leave disk)
         → IfSome (D.told result.disk) (LeavesNew file (printed d.now)) }
     ensures calm { IfOk result.answer (λ a. a.ending ≢ DiskFailed → IsCalm (D.told disk) (D.may_leave disk)
         → IsCalm (D.told result.disk) (D.may_leave result.disk)) }
+    ensures none { (result.history ≡ []) × (result.settled ≡ 0) }
     ensures faults { D.faults disk ≤ D.faults result.disk }
 {
     let Ok(Prepared { text, created }) = prepare(alloc, d) else {
-        let answer = Err(AllocError);
-        return Closed { disk, answer };
+        return unrun(alloc, disk, Err(AllocError));
     };
     match Wal::create(alloc, disk, &text) {
-        Ok(wal) => Closed {
-            disk: wal.give_back(),
-            answer: Ok(created),
-        },
-        Err((error, disk)) => Closed {
-            disk,
-            answer: not_made(alloc, error),
-        },
+        Ok(wal) => unrun(alloc, wal.give_back(), Ok(created)),
+        Err((error, disk)) => unrun(alloc, disk, not_made(alloc, error)),
     }
 }
 
@@ -80,16 +74,18 @@ pub fn init_journal<D: Disk>(alloc: Global, d: &Design, disk: D) -> Closed<D>
 /// durable. Says of it what is wanted: how many events there are then, and how many transactions were compensated; or the rows.
 ///
 /// From a calm disk a crash at any moment leaves a journal of the events that were found, or of the whole recovered history, and the disk
-/// holds such a one afterwards. It is calm again, unless one of its calls failed. What is no journal is left as it is.
+/// holds such a one afterwards. It is calm again, unless one of its calls failed. What is no journal is left as it is. The recovered
+/// history is told also where memory lacks for what is said of it.
 pub fn recover_journal<D: Disk, P: Progress>(
     alloc: Global,
     d: &Accepted,
     wanted: Wanted,
     disk: D,
     progress: &mut P,
-) -> Closed<D>
+) -> Ended<D>
     ensures answer { IfOk result.answer (λ a. RecoversJournal (text_of wanted d.now) d.now (D.told disk) (D.told result.disk)
-        (Rose (D.faults disk) (D.faults result.disk)) (telling_of a)) }
+        (Rose (D.faults disk) (D.faults result.disk)) (telling_of a result.history result.settled)) }
+    ensures recorded { TellsRecovered (text_of wanted d.now) d.now (D.told disk) (D.told result.disk) result.history result.settled }
     ensures moments { (file : List ℕ) → D.told disk ≡ Some file → Only file (D.may_leave disk)
         → AtAnyMoment D.clock D.left_since disk result.disk (LeavesRecovery d.now file) }
     ensures left { (file : List ℕ) → D.told disk ≡ Some file → Only file (D.may_leave disk)
@@ -105,14 +101,15 @@ pub fn recover_journal<D: Disk, P: Progress>(
                 wal,
                 compensated,
             } = found;
-            Closed {
+            let answer = tell_state(alloc, d.design(), wanted, &state, compensated);
+            let (_, history) = state.into_parts();
+            Ended {
                 disk: wal.give_back(),
-                answer: tell_state(alloc, d.design(), wanted, state, compensated),
+                settled: history.len() as u64,
+                history,
+                answer,
             }
         }
-        Err((error, _, disk)) => Closed {
-            disk,
-            answer: not_recovered(alloc, error),
-        },
+        Err((error, _, disk)) => unrun(alloc, disk, not_recovered(alloc, error)),
     }
 }

@@ -7,6 +7,6 @@ pub mod laws;
 mod lines;
 mod replies;
 
-pub use answers::{Answer, Closed, Ending, Wanted};
+pub use answers::{Answer, Ended, Ending, Wanted, unrun};
 pub use commands::{init_journal, recover_journal};
-pub use lines::not_recovered;
+pub use lines::{not_recovered, one_line};

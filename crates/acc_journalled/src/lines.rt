@@ -3,15 +3,14 @@ ghost use Rattle.std.specs.Prelude.{◌≡◌, ◌≢◌, [], IfOk};
 ghost use Rattle.acc_base.specs.Lines.{line};
 ghost use Rattle.acc_base.specs.Machine.{unfinished};
 ghost use Rattle.acc_journalled.specs.declared.answers.Ending.TheVariants.{Done};
-ghost use Rattle.acc_journalled.specs.Tellings.{telling_of, Says, SaysOf};
+ghost use Rattle.acc_journalled.specs.Tellings.{unrun_telling, Says};
 ghost use Rattle.acc_journalled.specs.Making.{IsMakingError, SaysNotMade};
 ghost use Rattle.acc_journalled.specs.Recovering.{IsReadingError, IsRecoverError, SaysNotRead, SaysUnlawful, SaysNotRecovered};
-ghost use Rattle.acc_journalled.specs.Recovering.{counts_text, rows_text, replies_text, text_of};
+ghost use Rattle.acc_journalled.specs.Recovering.{counts_text, text_of};
 
 use crate::answers::{Answer, Ending, Wanted};
 use crate::replies::reply_lines;
 use acc_base::designs::Design;
-use acc_base::sequences::Seq;
 use acc_dump::dump;
 use acc_machine::State;
 use acc_recover::RecoverError;
@@ -19,23 +18,18 @@ use acc_store::MapStore;
 use acc_wal::WalError;
 use std::alloc::{AllocError, Global};
 
-/// An answer of one line, without events.
+/// An answer of one line.
 pub fn one_line(alloc: Global, ending: Ending, text: &str) -> Result<Answer, AllocError>
-    ensures { IfOk result (λ a. Says ending (line text.now) (telling_of a)) }
+    ensures { IfOk result (λ a. Says ending (line text.now) (unrun_telling a)) }
 {
     let text = format!(in alloc; "{text}\n")?.into_bytes();
-    Ok(Answer {
-        ending,
-        text,
-        history: Seq::new(alloc),
-        settled: 0,
-    })
+    Ok(Answer { ending, text })
 }
 
 /// What is said where a journal isn't made.
 pub fn not_made(alloc: Global, error: WalError) -> Result<Answer, AllocError>
     requires { IsMakingError error }
-    ensures says { IfOk result (λ a. SaysNotMade error (telling_of a)) }
+    ensures says { IfOk result (λ a. SaysNotMade error (unrun_telling a)) }
     ensures undone { IfOk result (λ a. a.ending ≢ Done) }
 {
     match error {
@@ -49,7 +43,7 @@ pub fn not_made(alloc: Global, error: WalError) -> Result<Answer, AllocError>
 /// What is said of bytes that are no journal's.
 fn not_read(alloc: Global, error: WalError) -> Result<Answer, AllocError>
     requires { IsReadingError error }
-    ensures says { IfOk result (λ a. SaysNotRead error (telling_of a)) }
+    ensures says { IfOk result (λ a. SaysNotRead error (unrun_telling a)) }
     ensures undone { IfOk result (λ a. a.ending ≢ Done) }
 {
     let text = match error {
@@ -63,7 +57,7 @@ fn not_read(alloc: Global, error: WalError) -> Result<Answer, AllocError>
 
 /// What is said of a journal with an event that isn't lawful.
 fn unlawful(alloc: Global, at: u64) -> Result<Answer, AllocError>
-    ensures { IfOk result (λ a. SaysUnlawful at (telling_of a)) }
+    ensures { IfOk result (λ a. SaysUnlawful at (unrun_telling a)) }
 {
     let text = format!(in alloc; "refused journal unlawful {at}")?;
     one_line(alloc, Ending::JournalRefused, text.as_str())
@@ -72,7 +66,7 @@ fn unlawful(alloc: Global, at: u64) -> Result<Answer, AllocError>
 /// What is said where nothing is recovered.
 pub fn not_recovered(alloc: Global, error: RecoverError) -> Result<Answer, AllocError>
     requires { IsRecoverError error }
-    ensures says { IfOk result (λ a. SaysNotRecovered error (telling_of a)) }
+    ensures says { IfOk result (λ a. SaysNotRecovered error (unrun_telling a)) }
     ensures undone { IfOk result (λ a. a.ending ≢ Done) }
 {
     match error {
@@ -86,48 +80,30 @@ pub fn not_recovered(alloc: Global, error: RecoverError) -> Result<Answer, Alloc
     }
 }
 
-/// The answer of a recovered state, with the text that is said of it.
-fn told(state: State<MapStore>, text: Vec<u8>) -> Answer
-    ensures { SaysOf text.items state.entry.world (telling_of result) }
-{
-    let (_, history) = state.into_parts();
-    Answer {
-        ending: Ending::Done,
-        text,
-        settled: history.len() as u64,
-        history,
-    }
-}
-
-/// Says how many events a recovered state has, and how many transactions were compensated.
-fn counted(alloc: Global, state: State<MapStore>, compensated: u64) -> Result<Answer, AllocError>
-    ensures { IfOk result (λ a. SaysOf (counts_text state.entry.world compensated) state.entry.world (telling_of a)) }
+/// How many events a recovered state has, and how many transactions were compensated.
+fn counts(alloc: Global, state: &State<MapStore>, compensated: u64) -> Result<Vec<u8>, AllocError>
+    ensures { IfOk result (λ text. text.items ≡ counts_text state.now.world compensated) }
 {
     let events = state.events().len();
-    let text = format!(in alloc; "events {events} compensated {compensated}\n")?.into_bytes();
-    Ok(told(state, text))
+    Ok(format!(in alloc; "events {events} compensated {compensated}\n")?.into_bytes())
 }
 
-/// Says the rows of a recovered state, a line each.
-fn dumped(
+/// What is wanted of a recovered state, in which nothing is unfinished.
+fn wanted_text(
     alloc: Global,
     d: &Design,
-    state: State<MapStore>,
+    wanted: Wanted,
+    state: &State<MapStore>,
     compensated: u64,
-) -> Result<Answer, AllocError>
-    ensures { IfOk result (λ a. SaysOf (rows_text d.now state.entry.world compensated) state.entry.world (telling_of a)) }
+) -> Result<Vec<u8>, AllocError>
+    requires ended { unfinished state.now.world ≡ [] }
+    ensures { IfOk result (λ text. text.items ≡ text_of wanted d.now state.now.world compensated) }
 {
-    let text = dump(alloc, d, state.store())?;
-    Ok(told(state, text))
-}
-
-/// Says the replies of a recovered state, a line each transaction.
-fn replied(alloc: Global, state: State<MapStore>, compensated: u64) -> Result<Answer, AllocError>
-    requires ended { unfinished state.world ≡ [] }
-    ensures { IfOk result (λ a. SaysOf (replies_text state.entry.world compensated) state.entry.world (telling_of a)) }
-{
-    let text = reply_lines(alloc, &state)?;
-    Ok(told(state, text))
+    match wanted {
+        Wanted::Counts => counts(alloc, state, compensated),
+        Wanted::Rows => dump(alloc, d, state.store()),
+        Wanted::Replies => reply_lines(alloc, state),
+    }
 }
 
 /// Says what is wanted of a recovered state, in which nothing is unfinished.
@@ -135,15 +111,14 @@ pub fn tell_state(
     alloc: Global,
     d: &Design,
     wanted: Wanted,
-    state: State<MapStore>,
+    state: &State<MapStore>,
     compensated: u64,
 ) -> Result<Answer, AllocError>
-    requires ended { unfinished state.world ≡ [] }
-    ensures { IfOk result (λ a. SaysOf (text_of wanted d.now state.entry.world compensated) state.entry.world (telling_of a)) }
+    requires ended { unfinished state.now.world ≡ [] }
+    ensures { IfOk result (λ a. (a.ending ≡ Done) × (a.text.items ≡ text_of wanted d.now state.now.world compensated)) }
 {
-    match wanted {
-        Wanted::Counts => counted(alloc, state, compensated),
-        Wanted::Rows => dumped(alloc, d, state, compensated),
-        Wanted::Replies => replied(alloc, state, compensated),
-    }
+    Ok(Answer {
+        ending: Ending::Done,
+        text: wanted_text(alloc, d, wanted, state, compensated)?,
+    })
 }

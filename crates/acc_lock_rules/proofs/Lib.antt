@@ -3,3 +3,6 @@ pub mod OneTurn
 pub mod Orderly
 pub mod Waiting
 pub mod Living
+pub mod Closures
+pub mod Blockers
+pub mod EachTurn

@@ -1,4 +1,5 @@
 pub mod Keeping
+pub mod Rooms
 pub mod Lowers
 pub mod Places
 pub mod FirstBlockers

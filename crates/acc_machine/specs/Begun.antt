@@ -12,9 +12,17 @@ use Rattle.acc_machine.specs.declared.errors.BeginError.TheVariants.{Full, Crowd
 abbrev pub HasRoom : World → Type 0
 HasRoom w = (length w.events < MOST_EVENTS) × (length (unfinished w) < MOST_UNFINISHED)
 
--- a call begins as the next number; or the history is full, or there are too many unfinished, or memory ran out, and nothing has changed
+-- whether a call can begin now; and where none can, whether the history is full, or else that there are too many unfinished
+abbrev pub TellsRoom : {A : Type 0} → World → Result A BeginError → Type 0
+TellsRoom w (Ok done) = HasRoom w
+TellsRoom w (Err Full) = MOST_EVENTS ≤ length w.events
+TellsRoom w (Err Crowd) = (length w.events < MOST_EVENTS) × (MOST_UNFINISHED ≤ length (unfinished w))
+TellsRoom w (Err Memory) = ⊥
+
+-- a call begins as the next number; or nothing has changed: the history is full, or there are too many unfinished, or there is room and
+-- memory ran out
 abbrev pub Begins : Design → World → World → Call → Result ℕ BeginError → Type 0
 Begins d old new call (Ok t) = (t ≡ next_number old) × (after_event d old (Begin call) ≡ Some new) × HasRoom old
 Begins d old new call (Err Full) = (new ≡ old) × (MOST_EVENTS ≤ length old.events)
 Begins d old new call (Err Crowd) = (new ≡ old) × (length old.events < MOST_EVENTS) × (MOST_UNFINISHED ≤ length (unfinished old))
-Begins d old new call (Err Memory) = new ≡ old
+Begins d old new call (Err Memory) = (new ≡ old) × HasRoom old

@@ -8,7 +8,7 @@ ghost use Rattle.acc_base.specs.Invariant.{IsGood};
 ghost use Rattle.acc_base.specs.Locks.{IsStuck};
 ghost use Rattle.acc_plain.specs.Turned.{IsUnfinished};
 ghost use Rattle.acc_lift.specs.Acceptance.{IsAccepted};
-ghost use Rattle.acc_machine.specs.Begun.{Begins, HasRoom};
+ghost use Rattle.acc_machine.specs.Begun.{Begins, HasRoom, TellsRoom};
 ghost use Rattle.acc_machine.specs.Holders.{IsForward, IsListed, IsHeldBack, TellsHolder};
 ghost use Rattle.acc_machine.specs.Takes.{CanCome, GivesLeave, Takes};
 ghost use Rattle.acc_machine.specs.Turns.{IsGoing, IsTurn, IsHeldAt, TellsHeldAt, AddsBy};
@@ -119,11 +119,9 @@ impl<'a, S: Store> State<'a, S> {
         machine.into_parts()
     }
 
-    /// Begins a call that fits its type. It answers the new transaction's number, one above all before.
-    pub fn begin(&mut self, call: &Call) -> Result<u64, BeginError>
-        requires fits { call_fits (slice_get self.old.design.types call.now.ty) call.now ≡ true }
-        ensures answer { Begins self.old.design self.old.world self.new.world call.now result }
-        ensures design { self.new.design ≡ self.old.design }
+    /// Why no call can begin now, if none can: `Full` or else `Crowd`, and never `Memory`. It takes no memory.
+    pub fn room(&self) -> Result<(), BeginError>
+        ensures { TellsRoom self.now.world result }
     {
         if self.machine.events().len() >= MOST_EVENTS {
             return Err(BeginError::Full);
@@ -131,6 +129,17 @@ impl<'a, S: Store> State<'a, S> {
         if self.machine.unfinished().len() >= MOST_UNFINISHED {
             return Err(BeginError::Crowd);
         }
+        Ok(())
+    }
+
+    /// Begins a call that fits its type. It answers the new transaction's number, one above all before; `Memory` only where there is
+    /// room for the call.
+    pub fn begin(&mut self, call: &Call) -> Result<u64, BeginError>
+        requires fits { call_fits (slice_get self.old.design.types call.now.ty) call.now ≡ true }
+        ensures answer { Begins self.old.design self.old.world self.new.world call.now result }
+        ensures design { self.new.design ≡ self.old.design }
+    {
+        self.room()?;
         match self.machine.begin(call) {
             Ok(t) => Ok(t),
             Err(PlainError::Memory) => Err(BeginError::Memory),
@@ -297,8 +306,7 @@ impl<'a, S: Store> State<'a, S> {
     fn has_room(&self) -> bool
         ensures { IsTrue result ↔ HasRoom self.now.world }
     {
-        self.machine.events().len() < MOST_EVENTS
-            && self.machine.unfinished().len() < MOST_UNFINISHED
+        self.room().is_ok()
     }
 
     /// Whether the rules of locks and the limits give leave for an event.

@@ -61,6 +61,11 @@ pub if_handed : {T E : Type 0} (P : E → Type 0) (r : Result T E) (e : E) → I
 if_handed P (Ok x) e is h = tt
 if_handed P (Err s) e is h = subst P (sym is) h
 
+-- what is so of each error
+pub if_any : {T E : Type 0} {P : E → Type 0} (r : Result T E) → ((e : E) → P e) → IfErr r P
+if_any (Ok x) f = tt
+if_any (Err e) f = f e
+
 pub if_err : {T E : Type 0} {P Q : E → Type 0} (r : Result T E) → ((e : E) → P e → Q e) → IfErr r P → IfErr r Q
 if_err (Ok x) f h = h
 if_err (Err e) f h = f e h

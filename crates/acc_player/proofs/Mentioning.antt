@@ -1,6 +1,7 @@
 -- Mentions of places: a place has its number, and goes.
 use Rattle.std.proofs.Common.{◌≡◌, ℕ, ◌-◌, ◌<◌, List, [], ◌∷◌, ◌++◌, Option, Some, None, refl, sym, ap, subst, ◌∙◌}
 use Rattle.std.specs.Prelude.{IsSome, IsSomeAnd, option_and_then, slice_get, slice_set}
+use Rattle.std.proofs.lemmas.Option.{none-some, same_Some}
 use Rattle.acc_base.specs.declared.machines.Call.{Call}
 use Rattle.acc_base.specs.declared.machines.Reply.{Reply}
 use Rattle.acc_base.specs.declared.machines.Transaction.{Transaction}
@@ -10,8 +11,9 @@ use Rattle.acc_base.specs.Items.{item_at, with_item}
 use Rattle.acc_base.specs.Machine.{World, next_number, transaction_at, frame_in, reply_in, reply_at}
 use Rattle.acc_base.specs.Plays.{Rules, Play, Told, Turns, IsStuck, IsOver, IsFull, number_of, with_place, Goes, Mentions}
 use Rattle.acc_plain.specs.Turned.{IsUnfinished}
-use Rattle.acc_player.specs.Players.{Comes, BeginsAt}
+use Rattle.acc_player.specs.Players.{Comes, BeginsAt, CanStart}
 use Rattle.acc_player.specs.Boards.{Opened, Opens, HasBegun}
+use Rattle.acc_player.specs.Ways.{AreOrderly}
 use Rattle.acc_player.proofs.Items.{set_is, item_is, unnumbered}
 
 -- ---- turns
@@ -46,6 +48,17 @@ module _ (m : Rules) (place t : ℕ) (p : Play) where
       (record { turn = None; allowed = closed; told = ap (λ (w : World). (IsStuck place, record p { world = w })) same })
 
 -- ---- a place begins
+
+-- a call that began could begin
+pub could_start : (m : Rules) → AreOrderly m → (calls : List Call) (place : ℕ) (w v : World) (t : ℕ)
+    → BeginsAt m calls place w (Some t) v → CanStart m calls place w
+could_start m orderly calls place w v t b call is none = by b.world b.allowed b.comes
+  where
+    by : (o : Option World) → m.begins w b.call o → Comes w o (Some t) v → ⊥
+    by None allowed comes = comes
+    by (Some u) allowed comes =
+        let same : b.call ≡ call = same_Some b.call call (sym b.is_call ∙ is) in
+        none-some u (orderly.determined.begins w call None (Some u) none (subst (λ (x : Call). m.begins w x (Some u)) same allowed))
 
 module _ (m : Rules) (calls : List Call) (place : ℕ) (p : Play) (above : 0 < place) where
   -- a place that has begun has its number

@@ -216,17 +216,14 @@ module _ (m : Rules) (orderly : AreOrderly m) where
             → PlayPrecedesEach now (IsAfterSchedule m calls order first)
         front_places w now ends front done h = front done (places_after w ends done h)
 
-        -- the play now has the state and the numbers of the one at the end
-        pub behind_places : (w : World) (last now : Play) → EndsAll m p.world w
-            → EndsPlaces m calls (in_state p w) (range_with_len 1 (length calls)) last → last.world ≡ now.world
-            → last.numbers ≡ now.numbers → PlayPrecedesEach now (IsAfterSchedule m calls order first)
-        behind_places w last now ends places world numbers done h =
-            let one : last ≡ done =
-            one_ending m orderly.determined calls (range_with_len 1 (length calls)) (in_state p w) last done places
-            (places_after w ends done h) in
-            subst (PlayPrecedes now) one (alike_precedes now last world numbers)
-
       -- ---- what is common with the whole schedule
+
+      -- the play now has the state and the numbers of the one after a whole schedule
+      pub behind_whole : (xs : List (Told × Play)) (last now : Play) → Schedules m calls first order xs last
+          → last.world ≡ now.world → last.numbers ≡ now.numbers → PlayPrecedesEach now (IsAfterSchedule m calls order first)
+      behind_whole xs last now s world numbers done h =
+          let one = one_schedule calls first order xs h.mentions last done s h.schedules in
+          subst (PlayPrecedes now) one.1 (alike_precedes now last world numbers)
 
       pub front_of_schedule : (now : Play) → PlayPrecedesEach now (IsAfterSchedule m calls order first)
           → IsFrontOfSchedule m calls order first now.world.events

@@ -3,8 +3,10 @@ ghost use Rattle.std.specs.Prelude.{◌≡◌, ◌-◌, length, Some, None, IfOk
 ghost use Rattle.acc_base.specs.Plays.{number_of};
 ghost use Rattle.acc_plain.specs.Turned.{IsUnfinished};
 ghost use Rattle.acc_script.specs.OrderLines.{IsPlace};
+ghost use Rattle.acc_player.specs.declared.stops.Stop.TheVariants.{Memory};
 ghost use Rattle.acc_player.specs.Boards.{play_of, IsBoardOf, KeepsBegun, HasBegun, GoesOn, IsMentioned};
 ghost use Rattle.acc_player.specs.Boards.{IsAfterBegin, IsAfterGoing, IsAfterMention};
+ghost use Rattle.acc_player.specs.Players.{CanStart};
 ghost use Rattle.acc_player.specs.Ways.{PlayPrecedesEach};
 
 use crate::boards::Board;
@@ -13,7 +15,8 @@ use crate::stops::Stop;
 use acc_base::designs::Design;
 use acc_script::{push_full, push_over, push_stuck, push_turn};
 
-/// The number of a place's transaction; a place that hasn't begun begins, unless the machine is full.
+/// The number of a place's transaction; a place that hasn't begun begins, unless the machine is full. Want of memory is told only where
+/// it could begin.
 pub fn number<P: Player>(player: &mut P, board: &mut Board, place: u64) -> Result<Option<u64>, Stop>
     requires ready { P.ready player.old }
     requires board { IsBoardOf (P.calls player.old) (P.can_begin player.old) board.old }
@@ -22,6 +25,8 @@ pub fn number<P: Player>(player: &mut P, board: &mut Board, place: u64) -> Resul
         (play_of (P.world player.old) board.old) (number_of (play_of (P.world player.old) board.old) place) found
         (play_of (P.world player.new) board.new)) }
     ensures here { IfOk result (λ found. IfSome found (λ t. slice_get board.new.numbers.items (place - 1) ≡ Some (Some t))) }
+    ensures room { IfErr result (λ stop. stop ≡ Memory → CanStart (P.rules (P.design player.old)) (P.calls player.old) place
+        (P.world player.old)) }
     ensures board { IsBoardOf (P.calls player.new) (P.can_begin player.new) board.new }
     ensures kept { KeepsBegun board.old board.new }
     ensures text { board.new.text.items ≡ board.old.text.items }

@@ -1,5 +1,5 @@
 -- Recovery of what a crash of a run left.
-use Rattle.std.proofs.Common.{◌≡◌, ◌⊎◌, inl, inr, ℕ, zero, suc, List, [], ◌∷◌, ◌++◌, length, take, Some, refl, sym, subst}
+use Rattle.std.proofs.Common.{◌≡◌, ◌⊎◌, inl, inr, ℕ, zero, suc, List, [], ◌∷◌, ◌++◌, length, take, Some, refl, sym, ap, subst, ◌∙◌}
 use Rattle.acc_io.specs.Causes.{Rose}
 use Rattle.acc_base.specs.declared.designs.Design.{Design}
 use Rattle.acc_base.specs.declared.machines.Event.{Event}
@@ -16,7 +16,8 @@ use Rattle.acc_recover.specs.declared.errors.RecoverError.TheVariants.{Journal, 
 use Rattle.acc_recover.proofs.Single.{one_recovery}
 use Rattle.acc_journalled.proofs.Lawfuls.{lawful_or}
 use Rattle.acc_journalled.proofs.Once.{read_or, text_or, same_events}
-use Rattle.acc_running.specs.Crashes.{LeavesFront, IsRecoverable, IsFrontOf}
+use Rattle.acc_running.specs.Crashes.{LeavesEvents, IsRecoveredPart, IsRecoverable, IsFrontOf}
+use Rattle.acc_running.specs.Recorded.{IsFound}
 use Rattle.acc_running.specs.Laws.{CrashRecovers, EndRecovers}
 
 -- ---- lawful histories
@@ -42,7 +43,7 @@ recovery_leads d [] w last r = r.0
 recovery_leads d (e ∷ rest) w last r =
     (r.1.0, record { leave = next_leave d w e r.0; event = r.1.1 }, recovery_leads d rest r.1.0 last r.1.2)
 
-recovered_leads : (d : Design) (found : List Event) (last : World) → IsRecovery d found last → LeadLawfully d start last.events last
+pub recovered_leads : (d : Design) (found : List Event) (last : World) → IsRecovery d found last → LeadLawfully d start last.events last
 recovered_leads d found last r =
     subst (λ (es : List Event). LeadLawfully d start es last) (sym r.events_are)
     (lead_append d found r.more start r.first last r.comes (recovery_leads d r.more r.first last r.recovers))
@@ -77,23 +78,46 @@ end_recovers d history settled image lawful front =
       record { count = front.count; at_least = front.at_least; within = front.within; is = refl },
     )
 
-front_recovers : (d : Design) (found history : List Event) (first : World) (image : List ℕ) → IsRecovery d found first → AreLawful d history
-    → LeavesFront d (printed d) found history image
-    → (events : List Event) × IsRecoverable d image events
-    × ((events ≡ found) ⊎ (events ≡ first.events) ⊎ IsFrontOf history (length first.events) events)
-front_recovers d found history first image r lawful (inl (inl counts)) =
-    (found, recoverable d image found r.first counts r.comes, inl refl)
-front_recovers d found history first image r lawful (inl (inr recovered)) =
-    let same = one_recovery d found recovered.0 first recovered.1 r in (
-      first.events,
-      recoverable d image first.events first (subst (λ (w : World). Counts image (printed d) w.events) same recovered.2)
-          (recovered_leads d found first r),
-      inr (inl refl),
-    )
-front_recovers d found history first image r lawful (inr behind) =
-    let same = one_recovery d found behind.first first behind.recovery r in
-    let front = end_recovers d history (length behind.first.events) image lawful behind.front in
-    (front.0, front.1, inr (inr (subst (λ (w : World). IsFrontOf history (length w.events) front.0) same front.2)))
+-- of a journal of some first of the events that were there, or came
+module _ (d : Design) (file image : List ℕ) (history : List Event) (first : World) (f : IsFound d (Some file) first)
+    (lawful : AreLawful d history) (e : LeavesEvents d file history image) where
+  read : (e.base ≡ printed d) × (e.found ≡ f.found)
+  read = one_reading file e.base (printed d) e.found f.found e.counts f.counts
+
+  counted : Counts image (printed d) e.events
+  counted = subst (λ (base : List ℕ). Counts image base e.events) read.0 e.left
+
+  again : (last : World) → LeadLawfully d start e.events last → IsRecoverable d image e.events
+  again last leads = recoverable d image e.events last counted leads
+
+  same_state : (w : World) → IsRecovery d e.found w → w ≡ first
+  same_state w r = one_recovery d f.found w first (subst (λ (es : List Event). IsRecovery d es w) read.1 r) f.recovery
+
+  part_recovers :
+      (w : World) → IsRecovery d e.found w → IsRecoveredPart w.events history e.events
+      → IsRecoverable d image e.events
+      × ((e.events ≡ f.found) ⊎ (e.events ≡ first.events) ⊎ IsFrontOf history (length first.events) e.events)
+  part_recovers w r (inl is) = (
+    again w (subst (λ (es : List Event). LeadLawfully d start es w) (sym is) (recovered_leads d e.found w r)),
+    inr (inl (is ∙ ap (λ (x : World). x.events) (same_state w r))),
+  )
+  part_recovers w r (inr front) =
+      let k = front_leads d history start lawful.0 front.1.count lawful.1 in (
+        again k.0 (subst (λ (es : List Event). LeadLawfully d start es k.0) (sym front.1.is) k.1),
+        inr (inr (subst (λ (x : World). IsFrontOf history (length x.events) e.events) (same_state w r) front.1)),
+      )
+
+  events_recover :
+      (e.events ≡ e.found) ⊎ ((w : World) × IsRecovery d e.found w × IsRecoveredPart w.events history e.events)
+      → IsRecoverable d image e.events
+      × ((e.events ≡ f.found) ⊎ (e.events ≡ first.events) ⊎ IsFrontOf history (length first.events) e.events)
+  events_recover (inl is) =
+      let same = is ∙ read.1 in (
+        again f.recovery.first
+            (subst (λ (es : List Event). LeadLawfully d start es f.recovery.first) (sym same) f.recovery.comes),
+        inl same,
+      )
+  events_recover (inr h) = part_recovers h.0 h.1 h.2
 
 pub crash_recovers : CrashRecovers
 crash_recovers d file image history first f lawful (inl same) = (
@@ -101,8 +125,5 @@ crash_recovers d file image history first f lawful (inl same) = (
   recoverable d image f.found f.recovery.first (subst (λ (x : List ℕ). Counts x (printed d) f.found) (sym same) f.counts) f.recovery.comes,
   inl refl,
 )
-crash_recovers d file image history first f lawful (inr left) =
-    let read = one_reading file left.0 (printed d) left.1 f.found left.2 f.counts in
-    front_recovers d f.found history first image f.recovery lawful
-    (subst (λ (es : List Event). LeavesFront d (printed d) es history image) read.1
-    (subst (λ (b : List ℕ). LeavesFront d b left.1 history image) read.0 left.3))
+crash_recovers d file image history first f lawful (inr e) =
+    let r = events_recover d file image history first f lawful e e.which in (e.events, r.0, r.1)

@@ -1,5 +1,5 @@
 -- What a crash leaves of a run: of its recovery, and of the engine behind it.
-use Rattle.std.proofs.Common.{◌≡◌, ◌≤◌, inl, inr, ℕ, List, [], ◌++◌, length, Option, false, refl, subst}
+use Rattle.std.proofs.Common.{◌≡◌, ◌≤◌, inl, inr, ℕ, List, [], ◌++◌, length, take, Option, false, refl, subst}
 use Rattle.std.specs.Prelude.{◌≢◌}
 use Rattle.acc_base.specs.declared.designs.Design.{Design}
 use Rattle.acc_base.specs.declared.machines.Event.{Event}
@@ -10,18 +10,29 @@ use Rattle.acc_print.specs.Designs.{printed}
 use Rattle.acc_wal.specs.Fronts.{CountsFront}
 use Rattle.acc_wal.specs.Journals.{Counts}
 use Rattle.acc_wal.proofs.Moments.{weaker, together}
-use Rattle.acc_recover.specs.Recoveries.{IsRecovery, LeavesRecovery}
+use Rattle.acc_recover.specs.Recoveries.{IsRecovery, CountsRecovered, LeavesRecovery}
 use Rattle.acc_engine.specs.Keeping.{Journalled}
 use Rattle.acc_engine.specs.Ready.{IsReady}
 use Rattle.acc_journalled.specs.declared.answers.Ending.TheVariants.{DiskFailed}
-use Rattle.acc_running.specs.declared.answers.Said.{Said}
-use Rattle.acc_running.specs.Crashes.{LeavesRun, LeavesDurable}
+use Rattle.acc_journalled.specs.declared.answers.Answer.{Answer}
+use Rattle.acc_running.specs.Crashes.{LeavesEvents, LeavesRun, LeavesDurable}
 use Rattle.acc_running.specs.Engines.{SaysRun}
 
 recovery_run : (d : Design) (file : List ℕ) (history : List Event) (image : List ℕ) → LeavesRecovery d file image
     → LeavesRun d file history image
 recovery_run d file history image (inl same) = inl same
-recovery_run d file history image (inr r) = inr (r.0, r.1, r.2, inl r.3)
+recovery_run d file history image (inr r) = inr (by r.3)
+  where
+    by : CountsRecovered d r.0 r.1 image → LeavesEvents d file history image
+    by (inl left) = record { base = r.0; found = r.1; counts = r.2; events = r.1; left = left; which = inl refl }
+    by (inr s) = record {
+      base = r.0;
+      found = r.1;
+      counts = r.2;
+      events = s.0.events;
+      left = s.2;
+      which = inr (s.0, s.1, inl refl);
+    }
 
 module _ {D : Type 0} (clock : D → ℕ) (left_since : D → ℕ → List ℕ → Type 0) (d : Design) (file : List ℕ) where
   -- nothing but the recovery took place
@@ -41,21 +52,32 @@ module _ {D : Type 0} (clock : D → ℕ) (left_since : D → ℕ → List ℕ �
       together clock left_since disk old.disk new.disk (LeavesRun d file new.state.events)
       (only_recovery disk old.disk new.state.events recovering)
       (weaker clock left_since old.disk new.disk (CountsFront old.base new.state.events old.settled) (LeavesRun d file new.state.events)
-      (λ image front. inr (
-        printed d,
-        found,
-        counts,
-        inr
-            (record {
-              first = first;
-              recovery = r;
-              more = more;
-              history_is = history;
-              front =
-                  subst (λ (n : ℕ). CountsFront (printed d) new.state.events n image) settled
-                  (subst (λ (t : List ℕ). CountsFront t new.state.events old.settled image) at_base front);
-            }),
-      )) running)
+      (λ image front. inr (behind image
+      (subst (λ (n : ℕ). CountsFront (printed d) new.state.events n image) settled
+      (subst (λ (t : List ℕ). CountsFront t new.state.events old.settled image) at_base front)))) running)
+    where
+      behind : (image : List ℕ) → CountsFront (printed d) new.state.events (length first.events) image
+          → LeavesEvents d file new.state.events image
+      behind image front = record {
+        base = printed d;
+        found = found;
+        counts = counts;
+        events = take front.count new.state.events;
+        left = front.counts;
+        which = inr (
+          first,
+          r,
+          inr (
+            (more, history),
+            record {
+              count = front.count;
+              at_least = front.at_least;
+              within = front.within;
+              is = refl;
+            },
+          ),
+        );
+      }
 
   -- after a recovery alone
   pub left_recovery : (disk new : D) (may_leave : List ℕ → Type 0)
@@ -67,7 +89,7 @@ module _ {D : Type 0} (clock : D → ℕ) (left_since : D → ℕ → List ℕ �
 
 -- where the disk didn't fail, it is calm again
 pub calm_said : {D : Type 0} (told : D → Option (List ℕ)) (may_leave : D → List ℕ → Type 0) (count : D → ℕ) (d : Design)
-    (order : List ℕ) (old new : Journalled D) (s : Said)
+    (order : List ℕ) (old new : Journalled D) (s : Answer)
     → IsReady told may_leave old → (IsReady told may_leave old → new.failed ≡ false → IsReady told may_leave new)
     → SaysRun count d order old new s → s.ending ≢ DiskFailed → IsCalm (told new.disk) (may_leave new.disk)
 calm_said told may_leave count d order old new s ready again (inl all) sound = (again ready all.unfailed).calm

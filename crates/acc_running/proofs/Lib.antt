@@ -2,4 +2,4 @@ mod Saying
 mod Recording
 mod Crashing
 pub mod OneRun
-mod Again
+pub mod Again

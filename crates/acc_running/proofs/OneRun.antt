@@ -6,7 +6,7 @@ use Rattle.acc_base.specs.declared.machines.Event.{Event}
 use Rattle.acc_base.specs.Machine.{World}
 use Rattle.acc_schedule.specs.Schedules.{TellsScheduleFrom}
 use Rattle.acc_schedule.proofs.OneSchedule.{tells_once}
-use Rattle.acc_mentions.specs.Openings.{opening_at}
+use Rattle.acc_settling.specs.Openings.{opening_at}
 use Rattle.acc_recover.specs.Recoveries.{IsRecovery}
 use Rattle.acc_recover.proofs.Single.{one_recovery}
 use Rattle.acc_journalled.specs.Tellings.{Telling}

@@ -21,12 +21,13 @@ use Rattle.acc_machine.specs.Kept.{IsKept}
 use Rattle.acc_engine.specs.Keeping.{Journalled, BeginsFrom}
 use Rattle.acc_schedule.specs.Schedules.{TellsScheduleFrom}
 use Rattle.acc_schedule.proofs.Closing.{idle_between}
-use Rattle.acc_mentions.specs.Openings.{opening_at, IsFresh}
-use Rattle.acc_mentions.specs.Runs.{GoesOn, IsAckedButOne}
-use Rattle.acc_settled.specs.Wholes.{IsAfterSchedule, IsFrontOfSchedule, TellsDurablePart}
-use Rattle.acc_running.specs.declared.answers.Said.{Said}
+use Rattle.acc_settling.specs.Openings.{opening_at, IsFresh}
+use Rattle.acc_settling.specs.Runs.{GoesOn, IsAckedButOne}
+use Rattle.acc_settling.specs.Wholes.{IsAfterSchedule, IsFrontOfSchedule, TellsDurablePart}
+use Rattle.acc_journalled.specs.declared.answers.Answer.{Answer}
 use Rattle.acc_running.specs.Engines.{SaysAll, SaysFault, SaysRun, HandsOver}
-use Rattle.acc_running.specs.Recorded.{telling_of, IsFound, IsRecorded}
+use Rattle.acc_journalled.specs.Tellings.{telling_of}
+use Rattle.acc_running.specs.Recorded.{IsFound, IsRecorded}
 use Rattle.acc_running.specs.Running.{RunsThrough, BreaksOff, RunsJournal}
 
 -- an engine over a recovered state, as it begins
@@ -145,7 +146,7 @@ module _ {D : Type 0} (d : Design) (calls : List Call) (first : World) (old new 
         subst (λ (t : List ℕ). Counts file t new.state.events) (on.base ∙ b.base)
         (subst (λ (es : List Event). Counts file new.base es) events c.counts))
 
-    runs_through : (s : Said) → SaysAll d order old new s
+    runs_through : (s : Answer) → SaysAll d order old new s
         → RunsThrough d calls order told told' (telling_of s new.state.events new.settled)
     runs_through s all = record {
       first = first;
@@ -162,7 +163,7 @@ module _ {D : Type 0} (d : Design) (calls : List Call) (first : World) (old new 
       holds = whole all.unfailed all.settled;
     }
 
-    breaks_off : (count : D → ℕ) (fault : Type 0) → (Rose (count old.disk) (count new.disk) → fault) → (s : Said)
+    breaks_off : (count : D → ℕ) (fault : Type 0) → (Rose (count old.disk) (count new.disk) → fault) → (s : Answer)
         → SaysFault count d order old new s → BreaksOff d calls order told fault (telling_of s new.state.events new.settled)
     breaks_off count fault so s f = record {
       failed = so f.rose;
@@ -191,7 +192,7 @@ module _ {D : Type 0} (d : Design) (calls : List Call) (first : World) (old new 
       text = f.says.1;
     }
 
-    pub runs_journal : (count : D → ℕ) (fault : Type 0) → (Rose (count old.disk) (count new.disk) → fault) → (s : Said)
+    pub runs_journal : (count : D → ℕ) (fault : Type 0) → (Rose (count old.disk) (count new.disk) → fault) → (s : Answer)
         → SaysRun count d order old new s → RunsJournal d calls order told told' fault (telling_of s new.state.events new.settled)
     runs_journal count fault so s (inl all) = inl (runs_through s all)
     runs_journal count fault so s (inr f) = inr (inl (breaks_off count fault so s f))

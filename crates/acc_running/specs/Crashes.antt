@@ -1,35 +1,48 @@
 -- What a crash leaves of a run over a journal, and what recovery finds in it.
-use Rattle.std.specs.Prelude.{◌≡◌, ◌⊎◌, ◌≤◌, ◌++◌, ℕ, List, [], length, take, Some}
+use Rattle.std.specs.Prelude.{◌≡◌, ◌⊎◌, ◌≤◌, ◌++◌, ℕ, List, [], length, take, Option, Some, IfSome}
 use Rattle.acc_io.specs.Causes.{Rose}
 use Rattle.acc_base.specs.declared.designs.Design.{Design}
+use Rattle.acc_base.specs.declared.machines.Call.{Call}
 use Rattle.acc_base.specs.declared.machines.Event.{Event}
 use Rattle.acc_base.specs.Lawful.{AreLawful}
 use Rattle.acc_base.specs.Machine.{World}
+use Rattle.acc_disk.specs.Crashes.{Only}
+use Rattle.acc_disk.specs.Moments.{AtAnyMoment}
 use Rattle.acc_print.specs.Designs.{printed}
 use Rattle.acc_wal.specs.Fronts.{CountsFront}
 use Rattle.acc_wal.specs.Journals.{Counts}
-use Rattle.acc_recover.specs.Recoveries.{IsRecovery, CountsRecovered, LeavesRecovery}
+use Rattle.acc_recover.specs.Recoveries.{IsRecovery, LeavesRecovery}
 use Rattle.acc_recover.specs.Refusals.{RefusesRecovery, IsOfBytes}
 use Rattle.acc_recover.specs.declared.errors.RecoverError.{RecoverError}
+use Rattle.acc_running.specs.Recorded.{Records}
+use Rattle.acc_running.specs.Running.{FollowsOrder}
 
--- the history begins with the recovered one, and the bytes are a journal of a front of it, with all of the recovered one
-pub record CountsBehind (d : Design) (base : List ℕ) (found history : List Event) (image : List ℕ) : Type 0 where
-  pub first : World
-  pub recovery : IsRecovery d found first
-  pub more : List Event
-  pub history_is : history ≡ first.events ++ more
-  pub front : CountsFront base history (length first.events) image
+-- a front of the history, of so many events at least
+pub record IsFrontOf (history : List Event) (least : ℕ) (events : List Event) : Type 0 where
+  pub count : ℕ
+  pub at_least : least ≤ count
+  pub within : count ≤ length history
+  pub is : events ≡ take count history
 
--- what was found, or that with its compensation, or a front of the history
-abbrev pub LeavesFront : Design → List ℕ → List Event → List Event → List ℕ → Type 0
-LeavesFront d base found history image = CountsRecovered d base found image ⊎ CountsBehind d base found history image
+-- the recovered history; or a front of a history that begins with it, with all of it
+abbrev pub IsRecoveredPart : List Event → List Event → List Event → Type 0
+IsRecoveredPart recovered history events =
+    (events ≡ recovered)
+    ⊎ (((more : List Event) × (history ≡ recovered ++ more)) × IsFrontOf history (length recovered) events)
 
--- At any moment of a run over a file: its bytes; or, where it is a journal, they are one of what it counts, or of the recovered history, or
--- of a front of the run's history with all of the recovered one.
+-- The file is a journal of what was found, and the image one of these events: of just that, or of the recovered history, or of a front of
+-- the run's history with all of the recovered one.
+pub record LeavesEvents (d : Design) (file : List ℕ) (history : List Event) (image : List ℕ) : Type 0 where
+  pub base : List ℕ
+  pub found : List Event
+  pub counts : Counts file base found
+  pub events : List Event
+  pub left : Counts image base events
+  pub which : (events ≡ found) ⊎ ((first : World) × IsRecovery d found first × IsRecoveredPart first.events history events)
+
+-- at any moment of a run over a file: its bytes; or a journal of some first of the events that were there, or came
 abbrev pub LeavesRun : Design → List ℕ → List Event → List ℕ → Type 0
-LeavesRun d file history image =
-    (image ≡ file)
-    ⊎ ((base : List ℕ) × (found : List Event) × Counts file base found × LeavesFront d base found history image)
+LeavesRun d file history image = (image ≡ file) ⊎ LeavesEvents d file history image
 
 -- nothing was recovered that is told
 pub record LeavesNone (d : Design) (file : List ℕ) (history : List Event) (settled : ℕ) (image : List ℕ) : Type 0 where
@@ -42,6 +55,21 @@ abbrev pub LeavesDurable : Design → List ℕ → List Event → ℕ → List �
 LeavesDurable d file history settled image =
     LeavesNone d file history settled image ⊎ CountsFront (printed d) history settled image
 
+-- What a run over a disk leaves, however it ends. Where the disk was calm, a crash at any moment of it and one after it leave a front of
+-- what is recorded.
+pub record RunsOver {D : Type 0} (clock : D → ℕ) (left_since : D → ℕ → List ℕ → Type 0) (told : D → Option (List ℕ))
+    (may_leave : D → List ℕ → Type 0) (d : Design) (calls : List Call) (order : List ℕ) (old new : D) (history : List Event) (settled : ℕ)
+    : Type 0 where
+  pub recorded : Records d calls (told old) history settled
+  pub follows : FollowsOrder d calls order (told old) history
+  pub moments :
+      (file : List ℕ) → told old ≡ Some file → Only file (may_leave old)
+      → AtAnyMoment clock left_since old new (LeavesRun d file history)
+  pub left : (file : List ℕ) → told old ≡ Some file → Only file (may_leave old) → IfSome (told new) (LeavesRun d file history)
+  pub behind :
+      (file : List ℕ) → told old ≡ Some file → Only file (may_leave old) → (image : List ℕ) → may_leave new image
+      → LeavesDurable d file history settled image
+
 -- ---- recovery again
 
 -- Recovery finds these events in the bytes, which are a journal of the design's printed text, and nothing stands against it: of its
@@ -51,10 +79,3 @@ pub record IsRecoverable (d : Design) (image : List ℕ) (events : List Event) :
   pub only : (found : List Event) → Counts image (printed d) found → found ≡ events
   pub lawful : AreLawful d events
   pub unrefused : (error : RecoverError) (before after : ℕ) → RefusesRecovery d error (Some image) (Rose before after) → ¬ IsOfBytes error
-
--- a front of the history, of so many events at least
-pub record IsFrontOf (history : List Event) (least : ℕ) (events : List Event) : Type 0 where
-  pub count : ℕ
-  pub at_least : least ≤ count
-  pub within : count ≤ length history
-  pub is : events ≡ take count history

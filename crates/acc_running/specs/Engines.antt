@@ -7,15 +7,15 @@ use Rattle.acc_base.specs.Lines.{line}
 use Rattle.acc_base.specs.Plays.{Play}
 use Rattle.acc_engine.specs.Keeping.{Journalled}
 use Rattle.acc_schedule.specs.Schedules.{TellsScheduleFrom}
-use Rattle.acc_settled.specs.declared.schedules.Scheduled.{Scheduled}
-use Rattle.acc_settled.specs.declared.schedules.Stopped.{Stopped}
-use Rattle.acc_settled.specs.declared.schedules.Stopped.TheVariants.{Disk, Memory}
-use Rattle.acc_mentions.specs.Openings.{opening_at}
-use Rattle.acc_settled.specs.Stops.{AreNumbersOf, TellsSettled}
-use Rattle.acc_settled.specs.Wholes.{IsAfterSchedule, TellsDurablePart}
+use Rattle.acc_settling.specs.declared.schedules.Scheduled.{Scheduled}
+use Rattle.acc_settling.specs.declared.schedules.Stopped.{Stopped}
+use Rattle.acc_settling.specs.declared.schedules.Stopped.TheVariants.{Disk, Memory}
+use Rattle.acc_settling.specs.Openings.{opening_at}
+use Rattle.acc_settling.specs.Stops.{AreNumbersOf, TellsSettled}
+use Rattle.acc_settling.specs.Wholes.{IsAfterSchedule, TellsDurablePart}
+use Rattle.acc_journalled.specs.declared.answers.Answer.{Answer}
 use Rattle.acc_journalled.specs.declared.answers.Ending.{Ending}
 use Rattle.acc_journalled.specs.declared.answers.Ending.TheVariants.{Done, Unbegun, DiskFailed}
-use Rattle.acc_running.specs.declared.answers.Said.{Said}
 
 -- all is done where each call has begun; else one couldn't, since the history is full
 abbrev pub ending_at : Bool → Ending
@@ -23,17 +23,17 @@ ending_at true = Done
 ending_at false = Unbegun
 
 -- the lines of the places, and behind them the fault
-abbrev pub IsWithFault : List ℕ → Said → Type 0
+abbrev pub IsWithFault : List ℕ → Answer → Type 0
 IsWithFault lines s = (s.ending ≡ DiskFailed) × (s.text.items ≡ lines ++ line (codes "fault disk"))
 
 -- want of memory says nothing
-abbrev pub SaysTold : Result Scheduled Stopped → Said → Type 0
+abbrev pub SaysTold : Result Scheduled Stopped → Answer → Type 0
 SaysTold (Ok told) s = (s.ending ≡ ending_at told.all_begun) × (s.text.items ≡ told.text.items)
 SaysTold (Err (Disk lines)) s = IsWithFault lines.items s
 SaysTold (Err Memory) s = ⊥
 
 -- the whole schedule is said, and is durable
-pub record SaysAll {D : Type 0} (d : Design) (order : List ℕ) (old new : Journalled D) (s : Said) : Type 0 where
+pub record SaysAll {D : Type 0} (d : Design) (order : List ℕ) (old new : Journalled D) (s : Answer) : Type 0 where
   pub all_begun : Bool
   pub tells :
       TellsScheduleFrom d old.calls (opening_at old.state old.calls) order s.text.items new.state.events all_begun
@@ -42,7 +42,7 @@ pub record SaysAll {D : Type 0} (d : Design) (order : List ℕ) (old new : Journ
   pub unfailed : new.failed ≡ false
 
 -- the disk failed, and the durable replies are said, which are those of the whole schedule
-pub record SaysFault {D : Type 0} (count : D → ℕ) (d : Design) (order : List ℕ) (old new : Journalled D) (s : Said) : Type 0 where
+pub record SaysFault {D : Type 0} (count : D → ℕ) (d : Design) (order : List ℕ) (old new : Journalled D) (s : Answer) : Type 0 where
   pub rose : Rose (count old.disk) (count new.disk)
   pub play : Play
   pub numbers : AreNumbersOf new play.numbers
@@ -53,7 +53,7 @@ pub record SaysFault {D : Type 0} (count : D → ℕ) (d : Design) (order : List
       → TellsDurablePart new.design new.calls new.state.events new.settled ended lines
   pub says : IsWithFault lines s
 
-abbrev pub SaysRun : {D : Type 0} → (D → ℕ) → Design → List ℕ → Journalled D → Journalled D → Said → Type 0
+abbrev pub SaysRun : {D : Type 0} → (D → ℕ) → Design → List ℕ → Journalled D → Journalled D → Answer → Type 0
 SaysRun count d order old new s = SaysAll d order old new s ⊎ SaysFault count d order old new s
 
 -- an engine's disk, its events and how many of them are durable

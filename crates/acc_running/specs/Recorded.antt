@@ -11,12 +11,6 @@ use Rattle.acc_wal.specs.Journals.{Counts}
 use Rattle.acc_engine.specs.Keeping.{BeginsFrom}
 use Rattle.acc_schedule.specs.Schedules.{IsIdleBetween}
 use Rattle.acc_recover.specs.Recoveries.{IsRecovery}
-use Rattle.acc_journalled.specs.Tellings.{Telling}
-use Rattle.acc_running.specs.declared.answers.Said.{Said}
-
--- what the code's values say
-abbrev pub telling_of : Said → List Event → ℕ → Telling
-telling_of s history settled = record { ending = s.ending; text = s.text.items; history = history; settled = settled }
 
 -- The file, where its bytes are told, was a journal of the design's printed text. This is the state that recovery made of its events.
 pub record IsFound (d : Design) (told : Option (List ℕ)) (first : World) : Type 0 where

@@ -11,8 +11,8 @@ use Rattle.acc_print.specs.Designs.{printed}
 use Rattle.acc_wal.specs.Journals.{Counts}
 use Rattle.acc_engine.specs.Keeping.{is_begun}
 use Rattle.acc_schedule.specs.Schedules.{TellsScheduleFrom}
-use Rattle.acc_mentions.specs.Openings.{opening_at}
-use Rattle.acc_settled.specs.Wholes.{IsAfterSchedule, IsFrontOfSchedule, TellsDurablePart}
+use Rattle.acc_settling.specs.Openings.{opening_at}
+use Rattle.acc_settling.specs.Wholes.{IsAfterSchedule, IsFrontOfSchedule, TellsDurablePart}
 use Rattle.acc_journalled.specs.declared.answers.Ending.TheVariants.{DiskFailed}
 use Rattle.acc_journalled.specs.Recovering.{RefusesSo}
 use Rattle.acc_journalled.specs.Tellings.{Telling}

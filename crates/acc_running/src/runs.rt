@@ -1,26 +1,24 @@
 //! Runs over a journal.
-ghost use Rattle.std.specs.Prelude.{◌≡◌, ◌≢◌, ◌≤◌, ◌<◌, ◌^◌, List, ℕ, length, All, Some, IfOk, IfSome};
+ghost use Rattle.std.specs.Prelude.{◌≡◌, ◌≢◌, ◌≤◌, ◌<◌, ◌^◌, length, All, IfOk};
 ghost use Rattle.acc_io.specs.Causes.{Rose};
-ghost use Rattle.acc_disk.specs.Crashes.{Only, IsCalm};
-ghost use Rattle.acc_disk.specs.Moments.{AtAnyMoment};
+ghost use Rattle.acc_disk.specs.Crashes.{IsCalm};
 ghost use Rattle.acc_engine.specs.Keeping.{CallsFit};
 ghost use Rattle.acc_script.specs.BeginSizes.{begins_size};
 ghost use Rattle.acc_script.specs.OrderLines.{IsPlace};
 ghost use Rattle.acc_journalled.specs.declared.answers.Ending.TheVariants.{DiskFailed};
-ghost use Rattle.acc_running.specs.Recorded.{telling_of, Records};
-ghost use Rattle.acc_running.specs.Running.{RunsJournal, FollowsOrder};
-ghost use Rattle.acc_running.specs.Crashes.{LeavesRun, LeavesDurable};
+ghost use Rattle.acc_journalled.specs.Tellings.{telling_of};
+ghost use Rattle.acc_running.specs.Running.{RunsJournal};
+ghost use Rattle.acc_running.specs.Crashes.{RunsOver};
 
-use crate::answers::Run;
 use crate::engines::{closed, say};
-use crate::refusals::refused;
 use acc_base::machines::Call;
 use acc_base::sequences::Seq;
 use acc_disk::Disk;
+use acc_journalled::{Ended, not_recovered, unrun};
 use acc_lift::Accepted;
 use acc_progress::Progress;
 use acc_recover::{Recovered, recover};
-use acc_settled::over_journal;
+use acc_settling::{Settling, over_journal};
 use acc_store::MapStore;
 use std::alloc::Global;
 
@@ -46,21 +44,15 @@ pub fn schedule_journal<D: Disk, P: Progress>(
     order: &[u64],
     disk: D,
     progress: &mut P,
-) -> Run<D>
+) -> Ended<D>
     requires fits { CallsFit d.now calls }
     requires few { begins_size calls < 2 ^ 31 }
     requires places { All (IsPlace (length calls)) order.now }
-    ensures answer { IfOk result.said (λ s. RunsJournal d.now calls order.now (D.told disk) (D.told result.disk)
-        (Rose (D.faults disk) (D.faults result.disk)) (telling_of s result.history result.settled)) }
-    ensures recorded { Records d.now calls (D.told disk) result.history result.settled }
-    ensures front { FollowsOrder d.now calls order.now (D.told disk) result.history }
-    ensures moments { (file : List ℕ) → D.told disk ≡ Some file → Only file (D.may_leave disk)
-        → AtAnyMoment D.clock D.left_since disk result.disk (LeavesRun d.now file result.history) }
-    ensures left { (file : List ℕ) → D.told disk ≡ Some file → Only file (D.may_leave disk)
-        → IfSome (D.told result.disk) (LeavesRun d.now file result.history) }
-    ensures durable { (file : List ℕ) → D.told disk ≡ Some file → Only file (D.may_leave disk)
-        → (image : List ℕ) → D.may_leave result.disk image → LeavesDurable d.now file result.history result.settled image }
-    ensures calm { IfOk result.said (λ s. s.ending ≢ DiskFailed → IsCalm (D.told disk) (D.may_leave disk)
+    ensures answer { IfOk result.answer (λ a. RunsJournal d.now calls order.now (D.told disk) (D.told result.disk)
+        (Rose (D.faults disk) (D.faults result.disk)) (telling_of a result.history result.settled)) }
+    ensures runs { RunsOver D.clock D.left_since D.told D.may_leave d.now calls order.now disk result.disk result.history
+        result.settled }
+    ensures calm { IfOk result.answer (λ a. a.ending ≢ DiskFailed → IsCalm (D.told disk) (D.may_leave disk)
         → IsCalm (D.told result.disk) (D.may_leave result.disk)) }
     ensures faults { D.faults disk ≤ D.faults result.disk }
 {
@@ -71,10 +63,11 @@ pub fn schedule_journal<D: Disk, P: Progress>(
                 wal,
                 compensated: _,
             } = recovered;
-            let mut engine = over_journal(alloc, state, wal, calls);
-            let said = say(alloc, &mut engine, d.design(), order);
-            closed(engine, said)
+            let engine = over_journal(alloc, state, wal, calls);
+            let mut player = Settling { engine };
+            let answer = say(alloc, &mut player, d.design(), order);
+            closed(player, answer)
         }
-        Err((error, _, disk)) => refused(alloc, error, disk),
+        Err((error, _, disk)) => unrun(alloc, disk, not_recovered(alloc, error)),
     }
 }

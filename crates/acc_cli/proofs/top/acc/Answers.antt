@@ -3,61 +3,66 @@ use Rattle.acc_cli.proofs.CauseLemmas.{causes_of}
 use Rattle.acc_cli.proofs.PromiseLemmas.{promise_kept}
 use Rattle.acc_cli.proofs.CreationLemmas.{is_created}
 use Rattle.acc_cli.proofs.ProvingLemmas.{is_proved}
-use Rattle.acc_cli.proofs.RunLemmas.{record_kept}
+use Rattle.acc_cli.proofs.LineLemmas.{leaves_line, runs_line, tells_somehow}
 use Rattle.acc_cli.proofs.RecoveryLemmas.{tells_recovery, left_refused}
 use Rattle.acc_cli.proofs.StatusLemmas.{zero_is_done, four_is_refused}
 use Rattle.acc_cli.proofs.top.acc.Goals as goal
 
 pub returns-clause-answered : goal.returns-clause-answered
 returns-clause-answered g c = record {
-  status = c.answer_line-ended.result.status;
+  status = c.answer_line-closed.result.status;
   coded = c.code.ensures;
-  holds =
-      c.answer_line-ended.ensures.answered;
+  holds = c.answer_line-closed.ensures.answered;
 }
 
 pub returns-clause-causes : goal.returns-clause-causes
 returns-clause-causes g c = record {
-  status = c.answer_line-ended.result.status;
+  status = c.answer_line-closed.result.status;
   coded = c.code.ensures;
-  holds =
-      causes_of _ _ _ _ _ _ _ _ _ _ _ _ c.answer_line-ended.ensures.answered;
+  holds = causes_of _ _ _ _ _ _ _ _ _ _ _ _ _ c.answer_line-closed.ensures.answered;
 }
 
 pub returns-clause-promise : goal.returns-clause-promise
-returns-clause-promise g c is = promise_kept _ _ _ _ _ _ _ _ _ _ _ _ is c.answer_line-ended.ensures.answered
+returns-clause-promise g c is = promise_kept _ _ _ _ _ _ _ _ _ _ _ _ is c.answer_line-closed.ensures.answered
 
 pub returns-clause-clean : goal.returns-clause-clean
-returns-clause-clean g c h = c.answer_line-ended.ensures.clean (zero_is_done c.answer_line-ended.result.status (sym c.code.ensures ∙ h))
+returns-clause-clean g c h = c.answer_line-closed.ensures.clean (zero_is_done c.answer_line-closed.result.status (sym c.code.ensures ∙ h))
 
 pub returns-clause-created : goal.returns-clause-created
 returns-clause-created g c is zero =
-    is_created _ _ _ _ _ _ _ _ _ _ _ _ is (zero_is_done c.answer_line-ended.result.status (sym c.code.ensures ∙ zero))
-    c.answer_line-ended.ensures.answered
+    is_created _ _ _ _ _ _ _ _ _ _ _ _ _ is (zero_is_done c.answer_line-closed.result.status (sym c.code.ensures ∙ zero))
+    c.answer_line-closed.ensures.answered
 
 pub returns-clause-proved : goal.returns-clause-proved
 returns-clause-proved g c is zero =
-    is_proved _ _ _ _ _ _ _ _ _ _ _ _ is (zero_is_done c.answer_line-ended.result.status (sym c.code.ensures ∙ zero))
-    c.answer_line-ended.ensures.answered
+    is_proved _ _ _ _ _ _ _ _ _ _ _ _ _ is (zero_is_done c.answer_line-closed.result.status (sym c.code.ensures ∙ zero))
+    c.answer_line-closed.ensures.answered
 
 pub returns-clause-recovered : goal.returns-clause-recovered
 returns-clause-recovered g c command wanted is by =
     rw c.code.ensures
-    (tells_recovery _ _ command wanted _ _ _ _ _ _ _ _ by _ _ is c.answer_line-ended.ensures.answered)
+    (tells_recovery _ _ command wanted _ _ _ _ _ _ _ _ by _ _ _ is
+    (λ unsaid. tells_somehow g.D.Disk.clock g.D.Disk.left_since g.D.Disk.told g.D.Disk.may_leave _ _ c.args.disk
+    c.answer_line-closed.result.disk _ _ _ _ _ unsaid command wanted is by c.answer_line-closed.ensures.leaves)
+    c.answer_line-closed.ensures.answered)
 
 pub returns-clause-unchanged : goal.returns-clause-unchanged
 returns-clause-unchanged g c four =
     left_refused _ _ _ _ _ _
-    ((causes_of _ _ _ _ _ _ _ _ _ _ _ _ c.answer_line-ended.ensures.answered).journal
-    (four_is_refused c.answer_line-ended.result.status (sym c.code.ensures ∙ four)))
+    ((causes_of _ _ _ _ _ _ _ _ _ _ _ _ _ c.answer_line-closed.ensures.answered).journal
+    (four_is_refused c.answer_line-closed.result.status (sym c.code.ensures ∙ four)))
 
-pub returns-clause-recorded : goal.returns-clause-recorded
-returns-clause-recorded g c is = record_kept _ _ _ _ _ _ _ _ _ _ _ _ is c.answer_line-ended.ensures.answered
+pub returns-clause-runs : goal.returns-clause-runs
+returns-clause-runs g c is =
+    runs_line g.D.Disk.clock g.D.Disk.left_since g.D.Disk.told g.D.Disk.may_leave _ _ c.args.disk c.answer_line-closed.result.disk _ _ is
+    c.answer_line-closed.ensures.leaves
 
-pub returns-clause-fronts : goal.returns-clause-fronts
-returns-clause-fronts g c is other file told only =
-    (c.answer_line-ended.ensures.told is (λ nine. other (c.code.ensures ∙ nine))).during file told only
+pub returns-clause-crash : goal.returns-clause-crash
+returns-clause-crash g c file is only =
+    (leaves_line g.D.Disk.clock g.D.Disk.left_since g.D.Disk.told g.D.Disk.may_leave _ _ c.args.disk c.answer_line-closed.result.disk _ _
+    (g.met.D.Disk.only_now c.args.disk) c.answer_line-closed.ensures.leaves).moments file is only
 
-pub returns-clause-durable : goal.returns-clause-durable
-returns-clause-durable g c is other file told only image left =
-    (c.answer_line-ended.ensures.told is (λ nine. other (c.code.ensures ∙ nine))).behind file told only image left
+pub returns-clause-left : goal.returns-clause-left
+returns-clause-left g c file is only =
+    (leaves_line g.D.Disk.clock g.D.Disk.left_since g.D.Disk.told g.D.Disk.may_leave _ _ c.args.disk c.answer_line-closed.result.disk _ _
+    (g.met.D.Disk.only_now c.args.disk) c.answer_line-closed.ensures.leaves).left file is only

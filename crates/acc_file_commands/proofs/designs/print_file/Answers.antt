@@ -12,7 +12,7 @@ returns-in-Ok c =
       d = d;
       is_text = read.is_text;
       formed = read.formed;
-      says = (refl, c.in-Ok.ensures.value, c.new.ensures);
+      says = (refl, c.in-Ok.ensures.value, refl);
       same = text_reads_back c.args.design.now d read.is_text;
       short = printed_is_short c.args.design.now d read.is_text;
     })

@@ -1,57 +1,62 @@
-use Rattle.std.proofs.Common.{◌≡◌, ◌∙◌, List, ℕ, inl, inr, subst}
-use Rattle.std.proofs.lemmas.Result.{IfOk-weaker}
+use Rattle.std.proofs.Common.{◌≡◌, inl, inr, ⊎_elim, refl, sym, subst}
+use Rattle.acc_io.specs.Causes.{Rose}
 use Rattle.acc_base.specs.declared.designs.Design.{Design}
 use Rattle.acc_check.specs.Admissions.{Admits, IsAcceptedWith}
-use Rattle.acc_wal.proofs.Moments.{weaker}
 use Rattle.acc_recover.specs.Recoveries.{LeavesRecovery}
 use Rattle.acc_journalled.specs.Recovering.{text_of}
-use Rattle.acc_journalled.specs.Tellings.{telling_of}
-use Rattle.acc_journal_commands.specs.Disks.{seen}
-use Rattle.acc_journal_commands.specs.RecoverFiles.{RecoversSeen, LeavesAccepted}
-use Rattle.acc_journal_commands.proofs.Leaving.{some_weaker}
-use Rattle.acc_journal_commands.proofs.CertificateRefusals.{certificate_refused}
-use Rattle.acc_journal_commands.proofs.JournalEndings.{recovering_ends, over_late}
+use Rattle.acc_inputs.specs.Refusals.{RefusesCertificate}
+use Rattle.acc_journal_commands.specs.Disks.{Ends}
+use Rattle.acc_journal_commands.specs.RecoverFiles.{RecoversSeen, RecoversCertified, LeavesAccepted, AcceptedLeft}
+use Rattle.acc_journal_commands.proofs.Disks.{leaves_weaker, leaves_nothing, ends_late, ends_untouched}
+use Rattle.acc_journal_commands.proofs.JournalEndings.{recovering_late}
 use Rattle.acc_journal_commands.proofs.recoveries.recover_design.Goals as goal
 
-pub returns-in-Ok-Accepted-clause-recovers : goal.returns-in-Ok-Accepted-clause-recovers
-returns-in-Ok-Accepted-clause-recovers g c =
-    let d = c.args.d in
-    let admitted : (c.in-Ok-Accepted.accepted ≡ d) × IsAcceptedWith d c.args.certificate.now =
-    subst (Admits d c.args.certificate.now) c.in-Ok-Accepted.field-0-is c.in-Ok-Accepted.ensures in
-    IfOk-weaker c.recover_journal.result.answer _ _
-    (λ a ends. inr (record {
-      accepted = admitted.1;
-      ends = subst (λ (x : Design). RecoversSeen c.args.wanted x (seen (g.D.Disk.told c.args.disk) (g.D.Disk.faults c.args.disk))
-          (seen (g.D.Disk.told c.recover_journal.result.disk) (g.D.Disk.faults c.recover_journal.result.disk)) (telling_of a))
-          admitted.0 ends;
-    })) c.recover_journal.ensures.answer
-
-pub returns-in-Ok-Accepted-clause-refused : goal.returns-in-Ok-Accepted-clause-refused
-returns-in-Ok-Accepted-clause-refused g c =
-    IfOk-weaker c.recover_journal.result.answer _ _
-    (λ a ends early. absurd (over_late _ (telling_of a) (recovering_ends (text_of c.args.wanted c.in-Ok-Accepted.accepted) _ _ _ _
-    (telling_of a) ends) early)) c.recover_journal.ensures.answer
-
-pub returns-in-Ok-Accepted-clause-leaves : goal.returns-in-Ok-Accepted-clause-leaves
-returns-in-Ok-Accepted-clause-leaves g c =
-    let d = c.args.d in
+pub returns-in-Ok-Accepted : goal.returns-in-Ok-Accepted
+returns-in-Ok-Accepted g c =
     let accepted = c.in-Ok-Accepted.accepted in
-    let admitted : (accepted ≡ d) × IsAcceptedWith d c.args.certificate.now =
-    subst (Admits d c.args.certificate.now) c.in-Ok-Accepted.field-0-is c.in-Ok-Accepted.ensures in
-    let new = c.recover_journal.result.disk in
-    let so : (file image : List ℕ) → LeavesRecovery accepted file image → LeavesAccepted d c.args.certificate.now file image =
-    λ file image left. inr (admitted.1, subst (λ (x : Design). LeavesRecovery x file image) admitted.0 left) in
-    record {
-      counts = c.recover_journal.ensures.faults;
-      moments = λ file is only. weaker g.D.Disk.clock g.D.Disk.left_since c.args.disk new (LeavesRecovery accepted file)
-          (LeavesAccepted d c.args.certificate.now file) (so file) (c.recover_journal.ensures.moments file is only);
-      left = λ file is only. some_weaker (g.D.Disk.told new) (LeavesRecovery accepted file)
-          (LeavesAccepted d c.args.certificate.now file) (so file) (c.recover_journal.ensures.left file is only);
-    }
+    let wanted = c.args.wanted in
+    let certificate = c.args.certificate.now in
+    let disk = g.D.Disk in
+    let new = c.recover_journal.result in
+    let found = c.recover_journal.ensures in
+    let admitted : (accepted ≡ c.args.d) × IsAcceptedWith c.args.d certificate =
+    subst (Admits c.args.d certificate) c.in-Ok-Accepted.field-0-is c.in-Ok-Accepted.ensures in
+    let by = subst (λ (d : Design). IsAcceptedWith d certificate) (sym admitted.0) admitted.1 in
+    subst (λ (d : Design). Ends disk.told disk.may_leave disk.faults (RecoversCertified wanted d certificate)
+    (AcceptedLeft disk.clock disk.left_since disk.told disk.may_leave wanted d certificate)
+    c.args.disk new.disk new.answer new.history new.settled) admitted.0
+    (ends_late (RecoversSeen wanted accepted) (RecoversCertified wanted accepted certificate)
+    (λ old new t. recovering_late (text_of wanted accepted) accepted old.told new.told (Rose old.faults new.faults) t)
+    (λ old new t ends. inr (record { accepted = by; ends = ends })) found.answer
+    (record {
+      leaves = leaves_weaker (LeavesRecovery accepted) (LeavesAccepted accepted certificate) (λ file image left. inr (by, left))
+          (record { moments = found.moments; left = found.left });
+      tells = ⊎_elim (λ none. inl none) (λ tells. inr (record { accepted = by; text = tells.0; recovers = tells.1 })) found.recorded;
+    }) found.calm found.faults)
 
-pub returns-in-Ok-Refused-clause-recovers : goal.returns-in-Ok-Refused-clause-recovers
-returns-in-Ok-Refused-clause-recovers g c =
-    inl (certificate_refused c.args.d c.args.certificate.now c.in-Ok-Refused.text.items
-    (seen (g.D.Disk.told c.args.disk) (g.D.Disk.faults c.args.disk)) (telling_of c.unsettled.result)
-    (subst (Admits c.args.d c.args.certificate.now) c.in-Ok-Refused.field-0-is c.in-Ok-Refused.ensures)
-    (c.unsettled.ensures.said ∙ c.refused.ensures) c.unsettled.ensures.settled)
+pub returns-in-Ok-Refused : goal.returns-in-Ok-Refused
+returns-in-Ok-Refused g c =
+    let d = c.args.d in
+    let certificate = c.args.certificate.now in
+    ends_untouched c.unrun.ensures.none c.unrun.ensures.disk c.unrun.ensures.answer
+    (inl (
+      refl,
+      refl,
+      subst (RefusesCertificate d certificate) (sym c.design_refused.ensures) (record {
+        reports = subst (Admits d certificate) c.in-Ok-Refused.field-0-is c.in-Ok-Refused.ensures;
+        ending = refl;
+        history = refl;
+      }),
+    ))
+    (record {
+      leaves = leaves_nothing (LeavesAccepted d certificate) (g.met.D.Disk.only_now c.args.disk) (λ file. inl refl);
+      tells = inl (refl, refl);
+    })
+
+pub returns-in-Err : goal.returns-in-Err
+returns-in-Err g c =
+    ends_untouched c.unrun-in-Err.ensures.none c.unrun-in-Err.ensures.disk c.unrun-in-Err.ensures.answer tt
+    (record {
+      leaves = leaves_nothing (LeavesAccepted c.args.d c.args.certificate.now) (g.met.D.Disk.only_now c.args.disk) (λ file. inl refl);
+      tells = inl (refl, refl);
+    })

@@ -1,27 +1,52 @@
-use Rattle.std.proofs.Common.{inl, inr, subst, ⊎_elim}
-use Rattle.std.proofs.lemmas.Result.{IfOk-weaker}
+use Rattle.std.proofs.Common.{inl, inr, refl, subst, ⊎_elim}
 use Rattle.acc_inputs.specs.ReadDesigns.{IsRead, Reads}
-use Rattle.acc_journal_commands.specs.RecoverFiles.{LeavesAccepted, RecoverLeaves}
-use Rattle.acc_journal_commands.proofs.Leaving.{leaves_weaker}
+use Rattle.acc_journal_commands.specs.RecoverFiles.{LeavesAccepted, AcceptedLeft, RecoverLeaves}
+use Rattle.acc_journal_commands.proofs.Disks.{leaves_weaker, leaves_nothing, ends_weaker, ends_untouched}
 use Rattle.acc_journal_commands.proofs.recoveries.recover_files.Goals as goal
 
-pub returns-in-Ok-Read-clause-recovers : goal.returns-in-Ok-Read-clause-recovers
-returns-in-Ok-Read-clause-recovers g c =
+pub returns-in-Ok-Read : goal.returns-in-Ok-Read
+returns-in-Ok-Read g c =
+    let disk = g.D.Disk in
     let d = c.in-Ok-Read.d in
-    let read : IsRead c.args.design.now d = subst (Reads c.args.design.now) c.in-Ok-Read.field-0-is c.in-Ok-Read.ensures in
-    IfOk-weaker c.recover_design.result.answer _ _
-    (λ a says. inr (record { d = d; is_text = read.is_text; formed = read.formed; says = says })) c.recover_design.ensures.recovers
+    let design = c.args.files.design.now in
+    let certificate = c.args.files.certificate.now in
+    let read : IsRead design d = subst (Reads design) c.in-Ok-Read.field-0-is c.in-Ok-Read.ensures in
+    ends_weaker
+    {Leaves = AcceptedLeft disk.clock disk.left_since disk.told disk.may_leave c.args.wanted d certificate}
+    (λ old new t says. inr (record { d = d; is_text = read.is_text; formed = read.formed; says = says }))
+    (λ left. record {
+      leaves = leaves_weaker (LeavesAccepted d certificate) (RecoverLeaves design certificate)
+          (λ file image. ⊎_elim (λ same. inl same) (λ left. inr (record {
+            d = d;
+            is_text = read.is_text;
+            formed = read.formed;
+            accepted = left.0;
+            left = left.1;
+          }))) left.leaves;
+      tells = ⊎_elim (λ none. inl none) (λ tells. inr (record {
+        d = d;
+        is_text = read.is_text;
+        formed = read.formed;
+        tells = tells;
+      })) left.tells;
+    }) c.recover_design.ensures
 
-pub returns-in-Ok-Read-clause-leaves : goal.returns-in-Ok-Read-clause-leaves
-returns-in-Ok-Read-clause-leaves g c =
-    let d = c.in-Ok-Read.d in
-    let read : IsRead c.args.design.now d = subst (Reads c.args.design.now) c.in-Ok-Read.field-0-is c.in-Ok-Read.ensures in
-    leaves_weaker g.D.Disk.clock g.D.Disk.left_since g.D.Disk.told g.D.Disk.may_leave g.D.Disk.faults c.args.disk
-    c.recover_design.result.disk (LeavesAccepted d c.args.certificate.now) (RecoverLeaves c.args.design.now c.args.certificate.now)
-    (λ file image. ⊎_elim (λ same. inl same) (λ left. inr (record {
-      d = d;
-      is_text = read.is_text;
-      formed = read.formed;
-      accepted = left.0;
-      left = left.1;
-    }))) c.recover_design.ensures.leaves
+pub returns-in-Ok-Refused : goal.returns-in-Ok-Refused
+returns-in-Ok-Refused g c =
+    let design = c.args.files.design.now in
+    let certificate = c.args.files.certificate.now in
+    ends_untouched c.unrun.ensures.none c.unrun.ensures.disk c.unrun.ensures.answer
+    (inl (refl, refl, subst (Reads design) c.in-Ok-Refused.field-0-is c.in-Ok-Refused.ensures))
+    (record {
+      leaves = leaves_nothing (RecoverLeaves design certificate) (g.met.D.Disk.only_now c.args.disk) (λ file. inl refl);
+      tells = inl (refl, refl);
+    })
+
+pub returns-in-Err : goal.returns-in-Err
+returns-in-Err g c =
+    ends_untouched c.unrun-in-Err.ensures.none c.unrun-in-Err.ensures.disk c.unrun-in-Err.ensures.answer tt
+    (record {
+      leaves = leaves_nothing (RecoverLeaves c.args.files.design.now c.args.files.certificate.now) (g.met.D.Disk.only_now c.args.disk)
+          (λ file. inl refl);
+      tells = inl (refl, refl);
+    })

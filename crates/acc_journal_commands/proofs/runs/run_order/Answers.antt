@@ -1,49 +1,50 @@
-use Rattle.std.proofs.Common.{◌≡◌, ◌∙◌, [], ap, refl, inl, List, ℕ, length, inr, sym, subst}
+use Rattle.std.proofs.Common.{List, inl, inr, length, refl, sym, subst}
 use Rattle.std.specs.Prelude.{All}
-use Rattle.std.proofs.lemmas.Result.{IfOk-weaker}
+use Rattle.acc_io.specs.Causes.{Rose}
 use Rattle.acc_base.specs.declared.machines.Call.{Call}
-use Rattle.acc_script.specs.OrderLines.{IsPlace}
-use Rattle.acc_journalled.specs.Tellings.{telling_of}
-use Rattle.acc_running.specs.Crashes.{LeavesRun, LeavesDurable}
-use Rattle.acc_inputs.specs.Text.{Said}
-use Rattle.acc_journal_commands.proofs.Leaving.{told_nothing}
+use Rattle.acc_script.specs.OrderLines.{IsPlace, IsOrder}
 use Rattle.acc_inputs.specs.declared.scripts.ReadOrder.TheVariants as order
-use Rattle.acc_journal_commands.specs.Disks.{seen}
 use Rattle.acc_inputs.specs.ReadScripts.{ReadsOrder}
-use Rattle.acc_journal_commands.specs.RunFiles.{RunsSeen}
+use Rattle.acc_journal_commands.specs.RunFiles.{RunsSeen, RunsOfOrder}
+use Rattle.acc_journal_commands.proofs.Disks.{ends_late, ends_untouched}
+use Rattle.acc_journal_commands.proofs.JournalEndings.{seen_late}
 use Rattle.acc_journal_commands.proofs.runs.run_order.Goals as goal
 
-pub run_calls-requires-clause-places : goal.run_calls-requires-clause-places
-run_calls-requires-clause-places g c =
+pub schedule_journal-requires-clause-places : goal.schedule_journal-requires-clause-places
+schedule_journal-requires-clause-places g c =
     let asked = c.args.asked in
     let read : ReadsOrder asked c.args.file.now (order.Read c.in-Ok-Read.places) =
     subst (λ (calls : List Call). ReadsOrder calls c.args.file.now (order.Read c.in-Ok-Read.places)) c.as_slice-calls.ensures
     (subst (ReadsOrder c.as_slice-calls.result.now c.args.file.now) c.in-Ok-Read.field-0-is c.in-Ok-Read.ensures) in
     subst (All (IsPlace (length asked))) (sym c.as_slice-order.ensures) read.1
 
-pub returns-in-Ok-Read-clause-runs : goal.returns-in-Ok-Read-clause-runs
-returns-in-Ok-Read-clause-runs g c =
+pub returns-in-Ok-Read : goal.returns-in-Ok-Read
+returns-in-Ok-Read g c =
+    let d = c.args.accepted.now in
     let asked = c.args.asked in
+    let numbers = c.as_slice-order.result.now in
     let read : ReadsOrder asked c.args.file.now (order.Read c.in-Ok-Read.places) =
     subst (λ (calls : List Call). ReadsOrder calls c.args.file.now (order.Read c.in-Ok-Read.places)) c.as_slice-calls.ensures
     (subst (ReadsOrder c.as_slice-calls.result.now c.args.file.now) c.in-Ok-Read.field-0-is c.in-Ok-Read.ensures) in
-    IfOk-weaker c.run_calls.result.answer _ _
-    (λ a ends. inr (record {
-      numbers = c.in-Ok-Read.places;
-      is_order = read.0;
-      ends = subst (λ (places : List ℕ). RunsSeen c.args.accepted.now asked places
-          (seen (g.D.Disk.told c.args.disk) (g.D.Disk.faults c.args.disk))
-          (seen (g.D.Disk.told c.run_calls.result.disk) (g.D.Disk.faults c.run_calls.result.disk)) (telling_of a))
-          c.as_slice-order.ensures ends;
-    })) c.run_calls.ensures.runs
+    let is_order = subst (IsOrder (length asked) c.args.file.now) (sym c.as_slice-order.ensures) read.0 in
+    let run = c.schedule_journal.ensures in
+    ends_late (RunsSeen d asked numbers) (RunsOfOrder d asked c.args.file.now)
+    (λ old new t. seen_late d asked numbers old.told new.told (Rose old.faults new.faults) t)
+    (λ old new t ends. inr (record { numbers = numbers; is_order = is_order; ends = ends })) run.answer
+    (inr (record { numbers = numbers; is_order = is_order; runs = run.runs })) run.calm run.faults
 
-pub returns-in-Ok-Refused-clause-told : goal.returns-in-Ok-Refused-clause-told
-returns-in-Ok-Refused-clause-told g c =
-    let t = telling_of c.unsettled.result in
-    let none : t.history ≡ [] = ap (λ (s : Said). s.history) c.unsettled.ensures.said
-    ∙ (subst (ReadsOrder c.as_slice-calls.result.now c.args.file.now) c.in-Ok-Refused.field-0-is c.in-Ok-Refused.ensures).says.2 in
-    told_nothing g.D.Disk.clock g.D.Disk.left_since g.D.Disk.told g.D.Disk.may_leave c.args.disk
-    (λ file image. LeavesRun c.args.accepted.now file t.history image)
-    (λ file image. LeavesDurable c.args.accepted.now file t.history t.settled image)
-    (λ image left. g.met.D.Disk.only_now c.args.disk image left) (λ file. inl refl)
-    (λ file. inl (record { none = none; none_durable = c.unsettled.ensures.settled; left = inl refl }))
+pub returns-in-Ok-Refused : goal.returns-in-Ok-Refused
+returns-in-Ok-Refused g c =
+    let file = c.args.file.now in
+    let read = subst (ReadsOrder c.as_slice-calls.result.now file) c.in-Ok-Refused.field-0-is c.in-Ok-Refused.ensures in
+    ends_untouched c.unrun.ensures.none c.unrun.ensures.disk c.unrun.ensures.answer
+    (inl (
+      refl,
+      refl,
+      subst (λ (calls : List Call). ReadsOrder calls file (order.Refused c.in-Ok-Refused.answer)) c.as_slice-calls.ensures
+          read,
+    )) (inl (refl, refl, refl))
+
+pub returns-in-Err : goal.returns-in-Err
+returns-in-Err g c =
+    ends_untouched c.unrun-in-Err.ensures.none c.unrun-in-Err.ensures.disk c.unrun-in-Err.ensures.answer tt (inl (refl, refl, refl))

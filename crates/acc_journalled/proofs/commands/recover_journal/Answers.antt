@@ -1,22 +1,24 @@
-use Rattle.std.proofs.Common.{sym, subst}
-use Rattle.std.specs.Prelude.{◌≢◌}
+use Rattle.std.proofs.Common.{◌≡◌, length, sym, ap, subst, ◌∙◌}
+use Rattle.std.specs.Prelude.{◌≢◌, IfOk}
 use Rattle.std.proofs.lemmas.Result.{IfOk-weaker}
 use Rattle.acc_base.specs.declared.designs.Design.{Design}
+use Rattle.acc_io.specs.Causes.{Rose}
 use Rattle.acc_disk.specs.Crashes.{IsCalm}
 use Rattle.acc_disk.specs.Moments.{AtAnyMoment}
 use Rattle.acc_wal.proofs.Moments.{read_left}
 use Rattle.acc_recover.specs.Recoveries.{LeavesRecovery}
-use Rattle.acc_journalled.specs.declared.answers.Ending.TheVariants.{DiskFailed}
-use Rattle.acc_journalled.specs.Recovering.{text_of}
-use Rattle.acc_journalled.specs.Tellings.{telling_of, SaysOf}
-use Rattle.acc_journalled.proofs.Endings.{recovered_so, not_recovered_so, was_of_bytes}
+use Rattle.acc_journalled.specs.declared.answers.Answer.{Answer}
+use Rattle.acc_journalled.specs.declared.answers.Ending.TheVariants.{Done, DiskFailed}
+use Rattle.acc_journalled.specs.Recovering.{RecoversJournal, text_of}
+use Rattle.acc_journalled.specs.Tellings.{telling_of, unrun_telling}
+use Rattle.acc_journalled.proofs.Endings.{recovered_so, recovered_tells, not_recovered_so, was_of_bytes, by_unrun}
 use Rattle.acc_journalled.proofs.Numbered.{none_unfinished}
 use Rattle.acc_journalled.proofs.commands.recover_journal.Goals as goal
 
 -- ---- it is recovered
 
-pub tell_state-requires : goal.tell_state-requires
-tell_state-requires g c =
+pub tell_state-answer-requires : goal.tell_state-answer-requires
+tell_state-answer-requires g c =
     let ok = c.in-Ok.ensures.ok in
     record { ended = none_unfinished c.args.d.now ok.found c.in-Ok.found.state.world c.design.ensures.accepted ok.recovery }
 
@@ -24,13 +26,24 @@ pub returns-in-Ok-clause-answer : goal.returns-in-Ok-clause-answer
 returns-in-Ok-clause-answer g c =
     let r = c.in-Ok.found in
     let ok = c.in-Ok.ensures.ok in
-    IfOk-weaker c.tell_state.result _ _
+    let same = c.into_parts-history.ensures.events in
+    IfOk-weaker c.tell_state-answer.result _ _
     (λ a says. recovered_so (text_of c.args.wanted c.args.d.now) c.args.d.now (g.D.Disk.told c.args.disk)
-    (g.D.Disk.told c.give_back.result) _ r.state.world r.wal r.compensated (telling_of a) ok c.in-Ok.ensures.idle
+    (g.D.Disk.told c.give_back.result) _ r.state.world r.wal r.compensated _ ok c.in-Ok.ensures.idle
     (c.give_back.ensures.counts ok.settled.unspent)
-    (subst (λ (x : Design). SaysOf (text_of c.args.wanted x r.state.world r.compensated) r.state.world (telling_of a))
-    c.design.ensures.design says))
-    c.tell_state.ensures
+    (says.0, says.1, same, c.len.ensures ∙ ap length same))
+    (subst (λ (x : Design). IfOk c.tell_state-answer.result
+    (λ a. (a.ending ≡ Done) × (a.text.items ≡ text_of c.args.wanted x r.state.world r.compensated)))
+    c.design.ensures.design c.tell_state-answer.ensures)
+
+pub returns-in-Ok-clause-recorded : goal.returns-in-Ok-clause-recorded
+returns-in-Ok-clause-recorded g c =
+    let r = c.in-Ok.found in
+    let ok = c.in-Ok.ensures.ok in
+    let same = c.into_parts-history.ensures.events in
+    recovered_tells (text_of c.args.wanted c.args.d.now) c.args.d.now (g.D.Disk.told c.args.disk) (g.D.Disk.told c.give_back.result)
+    r.state.world r.wal r.compensated _ _ ok c.in-Ok.ensures.idle (c.give_back.ensures.counts ok.settled.unspent) same
+    (c.len.ensures ∙ ap length same)
 
 pub returns-in-Ok-clause-moments : goal.returns-in-Ok-clause-moments
 returns-in-Ok-clause-moments g c file told only =
@@ -49,23 +62,35 @@ returns-in-Ok-clause-left g c file told only =
 
 pub returns-clause-answer : goal.returns-clause-answer
 returns-clause-answer g c =
-    IfOk-weaker c.not_recovered.result _ _
-    (λ a says. not_recovered_so c.in-Err.error (text_of c.args.wanted c.args.d.now) c.args.d.now (g.D.Disk.told c.args.disk)
-    (g.D.Disk.told c.in-Err.disk) _ (telling_of a) c.in-Err.ensures.why (λ of. (c.in-Err.ensures.unread of).0) c.in-Err.ensures.kept says)
-    c.not_recovered.ensures.says
+    let told = g.D.Disk.told in
+    let faults = g.D.Disk.faults in
+    let text = text_of c.args.wanted c.args.d.now in
+    let R = c.unrun.result in
+    by_unrun (λ x r es n. IfOk r (λ (a : Answer). RecoversJournal text c.args.d.now (told c.args.disk) (told x)
+    (Rose (faults c.args.disk) (faults x)) (telling_of a es n))) c.in-Err.disk R.disk c.not_recovered.result R.answer R.history R.settled
+    c.unrun.ensures.disk c.unrun.ensures.answer c.unrun.ensures.none
+    (IfOk-weaker c.not_recovered.result _ _
+    (λ a says. not_recovered_so c.in-Err.error text c.args.d.now (told c.args.disk)
+    (told c.in-Err.disk) _ (unrun_telling a) c.in-Err.ensures.why (λ of. (c.in-Err.ensures.unread of).0) c.in-Err.ensures.kept says)
+    c.not_recovered.ensures.says)
 
 pub returns-clause-left : goal.returns-clause-left
 returns-clause-left g c file told only =
-    let x = c.in-Err.disk in
+    let x = c.unrun.result.disk in
     read_left g.D.Disk.clock g.D.Disk.left_since c.args.disk x (g.D.Disk.told x) (g.D.Disk.may_leave x)
     (LeavesRecovery c.args.d.now file) (g.met.D.Disk.nothing_lost x)
     (λ time image le left. g.met.D.Disk.counts_now x time image le left)
-    (c.in-Err.ensures.leaves_refused file told only)
+    (subst (λ y. AtAnyMoment g.D.Disk.clock g.D.Disk.left_since c.args.disk y (LeavesRecovery c.args.d.now file)) (sym c.unrun.ensures.disk)
+    (c.in-Err.ensures.leaves_refused file told only))
 
 pub returns-clause-calm : goal.returns-clause-calm
 returns-clause-calm g c =
-    IfOk-weaker c.not_recovered.result _
-    (λ a. a.ending ≢ DiskFailed → IsCalm (g.D.Disk.told c.args.disk) (g.D.Disk.may_leave c.args.disk) →
-    IsCalm (g.D.Disk.told c.in-Err.disk) (g.D.Disk.may_leave c.in-Err.disk))
-    (λ a says none calm. c.in-Err.ensures.calm_refused calm (was_of_bytes c.in-Err.error (telling_of a) says none))
-    c.not_recovered.ensures.says
+    let told = g.D.Disk.told in
+    let may_leave = g.D.Disk.may_leave in
+    let R = c.unrun.result in
+    by_unrun (λ x r es n. IfOk r (λ (a : Answer). a.ending ≢ DiskFailed → IsCalm (told c.args.disk) (may_leave c.args.disk)
+    → IsCalm (told x) (may_leave x))) c.in-Err.disk R.disk c.not_recovered.result R.answer R.history R.settled
+    c.unrun.ensures.disk c.unrun.ensures.answer c.unrun.ensures.none
+    (IfOk-weaker c.not_recovered.result _ _
+    (λ a says none calm. c.in-Err.ensures.calm_refused calm (was_of_bytes c.in-Err.error (unrun_telling a) says none))
+    c.not_recovered.ensures.says)

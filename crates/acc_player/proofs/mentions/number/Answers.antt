@@ -4,8 +4,8 @@ use Rattle.acc_base.specs.Machine.{World}
 use Rattle.acc_base.specs.Plays.{Play}
 use Rattle.acc_player.specs.Boards.{play_of, IsAfterBegin}
 use Rattle.acc_player.specs.Ways.{PlayPrecedesEach}
-use Rattle.acc_player.proofs.Items.{if_stopped, set_here, set_keeps, set_other}
-use Rattle.acc_player.proofs.Mentioning.{begins_here, cannot_begin}
+use Rattle.acc_player.proofs.Items.{if_stopped, if_any, set_here, set_keeps, set_other}
+use Rattle.acc_player.proofs.Mentioning.{begins_here, cannot_begin, could_start}
 use Rattle.acc_player.proofs.Leading.{before_begin, behind_begin}
 use Rattle.acc_player.proofs.mentions.number.Goals as goal
 
@@ -100,3 +100,11 @@ returns-in_err-push-in-Some-2-clause-front g c =
     (behind_begin m (g.met.P.Player.orderly d) calls place (play_of (g.P.Player.world old) b) q now (Some t)
     (begins_here m calls place (play_of (g.P.Player.world old) b) above q t number_at (rw c.in-Some-2.is at c.in_ok-t.ensures.begins) refl
     refl) refl refl)
+
+pub returns-in_err-push-in-Some-2-clause-room : goal.returns-in_err-push-in-Some-2-clause-room
+returns-in_err-push-in-Some-2-clause-room g c =
+    let old = c.args.player.now in
+    let d = g.P.Player.design old in
+    if_any c.from_residual-in_err-push-in-Some-2.result (λ stop memory.
+    could_start (g.P.Player.rules d) (g.met.P.Player.orderly d) (g.P.Player.calls old) c.args.place (g.P.Player.world old)
+    (g.P.Player.world c.begin_at.new.self) c.in-Some-2.t (rw c.in-Some-2.is at c.in_ok-t.ensures.begins))

@@ -6,39 +6,41 @@ use Rattle.acc_wal.specs.Fronts.{CountsFront}
 use Rattle.acc_wal.proofs.FrontLemmas.{front_of_either}
 use Rattle.acc_wal.proofs.Moments.{weaker}
 use Rattle.acc_engine.specs.Keeping.{Journalled}
-use Rattle.acc_engine.proofs.InSteps.{in_step_settled}
 use Rattle.acc_engine.specs.Ready.{IsReady}
+use Rattle.acc_engine.specs.Standing.{CountsDurableOrAll}
+use Rattle.acc_engine.proofs.InSteps.{in_step_settled}
+use Rattle.acc_engine.proofs.Standing.{durable_or_all, sound_in_step}
 use Rattle.acc_engine.proofs.engines.Engine.settle.Goals as goal
 use Rattle.acc_engine.proofs.engines.Engine.settle.Goals.{in-Ok, in-Err-Spent, in-Err}
 
 pub invariant_of-self : goal.invariant_of-self
 invariant_of-self g c =
     let old = c.self.inside in
-    in_step_settled old.state.design old.state.world old.wal c.settle.new.self old.found old.calls old.begun.items old.lowest
-    c.self.invariant c.settle.result c.settle.ensures.ok c.settle.ensures.err
+    in_step_settled old.state.design old.state.world old.wal c.settle-outcome.new.self old.found old.calls old.begun.items old.lowest
+    c.self.invariant c.settle-outcome.result c.settle-outcome.ensures.ok c.settle-outcome.ensures.err
 
 pub returns-clause-moments : goal.returns-clause-moments
 returns-clause-moments g c unfailed =
-    let wal = c.self.inside.wal in
+    let inside = c.self.inside in
+    let wal = inside.wal in
     let unspent : wal.spent ≡ false = ap (λ (j : Journalled g.row.D.Denot). j.failed) c.self.view_is ∙ unfailed in
     let P : Journalled g.row.D.Denot → Type 0 = λ j. (file : List ℕ) → g.D.Disk.told j.disk ≡ Some file →
-    Only file (g.D.Disk.may_leave j.disk) → AtAnyMoment g.D.Disk.clock g.D.Disk.left_since j.disk c.settle.new.self.disk
-    (CountsFront j.base j.state.events j.settled) in
+    Only file (g.D.Disk.may_leave j.disk) → AtAnyMoment g.D.Disk.clock g.D.Disk.left_since j.disk c.settle-outcome.new.self.disk
+    (CountsDurableOrAll j.base j.state.events j.settled) in
     subst P c.self.view_is
     (λ file told only.
     weaker g.D.Disk.clock g.D.Disk.left_since _ _ _ _
-    (λ image either. subst (λ (h : List Event). CountsFront wal.base h (length wal.durable) image) c.self.invariant.same
-    (front_of_either wal.base image wal.durable wal.tail either))
-    (c.settle.ensures.moments unspent file told only))
+    (λ image either. durable_or_all wal.base image wal.durable wal.tail inside.state.world.events c.self.invariant.same either)
+    (c.settle-outcome.ensures.moments unspent file told only))
 
 pub returns-clause-ready : goal.returns-clause-ready
 returns-clause-ready g c ready =
     let inside = c.self.inside in
-    let new = c.settle.new.self in
+    let new = c.settle-outcome.new.self in
     let was = subst (IsReady g.D.Disk.told g.D.Disk.may_leave) (sym c.self.view_is) ready in
     let kept = in_step_settled inside.state.design inside.state.world inside.wal new inside.found inside.calls inside.begun.items
-    inside.lowest c.self.invariant c.settle.result c.settle.ensures.ok c.settle.ensures.err in
-    elim c.match-settle.branch [
+    inside.lowest c.self.invariant c.settle-outcome.result c.settle-outcome.ensures.ok c.settle-outcome.ensures.err in
+    elim c.match-outcome.branch [
       | in-Ok w ↦
           rw w.result-is
           (record {
@@ -46,8 +48,17 @@ returns-clause-ready g c ready =
             calm = w.in-Ok.ensures.calm was.calm;
             counts = λ file told.
                 subst (λ (h : List Event). CountsFront new.base h (length new.durable) file) kept.same
-                (front_of_either new.base file new.durable new.tail (inl (w.durable.ensures.counts w.in-Ok.ensures.ok.spent file told)));
+                (front_of_either new.base file new.durable new.tail (inl (c.durable.ensures.counts w.in-Ok.ensures.ok.spent file told)));
           })
       | in-Err-Spent w ↦ rw w.result-is tt
       | in-Err w ↦ rw w.result-is tt
     ]
+
+pub returns-clause-sound : goal.returns-clause-sound
+returns-clause-sound g c =
+    let inside = c.self.inside in
+    let new = c.settle-outcome.new.self in
+    sound_in_step g.D.Disk.told inside.state.design inside.state.world new inside.found inside.calls inside.begun.items inside.lowest
+    (in_step_settled inside.state.design inside.state.world inside.wal new inside.found inside.calls inside.begun.items inside.lowest
+    c.self.invariant c.settle-outcome.result c.settle-outcome.ensures.ok c.settle-outcome.ensures.err)
+    c.durable.ensures.counts

@@ -1,8 +1,10 @@
-use Rattle.std.proofs.Common.{sym, ap, subst}
+use Rattle.std.proofs.Common.{sym, ap, subst, ◌∙◌}
 use Rattle.acc_base.specs.Machine.{World}
 use Rattle.acc_plain.specs.Turned.{IsUnfinished}
 use Rattle.acc_engine.specs.Keeping.{Journalled}
+use Rattle.acc_engine.specs.Standing.{IsSound}
 use Rattle.acc_engine.proofs.InSteps.{in_step_turned, adds_or, small_number}
+use Rattle.acc_engine.proofs.Standing.{seen_again, sound_turned}
 use Rattle.acc_engine.proofs.engines.Engine.turn.Goals as goal
 
 pub note-requires-clause-number : goal.note-requires-clause-number
@@ -20,3 +22,25 @@ invariant_of-self-in-Ok-turn g c =
     old.begun.items old.lowest c.self.invariant c.reserve.ensures.same.lists
     c.args.t (adds_or c.args.t c.in-Ok-turn.turn old.state.world now.world c.in-Ok-turn.ensures.adds) c.turn.ensures.design
     c.note.ensures.kept c.note.ensures.up
+
+pub returns-in-Ok-turn-clause-sound : goal.returns-in-Ok-turn-clause-sound
+returns-in-Ok-turn-clause-sound g c =
+    let old = c.self.inside in
+    let now = c.turn.new.self in
+    let adds = adds_or c.args.t c.in-Ok-turn.turn old.state.world now.world c.in-Ok-turn.ensures.adds in
+    let step = in_step_turned old.state.design now.design old.state.world now.world old.wal c.reserve.new.self c.note.new.wal old.found
+    old.calls old.begun.items old.lowest c.self.invariant c.reserve.ensures.same.lists c.args.t adds c.turn.ensures.design
+    c.note.ensures.kept c.note.ensures.up in
+    sound_turned g.D.Disk.told old.state.design now.design old.state.world now.world old.wal c.reserve.new.self c.note.new.wal old.found
+    old.calls old.begun.items old.lowest c.reserve.ensures.same c.note.ensures.up c.turn.ensures.design step
+    (subst (IsSound g.D.Disk.told) (sym c.self.view_is) c.standing.ensures) c.args.t adds
+
+pub returns-in-Err-turn-clause-sound : goal.returns-in-Err-turn-clause-sound
+returns-in-Err-turn-clause-sound g c =
+    let old = c.self.inside in
+    let now = c.turn.new.self in
+    subst (IsSound g.D.Disk.told)
+    (sym
+    (seen_again old.state.design now.design old.state.world now.world old.wal c.reserve.new.self old.found old.calls old.begun.items
+    c.turn.ensures.design c.in-Err-turn.ensures.err c.reserve.ensures.same ∙ c.self.view_is))
+    c.standing.ensures

@@ -1,6 +1,7 @@
 use Rattle.std.proofs.Common.{◌≡◌, ◌<◌, ◌-◌, ℕ, Some, None, length, ap, subst, arith, refl, rules}
 use Rattle.std.specs.Prelude.{slice_get}
 use Rattle.std.proofs.lemmas.Option.{slice_get_read}
+use Rattle.acc_machine.specs.Begun.{HasRoom}
 use Rattle.acc_lock_rules.specs.LockRules.{with_locks}
 use Rattle.acc_player.specs.Players.{BeginsAt}
 use Rattle.acc_schedule.proofs.Beginning.{begins_so, full_so, crowd_so}
@@ -44,3 +45,8 @@ returns-in-Err-Crowd-clause-begins c =
     subst (λ (q : Playing). BeginsAt (with_locks q.design) q.calls place q.world None c.begin.new.self.world) c.self.view_is
     (crowd_so p place c.index-calls-place.result c.begin.new.self.world above at
     (rw c.in-Err-Crowd.field-0-is at c.in-Err-Crowd.ensures.answer))
+
+pub returns-in-Err-Memory-clause-room : goal.returns-in-Err-Memory-clause-room
+returns-in-Err-Memory-clause-room c = λ memory call is full.
+    let room = (rw c.in-Err-Memory.field-0-is at c.in-Err-Memory.ensures.answer).1 in
+    full (subst (λ (q : Playing). HasRoom q.world) c.self.view_is room)

@@ -1,0 +1,125 @@
+-- What a command line leaves, in the words of each command.
+use Rattle.std.proofs.Common.{◌≡◌, ◌⊎◌, ℕ, List, [], ◌∷◌, length, Option, Some, inl, inr, refl, sym, subst, ◌∙◌, arith}
+use Rattle.std.specs.Prelude.{◌≢◌}
+use Rattle.std.proofs.lemmas.Option.{same_Some}
+use Rattle.acc_base.specs.declared.machines.Event.{Event}
+use Rattle.acc_io.specs.Shelves.{Told}
+use Rattle.acc_journalled.specs.declared.answers.Wanted.{Wanted}
+use Rattle.acc_journalled.specs.declared.answers.Wanted.TheVariants as wanted
+use Rattle.acc_inputs.specs.declared.words.Command.{Command}
+use Rattle.acc_inputs.specs.declared.words.Command.TheVariants as command
+use Rattle.acc_inputs.specs.Words.{command_of, file_count, files_of}
+use Rattle.acc_inputs.specs.Files.{AreFiles}
+use Rattle.acc_journal_commands.specs.Disks.{LeavesSo}
+use Rattle.acc_journal_commands.specs.RecoverFiles.{TellsDesign, TellsNoneOr}
+use Rattle.acc_journal_commands.proofs.Disks.{leaves_weaker}
+use Rattle.acc_commands.specs.Means.{LeavesOfFile, LeavesOf}
+use Rattle.acc_commands.proofs.LeavesFiles.{leaves_untouched, leaves_file}
+use Rattle.acc_cli.specs.Leavings.{LeavesLine}
+use Rattle.acc_cli.specs.Meant.{LeavesOfLine}
+use Rattle.acc_cli.specs.Recoveries.{wanted_by, IsRecovered}
+use Rattle.acc_cli.specs.Runs.{RunsLine}
+
+module _ {D : Type 0} (clock : D → ℕ) (left_since : D → ℕ → List ℕ → Type 0) (told : D → Option (List ℕ)) (may_leave : D → List ℕ → Type 0)
+    (held : List ℕ → Told) (words : List (List ℕ)) (old new : D) (history : List Event) (settled : ℕ) where
+  -- this command's files are given, and so it leaves
+  abbrev OfCommand : Command → List (List ℕ) → Type 0
+  OfCommand c files = (length files ≡ file_count c) × AreFiles held (files_of c words) files
+      × LeavesOf clock left_since told may_leave c files old new history settled
+
+  -- ---- a crash
+
+  pub leaves_line : ((image : List ℕ) → left_since old (clock old) image → may_leave old image)
+      → LeavesLine clock left_since told may_leave held words old new history settled
+      → LeavesSo clock left_since told may_leave (LeavesOfLine held words) old new
+  leaves_line only_now (inl none) =
+      leaves_untouched clock left_since told may_leave old new (LeavesOfLine held words) only_now (λ file. inl refl) none.0
+  leaves_line only_now (inr g) =
+      leaves_weaker (LeavesOfFile g.command g.files) (LeavesOfLine held words)
+      (λ file image left.
+      inr (record { command = g.command; form = g.form; files = g.files; given = g.given; left = left }))
+      (leaves_file clock left_since told may_leave g.command g.files old new history settled only_now g.left)
+
+  -- ---- a run
+
+  of_sched : (files : List (List ℕ)) → OfCommand command.Sched files
+      → RunsLine clock left_since told may_leave held words old new history settled
+  unfolding LeavesOf file_count
+  of_sched [] h = absurd (omega (arith, h.0))
+  of_sched (design ∷ []) h = absurd (omega (arith, h.0))
+  of_sched (design ∷ certificate ∷ []) h = absurd (omega (arith, h.0))
+  of_sched (design ∷ certificate ∷ script ∷ []) h = absurd (omega (arith, h.0))
+  of_sched (design ∷ certificate ∷ script ∷ order ∷ more ∷ rest) h = absurd (omega (arith, h.0))
+  of_sched (design ∷ certificate ∷ script ∷ order ∷ []) (count, given, inl none) = inl none
+  of_sched (design ∷ certificate ∷ script ∷ order ∷ []) (count, given, inr run) = inr (record {
+    design = design;
+    certificate = certificate;
+    script = script;
+    order = order;
+    given = given;
+    run = run;
+  })
+
+  pub runs_line : command_of words ≡ Some command.Sched → LeavesLine clock left_since told may_leave held words old new history settled
+      → RunsLine clock left_since told may_leave held words old new history settled
+  runs_line is (inl none) = inl none
+  runs_line is (inr g) =
+      of_sched g.files (subst (λ (c : Command). OfCommand c g.files) (same_Some g.command command.Sched (sym g.form ∙ is))
+      (g.count, g.given, g.left))
+
+  -- ---- a recovery, of which nothing is said
+
+  module _ (out out' : Option (List ℕ)) (code : ℕ) (unsaid : code ≢ 0) where
+    abbrev TellsSomehow : Command → Wanted → Type 0
+    TellsSomehow c w =
+        ((history ≡ []) × (settled ≡ 0)) ⊎ IsRecovered held words c w (told old) (told new) out out' code history settled
+
+    of_design : (c : Command) (w v : Wanted) (design certificate : List ℕ) → v ≡ w
+        → AreFiles held (files_of c words) (design ∷ certificate ∷ [])
+        → TellsNoneOr (TellsDesign v design certificate (told old) (told new) history settled) history settled → TellsSomehow c w
+    of_design c w v design certificate same given (inl none) = inl none
+    of_design c w v design certificate same given (inr t) = subst (TellsSomehow c) same (inr (record {
+      design = design;
+      certificate = certificate;
+      given = given;
+      d = t.d;
+      is_text = t.is_text;
+      accepted = t.tells.accepted;
+      text = t.tells.text;
+      recovers = t.tells.recovers;
+      says = λ zero. absurd (unsaid zero);
+    }))
+
+    of_recovering : (c : Command) (w : Wanted) (files : List (List ℕ)) → wanted_by c ≡ Some w → OfCommand c files → TellsSomehow c w
+    unfolding LeavesOf file_count
+    of_recovering command.Recover w [] by h = absurd (omega (arith, h.0))
+    of_recovering command.Recover w (design ∷ []) by h = absurd (omega (arith, h.0))
+    of_recovering command.Recover w (design ∷ certificate ∷ []) by h =
+        of_design command.Recover w wanted.Counts design certificate (same_Some wanted.Counts w by) h.1 h.2.tells
+    of_recovering command.Recover w (design ∷ certificate ∷ more ∷ rest) by h = absurd (omega (arith, h.0))
+    of_recovering command.Dump w [] by h = absurd (omega (arith, h.0))
+    of_recovering command.Dump w (design ∷ []) by h = absurd (omega (arith, h.0))
+    of_recovering command.Dump w (design ∷ certificate ∷ []) by h =
+        of_design command.Dump w wanted.Rows design certificate (same_Some wanted.Rows w by) h.1 h.2.tells
+    of_recovering command.Dump w (design ∷ certificate ∷ more ∷ rest) by h = absurd (omega (arith, h.0))
+    of_recovering command.Replies w [] by h = absurd (omega (arith, h.0))
+    of_recovering command.Replies w (design ∷ []) by h = absurd (omega (arith, h.0))
+    of_recovering command.Replies w (design ∷ certificate ∷ []) by h =
+        of_design command.Replies w wanted.Replies design certificate (same_Some wanted.Replies w by) h.1 h.2.tells
+    of_recovering command.Replies w (design ∷ certificate ∷ more ∷ rest) by h = absurd (omega (arith, h.0))
+    of_recovering command.Init w files by h = absurd cc
+    of_recovering command.Play w files by h = absurd cc
+    of_recovering command.Rehearse w files by h = absurd cc
+    of_recovering command.Sched w files by h = absurd cc
+    of_recovering command.Print w files by h = absurd cc
+    of_recovering command.Prove w files by h = absurd cc
+    of_recovering command.Check w files by h = absurd cc
+    of_recovering command.Help w files by h = absurd cc
+    of_recovering command.Version w files by h = absurd cc
+
+    pub tells_somehow : (c : Command) (w : Wanted) → command_of words ≡ Some c → wanted_by c ≡ Some w
+        → LeavesLine clock left_since told may_leave held words old new history settled → TellsSomehow c w
+    tells_somehow c w is by (inl none) = inl (none.1, none.2)
+    tells_somehow c w is by (inr g) =
+        of_recovering c w g.files by
+        (subst (λ (x : Command). OfCommand x g.files) (same_Some g.command c (sym g.form ∙ is)) (g.count, g.given, g.left))

@@ -1,0 +1,87 @@
+-- What a command leaves of the file that a calm disk held, from what it leaves of the disk.
+use Rattle.std.proofs.Common.{◌≡◌, ℕ, List, [], ◌∷◌, Option, inl, inr, refl, sym, subst}
+use Rattle.acc_base.specs.declared.machines.Event.{Event}
+use Rattle.acc_inputs.specs.declared.words.Command.{Command}
+use Rattle.acc_inputs.specs.declared.words.Command.TheVariants as command
+use Rattle.acc_running.specs.Crashes.{LeavesRun}
+use Rattle.acc_journal_commands.specs.Disks.{OrUntouched, LeavesSo}
+use Rattle.acc_journal_commands.specs.RunFiles.{RunLeaves, FilesRun}
+use Rattle.acc_journal_commands.proofs.Disks.{leaves_weaker, leaves_nothing}
+use Rattle.acc_commands.specs.Means.{LeavesOfFile, LeavesDisk, LeavesOf}
+
+module _ {D : Type 0} (clock : D → ℕ) (left_since : D → ℕ → List ℕ → Type 0) (told : D → Option (List ℕ)) (may_leave : D → List ℕ → Type 0)
+  where
+    -- a disk that was asked nothing
+    pub leaves_untouched : (old new : D) (P : List ℕ → List ℕ → Type 0)
+        → ((image : List ℕ) → left_since old (clock old) image → may_leave old image) → ((file : List ℕ) → P file file) → new ≡ old
+        → LeavesSo clock left_since told may_leave P old new
+    leaves_untouched old new P only_now here same =
+        subst (λ (x : D). LeavesSo clock left_since told may_leave P old x) (sym same) (leaves_nothing P only_now here)
+
+    -- the files' calls ran
+    files_leave : (design certificate script order : List ℕ) (old new : D) (history : List Event) (settled : ℕ)
+        → FilesRun clock left_since told may_leave design certificate script order old new history settled
+        → LeavesSo clock left_since told may_leave (RunLeaves design certificate) old new
+    files_leave design certificate script order old new history settled run =
+        let over = run.runs in
+        let left : (file image : List ℕ) → LeavesRun run.d file history image → RunLeaves design certificate file image =
+        λ file image left. inr (record {
+          d = run.d;
+          is_text = run.is_text;
+          formed = run.formed;
+          accepted = run.accepted;
+          left = inr (history, left);
+        }) in
+        leaves_weaker (λ file. LeavesRun run.d file history) (RunLeaves design certificate) left
+        (record { moments = over.moments; left = over.left })
+
+    run_leaves : (design certificate script order : List ℕ) (old new : D) (history : List Event) (settled : ℕ)
+        → ((image : List ℕ) → left_since old (clock old) image → may_leave old image)
+        → OrUntouched (FilesRun clock left_since told may_leave design certificate script order) old new history settled
+        → LeavesSo clock left_since told may_leave (RunLeaves design certificate) old new
+    run_leaves design certificate script order old new history settled only_now (inl none) =
+        leaves_untouched old new (RunLeaves design certificate) only_now (λ file. inl refl) none.0
+    run_leaves design certificate script order old new history settled only_now (inr run) =
+        files_leave design certificate script order old new history settled run
+
+    -- no command over a journal, or not its files
+    disk_same : (old new : D) (history : List Event) (settled : ℕ)
+        → ((image : List ℕ) → left_since old (clock old) image → may_leave old image) → LeavesDisk old new history settled
+        → LeavesSo clock left_since told may_leave (λ file image. image ≡ file) old new
+    disk_same old new history settled only_now same = leaves_untouched old new (λ file image. image ≡ file) only_now (λ file. refl) same.0
+
+    pub leaves_file : (c : Command) (files : List (List ℕ)) (old new : D) (history : List Event) (settled : ℕ)
+        → ((image : List ℕ) → left_since old (clock old) image → may_leave old image)
+        → LeavesOf clock left_since told may_leave c files old new history settled
+        → LeavesSo clock left_since told may_leave (LeavesOfFile c files) old new
+    unfolding LeavesOf LeavesOfFile
+    leaves_file command.Init [] old new history settled now h = disk_same old new history settled now h
+    leaves_file command.Init (design ∷ []) old new history settled now h = h.leaves
+    leaves_file command.Init (design ∷ more ∷ rest) old new history settled now h = disk_same old new history settled now h
+    leaves_file command.Sched [] old new history settled now h = disk_same old new history settled now h
+    leaves_file command.Sched (design ∷ []) old new history settled now h = disk_same old new history settled now h
+    leaves_file command.Sched (design ∷ certificate ∷ []) old new history settled now h = disk_same old new history settled now h
+    leaves_file command.Sched (design ∷ certificate ∷ script ∷ []) old new history settled now h = disk_same old new history settled now h
+    leaves_file command.Sched (design ∷ certificate ∷ script ∷ order ∷ []) old new history settled now h =
+        run_leaves design certificate script order old new history settled now h
+    leaves_file command.Sched (design ∷ certificate ∷ script ∷ order ∷ more ∷ rest) old new history settled now h =
+        disk_same old new history settled now h
+    leaves_file command.Recover [] old new history settled now h = disk_same old new history settled now h
+    leaves_file command.Recover (design ∷ []) old new history settled now h = disk_same old new history settled now h
+    leaves_file command.Recover (design ∷ certificate ∷ []) old new history settled now h = h.leaves
+    leaves_file command.Recover (design ∷ certificate ∷ more ∷ rest) old new history settled now h = disk_same old new history settled now h
+    leaves_file command.Dump [] old new history settled now h = disk_same old new history settled now h
+    leaves_file command.Dump (design ∷ []) old new history settled now h = disk_same old new history settled now h
+    leaves_file command.Dump (design ∷ certificate ∷ []) old new history settled now h = h.leaves
+    leaves_file command.Dump (design ∷ certificate ∷ more ∷ rest) old new history settled now h = disk_same old new history settled now h
+    leaves_file command.Replies [] old new history settled now h = disk_same old new history settled now h
+    leaves_file command.Replies (design ∷ []) old new history settled now h = disk_same old new history settled now h
+    leaves_file command.Replies (design ∷ certificate ∷ []) old new history settled now h = h.leaves
+    leaves_file command.Replies (design ∷ certificate ∷ more ∷ rest) old new history settled now h = disk_same old new history settled now h
+    leaves_file command.Play files old new history settled now h = disk_same old new history settled now h
+    leaves_file command.Rehearse files old new history settled now h = disk_same old new history settled now h
+    leaves_file command.Print files old new history settled now h = disk_same old new history settled now h
+    leaves_file command.Check files old new history settled now h = disk_same old new history settled now h
+    leaves_file command.Prove files old new history settled now h = disk_same old new history settled now h
+    leaves_file command.Help files old new history settled now h = disk_same old new history settled now h
+    leaves_file command.Version files old new history settled now h = disk_same old new history settled now h

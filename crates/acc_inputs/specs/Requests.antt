@@ -1,0 +1,48 @@
+-- Commands with their files.
+use Rattle.std.specs.Prelude.{ℕ, List, [], ◌∷◌}
+use Rattle.acc_inputs.specs.declared.words.Command.{Command}
+use Rattle.acc_inputs.specs.declared.words.Command.TheVariants as command
+use Rattle.acc_inputs.specs.declared.requests.PlayFiles.{PlayFiles}
+use Rattle.acc_inputs.specs.declared.requests.CertifiedFiles.{CertifiedFiles}
+use Rattle.acc_inputs.specs.declared.requests.ScheduleFiles.{ScheduleFiles}
+use Rattle.acc_inputs.specs.declared.requests.Request.{Request}
+use Rattle.acc_inputs.specs.declared.requests.Request.TheVariants.{Play, Rehearse, Print, Check, Prove, Init, Sched, Recover, Dump, Replies}
+use Rattle.acc_inputs.specs.declared.requests.Request.TheVariants.{Help, Version}
+
+abbrev pub command_in : Request → Command
+command_in (Play files) = command.Play
+command_in (Rehearse files) = command.Rehearse
+command_in (Print design) = command.Print
+command_in (Check files) = command.Check
+command_in (Prove design) = command.Prove
+command_in (Init design) = command.Init
+command_in (Sched files) = command.Sched
+command_in (Recover files) = command.Recover
+command_in (Dump files) = command.Dump
+command_in (Replies files) = command.Replies
+command_in Help = command.Help
+command_in Version = command.Version
+
+abbrev pub played_texts : PlayFiles → List (List ℕ)
+played_texts files = files.design.now ∷ files.script.now ∷ files.order.now ∷ []
+
+abbrev pub certified_texts : CertifiedFiles → List (List ℕ)
+certified_texts files = files.design.now ∷ files.certificate.now ∷ []
+
+abbrev pub scheduled_texts : ScheduleFiles → List (List ℕ)
+scheduled_texts files = files.design.now ∷ files.certificate.now ∷ files.script.now ∷ files.order.now ∷ []
+
+-- the bytes of the files, in the order of the words that name them
+abbrev pub texts_in : Request → List (List ℕ)
+texts_in (Play files) = played_texts files
+texts_in (Rehearse files) = scheduled_texts files
+texts_in (Print design) = design.now ∷ []
+texts_in (Check files) = certified_texts files
+texts_in (Prove design) = design.now ∷ []
+texts_in (Init design) = design.now ∷ []
+texts_in (Sched files) = scheduled_texts files
+texts_in (Recover files) = certified_texts files
+texts_in (Dump files) = certified_texts files
+texts_in (Replies files) = certified_texts files
+texts_in Help = []
+texts_in Version = []

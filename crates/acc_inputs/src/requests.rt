@@ -1,0 +1,111 @@
+//! Commands with their files.
+ghost use Rattle.std.specs.Prelude.{◌≡◌, map, length};
+ghost use Rattle.acc_inputs.specs.Words.{file_count};
+ghost use Rattle.acc_inputs.specs.Requests.{command_in, texts_in, played_texts, certified_texts, scheduled_texts};
+
+use crate::words::Command;
+
+/// The bytes of a design, of a script of its calls, and of an order of their turns.
+#[derive(Clone, Copy)]
+pub struct PlayFiles<'a> {
+    pub design: &'a [u8],
+    pub script: &'a [u8],
+    pub order: &'a [u8],
+}
+
+impl<'a> PlayFiles<'a> {
+    fn new(files: &'a [Vec<u8>]) -> Self
+        requires { length files.now ≡ 3 }
+        ensures { played_texts result ≡ map (λ v. v.items) files.now }
+    {
+        PlayFiles {
+            design: &files[0],
+            script: &files[1],
+            order: &files[2],
+        }
+    }
+}
+
+/// The bytes of a design, and of the certificate by which it is to be accepted.
+#[derive(Clone, Copy)]
+pub struct CertifiedFiles<'a> {
+    pub design: &'a [u8],
+    pub certificate: &'a [u8],
+}
+
+impl<'a> CertifiedFiles<'a> {
+    fn new(files: &'a [Vec<u8>]) -> Self
+        requires { length files.now ≡ 2 }
+        ensures { certified_texts result ≡ map (λ v. v.items) files.now }
+    {
+        CertifiedFiles {
+            design: &files[0],
+            certificate: &files[1],
+        }
+    }
+}
+
+/// The bytes of a design, of its certificate, of a script of its calls, and of an order of their turns.
+#[derive(Clone, Copy)]
+pub struct ScheduleFiles<'a> {
+    pub design: &'a [u8],
+    pub certificate: &'a [u8],
+    pub script: &'a [u8],
+    pub order: &'a [u8],
+}
+
+impl<'a> ScheduleFiles<'a> {
+    fn new(files: &'a [Vec<u8>]) -> Self
+        requires { length files.now ≡ 4 }
+        ensures { scheduled_texts result ≡ map (λ v. v.items) files.now }
+    {
+        ScheduleFiles {
+            design: &files[0],
+            certificate: &files[1],
+            script: &files[2],
+            order: &files[3],
+        }
+    }
+}
+
+/// A command with the bytes of its files: of a design alone, or of one with others.
+#[derive(Clone, Copy)]
+pub enum Request<'a> {
+    Play(PlayFiles<'a>),
+    Rehearse(ScheduleFiles<'a>),
+    Print(&'a [u8]),
+    Check(CertifiedFiles<'a>),
+    Prove(&'a [u8]),
+    Init(&'a [u8]),
+    Sched(ScheduleFiles<'a>),
+    Recover(CertifiedFiles<'a>),
+    Dump(CertifiedFiles<'a>),
+    Replies(CertifiedFiles<'a>),
+    Help,
+    Version,
+}
+
+impl<'a> Request<'a> {
+    /// The command with its files, as many as it has.
+    #[tactic(auto, unfolding(crate::specs::Words::file_count))]
+    pub fn new(command: Command, files: &'a [Vec<u8>]) -> Self
+        requires { length files.now ≡ file_count command }
+        ensures command { command_in result ≡ command }
+        ensures texts { texts_in result ≡ map (λ v. v.items) files.now }
+    {
+        match command {
+            Command::Play => Request::Play(PlayFiles::new(files)),
+            Command::Rehearse => Request::Rehearse(ScheduleFiles::new(files)),
+            Command::Print => Request::Print(&files[0]),
+            Command::Check => Request::Check(CertifiedFiles::new(files)),
+            Command::Prove => Request::Prove(&files[0]),
+            Command::Init => Request::Init(&files[0]),
+            Command::Sched => Request::Sched(ScheduleFiles::new(files)),
+            Command::Recover => Request::Recover(CertifiedFiles::new(files)),
+            Command::Dump => Request::Dump(CertifiedFiles::new(files)),
+            Command::Replies => Request::Replies(CertifiedFiles::new(files)),
+            Command::Help => Request::Help,
+            Command::Version => Request::Version,
+        }
+    }
+}

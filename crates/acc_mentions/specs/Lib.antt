@@ -1,5 +1,0 @@
-pub mod Runs
-pub mod Boards
-pub mod Openings
-pub mod Stops
-pub mod Ways

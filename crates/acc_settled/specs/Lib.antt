@@ -1,4 +1,0 @@
-pub mod Stops
-pub mod Replies
-pub mod Wholes
-pub mod Schedules

@@ -1,0 +1,9 @@
+pub mod Turned
+pub mod Acks
+pub mod Settlings
+pub mod Beginning
+pub mod Counts
+pub mod Boards
+pub mod BeginSizes
+pub mod Telling
+pub mod Fronts
