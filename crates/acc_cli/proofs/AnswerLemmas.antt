@@ -56,7 +56,8 @@ module _ (old new : Option (List ℕ)) (fault : Type 0) (given : Status) (histor
 module _ (held : List ℕ → Told) (counts counts' : Counts) (disk disk' : Seen) (words : List (List ℕ)) where
   -- no form, of which the words are none
   pub usage_means : (text : Result (Vec ℕ Global) AllocError) → command_of words ≡ None → counts' ≡ counts → disk' ≡ disk
-      → IfOk text (λ t. t.items ≡ line (codes "usage")) → IfOk text (λ t. Meant held counts counts' disk disk' words (refusal Usage t.items))
+      → IfOk text (λ t. t.items ≡ line (codes "usage"))
+      → IfOk text (λ t. Meant held counts counts' disk disk' words (refusal Usage t.items))
   usage_means text none same untouched says =
       IfOk-weaker text _ _
       (λ t says. subst (λ (o : Option Command). MeansForm held counts counts' disk disk' words o (refusal Usage t.items)) (sym none)
@@ -133,7 +134,8 @@ module _ (over : Bool) (command : Command) (files : List (List ℕ)) (disk disk'
   -- what is said is printed
   pub command_answered : (new : Option (List ℕ)) (given : Status) (a : Answer) → answer ≡ Ok a
       → IfOk answer (λ a. Means command files disk disk' (telling_of a history settled))
-      → Ends (record { status = Ran a.ending; text = a.text.items; history = history; settled = settled }) old new fault given history settled
+      → Ends (record { status = Ran a.ending; text = a.text.items; history = history; settled = settled }) old new fault given history
+      settled
       → Answered over (RunsSo command files disk disk') old new fault given history settled
   command_answered new given a is means ends =
       let says : Means command files disk disk' (telling_of a history settled) =

@@ -59,8 +59,8 @@ module _ (held : List ℕ → Told) (words : List (List ℕ)) (old new : Option 
       let same : ending ≡ Done = (let e : Ran ending ≡ Ran Done = sym status ∙ done in cc) in
       of_files files (record { ending = ending; text = reply.text; history = reply.history }) same given appends means.2
 
-  pub is_proved : (counts counts' : Counts) (disk disk' : Seen) (over : Bool) (fault : Type 0) (status : Status) (history : List Event) (settled : ℕ)
-      → command_of words ≡ Some command.Prove → status ≡ Ran Done
+  pub is_proved : (counts counts' : Counts) (disk disk' : Seen) (over : Bool) (fault : Type 0) (status : Status) (history : List Event)
+      (settled : ℕ) → command_of words ≡ Some command.Prove → status ≡ Ran Done
       → Answered over (Meant held counts counts' disk disk' words) old new fault status history settled → IsProved held words old new
   is_proved counts counts' disk disk' over fault status history settled is done (inl none) =
       (let e : Ran Done ≡ Memory = sym done ∙ none.0 in absurd cc)

@@ -55,8 +55,8 @@ keeps_replies d earlier more w run = λ t reply at.
     subst (λ (o : Option World). option_and_then (reply_at t) o ≡ Some reply) (sym run)
     (reply_stays d halves.0 w more t reply halves.2 here)
 
-front_keeps : (d : Design) (history : List Event) (settled : ℕ) (events : List Event) → IsFrontOf history settled events → AreLawful d events
-    → KeepsReplies d (take settled history) events
+front_keeps : (d : Design) (history : List Event) (settled : ℕ) (events : List Event) → IsFrontOf history settled events
+    → AreLawful d events → KeepsReplies d (take settled history) events
 front_keeps d history settled events front lawful =
     let first : take settled events ≡ take settled history =
     ap (take settled) front.is ∙ take-take settled front.count history front.at_least in

@@ -7,8 +7,6 @@ use Rattle.acc_base.specs.declared.machines.Event.{Event}
 use Rattle.acc_disk.specs.Crashes.{IsCalm}
 use Rattle.acc_inputs.specs.declared.words.Command.{Command}
 use Rattle.acc_inputs.specs.declared.words.Command.TheVariants as command
-use Rattle.acc_inputs.specs.declared.requests.Request.{Request}
-use Rattle.acc_inputs.specs.Requests.{command_in, texts_in}
 use Rattle.acc_inputs.specs.Answers.{said_of, said_alone}
 use Rattle.acc_inputs.specs.Words.{is_journalled}
 use Rattle.acc_journalled.specs.declared.answers.Answer.{Answer}
@@ -44,8 +42,9 @@ module _ {D : Type 0} (clock : D → ℕ) (left_since : D → ℕ → List ℕ �
       → Ends told may_leave faults (Means c files) (LeavesOf clock left_since told may_leave c files) old new answer history settled
   ends_in_memory c files is old new same answer history settled none says = record {
     means = IfOk-weaker answer _ _
-        (λ a means. subst (λ (x : D). Means c files (seen (told old) (faults old)) (seen (told x) (faults x)) (telling_of a history settled))
-        (sym same) (means_without c files (seen (told old) (faults old)) (telling_of a history settled) is none means)) says;
+        (λ a means. subst
+        (λ (x : D). Means c files (seen (told old) (faults old)) (seen (told x) (faults x)) (telling_of a history settled)) (sym same)
+        (means_without c files (seen (told old) (faults old)) (telling_of a history settled) is none means)) says;
     refused = IfOk-weaker answer _ _ (λ a means early. same) says;
     leaves = leaves_disk c files old new history settled is same none;
     calm = IfOk-weaker answer _ _
@@ -89,12 +88,3 @@ pub lacks_none : (answer : Result Answer AllocError) (history : List Event) (set
     → IfErr answer (λ e. (history ≡ []) × (settled ≡ 0))
 lacks_none (Ok a) history settled none zero = tt
 lacks_none (Err e) history settled none zero = (none, zero)
-
--- ---- by the request
-
--- how a request ends
-abbrev pub EndsRequest : {D : Type 0} → (D → ℕ) → (D → ℕ → List ℕ → Type 0) → (D → Option (List ℕ)) → (D → List ℕ → Type 0) → (D → ℕ)
-    → D → D → Result Answer AllocError → List Event → ℕ → Request → Type 0
-EndsRequest clock left_since told may_leave faults old new answer history settled r =
-    Ends told may_leave faults (Means (command_in r) (texts_in r)) (LeavesOf clock left_since told may_leave (command_in r) (texts_in r))
-    old new answer history settled

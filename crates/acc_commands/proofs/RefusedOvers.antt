@@ -23,7 +23,8 @@ use Rattle.acc_settling.specs.Openings.{opening_at}
 use Rattle.acc_journal_commands.specs.RunFiles.{RunsSeen, RunsOfOrder, RunsOfScript, RunsCertified, RunsFiles}
 use Rattle.acc_journal_commands.specs.RecoverFiles.{RecoversSeen, RecoversCertified, RecoversFiles}
 use Rattle.acc_commands.specs.Means.{MeansOverDisk}
-use Rattle.acc_journal_commands.proofs.JournalEndings.{other_end, refusal_ends, making_ends, recovering_ends, unrecovered_ends, over_unbegun}
+use Rattle.acc_journal_commands.proofs.JournalEndings.{other_end, refusal_ends, making_ends, recovering_ends, unrecovered_ends}
+use Rattle.acc_journal_commands.proofs.JournalEndings.{over_unbegun}
 
 -- ---- which journal is refused
 

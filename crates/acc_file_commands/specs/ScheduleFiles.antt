@@ -1,4 +1,4 @@
--- The command sched: a script's calls, in the order that is given and then to their end, by the rules of locks, for a design that is
+-- The command rehearse: a script's calls, in the order that is given and then to their end, by the rules of locks, for a design that is
 -- accepted with its certificate.
 use Rattle.std.specs.Prelude.{◌≡◌, ◌⊎◌, ℕ, Bool, if◌then◌else◌, List}
 use Rattle.acc_base.specs.declared.designs.Design.{Design}

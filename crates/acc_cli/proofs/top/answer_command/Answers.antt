@@ -40,7 +40,8 @@ pub returns-clause-calm : goal.returns-clause-calm
 returns-clause-calm g c other nine =
     let told = g.D.Disk.told in
     let may_leave = g.D.Disk.may_leave in
-    let again = IsCalm (told c.args.disk) (may_leave c.args.disk) → IsCalm (told c.run-disk.result.disk) (may_leave c.run-disk.result.disk) in
+    let disk = c.run-disk.result.disk in
+    let again = IsCalm (told c.args.disk) (may_leave c.args.disk) → IsCalm (told disk) (may_leave disk) in
     let sound : c.in-Ok.answer.ending ≢ DiskFailed → again =
     subst (λ (r : Result Answer AllocError). IfOk r (λ a. a.ending ≢ DiskFailed → again)) c.in-Ok.is c.run-disk.ensures.ends.calm in
     sound (unfailed_by _ _ _ c.in-Ok.answer.ending refl c.print_answer.ensures.given other)

@@ -1,10 +1,11 @@
-use Rattle.std.proofs.Common.{rules, inr, ◌≡◌, ◌∙◌, List, ℕ, map, Some, string_bytes, sym, ap, subst, Vec, Global}
+use Rattle.std.proofs.Common.{rules, refl, inr, ◌≡◌, ◌∙◌, List, ℕ, map, Some, string_bytes, sym, ap, subst, Vec, Global}
 use Rattle.acc_io.specs.Counted.{after_files}
 use Rattle.acc_inputs.specs.Requests.{command_in, texts_in}
 use Rattle.acc_inputs.specs.Words.{command_of, file_count, files_of, is_journalled, is_over_journal}
 use Rattle.acc_inputs.specs.Files.{AreFiles, IsFirstRefused}
 use Rattle.acc_journal_commands.specs.Disks.{Seen, seen}
 use Rattle.acc_cli.specs.declared.status.Status.TheVariants.{Usage, File}
+use Rattle.acc_cli.specs.Meant.{Meant}
 use Rattle.acc_cli.proofs.AnswerLemmas.{refusal_answered, answered_weaker, usage_means, file_means, command_means, over_same}
 use Rattle.acc_cli.proofs.AnswerLemmas.{names_are, names_count, texts_count}
 use Rattle.acc_cli.proofs.DiskLemmas.{short_files}
@@ -19,25 +20,38 @@ answer_command-requires g c =
 
 pub returns-in_default-clause-answered : goal.returns-in_default-clause-answered
 returns-in_default-clause-answered g c =
+    let held = g.H.Shelf.held c.args.shelf.now in
+    let counts = g.H.Shelf.counts c.args.shelf.now in
     let words : List (List ℕ) = map string_bytes c.args.words.now in
-    refusal_answered _ _ _ _ _ _ (is_over_journal (command_of words)) _ Usage c.usage.result
-    (c.refuse.ensures.untouched.1, c.refuse.ensures.untouched.2) c.refuse.ensures.lacking c.refuse.ensures.printed
-    (usage_means _ _ _ _ _ words c.usage.result (search rules) (search rules) (search rules) c.usage.ensures)
+    let seen_of : g.row.D.Denot → Seen = λ x. seen (g.D.Disk.told x) (g.D.Disk.faults x) in
+    let before = seen_of c.args.disk in
+    let after = seen_of c.refuse.result.disk in
+    let r = c.refuse.ensures in
+    refusal_answered _ _ _ _ _ _ (is_over_journal (command_of words)) (Meant held counts counts before after words) Usage c.usage.result
+    (r.untouched.1, r.untouched.2) r.lacking r.printed
+    (usage_means held counts counts before after words c.usage.result (search rules) refl (ap seen_of r.untouched.0) c.usage.ensures)
 
 pub returns-in-Err-clause-answered : goal.returns-in-Err-clause-answered
 returns-in-Err-clause-answered g c =
+    let held = g.H.Shelf.held c.args.shelf.now in
+    let counts = g.H.Shelf.counts c.args.shelf.now in
+    let later = g.H.Shelf.counts c.read_all.new.shelf in
     let words : List (List ℕ) = map string_bytes c.args.words.now in
-    let command = c.in-Some.command in
     let seen_of : g.row.D.Denot → Seen = λ x. seen (g.D.Disk.told x) (g.D.Disk.faults x) in
+    let before = seen_of c.args.disk in
+    let after = seen_of c.refuse-in-Err.result.disk in
+    let command = c.in-Some.command in
+    let name = c.in-Err.refusal.name.now in
+    let error = c.in-Err.refusal.error in
     let form : command_of words ≡ Some command = search rules in
     let names = names_are string_bytes c.args.words.now c.file_count.result command c.file_count.ensures in
-    refusal_answered _ _ _ _ _ _ (is_over_journal (command_of words)) _ File c.refusal_text-text.result
-    (c.refuse-in-Err.ensures.untouched.1, c.refuse-in-Err.ensures.untouched.2) c.refuse-in-Err.ensures.lacking c.refuse-in-Err.ensures.printed
-    (file_means (g.H.Shelf.held c.args.shelf.now) (g.H.Shelf.counts c.args.shelf.now) _ (seen_of c.args.disk)
-    (seen_of c.refuse-in-Err.result.disk) words command c.in-Err.refusal.name.now
-    c.in-Err.refusal.error c.refusal_text-text.result form (ap seen_of c.refuse-in-Err.ensures.untouched.0)
-    (subst (λ (ns : List (List ℕ)). IsFirstRefused (g.H.Shelf.held c.args.shelf.now) (g.H.Shelf.counts c.args.shelf.now)
-    (g.H.Shelf.counts c.read_all.new.shelf) ns c.in-Err.refusal.name.now c.in-Err.refusal.error) names c.in-Err.ensures.refused) c.refusal_text-text.ensures)
+    let first : IsFirstRefused held counts later (files_of command words) name error =
+    subst (λ (ns : List (List ℕ)). IsFirstRefused held counts later ns name error) names c.in-Err.ensures.refused in
+    let r = c.refuse-in-Err.ensures in
+    refusal_answered _ _ _ _ _ _ (is_over_journal (command_of words)) (Meant held counts later before after words) File
+    c.refusal_text-text.result (r.untouched.1, r.untouched.2) r.lacking r.printed
+    (file_means held counts later before after words command name error c.refusal_text-text.result form (ap seen_of r.untouched.0) first
+    c.refusal_text-text.ensures)
 
 pub returns-in-Ok-clause-answered : goal.returns-in-Ok-clause-answered
 returns-in-Ok-clause-answered g c =

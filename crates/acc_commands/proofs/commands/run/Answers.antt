@@ -1,137 +1,113 @@
-use Rattle.std.proofs.Common.{[], ◌∷◌, refl, sym, subst}
+use Rattle.std.proofs.Common.{[], ◌∷◌, refl}
 use Rattle.std.proofs.lemmas.Result.{IfErr-weaker}
 use Rattle.acc_inputs.specs.declared.words.Command.TheVariants as command
-use Rattle.acc_inputs.specs.Requests.{played_texts, scheduled_texts, certified_texts}
+use Rattle.acc_inputs.specs.Requests.{played_texts, certified_texts, scheduled_texts}
 use Rattle.acc_commands.specs.Means.{MeansOfFiles, MeansOverDisk, LeavesOf}
-use Rattle.acc_commands.proofs.InMemory.{EndsRequest, ends_alone, ends_run, lacks_run, lacks_none}
+use Rattle.acc_commands.proofs.InMemory.{ends_alone, ends_run, lacks_run, lacks_none}
 use Rattle.acc_commands.proofs.commands.run.Goals as goal
 
 pub returns-in-Play-clause-ends : goal.returns-in-Play-clause-ends
 unfolding MeansOfFiles
 returns-in-Play-clause-ends g c =
-    let e = c.ran.result in
-    subst (EndsRequest g.D.Disk.clock g.D.Disk.left_since g.D.Disk.told g.D.Disk.may_leave g.D.Disk.faults c.args.disk e.disk e.answer e.history e.settled)
-    (sym c.in-Play.is)
-    (ends_run g.D.Disk.clock g.D.Disk.left_since g.D.Disk.told g.D.Disk.may_leave g.D.Disk.faults command.Play (played_texts c.in-Play.files) refl
-    c.args.disk e.disk c.ran.ensures.disk c.play_files.result e.answer e.history e.settled c.ran.ensures.tells c.ran.ensures.settled
+    rw c.in-Play.is
+    (ends_run g.D.Disk.clock g.D.Disk.left_since g.D.Disk.told g.D.Disk.may_leave g.D.Disk.faults command.Play (played_texts
+    c.in-Play.files) refl c.args.disk _ c.ran.ensures.disk c.play_files.result _ _ _ c.ran.ensures.tells c.ran.ensures.settled
     c.play_files.ensures)
+
+pub returns-in-Play-clause-lacking : goal.returns-in-Play-clause-lacking
+returns-in-Play-clause-lacking g c without =
+    IfErr-weaker c.ran.result.answer _ _ (λ e none. (none, c.ran.ensures.settled))
+    (lacks_run c.play_files.result _ _ c.ran.ensures.tells)
 
 pub returns-in-Rehearse-clause-ends : goal.returns-in-Rehearse-clause-ends
 unfolding MeansOfFiles
 returns-in-Rehearse-clause-ends g c =
-    let e = c.ran-in-Rehearse.result in
-    subst (EndsRequest g.D.Disk.clock g.D.Disk.left_since g.D.Disk.told g.D.Disk.may_leave g.D.Disk.faults c.args.disk e.disk e.answer e.history e.settled)
-    (sym c.in-Rehearse.is)
-    (ends_run g.D.Disk.clock g.D.Disk.left_since g.D.Disk.told g.D.Disk.may_leave g.D.Disk.faults command.Rehearse (scheduled_texts c.in-Rehearse.files) refl
-    c.args.disk e.disk c.ran-in-Rehearse.ensures.disk c.schedule_files.result e.answer e.history e.settled c.ran-in-Rehearse.ensures.tells c.ran-in-Rehearse.ensures.settled
-    c.schedule_files.ensures)
+    rw c.in-Rehearse.is
+    (ends_run g.D.Disk.clock g.D.Disk.left_since g.D.Disk.told g.D.Disk.may_leave g.D.Disk.faults command.Rehearse (scheduled_texts
+    c.in-Rehearse.files) refl c.args.disk _ c.ran-in-Rehearse.ensures.disk c.schedule_files.result _ _ _ c.ran-in-Rehearse.ensures.tells
+    c.ran-in-Rehearse.ensures.settled c.schedule_files.ensures)
+
+pub returns-in-Rehearse-clause-lacking : goal.returns-in-Rehearse-clause-lacking
+returns-in-Rehearse-clause-lacking g c without =
+    IfErr-weaker c.ran-in-Rehearse.result.answer _ _ (λ e none. (none, c.ran-in-Rehearse.ensures.settled))
+    (lacks_run c.schedule_files.result _ _ c.ran-in-Rehearse.ensures.tells)
 
 pub returns-in-Print-clause-ends : goal.returns-in-Print-clause-ends
 unfolding MeansOfFiles
 returns-in-Print-clause-ends g c =
-    let e = c.unrun.result in
-    subst (EndsRequest g.D.Disk.clock g.D.Disk.left_since g.D.Disk.told g.D.Disk.may_leave g.D.Disk.faults c.args.disk e.disk e.answer e.history e.settled)
-    (sym c.in-Print.is)
-    (ends_alone g.D.Disk.clock g.D.Disk.left_since g.D.Disk.told g.D.Disk.may_leave g.D.Disk.faults command.Print (c.in-Print.design.now ∷ []) refl
-    c.args.disk e.disk c.unrun.ensures.disk c.print_file.result e.answer c.unrun.ensures.answer e.history e.settled c.unrun.ensures.none.0
+    rw c.in-Print.is
+    (ends_alone g.D.Disk.clock g.D.Disk.left_since g.D.Disk.told g.D.Disk.may_leave g.D.Disk.faults command.Print (c.in-Print.design.now ∷
+    []) refl c.args.disk _ c.unrun.ensures.disk c.print_file.result _ c.unrun.ensures.answer _ _ c.unrun.ensures.none.0
     c.unrun.ensures.none.1 c.print_file.ensures)
-
-pub returns-in-Check-clause-ends : goal.returns-in-Check-clause-ends
-unfolding MeansOfFiles
-returns-in-Check-clause-ends g c =
-    let e = c.unrun-in-Check.result in
-    subst (EndsRequest g.D.Disk.clock g.D.Disk.left_since g.D.Disk.told g.D.Disk.may_leave g.D.Disk.faults c.args.disk e.disk e.answer e.history e.settled)
-    (sym c.in-Check.is)
-    (ends_alone g.D.Disk.clock g.D.Disk.left_since g.D.Disk.told g.D.Disk.may_leave g.D.Disk.faults command.Check (certified_texts c.in-Check.files) refl
-    c.args.disk e.disk c.unrun-in-Check.ensures.disk c.check_files.result e.answer c.unrun-in-Check.ensures.answer e.history e.settled c.unrun-in-Check.ensures.none.0
-    c.unrun-in-Check.ensures.none.1 c.check_files.ensures)
-
-pub returns-in-Prove-clause-ends : goal.returns-in-Prove-clause-ends
-unfolding MeansOfFiles
-returns-in-Prove-clause-ends g c =
-    let e = c.unrun-in-Prove.result in
-    subst (EndsRequest g.D.Disk.clock g.D.Disk.left_since g.D.Disk.told g.D.Disk.may_leave g.D.Disk.faults c.args.disk e.disk e.answer e.history e.settled)
-    (sym c.in-Prove.is)
-    (ends_alone g.D.Disk.clock g.D.Disk.left_since g.D.Disk.told g.D.Disk.may_leave g.D.Disk.faults command.Prove (c.in-Prove.design.now ∷ []) refl
-    c.args.disk e.disk c.unrun-in-Prove.ensures.disk c.prove_file.result e.answer c.unrun-in-Prove.ensures.answer e.history e.settled c.unrun-in-Prove.ensures.none.0
-    c.unrun-in-Prove.ensures.none.1 c.prove_file.ensures)
-
-pub returns-in-Help-clause-ends : goal.returns-in-Help-clause-ends
-unfolding MeansOfFiles
-returns-in-Help-clause-ends g c =
-    let e = c.unrun-in-Help.result in
-    subst (EndsRequest g.D.Disk.clock g.D.Disk.left_since g.D.Disk.told g.D.Disk.may_leave g.D.Disk.faults c.args.disk e.disk e.answer e.history e.settled)
-    (sym c.in-Help.is)
-    (ends_alone g.D.Disk.clock g.D.Disk.left_since g.D.Disk.told g.D.Disk.may_leave g.D.Disk.faults command.Help [] refl
-    c.args.disk e.disk c.unrun-in-Help.ensures.disk c.help.result e.answer c.unrun-in-Help.ensures.answer e.history e.settled c.unrun-in-Help.ensures.none.0
-    c.unrun-in-Help.ensures.none.1 c.help.ensures)
-
-pub returns-in-Version-clause-ends : goal.returns-in-Version-clause-ends
-unfolding MeansOfFiles
-returns-in-Version-clause-ends g c =
-    let e = c.unrun-in-Version.result in
-    subst (EndsRequest g.D.Disk.clock g.D.Disk.left_since g.D.Disk.told g.D.Disk.may_leave g.D.Disk.faults c.args.disk e.disk e.answer e.history e.settled)
-    (sym c.in-Version.is)
-    (ends_alone g.D.Disk.clock g.D.Disk.left_since g.D.Disk.told g.D.Disk.may_leave g.D.Disk.faults command.Version [] refl
-    c.args.disk e.disk c.unrun-in-Version.ensures.disk c.version.result e.answer c.unrun-in-Version.ensures.answer e.history e.settled c.unrun-in-Version.ensures.none.0
-    c.unrun-in-Version.ensures.none.1 c.version.ensures)
-
-pub returns-in-Init-clause-ends : goal.returns-in-Init-clause-ends
-unfolding MeansOverDisk LeavesOf
-returns-in-Init-clause-ends g c =
-    let e = c.init_file.result in
-    subst (EndsRequest g.D.Disk.clock g.D.Disk.left_since g.D.Disk.told g.D.Disk.may_leave g.D.Disk.faults c.args.disk e.disk e.answer e.history e.settled)
-    (sym c.in-Init.is)
-    c.init_file.ensures
-
-pub returns-in-Recover-clause-ends : goal.returns-in-Recover-clause-ends
-unfolding MeansOverDisk LeavesOf
-returns-in-Recover-clause-ends g c =
-    let e = c.recover_files.result in
-    subst (EndsRequest g.D.Disk.clock g.D.Disk.left_since g.D.Disk.told g.D.Disk.may_leave g.D.Disk.faults c.args.disk e.disk e.answer e.history e.settled)
-    (sym c.in-Recover.is)
-    c.recover_files.ensures
-
-pub returns-in-Dump-clause-ends : goal.returns-in-Dump-clause-ends
-unfolding MeansOverDisk LeavesOf
-returns-in-Dump-clause-ends g c =
-    let e = c.recover_files-in-Dump.result in
-    subst (EndsRequest g.D.Disk.clock g.D.Disk.left_since g.D.Disk.told g.D.Disk.may_leave g.D.Disk.faults c.args.disk e.disk e.answer e.history e.settled)
-    (sym c.in-Dump.is)
-    c.recover_files-in-Dump.ensures
-
-pub returns-in-Replies-clause-ends : goal.returns-in-Replies-clause-ends
-unfolding MeansOverDisk LeavesOf
-returns-in-Replies-clause-ends g c =
-    let e = c.recover_files-in-Replies.result in
-    subst (EndsRequest g.D.Disk.clock g.D.Disk.left_since g.D.Disk.told g.D.Disk.may_leave g.D.Disk.faults c.args.disk e.disk e.answer e.history e.settled)
-    (sym c.in-Replies.is)
-    c.recover_files-in-Replies.ensures
-
-pub returns-in-Play-clause-lacking : goal.returns-in-Play-clause-lacking
-returns-in-Play-clause-lacking g c without =
-    IfErr-weaker c.ran.result.answer _ _ (λ e none. (none, c.ran.ensures.settled)) (lacks_run c.play_files.result _ _ c.ran.ensures.tells)
-
-pub returns-in-Rehearse-clause-lacking : goal.returns-in-Rehearse-clause-lacking
-returns-in-Rehearse-clause-lacking g c without =
-    IfErr-weaker c.ran-in-Rehearse.result.answer _ _ (λ e none. (none, c.ran-in-Rehearse.ensures.settled)) (lacks_run c.schedule_files.result _ _ c.ran-in-Rehearse.ensures.tells)
 
 pub returns-in-Print-clause-lacking : goal.returns-in-Print-clause-lacking
 returns-in-Print-clause-lacking g c without =
     lacks_none c.unrun.result.answer _ _ c.unrun.ensures.none.0 c.unrun.ensures.none.1
 
+pub returns-in-Check-clause-ends : goal.returns-in-Check-clause-ends
+unfolding MeansOfFiles
+returns-in-Check-clause-ends g c =
+    rw c.in-Check.is
+    (ends_alone g.D.Disk.clock g.D.Disk.left_since g.D.Disk.told g.D.Disk.may_leave g.D.Disk.faults command.Check (certified_texts
+    c.in-Check.files) refl c.args.disk _ c.unrun-in-Check.ensures.disk c.check_files.result _ c.unrun-in-Check.ensures.answer _ _
+    c.unrun-in-Check.ensures.none.0 c.unrun-in-Check.ensures.none.1 c.check_files.ensures)
+
 pub returns-in-Check-clause-lacking : goal.returns-in-Check-clause-lacking
 returns-in-Check-clause-lacking g c without =
     lacks_none c.unrun-in-Check.result.answer _ _ c.unrun-in-Check.ensures.none.0 c.unrun-in-Check.ensures.none.1
+
+pub returns-in-Prove-clause-ends : goal.returns-in-Prove-clause-ends
+unfolding MeansOfFiles
+returns-in-Prove-clause-ends g c =
+    rw c.in-Prove.is
+    (ends_alone g.D.Disk.clock g.D.Disk.left_since g.D.Disk.told g.D.Disk.may_leave g.D.Disk.faults command.Prove (c.in-Prove.design.now ∷
+    []) refl c.args.disk _ c.unrun-in-Prove.ensures.disk c.prove_file.result _ c.unrun-in-Prove.ensures.answer _ _
+    c.unrun-in-Prove.ensures.none.0 c.unrun-in-Prove.ensures.none.1 c.prove_file.ensures)
 
 pub returns-in-Prove-clause-lacking : goal.returns-in-Prove-clause-lacking
 returns-in-Prove-clause-lacking g c without =
     lacks_none c.unrun-in-Prove.result.answer _ _ c.unrun-in-Prove.ensures.none.0 c.unrun-in-Prove.ensures.none.1
 
+pub returns-in-Help-clause-ends : goal.returns-in-Help-clause-ends
+unfolding MeansOfFiles
+returns-in-Help-clause-ends g c =
+    rw c.in-Help.is
+    (ends_alone g.D.Disk.clock g.D.Disk.left_since g.D.Disk.told g.D.Disk.may_leave g.D.Disk.faults command.Help [] refl c.args.disk _
+    c.unrun-in-Help.ensures.disk c.help.result _ c.unrun-in-Help.ensures.answer _ _ c.unrun-in-Help.ensures.none.0
+    c.unrun-in-Help.ensures.none.1 c.help.ensures)
+
 pub returns-in-Help-clause-lacking : goal.returns-in-Help-clause-lacking
 returns-in-Help-clause-lacking g c without =
     lacks_none c.unrun-in-Help.result.answer _ _ c.unrun-in-Help.ensures.none.0 c.unrun-in-Help.ensures.none.1
 
+pub returns-in-Version-clause-ends : goal.returns-in-Version-clause-ends
+unfolding MeansOfFiles
+returns-in-Version-clause-ends g c =
+    rw c.in-Version.is
+    (ends_alone g.D.Disk.clock g.D.Disk.left_since g.D.Disk.told g.D.Disk.may_leave g.D.Disk.faults command.Version [] refl c.args.disk _
+    c.unrun-in-Version.ensures.disk c.version.result _ c.unrun-in-Version.ensures.answer _ _ c.unrun-in-Version.ensures.none.0
+    c.unrun-in-Version.ensures.none.1 c.version.ensures)
+
 pub returns-in-Version-clause-lacking : goal.returns-in-Version-clause-lacking
 returns-in-Version-clause-lacking g c without =
     lacks_none c.unrun-in-Version.result.answer _ _ c.unrun-in-Version.ensures.none.0 c.unrun-in-Version.ensures.none.1
+
+pub returns-in-Init-clause-ends : goal.returns-in-Init-clause-ends
+unfolding MeansOverDisk LeavesOf
+returns-in-Init-clause-ends g c = rw c.in-Init.is c.init_file.ensures
+
+pub returns-in-Sched-clause-ends : goal.returns-in-Sched-clause-ends
+unfolding MeansOverDisk LeavesOf
+returns-in-Sched-clause-ends g c = rw c.in-Sched.is c.run_files.ensures
+
+pub returns-in-Recover-clause-ends : goal.returns-in-Recover-clause-ends
+unfolding MeansOverDisk LeavesOf
+returns-in-Recover-clause-ends g c = rw c.in-Recover.is c.recover_files.ensures
+
+pub returns-in-Dump-clause-ends : goal.returns-in-Dump-clause-ends
+unfolding MeansOverDisk LeavesOf
+returns-in-Dump-clause-ends g c = rw c.in-Dump.is c.recover_files-in-Dump.ensures
+
+pub returns-in-Replies-clause-ends : goal.returns-in-Replies-clause-ends
+unfolding MeansOverDisk LeavesOf
+returns-in-Replies-clause-ends g c = rw c.in-Replies.is c.recover_files-in-Replies.ensures
