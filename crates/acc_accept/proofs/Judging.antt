@@ -3,6 +3,7 @@ use Rattle.std.proofs.Common.{◌≡◌, ℕ, List, None, Some, refl, subst}
 use Rattle.std.specs.Prelude.{Option, Result, Ok, Err, slice_get}
 use Rattle.acc_base.specs.declared.designs.Design.{Design}
 use Rattle.acc_base.specs.declared.sequents.Origin.{Origin}
+use Rattle.acc_base.specs.declared.rules.FormRule.{FormRule}
 use Rattle.acc_base.specs.declared.sequents.Sequent.{Sequent}
 use Rattle.acc_formed.specs.WellFormed.{IsWellFormed}
 use Rattle.acc_oblig.specs.Laws.{drafts_of, sequents_of}
@@ -16,12 +17,12 @@ use Rattle.acc_accept.specs.Accepting.{lack_by, lack_of, IsFirstLack, Accepts, R
 use Rattle.acc_accept.proofs.OneRefusal.{none_is_both}
 
 -- no proof lacks what isn't a proof's
-no_form_by : (o : Origin) (v : Verdict) (rule line : ℕ) → lack_by o v ≡ Some (Form rule line) → ⊥
+no_form_by : (o : Origin) (v : Verdict) (rule : FormRule) (line : ℕ) → lack_by o v ≡ Some (Form rule line) → ⊥
 no_form_by o Proved rule line h = cc
 no_form_by o IsNoProof rule line h = cc
 no_form_by o (WideAt node) rule line h = cc
 
-no_form : (d : Design) (q : Sequent) (p : Option Proof) (rule line : ℕ) → lack_of d q p ≡ Some (Form rule line) → ⊥
+no_form : (d : Design) (q : Sequent) (p : Option Proof) (rule : FormRule) (line : ℕ) → lack_of d q p ≡ Some (Form rule line) → ⊥
 no_form d q None rule line h = cc
 no_form d q (Some p) rule line h = no_form_by q.origin (verdict d q p.nodes) rule line h
 

@@ -2,6 +2,7 @@
 use Rattle.std.proofs.Common.{◌≡◌, ℕ, List, None, Some, refl, sym, ap, ◌∙◌}
 use Rattle.std.specs.Prelude.{◌≢◌}
 use Rattle.acc_base.specs.declared.designs.Design.{Design}
+use Rattle.acc_base.specs.declared.rules.FormRule.{FormRule}
 use Rattle.acc_base.specs.declared.sequents.Origin.{Origin}
 use Rattle.acc_base.specs.Leasts.{IsLeast}
 use Rattle.acc_form.specs.Faults.{form_faults, is_before}
@@ -15,7 +16,7 @@ use Rattle.acc_accept.specs.declared.refusals.Refusal.TheVariants.{Form, ObligWi
 use Rattle.acc_accept.specs.Accepting.{Accepts, Lacks, Refuses}
 use Rattle.acc_accept.specs.Laws.{NoneIsBoth, RefusedForOneReason}
 use Rattle.acc_accept.proofs.Lacking.{no_first_lack, one_lack}
-use Rattle.acc_accept.proofs.OneFault.{one_least}
+use Rattle.acc_form.proofs.OneFault.{one_least}
 
 none_some : {X : Type 0} (x : X) → None ≡ Some x → ⊥
 none_some x e = cc
@@ -25,7 +26,7 @@ some_same x y e = cc
 
 -- the reason of a refusal, of four kinds
 data Reason (d : Design) (c : Cert) (r : Refusal) : Type 0 where
-  by_form : (rule line : ℕ) → r ≡ Form rule line → IsLeast is_before (form_faults d) (rule, line) → Reason d c r
+  by_form : (rule : FormRule) (line : ℕ) → r ≡ Form rule line → IsLeast is_before (form_faults d) (rule, line) → Reason d c r
   by_width : (origin : Origin) → r ≡ ObligWide origin → IsWellFormed d → first_wide (drafts_of d) ≡ Some origin → Reason d c r
   by_proof : Lacks d c r → Reason d c r
   by_memory : r ≡ Memory → Reason d c r

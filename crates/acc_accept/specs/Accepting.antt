@@ -81,16 +81,23 @@ abbrev pub refusal_of : ObligError → Refusal
 refusal_of (oblig_error.Wide origin) = ObligWide origin
 refusal_of oblig_error.Memory = Memory
 
--- nothing is refused, or this is; want of memory says nothing
+-- what a refusal tells; want of memory says nothing
+abbrev pub Told : Refusal → Type 0 → Type 0
+Told (Form rule line) Fact = Fact
+Told (ObligWide origin) Fact = Fact
+Told (Missing origin) Fact = Fact
+Told (ProofWide origin) Fact = Fact
+Told (NotProved origin) Fact = Fact
+Told Memory Fact = ⊤
+
+-- nothing is refused, or this is
 abbrev pub TellsLack : {T : Type 0} → Result T Refusal → Option Refusal → Type 0
 TellsLack (Ok x) lack = lack ≡ None
-TellsLack (Err Memory) lack = ⊤
-TellsLack (Err r) lack = lack ≡ Some r
+TellsLack (Err r) lack = Told r (lack ≡ Some r)
 
 abbrev pub TellsFirstLack : {T : Type 0} → Design → List Sequent → List Proof → Result T Refusal → Type 0
 TellsFirstLack d qs ps (Ok x) = AreProved d qs ps
-TellsFirstLack d qs ps (Err Memory) = ⊤
-TellsFirstLack d qs ps (Err r) = IsFirstLack d qs ps r
+TellsFirstLack d qs ps (Err r) = Told r (IsFirstLack d qs ps r)
 
 abbrev pub Judges : {T : Type 0} → Design → Cert → Result T Refusal → Type 0
 Judges d c (Ok x) = Accepts d c

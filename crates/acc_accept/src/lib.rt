@@ -7,5 +7,6 @@ mod listing;
 mod refusals;
 
 pub use acceptance::accept;
+pub use laws::{none_is_both, refused_for_one_reason};
 pub use listing::obligations;
 pub use refusals::Refusal;

@@ -3,6 +3,7 @@ ghost use Rattle.std.specs.Prelude.{◌≡◌};
 ghost use Rattle.acc_accept.specs.declared.refusals.Refusal.TheVariants.{Memory as OutOfMemory};
 ghost use Rattle.acc_accept.specs.Accepting.{refusal_of};
 
+use acc_base::rules::FormRule;
 use acc_base::sequents::Origin;
 use acc_goals::ObligError;
 use std::alloc::AllocError;
@@ -10,8 +11,8 @@ use std::alloc::AllocError;
 /// Why a design isn't accepted with a certificate.
 #[derive(Drop)]
 pub enum Refusal {
-    /// The lowest form rule that is broken, 1 to 16, and the first line of the design's print that breaks it, 0 for rule 1.
-    Form(u32, u64),
+    /// The form rule with the lowest number that is broken, and the first line of the design's print that breaks it, 0 for `Ranges`.
+    Form(FormRule, u64),
     /// A number of an obligation is too large. The first such obligation comes from here.
     ObligWide(Origin),
     /// The certificate has no proof at the place of the obligation from here.

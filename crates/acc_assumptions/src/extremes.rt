@@ -1,12 +1,12 @@
 //! What the least and the greatest component make true for all numbers.
 ghost use Rattle.std.specs.Prelude.{◌≡◌, ◌∷◌, [], ◌++◌, IfOk, OnOk, codes};
-ghost use Rattle.acc_oblig.specs.Relations.{alone, some_rows, no_rows, none_there, is_nothing, below, plain, extreme, read_hyps};
+ghost use Rattle.acc_oblig.specs.Relations.{alone, some_rows, no_rows, none_there, is_nothing, is_less, plain, extreme, read_hyps};
 ghost use Rattle.acc_assumptions.specs.Extremes.{behind_there, nothing_of_none, none_beyond};
 
 use acc_base::forms::{Atom, Clause, Lin, Rel};
 use acc_base::sequences::{Seq, Text, copied};
 use acc_base::steps::Read;
-use acc_named::forms::{alone, below, is_none, is_nothing, not_above, one_term, times};
+use acc_named::forms::{alone, at_most, is_less, is_nothing, is_zero, one_term, times};
 use acc_named::naming::named_lins;
 use acc_oblig::naming::Naming;
 use std::alloc::{AllocError, Global};
@@ -16,7 +16,7 @@ fn some_rows(alloc: Global, t: u32, p: Seq<Lin>) -> Result<Rel, AllocError>
     ensures { IfOk result (λ r. r ≡ some_rows t p) }
 {
     let count = times(alloc, -1, Atom::Count(t, p));
-    Ok(not_above(one_term(alloc, count, 1)?))
+    Ok(at_most(one_term(alloc, count, 1)?))
 }
 
 /// That there are no rows under a prefix.
@@ -24,7 +24,7 @@ fn no_rows(alloc: Global, t: u32, p: Seq<Lin>) -> Result<Rel, AllocError>
     ensures { IfOk result (λ r. r ≡ no_rows t p) }
 {
     let count = times(alloc, 1, Atom::Count(t, p));
-    Ok(not_above(one_term(alloc, count, 0)?))
+    Ok(at_most(one_term(alloc, count, 0)?))
 }
 
 /// That the count of rows under a prefix is 0.
@@ -32,7 +32,7 @@ fn none_there(alloc: Global, t: u32, p: Seq<Lin>) -> Result<Rel, AllocError>
     ensures { IfOk result (λ r. r ≡ none_there t p) }
 {
     let count = times(alloc, 1, Atom::Count(t, p));
-    Ok(is_none(one_term(alloc, count, 0)?))
+    Ok(is_zero(one_term(alloc, count, 0)?))
 }
 
 /// A prefix and a variable behind it.
@@ -181,9 +181,9 @@ fn add_least(
     x: u32,
     k: u32,
 ) -> Result<(), AllocError>
-    ensures { OnOk result (out.new ≡ out.old ++ extreme t p.now x k (below k x)) }
+    ensures { OnOk result (out.new ≡ out.old ++ extreme t p.now x k (is_less k x)) }
 {
-    let beyond = below(alloc, k, x)?;
+    let beyond = is_less(alloc, k, x)?;
     add_extreme(alloc, out, t, p, x, k, beyond)
 }
 
@@ -196,9 +196,9 @@ fn add_greatest(
     x: u32,
     k: u32,
 ) -> Result<(), AllocError>
-    ensures { OnOk result (out.new ≡ out.old ++ extreme t p.now x k (below x k)) }
+    ensures { OnOk result (out.new ≡ out.old ++ extreme t p.now x k (is_less x k)) }
 {
-    let beyond = below(alloc, x, k)?;
+    let beyond = is_less(alloc, x, k)?;
     add_extreme(alloc, out, t, p, x, k, beyond)
 }
 

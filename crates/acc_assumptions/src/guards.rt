@@ -4,7 +4,7 @@ ghost use Rattle.acc_oblig.specs.Relations.{guard_rel, denied, but_last, last_de
 
 use acc_base::forms::{Clause, Lin, LinRel, Rel};
 use acc_base::sequences::Seq;
-use acc_named::forms::{lin_form, negated_form, never, not_above, not_all_none};
+use acc_named::forms::{at_most, lin_form, negated_form, never, not_all_none};
 use acc_named::naming::named_lin;
 use acc_oblig::naming::Naming;
 use std::alloc::{AllocError, Global};
@@ -47,7 +47,7 @@ fn denied(alloc: Global, n: &Naming, r: &LinRel) -> Result<Rel, AllocError>
     }
     let mut form = negated_form(alloc, &named)?;
     form.constant = 1 - (named.constant as i128);
-    Ok(not_above(form))
+    Ok(at_most(form))
 }
 
 /// The negation of the last relation, and what never holds where there is none.

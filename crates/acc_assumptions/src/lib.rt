@@ -5,3 +5,10 @@ pub mod extremes;
 mod guards;
 pub mod reads;
 pub mod settings;
+
+pub use extremes::{add_read_hyps, guarded, own_name};
+pub use reads::add_read_rels;
+pub use settings::{
+    Setting, add_frame_bounds, add_own_clauses, add_step_rels, after_naming, behind, last_names,
+    numbers_from, path_actions, path_rels, step_bounds, step_hyps, step_vars, with_name, with_self,
+};

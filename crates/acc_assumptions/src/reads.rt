@@ -1,37 +1,22 @@
 //! What the reads of a step make true of their variables.
 ghost use Rattle.std.specs.Prelude.{◌≡◌, ◌∷◌, [], ◌++◌, IfOk, OnOk};
-ghost use Rattle.acc_base.specs.Reads.{assigned};
 ghost use Rattle.acc_oblig.specs.Relations.{is_value, is_lin, is_quotient, read_rels};
 ghost use Rattle.acc_assumptions.specs.Quotients.{quotient_low, quotient_high};
 
 use acc_base::forms::{Atom, Form, Lin, Rel};
 use acc_base::sequences::Seq;
 use acc_base::steps::Read;
-use acc_named::forms::{add_negated_terms, is_none, not_above, times, two_terms, variable};
+use acc_named::forms::{add_negated_terms, at_most, is_zero, times, two_terms, variable};
 use acc_named::naming::{named, named_lin, named_lins};
 use acc_oblig::naming::Naming;
 use std::alloc::{AllocError, Global};
-
-/// The local that a read assigns.
-pub fn assigned(read: &Read) -> u32
-    ensures { result ≡ assigned read.now }
-{
-    match read {
-        Read::Let(x, _) | Read::Take(x) => *x,
-        Read::Col(x, _, _, _) | Read::Sum(x, _, _, _) => *x,
-        Read::Has(x, _, _) | Read::Count(x, _, _) => *x,
-        Read::Least(x, _, _) | Read::Greatest(x, _, _) => *x,
-        Read::Mul(x, _, _) => *x,
-        Read::Div(x, _, _) => *x,
-    }
-}
 
 /// That a variable is an atom's value.
 fn is_value(alloc: Global, x: u32, atom: Atom) -> Result<Rel, AllocError>
     ensures { IfOk result (λ r. r ≡ is_value x atom) }
 {
     let variable = variable(alloc, 1, x);
-    Ok(is_none(two_terms(alloc, variable, times(alloc, -1, atom), 0)?))
+    Ok(is_zero(two_terms(alloc, variable, times(alloc, -1, atom), 0)?))
 }
 
 /// Adds that a variable is an atom's value.
@@ -48,7 +33,7 @@ fn is_lin(alloc: Global, x: u32, l: &Lin) -> Result<Rel, AllocError>
     let mut terms = Seq::new(alloc);
     terms.push(variable(alloc, 1, x))?;
     add_negated_terms(alloc, &mut terms, l.coeffs.as_slice())?;
-    Ok(is_none(Form {
+    Ok(is_zero(Form {
         terms,
         constant: -(l.constant as i128),
     }))
@@ -67,7 +52,7 @@ fn quotient_low(alloc: Global, x: u32, y: u32, by: i64) -> Result<Rel, AllocErro
 {
     let product = variable(alloc, by as i128, x);
     let other = variable(alloc, -1, y);
-    Ok(not_above(two_terms(alloc, product, other, 0)?))
+    Ok(at_most(two_terms(alloc, product, other, 0)?))
 }
 
 /// That a variable is at most a constant times another and that constant minus 1.
@@ -77,7 +62,7 @@ fn quotient_high(alloc: Global, x: u32, y: u32, by: i64) -> Result<Rel, AllocErr
     let less = -(by as i128);
     let other = variable(alloc, 1, y);
     let product = variable(alloc, less, x);
-    Ok(not_above(two_terms(alloc, other, product, 1 + less)?))
+    Ok(at_most(two_terms(alloc, other, product, 1 + less)?))
 }
 
 /// Adds that a variable is the quotient of another by a constant, rounded down.

@@ -1,7 +1,8 @@
 //! What is assumed where a path is taken, and what its actions are.
 ghost use Rattle.std.specs.Prelude.{◌≡◌, ◌+◌, ◌^◌, ◌<◌, [], ◌∷◌, ◌++◌, length, map, slice_set, All, IfOk, OnOk};
 ghost use Rattle.acc_base.specs.declared.bounds.TheConstants.{MOST_VARIABLES};
-ghost use Rattle.acc_oblig.specs.Naming.{counted, own_clauses, named_action};
+ghost use Rattle.acc_base.specs.Items.{numbers_from};
+ghost use Rattle.acc_oblig.specs.Naming.{own_clauses, named_action};
 ghost use Rattle.acc_oblig.specs.Settings.{with_self, first_now, last_now, step_vars, after_naming, all_read_rels, all_read_hyps};
 ghost use Rattle.acc_oblig.specs.Settings.{all_bounds, all_untaken, frame_bounds, step_bounds, step_rels, step_hyps, path_actions};
 ghost use Rattle.acc_oblig.specs.Drafts.{path_rels};
@@ -10,12 +11,12 @@ ghost use Rattle.acc_assumptions.specs.Seen.{seen, HasRoom};
 
 use crate::extremes::add_read_hyps;
 use crate::guards::{add_guard_rels, untaken};
-use crate::reads::{add_read_rels, assigned};
+use crate::reads::add_read_rels;
 use acc_base::forms::{Clause, LinRel, Rel};
 use acc_base::sequences::{Seq, copied};
 use acc_base::steps::{Action, Path, Read};
 use acc_named::forms::{add_number_bounds, add_value_bounds};
-use acc_named::naming::{add_counted, named_action, own_clause};
+use acc_named::naming::{add_numbers_from, named_action, own_clause};
 use acc_oblig::naming::Naming;
 use std::alloc::{AllocError, Global};
 
@@ -33,12 +34,12 @@ pub struct Setting<'a> {
 }
 
 /// So many variables, from one on.
-pub fn counted(alloc: Global, from: u32, n: u32) -> Result<Seq<u32>, AllocError>
+pub fn numbers_from(alloc: Global, from: u32, n: u32) -> Result<Seq<u32>, AllocError>
     requires { from + n < 2 ^ 32 }
-    ensures { IfOk result (λ xs. xs ≡ counted from n) }
+    ensures { IfOk result (λ xs. xs ≡ numbers_from from n) }
 {
     let mut names = Seq::new(alloc);
-    add_counted(&mut names, from, n)?;
+    add_numbers_from(&mut names, from, n)?;
     Ok(names)
 }
 
@@ -78,10 +79,10 @@ pub fn last_names(alloc: Global, s: &Setting<'_>) -> Result<Seq<u32>, AllocError
     requires { HasRoom s.now }
     ensures { IfOk result (λ now. now ≡ last_now (seen s.now)) }
 {
-    let mut now = counted(alloc, 0, s.locals)?;
+    let mut now = numbers_from(alloc, 0, s.locals)?;
     let mut x = s.locals + 1;
     for r in s.reads {
-        now = with_name(now, assigned(r), x);
+        now = with_name(now, r.assigned(), x);
         x += 1;
     }
     Ok(now)
@@ -116,12 +117,12 @@ fn add_all_read_rels(
     ensures { OnOk result
         (out.new ≡ out.old ++ all_read_rels s.now.locals vars (first_now (seen s.now)) (s.now.locals + 1) s.now.reads.now) }
 {
-    let mut now = counted(alloc, 0, s.locals)?;
+    let mut now = numbers_from(alloc, 0, s.locals)?;
     let mut x = s.locals + 1;
     for r in s.reads {
         let n = with_self(&now, s.locals, vars)?;
         add_read_rels(alloc, out, &n, x, r)?;
-        now = with_name(now, assigned(r), x);
+        now = with_name(now, r.assigned(), x);
         x += 1;
     }
     Ok(())
@@ -139,12 +140,12 @@ fn add_all_read_hyps(
     ensures { OnOk result
         (out.new ≡ out.old ++ all_read_hyps s.now.locals vars (first_now (seen s.now)) (s.now.locals + 1) s.now.reads.now) }
 {
-    let mut now = counted(alloc, 0, s.locals)?;
+    let mut now = numbers_from(alloc, 0, s.locals)?;
     let mut x = s.locals + 1;
     for r in s.reads {
         let n = with_self(&now, s.locals, vars)?;
         add_read_hyps(alloc, out, &n, vars, x, r)?;
-        now = with_name(now, assigned(r), x);
+        now = with_name(now, r.assigned(), x);
         x += 1;
     }
     Ok(())
@@ -153,7 +154,7 @@ fn add_all_read_hyps(
 /// Adds that so many variables, from one on, lie within the range.
 fn add_all_bounds(alloc: Global, out: &mut Seq<Rel>, from: u32, n: u32) -> Result<(), AllocError>
     requires { from + n < 2 ^ 32 }
-    ensures { OnOk result (out.new ≡ out.old ++ all_bounds (counted from n)) }
+    ensures { OnOk result (out.new ≡ out.old ++ all_bounds (numbers_from from n)) }
 {
     for i in 0..n {
         add_value_bounds(alloc, out, from + i)?;
@@ -260,7 +261,7 @@ fn add_point_hyps(
         ++ own_clauses (first_now (seen s.now) ++ s.now.locals ∷ []) vars s.now.clauses.now)) }
 {
     add_own_clauses(alloc, out, &Seq::new(alloc), vars, s.always)?;
-    let names = behind(&counted(alloc, 0, s.locals)?, s.locals)?;
+    let names = behind(&numbers_from(alloc, 0, s.locals)?, s.locals)?;
     add_own_clauses(alloc, out, &names, vars, s.clauses)
 }
 

@@ -22,25 +22,29 @@ use Rattle.acc_base.specs.declared.designs.At.{At}
 use Rattle.acc_base.specs.declared.designs.Design.{Design}
 use Rattle.acc_base.specs.declared.designs.TxType.{TxType}
 use Rattle.acc_base.specs.declared.sequents.Sequent.{Sequent}
+use Rattle.acc_base.specs.declared.sequents.Rule.TheVariants.{Begins, Empty}
+use Rattle.acc_base.specs.Atoms.{key_of, with_key, alike}
+use Rattle.acc_base.specs.Forms.{form, at_most, is_zero}
+use Rattle.acc_base.specs.SequentEquality.{rule_eq, rule_decides}
 use Rattle.acc_base.specs.FormEquality.{lin_decides}
 use Rattle.acc_base.specs.Linear.{var, lin_value, lin_values}
 use Rattle.acc_base.specs.Tables.{Place, is_at, has_row, column_of, count_of, sum_of}
 use Rattle.acc_base.specs.Truth.{atom_value, is_lin_zero, form_value, rel_true}
 use Rattle.acc_base.specs.Shapes.{IsFullKey, RowFits}
-use Rattle.acc_base.specs.Machine.{locals_in}
 use Rattle.acc_base.specs.PrivateRows.{is_own_table, last_is, IsPrivateOf, HasNoPrivate}
-use Rattle.acc_base.specs.TrueSequents.{NoneOwned, IsAskedOf}
+use Rattle.acc_base.specs.TrueSequents.{NoneOwnedBy, NoneOwned, IsAskedOf}
 use Rattle.acc_base.proofs.RowOrder.{order_from}
 use Rattle.acc_base.proofs.Lookups.{any_none, found_at}
 use Rattle.acc_instanced.proofs.RowPlaces.{found_holds}
 use Rattle.acc_instanced.proofs.PartValues.{one_times}
 use Rattle.acc_axioms.specs.declared.nodes.Schema.{Schema}
 use Rattle.acc_axioms.specs.declared.nodes.Schema.TheVariants as schema
-use Rattle.acc_axioms.specs.Axioms.{at_most, is_zero}
-use Rattle.acc_axioms.specs.Axioms.{axiom_of, has, col, count, sum, plain, form, plus, minus, less, alone, less_atom, lin_form}
+use Rattle.acc_axioms.specs.declared.nodes.TheConstants.{BELOW, ABOVE}
+use Rattle.acc_axioms.specs.Axioms.{Demand, demand, axiom_of, has, col, count, sum, plain, plus, minus, less, alone, less_atom, lin_form}
 use Rattle.acc_axioms.specs.Axioms.{lin_above, lin_below, lin_difference, differences, is_width, is_whole, is_table_atom}
-use Rattle.acc_axioms.specs.Axioms.{alike, key_of, is_plain, own_number, own_at, locals_of, variable, is_value, ends_in, ends_in_own}
+use Rattle.acc_axioms.specs.Axioms.{is_plain, own_number, own_at, locals_of, variable, is_value, ends_in, ends_in_own}
 use Rattle.acc_axioms.specs.Axioms.{off}
+use Rattle.acc_axioms.proofs.Alike.{one_length, with_key-alike}
 use Rattle.acc_axioms.proofs.Tests.{le_yes, le_from, both_true, and_true, off_true}
 use Rattle.acc_axioms.specs.Truths.{all_true}
 use Rattle.acc_axioms.proofs.FormValues.{worth, minus_worth, plus_worth, less_worth, lin_worth, above_worth, below_worth, difference_worth}
@@ -97,39 +101,20 @@ module _ (db : List Row) (env : List ℤ) where
       (second_so (rel_true db env (is_zero (lin_difference p k))) (all_true db env (differences ps ks)) h) in
       λ i. here i ∷ rest i
 
-  -- atoms of one kind at equal keys
+  -- an atom at an equal key
+  at_key : (a : Atom) (k : List Lin) → lin_values env (key_of a) ≡ lin_values env k → atom_value db env a
+      ≡ atom_value db env (with_key a k)
+  at_key atom.One k e = refl
+  at_key (atom.Var x) k e = refl
+  at_key (atom.Has t l) k e = ap (has_row db t) e
+  at_key (atom.Col t l c) k e = ap (λ p. column_of db t p c) e
+  at_key (atom.Count t l) k e = ap (count_of db t) e
+  at_key (atom.Sum t l c) k e = ap (λ p. sum_of db t p c) e
+
+  -- atoms that differ in their keys alone, at equal keys
   same_atoms : (a b : Atom) → alike a b ≡ true → lin_values env (key_of a) ≡ lin_values env (key_of b) → atom_value db env a
       ≡ atom_value db env b
-  same_atoms (atom.Has t k) (atom.Has u l) h e =
-      let p = and_true (t == u) (length k == length l) h in
-      let s = (Decides-eqb t u).0 p.0 in
-      λ i. has_row db (s i) (e i)
-  same_atoms (atom.Col t k c) (atom.Col u l x) h e =
-      let p = and_true (t == u) ((c == x) && (length k == length l)) h in
-      let s = (Decides-eqb t u).0 p.0 in
-      let r = (Decides-eqb c x).0 (first_so (c == x) (length k == length l) p.1) in
-      λ i. column_of db (s i) (e i) (r i)
-  same_atoms (atom.Count t k) (atom.Count u l) h e =
-      let p = and_true (t == u) (length k == length l) h in
-      let s = (Decides-eqb t u).0 p.0 in
-      λ i. count_of db (s i) (e i)
-  same_atoms (atom.Sum t k c) (atom.Sum u l x) h e =
-      let p = and_true (t == u) ((c == x) && (length k == length l)) h in
-      let s = (Decides-eqb t u).0 p.0 in
-      let r = (Decides-eqb c x).0 (first_so (c == x) (length k == length l) p.1) in
-      λ i. sum_of db (s i) (e i) (r i)
-  same_atoms a b h e = absurd (cc)
-
-  one_length : (a b : Atom) → alike a b ≡ true → length (key_of a) ≡ length (key_of b)
-  one_length (atom.Has t k) (atom.Has u l) h = (Decides-eqb (length k) (length l)).0 (second_so (t == u) (length k == length l) h)
-  one_length (atom.Col t k c) (atom.Col u l x) h =
-      (Decides-eqb (length k) (length l)).0
-      (second_so (c == x) (length k == length l) (second_so (t == u) ((c == x) && (length k == length l)) h))
-  one_length (atom.Count t k) (atom.Count u l) h = (Decides-eqb (length k) (length l)).0 (second_so (t == u) (length k == length l) h)
-  one_length (atom.Sum t k c) (atom.Sum u l x) h =
-      (Decides-eqb (length k) (length l)).0
-      (second_so (c == x) (length k == length l) (second_so (t == u) ((c == x) && (length k == length l)) h))
-  one_length a b h = absurd (cc)
+  same_atoms a b h e = at_key a (key_of b) e ∙ ap (atom_value db env) (with_key-alike a b h)
 
   plain_is : (u : Unknown) → is_plain u ≡ true → worth db env u ≡ atom_value db env u.atom
   plain_is u h = by u.under h
@@ -256,24 +241,40 @@ module _ (d : Design) (q : Sequent) (db : List Row) (env : List ℤ) (asked : Is
   none_owned None h t k own ends = absurd (cc)
   none_owned (Some at) h t k own ends = by (slice_get d.types at.ty) h ends
     where
-      by : (o : Option TxType) → HasNoPrivate d (var env (locals_in o)) db → ends_in_own (locals_of o) k ≡ true
+      by : (o : Option TxType) → NoneOwnedBy d db env o → ends_in_own (locals_of o) k ≡ true
           → has_row db t (lin_values env k) ≡ pos 0
       by None g e = absurd (cc)
       by (Some x) g e =
           none_found (var env (length x.locals)) g t (lin_values env k) own (own_end db env (length x.locals) k e)
 
-  off_true_of : (u : Unknown) (n side : ℕ) (o : Option Lin) → slice_get u.under n ≡ o → (off o side u).may ≡ true
-      → all_true db env (off o side u).facts ≡ true → all_true db env (off o side u).added ≡ true
-  off_true_of u n side None e may facts = absurd (cc)
-  off_true_of u n zero (Some l) e may facts =
+  -- what a demand adds is true where its facts are
+  abbrev AddsTruth : Demand → Type 0
+  AddsTruth x = x.may ≡ true → all_true db env x.facts ≡ true → all_true db env x.added ≡ true
+
+  off_below : (u : Unknown) (n : ℕ) (l : Lin) → slice_get u.under n ≡ Some l
+      → AddsTruth (demand true (at_most (lin_above l) ∷ []) (is_zero (alone u) ∷ []))
+  off_below u n l e may facts =
       let below = least_from db env (lin_above l) (first db env (at_most (lin_above l)) [] facts) in
       let w = above_worth db env l in
       only db env (is_zero (alone u)) (shut db env u n l e (λ z. omega (arith, ints, below, w, z)))
-  off_true_of u n (suc zero) (Some l) e may facts =
+
+  off_above : (u : Unknown) (n : ℕ) (l : Lin) → slice_get u.under n ≡ Some l
+      → AddsTruth (demand true (at_most (lin_below l) ∷ []) (is_zero (alone u) ∷ []))
+  off_above u n l e may facts =
       let above = least_from db env (lin_below l) (first db env (at_most (lin_below l)) [] facts) in
       let w = below_worth db env l in
       only db env (is_zero (alone u)) (shut db env u n l e (λ z. omega (arith, ints, above, w, z)))
-  off_true_of u n (suc (suc side)) (Some l) e may facts = absurd (cc)
+
+  off_true_of : (u : Unknown) (n side : ℕ) (o : Option Lin) → slice_get u.under n ≡ o → AddsTruth (off o side u)
+  off_true_of u n side None e = λ may facts. absurd (cc)
+  off_true_of u n side (Some l) e = by (side == BELOW) (side == ABOVE)
+    where
+      by : (b c : Bool)
+          → AddsTruth (if b then demand true (at_most (lin_above l) ∷ []) (is_zero (alone u) ∷ [])
+          else (if c then demand true (at_most (lin_below l) ∷ []) (is_zero (alone u) ∷ []) else demand false [] []))
+      by true c = off_below u n l e
+      by false true = off_above u n l e
+      by false false = λ may facts. absurd (cc)
 
   pub axiom_true : (x : Schema) → (axiom_of d q x).may ≡ true → all_true db env (axiom_of d q x).facts ≡ true
       → all_true db env (axiom_of d q x).added ≡ true
@@ -301,7 +302,7 @@ module _ (d : Design) (q : Sequent) (db : List Row) (env : List ℤ) (asked : Is
       let p = and_true (is_table_atom d u.atom) (alike u.atom v.atom && (is_plain u && is_plain v)) may in
       let a = and_true (alike u.atom v.atom) (is_plain u && is_plain v) p.1 in
       let b = and_true (is_plain u) (is_plain v) a.1 in
-      let keys = same_values db env (key_of u.atom) (key_of v.atom) (one_length db env u.atom v.atom a.0) facts in
+      let keys = same_values db env (key_of u.atom) (key_of v.atom) (one_length u.atom v.atom a.0) facts in
       only db env (is_zero (less u v)) (less_zero db env u v
       (plain_is db env u b.0 ∙ (same_atoms db env u.atom v.atom a.0 keys ∙ sym (plain_is db env v b.1))))
   axiom_true (schema.NoCol t k c) may facts =
@@ -323,13 +324,13 @@ module _ (d : Design) (q : Sequent) (db : List Row) (env : List ℤ) (asked : Is
       (opened db env u (ap (λ b. if b then atom_value db env u.atom else pos 0) (under_zero db env u.under facts)))
   axiom_true (schema.Shut u n side) may facts = off_true_of u n side (slice_get u.under n) refl may facts
   axiom_true (schema.Empty u) may facts =
-      let p = and_true (q.origin.rule == 8) (is_table_atom d u.atom) may in
-      let none = asked.empty ((Decides-eqb q.origin.rule 8).0 p.0) in
+      let p = and_true (rule_eq q.origin.rule Empty) (is_table_atom d u.atom) may in
+      let none = asked.empty ((rule_decides q.origin.rule Empty).0 p.0) in
       only db env (is_zero (alone u)) (alone_zero db env u (unknown_nothing db env u (nothing_there db env d u.atom p.1 none)))
   axiom_true (schema.Fresh t k) may facts =
-      let p = and_true (q.origin.rule == 0)
+      let p = and_true (rule_eq q.origin.rule Begins)
       (is_own_table (slice_get d.tables t) && (is_whole d t k && ends_in_own (own_number d q) k)) may in
       let private = and_true (is_own_table (slice_get d.tables t)) (is_whole d t k && ends_in_own (own_number d q) k) p.1 in
       let ends = second_so (is_whole d t k) (ends_in_own (own_number d q) k) private.1 in
-      let none = asked.fresh ((Decides-eqb q.origin.rule 0).0 p.0) in
+      let none = asked.fresh ((rule_decides q.origin.rule Begins).0 p.0) in
       only db env (is_zero (alone (has t k))) (alone_zero db env (has t k) (none_owned q.origin.at none t k private.0 ends))

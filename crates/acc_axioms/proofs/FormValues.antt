@@ -12,7 +12,8 @@ use Rattle.acc_base.specs.Truth.{unknown_value, product_value, form_value}
 use Rattle.acc_base.specs.Sums.{Term}
 use Rattle.acc_base.proofs.Products.{sum_times}
 use Rattle.acc_instanced.proofs.PartValues.{one_times, minus_times}
-use Rattle.acc_axioms.specs.Axioms.{form, plus, minus, less, variable_term, minus_variable, lin_form, lin_above, lin_below}
+use Rattle.acc_base.specs.Forms.{form}
+use Rattle.acc_axioms.specs.Axioms.{plus, minus, less, variable_term, minus_variable, lin_form, lin_above, lin_below}
 use Rattle.acc_axioms.specs.Axioms.{lin_difference}
 
 module _ (db : List Row) (env : List ℤ) where

@@ -1,4 +1,6 @@
 pub mod Tests
+pub mod Alike
+pub mod KindNumbers
 pub mod FormValues
 pub mod RowFacts
 pub mod AxiomTruths

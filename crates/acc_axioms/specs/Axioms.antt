@@ -1,5 +1,5 @@
 -- Axioms: when one may be used, what must be shown for it, and the relations that it adds.
-use Rattle.std.specs.Prelude.{ℕ, zero, suc, ◌-◌, Bool, true, false, ◌&&◌, ◌==◌, not, List, [], ◌∷◌, ◌++◌, length, map}
+use Rattle.std.specs.Prelude.{ℕ, ◌-◌, Bool, true, false, ◌&&◌, ◌==◌, not, if◌then◌else◌, List, [], ◌∷◌, ◌++◌, length, map}
 use Rattle.std.specs.Prelude.{take, Option, Some, None, nat_le, nat_lt, slice_get, ℤ, pos, negsuc, ◌+ℤ◌, ◌-ℤ◌, neg_ℤ}
 use Rattle.acc_base.specs.declared.tables.Table.{Table}
 use Rattle.acc_base.specs.declared.forms.Lin.{Lin}
@@ -12,9 +12,14 @@ use Rattle.acc_base.specs.declared.designs.At.{At}
 use Rattle.acc_base.specs.declared.designs.Design.{Design}
 use Rattle.acc_base.specs.declared.designs.TxType.{TxType}
 use Rattle.acc_base.specs.declared.sequents.Sequent.{Sequent}
+use Rattle.acc_base.specs.declared.sequents.Rule.TheVariants.{Begins, Empty}
+use Rattle.acc_base.specs.Atoms.{table_of, key_of, alike}
+use Rattle.acc_base.specs.Forms.{form, at_most, is_zero}
+use Rattle.acc_base.specs.SequentEquality.{rule_eq}
 use Rattle.acc_base.specs.FormEquality.{lin_eq}
 use Rattle.acc_base.specs.Sums.{Term}
 use Rattle.acc_base.specs.PrivateRows.{is_own_table}
+use Rattle.acc_axioms.specs.declared.nodes.TheConstants.{BELOW, ABOVE}
 use Rattle.acc_axioms.specs.declared.nodes.Schema.{Schema}
 use Rattle.acc_axioms.specs.declared.nodes.Schema.TheVariants as schema
 
@@ -43,15 +48,6 @@ count t p = plain (atom.Count t p)
 abbrev pub sum : ℕ → List Lin → ℕ → Unknown
 sum t p c = plain (atom.Sum t p c)
 
-abbrev pub form : List Term → ℤ → Form
-form ts k = record { terms = ts; constant = k }
-
-abbrev pub at_most : Form → Rel
-at_most f = record { form = f; equal = false }
-
-abbrev pub is_zero : Form → Rel
-is_zero f = record { form = f; equal = true }
-
 abbrev pub plus : Unknown → Term
 plus u = (u, pos 1)
 
@@ -68,7 +64,11 @@ alone u = form (plus u ∷ []) (pos 0)
 -- u - its atom; the atom 1 is the number
 abbrev pub less_atom : Unknown → Atom → Form
 less_atom u atom.One = form (plus u ∷ []) (negsuc 0)
-less_atom u a = less u (plain a)
+less_atom u (atom.Var x) = less u (plain (atom.Var x))
+less_atom u (atom.Has t k) = less u (has t k)
+less_atom u (atom.Col t k c) = less u (col t k c)
+less_atom u (atom.Count t p) = less u (count t p)
+less_atom u (atom.Sum t p c) = less u (sum t p c)
 
 -- the variables of a linear value as terms
 abbrev pub variable_term : ℕ × ℤ → Term
@@ -108,30 +108,13 @@ is_width (Some t) n = n == t.width
 abbrev pub is_whole : Design → ℕ → List Lin → Bool
 is_whole d t k = is_width (slice_get d.tables t) (length k)
 
+abbrev pub is_known_table : Design → Option ℕ → Bool
+is_known_table d None = false
+is_known_table d (Some t) = is_table d t
+
 -- an atom of a table of the design
 abbrev pub is_table_atom : Design → Atom → Bool
-is_table_atom d atom.One = false
-is_table_atom d (atom.Var x) = false
-is_table_atom d (atom.Has t k) = is_table d t
-is_table_atom d (atom.Col t k c) = is_table d t
-is_table_atom d (atom.Count t p) = is_table d t
-is_table_atom d (atom.Sum t p c) = is_table d t
-
--- atoms of one kind, table and column, with keys of one length
-abbrev pub alike : Atom → Atom → Bool
-alike (atom.Has t k) (atom.Has u l) = (t == u) && (length k == length l)
-alike (atom.Col t k c) (atom.Col u l e) = (t == u) && ((c == e) && (length k == length l))
-alike (atom.Count t k) (atom.Count u l) = (t == u) && (length k == length l)
-alike (atom.Sum t k c) (atom.Sum u l e) = (t == u) && ((c == e) && (length k == length l))
-alike a b = false
-
-abbrev pub key_of : Atom → List Lin
-key_of atom.One = []
-key_of (atom.Var x) = []
-key_of (atom.Has t k) = k
-key_of (atom.Col t k c) = k
-key_of (atom.Count t p) = p
-key_of (atom.Sum t p c) = p
+is_table_atom d a = is_known_table d (table_of a)
 
 abbrev pub is_plain : Unknown → Bool
 is_plain u = length u.under == 0
@@ -165,12 +148,12 @@ ends_in_own (Some x) k = ends_in (variable x) k
 
 -- ---- the axioms
 
--- a value that an unknown stands under, below or above 0; no other number is a side
+-- a value that an unknown stands under is below or above 0; no other number is a side
 abbrev pub off : Option Lin → ℕ → Unknown → Demand
 off None side u = demand false [] []
-off (Some l) zero u = demand true (at_most (lin_above l) ∷ []) (is_zero (alone u) ∷ [])
-off (Some l) (suc zero) u = demand true (at_most (lin_below l) ∷ []) (is_zero (alone u) ∷ [])
-off (Some l) (suc (suc side)) u = demand false [] []
+off (Some l) side u =
+    if side == BELOW then demand true (at_most (lin_above l) ∷ []) (is_zero (alone u) ∷ [])
+    else (if side == ABOVE then demand true (at_most (lin_below l) ∷ []) (is_zero (alone u) ∷ []) else demand false [] [])
 
 abbrev pub axiom_of : Design → Sequent → Schema → Demand
 axiom_of d q (schema.Has t k) =
@@ -188,7 +171,7 @@ axiom_of d q (schema.OneSum t k c) = demand (is_whole d t k) [] (is_zero (less (
 axiom_of d q (schema.Opened u) =
     demand (not (is_plain u)) (map (λ l. is_zero (lin_form l)) u.under) (is_zero (less_atom u u.atom) ∷ [])
 axiom_of d q (schema.Shut u n side) = off (slice_get u.under n) side u
-axiom_of d q (schema.Empty u) = demand ((q.origin.rule == 8) && is_table_atom d u.atom) [] (is_zero (alone u) ∷ [])
+axiom_of d q (schema.Empty u) = demand (rule_eq q.origin.rule Empty && is_table_atom d u.atom) [] (is_zero (alone u) ∷ [])
 axiom_of d q (schema.Fresh t k) =
-    demand ((q.origin.rule == 0) && (is_own_table (slice_get d.tables t) && (is_whole d t k && ends_in_own (own_number d q) k))) []
+    demand (rule_eq q.origin.rule Begins && (is_own_table (slice_get d.tables t) && (is_whole d t k && ends_in_own (own_number d q) k))) []
     (is_zero (alone (has t k)) ∷ [])

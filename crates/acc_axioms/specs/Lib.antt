@@ -1,3 +1,5 @@
 pub mod Axioms
+pub mod Kinds
 pub mod Needs
+pub mod SchemaEquality
 pub mod Truths

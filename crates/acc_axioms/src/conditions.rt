@@ -2,7 +2,7 @@
 ghost use Rattle.std.specs.Prelude.{◌≡◌, slice_get};
 ghost use Rattle.acc_base.specs.FormEquality.{lin_eq};
 ghost use Rattle.acc_base.specs.PrivateRows.{is_own_table};
-ghost use Rattle.acc_axioms.specs.Axioms.{is_table, is_whole, is_table_atom, alike, key_of, is_plain, own_number, variable};
+ghost use Rattle.acc_axioms.specs.Axioms.{is_table, is_whole, is_table_atom, is_plain, own_number, variable};
 ghost use Rattle.acc_axioms.specs.Axioms.{ends_in, ends_in_own};
 
 use acc_base::designs::Design;
@@ -40,40 +40,9 @@ pub fn is_private(design: &Design, t: u32) -> bool
 pub fn is_table_atom(design: &Design, atom: &Atom) -> bool
     ensures { result ≡ is_table_atom design.now atom.now }
 {
-    match atom {
-        Atom::One => false,
-        Atom::Var(_) => false,
-        Atom::Has(t, _) => is_table(design, *t),
-        Atom::Col(t, _, _) => is_table(design, *t),
-        Atom::Count(t, _) => is_table(design, *t),
-        Atom::Sum(t, _, _) => is_table(design, *t),
-    }
-}
-
-/// The key or the prefix of an atom.
-pub fn key_of(atom: &Atom) -> &[Lin]
-    ensures { result.now ≡ key_of atom.now }
-{
-    match atom {
-        Atom::One => &[],
-        Atom::Var(_) => &[],
-        Atom::Has(_, k) => k.as_slice(),
-        Atom::Col(_, k, _) => k.as_slice(),
-        Atom::Count(_, p) => p.as_slice(),
-        Atom::Sum(_, p, _) => p.as_slice(),
-    }
-}
-
-/// Whether two atoms are of one kind, table and column, with keys of one length.
-pub fn alike(a: &Atom, b: &Atom) -> bool
-    ensures { result ≡ alike a.now b.now }
-{
-    match (a, b) {
-        (Atom::Has(t, k), Atom::Has(u, l)) => *t == *u && k.len() == l.len(),
-        (Atom::Col(t, k, c), Atom::Col(u, l, e)) => *t == *u && *c == *e && k.len() == l.len(),
-        (Atom::Count(t, k), Atom::Count(u, l)) => *t == *u && k.len() == l.len(),
-        (Atom::Sum(t, k, c), Atom::Sum(u, l, e)) => *t == *u && *c == *e && k.len() == l.len(),
-        _ => false,
+    match atom.table() {
+        Some(table) => is_table(design, table),
+        None => false,
     }
 }
 

@@ -3,5 +3,11 @@
 
 pub mod axioms;
 mod conditions;
+pub mod kinds;
 pub mod nodes;
 pub mod terms;
+
+pub use axioms::{Need, need_of};
+pub use kinds::{Arguments, AxiomKind};
+pub use nodes::{ABOVE, BELOW, Cert, Node, Proof, Schema};
+pub use terms::{is_zero, lin_form, plain, single};

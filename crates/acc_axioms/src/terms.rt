@@ -1,7 +1,7 @@
 //! Forms that axioms are made of.
 ghost use Rattle.std.specs.Prelude.{◌≡◌, ◌++◌, ◌∷◌, [], map, IfOk, OnOk};
-ghost use Rattle.acc_axioms.specs.Axioms.{at_most, is_zero};
-ghost use Rattle.acc_axioms.specs.Axioms.{plain, form, less, less_atom, variable_term, minus_variable, lin_form, lin_above, lin_below};
+ghost use Rattle.acc_base.specs.Forms.{form, at_most, is_zero};
+ghost use Rattle.acc_axioms.specs.Axioms.{plain, less, less_atom, variable_term, minus_variable, lin_form, lin_above, lin_below};
 ghost use Rattle.acc_axioms.specs.Axioms.{lin_difference, differences};
 
 use acc_base::forms::{Atom, Form, Lin, Rel, Unknown};
@@ -71,7 +71,11 @@ pub fn less_atom(alloc: Global, u: Unknown, atom: &Atom) -> Result<Form, AllocEr
 {
     match atom {
         Atom::One => one_term(alloc, u, 1, -1),
-        _ => less(alloc, u, plain(alloc, copied(atom)?)),
+        Atom::Var(_)
+        | Atom::Has(_, _)
+        | Atom::Col(_, _, _)
+        | Atom::Count(_, _)
+        | Atom::Sum(_, _, _) => { less(alloc, u, plain(alloc, copied(atom)?)) }
     }
 }
 

@@ -21,6 +21,7 @@ use Rattle.acc_base.specs.declared.machines.Reply.{Reply}
 use Rattle.acc_base.specs.declared.machines.Transaction.{Transaction}
 use Rattle.acc_base.specs.declared.machines.Transaction.TheVariants.{Forward, Undoing, Ended}
 use Rattle.acc_base.specs.Numbers.{is_small}
+use Rattle.acc_base.specs.RunEquality.{cause_eq}
 use Rattle.acc_base.specs.Items.{item_at}
 use Rattle.acc_base.specs.Linear.{var}
 use Rattle.acc_base.specs.Reads.{Reading}
@@ -92,11 +93,7 @@ stop_of d db f =
 
 abbrev pub is_cause : Cause → Option Cause → Bool
 is_cause c None = false
-is_cause (Refused n) (Some (Refused m)) = n == m
-is_cause Range (Some Range) = true
-is_cause Limit (Some Limit) = true
-is_cause Asked (Some Asked) = true
-is_cause c (Some other) = false
+is_cause c (Some e) = cause_eq c e
 
 -- whether a forward transaction may turn for this cause, locks apart: a crash and a victim may come at any time
 abbrev pub may_turn : Design → List Row → Frame → Cause → Bool

@@ -62,7 +62,15 @@ read_value db tape at env (Div x y c) = int_div_euclid (var env y) c
 -- the place on the tape after it
 abbrev pub at_after : ℕ → ℕ → Read → ℕ
 at_after long at (Take x) = if nat_lt at long then (at + 1) else at
-at_after long at other = at
+at_after long at (Let x l) = at
+at_after long at (Col x t k c) = at
+at_after long at (Has x t k) = at
+at_after long at (Count x t p) = at
+at_after long at (Sum x t p c) = at
+at_after long at (Least x t p) = at
+at_after long at (Greatest x t p) = at
+at_after long at (Mul x y z) = at
+at_after long at (Div x y c) = at
 
 -- the locals and place after a read, or none where its value or a part of its key leaves the range
 abbrev pub after_read : List Row → Frame → Reading → Read → Option Reading

@@ -4,24 +4,31 @@ use Rattle.std.specs.List.{list_all}
 use Rattle.acc_base.specs.declared.tables.Row.{Row}
 use Rattle.acc_base.specs.declared.designs.At.{At}
 use Rattle.acc_base.specs.declared.designs.Design.{Design}
+use Rattle.acc_base.specs.declared.designs.TxType.{TxType}
 use Rattle.acc_base.specs.declared.sequents.Sequent.{Sequent}
+use Rattle.acc_base.specs.declared.sequents.Rule.TheVariants.{Begins, Empty}
 use Rattle.acc_base.specs.Linear.{var}
 use Rattle.acc_base.specs.Truth.{form_value, rel_true, ClauseTrue}
-use Rattle.acc_base.specs.Machine.{locals_in}
 use Rattle.acc_base.specs.Fits.{RowsFit}
 use Rattle.acc_base.specs.PrivateRows.{HasNoPrivate}
 
--- no private row ends in the own number, whose variable comes behind the locals of the type that the origin names
+-- no private row ends in the own number, whose variable comes behind the locals of the type; a type that isn't there has none
+abbrev pub NoneOwnedBy : Design → List Row → List ℤ → Option TxType → Type 0
+NoneOwnedBy d db env None = ⊤
+NoneOwnedBy d db env (Some x) = HasNoPrivate d (var env (length x.locals)) db
+
+-- the same of the type that the origin names
 abbrev pub NoneOwned : Design → List Row → List ℤ → Option At → Type 0
 NoneOwned d db env None = ⊤
-NoneOwned d db env (Some at) = HasNoPrivate d (var env (locals_in (slice_get d.types at.ty))) db
+NoneOwned d db env (Some at) = NoneOwnedBy d db env (slice_get d.types at.ty)
 
--- the rows of which an obligation speaks: those that fit; of rule 8 none at all; of rule 0 those without a private row of the own number
+-- the rows of which an obligation speaks: those that fit; where it is of no rows, none at all; where it is of a transaction that
+-- begins, those without a private row of the own number
 pub record IsAskedOf (d : Design) (q : Sequent) (db : List Row) (env : List ℤ) : Type 0 where
   pub fit : RowsFit d db
   pub vars : length env ≡ q.vars
-  pub empty : q.origin.rule ≡ 8 → db ≡ []
-  pub fresh : q.origin.rule ≡ 0 → NoneOwned d db env q.origin.at
+  pub empty : q.origin.rule ≡ Empty → db ≡ []
+  pub fresh : q.origin.rule ≡ Begins → NoneOwned d db env q.origin.at
 
 -- where the hypotheses and relations are true, the goal is at most 0
 abbrev pub SequentTrue : Design → Sequent → Type 0

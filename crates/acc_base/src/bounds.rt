@@ -60,3 +60,8 @@ pub const MOST_TURNS: usize = 1 << 20;
 pub const MOST_EVENTS: usize = 1 << 20;
 /// Transactions that are unfinished at once.
 pub const MOST_UNFINISHED: usize = 64;
+
+/// Instances of hypotheses that a search tries for an obligation.
+pub const MOST_INSTANCES: usize = 4096;
+/// Splits that a search tries for an obligation.
+pub const MOST_SPLITS: usize = 256;

@@ -19,11 +19,8 @@ pub fn type_name(d: &Design, ty: u32) -> &[u8]
 pub fn point_name(d: &Design, at: At) -> &[u8]
     ensures { result.now ≡ point_name (point_of d.now at.ty at.point) }
 {
-    match d.types.as_slice().get(at.ty as usize) {
-        Some(x) => match x.points.as_slice().get(at.point as usize) {
-            Some(p) => p.name.as_slice(),
-            None => b"",
-        },
+    match d.point(at) {
+        Some(point) => point.name.as_slice(),
         None => b"",
     }
 }

@@ -2,16 +2,17 @@
 use Rattle.std.specs.Prelude.{ℕ, if◌then◌else◌, List, [], ◌∷◌, ◌++◌, Option, Some, None, Ok, Err}
 use Rattle.acc_base.specs.declared.forms.Form.{Form}
 use Rattle.acc_base.specs.declared.forms.Rel.{Rel}
+use Rattle.acc_base.specs.Computing.{chain}
 use Rattle.acc_farkas.specs.declared.refuting.Mults.{Mults}
 use Rattle.acc_decisions.specs.declared.verdicts.Verdict.{Verdict}
 use Rattle.acc_decisions.specs.declared.verdicts.Verdict.TheVariants.{Refuted, Solved}
 use Rattle.acc_decisions.specs.Decisions.{decision}
 use Rattle.acc_axioms.specs.declared.nodes.Node.{Node}
 use Rattle.acc_axioms.specs.declared.nodes.Schema.{Schema}
-use Rattle.acc_proof.specs.Facts as facts
+use Rattle.acc_proof.specs.Facts.{below_zero, is_below_wide, above_zero, is_above_wide}
 use Rattle.acc_branch.specs.declared.known.Branch.{Branch}
 use Rattle.acc_branch.specs.declared.halts.Halt.TheVariants.{Wide}
-use Rattle.acc_branch.specs.Courses.{Course, chain, of_elimination}
+use Rattle.acc_branch.specs.Courses.{Course, of_elimination}
 
 -- the relations that are known, in order, and which instances and axioms were added to them
 pub record Known : Type 0 where
@@ -26,13 +27,13 @@ known_of b = record { rels = b.rels; insts = b.insts.items; axioms = b.axioms.it
 abbrev pub State : Type 0
 State = Known × List Node
 
--- ---- relations made of a form: it is below 0, it is above 0
+-- ---- relations made of a form: it is below 0, it is above 0; unless a number of them is too large
 
-abbrev pub below : Form → Course Rel
-below f = if facts.is_below_wide f then Err Wide else Ok (facts.below f)
+abbrev pub try_below_zero : Form → Course Rel
+try_below_zero f = if is_below_wide f then Err Wide else Ok (below_zero f)
 
-abbrev pub above : Form → Course Rel
-above f = if facts.is_above_wide f then Err Wide else Ok (facts.above f)
+abbrev pub try_above_zero : Form → Course Rel
+try_above_zero f = if is_above_wide f then Err Wide else Ok (above_zero f)
 
 -- ---- what elimination tells
 
@@ -62,10 +63,10 @@ abbrev pub excludes : List Rel → List Mults → Rel → Course (Option (List M
 excludes rels found contrary = chain (refuting (rels ++ contrary ∷ [])) (λ o. Ok (with_next found o))
 
 abbrev pub shows_at_most : List Rel → List Mults → Form → Course (Option (List Mults))
-shows_at_most rels found f = chain (above f) (excludes rels found)
+shows_at_most rels found f = chain (try_above_zero f) (excludes rels found)
 
 abbrev pub shows_at_least : List Rel → List Mults → Form → Course (Option (List Mults))
-shows_at_least rels found f = chain (below f) (excludes rels found)
+shows_at_least rels found f = chain (try_below_zero f) (excludes rels found)
 
 -- an equation is shown from both sides
 abbrev pub shows_rest : List Rel → Rel → List Mults → Course (Option (List Mults))

@@ -1,21 +1,21 @@
 //! The pass over axioms.
 ghost use Rattle.std.specs.Prelude.{◌≡◌, ◌++◌, true, Some, OnOk};
 ghost use Rattle.acc_axioms.specs.Axioms.{demand};
-ghost use Rattle.acc_branch.specs.Courses.{Leaves};
+ghost use Rattle.acc_branch.specs.Courses.{LeavesCourse};
 ghost use Rattle.acc_branch.specs.Known.{known_of};
 ghost use Rattle.acc_branch.specs.AxiomPasses.{with_axiom, try_demand, try_axiom, try_kind, axioms_pass};
 
 use crate::halts::Halt;
 use crate::known::{Branch, shows_all};
 use acc_axioms::axioms::{Need, need_of};
+use acc_axioms::kinds::AxiomKind;
 use acc_axioms::nodes::{Node, Schema};
 use acc_base::designs::Design;
 use acc_base::forms::Rel;
-use acc_base::sequences::Seq;
+use acc_base::sequences::{Seq, copied};
 use acc_base::sequents::Sequent;
 use acc_candidates::candidates::candidates;
-use acc_candidates::copies::copied_schema;
-use acc_candidates::kinds::{Kind, all_kinds};
+use acc_candidates::kinds::all_kinds;
 use acc_candidates::schemas::is_among;
 use acc_elim::solver::Solver;
 use acc_farkas::refuting::Mults;
@@ -43,8 +43,8 @@ fn add_axiom(
         ≡ with_axiom (known_of known.old, nodes.old.items) schema.now added (Some found.items)) }
 {
     add_rels(&mut known.rels, added)?;
-    known.axioms.push(copied_schema(schema)?)?;
-    nodes.push(Node::Axiom(copied_schema(schema)?, Seq::from_vec(found)))?;
+    known.axioms.push(copied(schema)?)?;
+    nodes.push(Node::Axiom(copied(schema)?, Seq::from_vec(found)))?;
     Ok(())
 }
 
@@ -56,7 +56,7 @@ fn try_need(
     schema: &Schema,
     need: Need,
 ) -> Result<(), Halt>
-    ensures { Leaves result (known_of known.new, nodes.new.items)
+    ensures { LeavesCourse result (known_of known.new, nodes.new.items)
         (try_demand (known_of known.old, nodes.old.items) schema.now (demand true need.facts need.added)) }
 {
     let mut found = Vec::new(alloc);
@@ -77,7 +77,7 @@ fn try_axiom(
     nodes: &mut Vec<Node>,
     schema: &Schema,
 ) -> Result<(), Halt>
-    ensures { Leaves result (known_of known.new, nodes.new.items)
+    ensures { LeavesCourse result (known_of known.new, nodes.new.items)
         (try_axiom design.now sequent.now (known_of known.old, nodes.old.items) schema.now) }
 {
     if is_among(known.axioms.as_slice(), schema) {
@@ -96,9 +96,9 @@ fn try_kind(
     sequent: &Sequent,
     known: &mut Branch,
     nodes: &mut Vec<Node>,
-    kind: Kind,
+    kind: AxiomKind,
 ) -> Result<(), Halt>
-    ensures { Leaves result (known_of known.new, nodes.new.items)
+    ensures { LeavesCourse result (known_of known.new, nodes.new.items)
         (try_kind design.now sequent.now (known_of known.old, nodes.old.items) kind) }
 {
     let names = known.rels.unknowns(alloc)?;
@@ -118,7 +118,7 @@ pub fn axioms_pass(
     known: &mut Branch,
     nodes: &mut Vec<Node>,
 ) -> Result<(), Halt>
-    ensures { Leaves result (known_of known.new, nodes.new.items)
+    ensures { LeavesCourse result (known_of known.new, nodes.new.items)
         (axioms_pass design.now sequent.now (known_of known.old, nodes.old.items)) }
 {
     let kinds = all_kinds();

@@ -1,7 +1,7 @@
 //! What a branch knows, and what elimination shows there.
 ghost use Rattle.std.specs.Prelude.{◌≡◌, ◌++◌, ◌∷◌, [], Some, None, if◌then◌else◌, IfOk};
-ghost use Rattle.acc_branch.specs.Courses.{halted, Answers, LeavesIf};
-ghost use Rattle.acc_branch.specs.Known.{below, above, verdict, refuting, with_next, excludes, shows_at_most, shows_at_least, shows};
+ghost use Rattle.acc_branch.specs.Courses.{halted, AnswersCourse, LeavesIf};
+ghost use Rattle.acc_branch.specs.Known.{try_below_zero, try_above_zero, verdict, refuting, with_next, excludes, shows_at_most, shows_at_least, shows};
 ghost use Rattle.acc_branch.specs.Known.{shows_all};
 
 use crate::halts::Halt;
@@ -35,7 +35,7 @@ fn halted(error: ElimError) -> Halt
 
 /// Whether relations hold at some point.
 pub fn verdict(alloc: Global, rels: &mut Solver) -> Result<Verdict, Halt>
-    ensures kind { Answers result (verdict rels.old) }
+    ensures kind { AnswersCourse result (verdict rels.old) }
     ensures same { rels.new ≡ rels.old }
 {
     match rels.decide(alloc) {
@@ -46,7 +46,7 @@ pub fn verdict(alloc: Global, rels: &mut Solver) -> Result<Verdict, Halt>
 
 /// Multipliers that refute relations and one more behind them, if they have no solution.
 fn refuting(alloc: Global, rels: &mut Solver, last: Rel) -> Result<Option<Mults>, Halt>
-    ensures kind { Answers result (refuting (rels.old ++ last ∷ [])) }
+    ensures kind { AnswersCourse result (refuting (rels.old ++ last ∷ [])) }
     ensures same { rels.new ≡ rels.old }
 {
     match rels.decide_with(alloc, last) {
@@ -57,10 +57,10 @@ fn refuting(alloc: Global, rels: &mut Solver, last: Rel) -> Result<Option<Mults>
 }
 
 /// That a form is below 0.
-pub fn below(alloc: Global, form: &Form) -> Result<Rel, Halt>
-    ensures { Answers result (below form.now) }
+pub fn try_below_zero(alloc: Global, form: &Form) -> Result<Rel, Halt>
+    ensures { AnswersCourse result (try_below_zero form.now) }
 {
-    match facts::below(alloc, form) {
+    match facts::below_zero(alloc, form) {
         Ok(rel) => Ok(rel),
         Err(FormSum::Wide) => Err(Halt::Wide),
         Err(FormSum::Memory) => Err(Halt::Memory),
@@ -68,10 +68,10 @@ pub fn below(alloc: Global, form: &Form) -> Result<Rel, Halt>
 }
 
 /// That a form is above 0.
-pub fn above(alloc: Global, form: &Form) -> Result<Rel, Halt>
-    ensures { Answers result (above form.now) }
+pub fn try_above_zero(alloc: Global, form: &Form) -> Result<Rel, Halt>
+    ensures { AnswersCourse result (try_above_zero form.now) }
 {
-    match facts::above(alloc, form) {
+    match facts::above_zero(alloc, form) {
         Ok(rel) => Ok(rel),
         Err(FormSum::Wide) => Err(Halt::Wide),
         Err(FormSum::Memory) => Err(Halt::Memory),
@@ -116,7 +116,7 @@ fn shows_at_most(
     ensures kind { LeavesIf result found.new.items (shows_at_most rels.old found.old.items form.now) }
     ensures same { rels.new ≡ rels.old }
 {
-    let contrary = above(alloc, form)?;
+    let contrary = try_above_zero(alloc, form)?;
     excludes(alloc, rels, found, contrary)
 }
 
@@ -130,7 +130,7 @@ fn shows_at_least(
     ensures kind { LeavesIf result found.new.items (shows_at_least rels.old found.old.items form.now) }
     ensures same { rels.new ≡ rels.old }
 {
-    let contrary = below(alloc, form)?;
+    let contrary = try_below_zero(alloc, form)?;
     excludes(alloc, rels, found, contrary)
 }
 

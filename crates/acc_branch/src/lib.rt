@@ -4,3 +4,7 @@
 pub mod axiom_passes;
 pub mod halts;
 pub mod known;
+
+pub use axiom_passes::axioms_pass;
+pub use halts::Halt;
+pub use known::{Branch, shows_all, try_above_zero, try_below_zero, verdict};

@@ -1,2 +1,2 @@
-pub mod Schemas
+pub mod Kinds
 pub mod Candidates

@@ -1,15 +1,15 @@
 //! The axioms that a pass tries.
 ghost use Rattle.std.specs.Prelude.{◌≡◌, ◌++◌, ◌∷◌, [], take, ◌+◌, IfOk, OnOk};
-ghost use Rattle.acc_axioms.specs.Axioms.{is_plain, alike, count};
-ghost use Rattle.acc_candidates.specs.Candidates.{with_shuts, with_opened, is_of_table, with_empty, is_pair, with_same, with_pairs, is_known};
-ghost use Rattle.acc_candidates.specs.Candidates.{with_front, with_fronts, with_fresh, with_one_count, with_one_sum, with_row, with_counted};
-ghost use Rattle.acc_candidates.specs.Candidates.{with_front_of, with_no_col, with_no_sum, with_atom, with_plain, with_unknown, candidates};
+ghost use Rattle.acc_axioms.specs.Axioms.{is_plain, count};
+ghost use Rattle.acc_candidates.specs.Candidates.{with_shuts, with_one, for_opened, for_empty, keyed, columned, is_pair, with_same, with_pairs};
+ghost use Rattle.acc_candidates.specs.Candidates.{is_known, with_front, with_key_fronts, with_fronts, with_unknown, candidates};
 ghost use Rattle.acc_axioms.specs.declared.nodes.Schema.TheVariants.{Shut};
 
-use crate::kinds::Kind;
 use crate::names::is_known;
+use acc_axioms::kinds::AxiomKind;
 use acc_axioms::nodes::Schema;
 use acc_axioms::terms::plain;
+use acc_base::atoms::AtomKind;
 use acc_base::forms::{Atom, Lin, Unknown};
 use acc_base::sequences::{Seq, copied};
 use std::alloc::{AllocError, Global};
@@ -43,57 +43,69 @@ fn is_plain(u: &Unknown) -> bool
     u.under.len() == 0
 }
 
-fn add_opened(found: &mut Vec<Schema>, u: &Unknown) -> Result<(), AllocError>
-    ensures { OnOk result (found.new.items ≡ with_opened found.old.items u.now) }
+/// An axiom behind the others, if there is one.
+fn add(found: &mut Vec<Schema>, one: Option<Schema>) -> Result<(), AllocError>
+    ensures { OnOk result (found.new.items ≡ with_one found.old.items one) }
+{
+    if let Some(schema) = one {
+        found.push(schema)?;
+    }
+    Ok(())
+}
+
+fn for_opened(u: &Unknown) -> Result<Option<Schema>, AllocError>
+    ensures { IfOk result (λ o. o ≡ for_opened u.now) }
 {
     if is_plain(u) {
-        return Ok(());
+        return Ok(None);
     }
-    found.push(Schema::Opened(copied(u)?))?;
-    Ok(())
+    Ok(Some(Schema::Opened(copied(u)?)))
 }
 
 // ---- an atom of a table
 
-fn is_of_table(atom: &Atom) -> bool
-    ensures { result ≡ is_of_table atom.now }
+fn for_empty(u: &Unknown) -> Result<Option<Schema>, AllocError>
+    ensures { IfOk result (λ o. o ≡ for_empty u.now) }
 {
-    match atom {
-        Atom::One | Atom::Var(_) => false,
-        Atom::Has(_, _) | Atom::Col(_, _, _) => true,
-        Atom::Count(_, _) | Atom::Sum(_, _, _) => true,
+    if u.atom.table().is_none() {
+        return Ok(None);
+    }
+    Ok(Some(Schema::Empty(copied(u)?)))
+}
+
+/// The table and the key of an unknown that counts always, if its atom is of a kind.
+fn keyed(u: &Unknown, kind: AtomKind) -> Result<Option<(u32, Seq<Lin>)>, AllocError>
+    ensures { IfOk result (λ o. o ≡ keyed kind u.now) }
+{
+    if !is_plain(u) || u.atom.kind() != kind {
+        return Ok(None);
+    }
+    match &u.atom {
+        Atom::One | Atom::Var(_) => Ok(None),
+        Atom::Has(t, k) | Atom::Col(t, k, _) => Ok(Some((*t, copied(k)?))),
+        Atom::Count(t, p) | Atom::Sum(t, p, _) => Ok(Some((*t, copied(p)?))),
     }
 }
 
-fn add_empty(found: &mut Vec<Schema>, u: &Unknown) -> Result<(), AllocError>
-    ensures { OnOk result (found.new.items ≡ with_empty found.old.items u.now) }
+/// The same with its column.
+fn columned(u: &Unknown, kind: AtomKind) -> Result<Option<(u32, Seq<Lin>, u32)>, AllocError>
+    ensures { IfOk result (λ o. o ≡ columned kind u.now) }
 {
-    if !is_of_table(&u.atom) {
-        return Ok(());
+    if !is_plain(u) || u.atom.kind() != kind {
+        return Ok(None);
     }
-    found.push(Schema::Empty(copied(u)?))?;
-    Ok(())
+    match &u.atom {
+        Atom::One | Atom::Var(_) | Atom::Has(_, _) | Atom::Count(_, _) => Ok(None),
+        Atom::Col(t, k, c) | Atom::Sum(t, k, c) => Ok(Some((*t, copied(k)?, *c))),
+    }
 }
 
 // ---- two unknowns
 
-/// Whether atoms are of one kind, table and column, with keys of one length.
-fn alike(a: &Atom, b: &Atom) -> bool
-    ensures { result ≡ alike a.now b.now }
-{
-    match (a, b) {
-        (Atom::Has(t, k), Atom::Has(u, l)) => *t == *u && k.len() == l.len(),
-        (Atom::Col(t, k, c), Atom::Col(u, l, e)) => *t == *u && *c == *e && k.len() == l.len(),
-        (Atom::Count(t, k), Atom::Count(u, l)) => *t == *u && k.len() == l.len(),
-        (Atom::Sum(t, k, c), Atom::Sum(u, l, e)) => *t == *u && *c == *e && k.len() == l.len(),
-        _ => false,
-    }
-}
-
 fn is_pair(u: &Unknown, v: &Unknown) -> bool
     ensures { result ≡ is_pair u.now v.now }
 {
-    is_plain(u) && is_plain(v) && alike(&u.atom, &v.atom)
+    is_plain(u) && is_plain(v) && u.atom.is_alike(&v.atom)
 }
 
 fn add_same(found: &mut Vec<Schema>, u: &Unknown, v: &Unknown) -> Result<(), AllocError>
@@ -153,14 +165,15 @@ fn add_front(
     Ok(())
 }
 
-fn add_fronts(
+/// The axioms for the fronts of a key.
+fn add_key_fronts(
     alloc: Global,
     names: &[Unknown],
     found: &mut Vec<Schema>,
     t: u32,
     k: &Seq<Lin>,
 ) -> Result<(), AllocError>
-    ensures { OnOk result (found.new.items ≡ with_fronts names.now found.old.items t k.now) }
+    ensures { OnOk result (found.new.items ≡ with_key_fronts names.now found.old.items t k.now) }
 {
     let mut n = 0;
     for _part in k.as_slice() {
@@ -170,118 +183,18 @@ fn add_fronts(
     Ok(())
 }
 
-fn add_fresh(found: &mut Vec<Schema>, atom: &Atom) -> Result<(), AllocError>
-    ensures { OnOk result (found.new.items ≡ with_fresh found.old.items atom.now) }
-{
-    if let Atom::Has(t, k) = atom {
-        found.push(Schema::Fresh(*t, copied(k)?))?;
-    }
-    Ok(())
-}
-
-fn add_one_count(found: &mut Vec<Schema>, atom: &Atom) -> Result<(), AllocError>
-    ensures { OnOk result (found.new.items ≡ with_one_count found.old.items atom.now) }
-{
-    if let Atom::Count(t, k) = atom {
-        found.push(Schema::OneCount(*t, copied(k)?))?;
-    }
-    Ok(())
-}
-
-fn add_one_sum(found: &mut Vec<Schema>, atom: &Atom) -> Result<(), AllocError>
-    ensures { OnOk result (found.new.items ≡ with_one_sum found.old.items atom.now) }
-{
-    if let Atom::Sum(t, k, c) = atom {
-        found.push(Schema::OneSum(*t, copied(k)?, *c))?;
-    }
-    Ok(())
-}
-
-fn add_row(found: &mut Vec<Schema>, atom: &Atom) -> Result<(), AllocError>
-    ensures { OnOk result (found.new.items ≡ with_row found.old.items atom.now) }
-{
-    if let Atom::Has(t, k) = atom {
-        found.push(Schema::Has(*t, copied(k)?))?;
-    }
-    Ok(())
-}
-
-fn add_counted(found: &mut Vec<Schema>, atom: &Atom) -> Result<(), AllocError>
-    ensures { OnOk result (found.new.items ≡ with_counted found.old.items atom.now) }
-{
-    if let Atom::Count(t, p) = atom {
-        found.push(Schema::Count(*t, copied(p)?))?;
-    }
-    Ok(())
-}
-
-fn add_front_of(
+fn add_fronts(
     alloc: Global,
     names: &[Unknown],
     found: &mut Vec<Schema>,
-    atom: &Atom,
+    keyed: Option<(u32, Seq<Lin>)>,
 ) -> Result<(), AllocError>
-    ensures { OnOk result (found.new.items ≡ with_front_of names.now found.old.items atom.now) }
+    ensures { OnOk result (found.new.items ≡ with_fronts names.now found.old.items keyed) }
 {
-    match atom {
-        Atom::Has(t, k) => add_fronts(alloc, names, found, *t, k),
-        _ => Ok(()),
+    match keyed {
+        None => Ok(()),
+        Some((t, k)) => add_key_fronts(alloc, names, found, t, &k),
     }
-}
-
-fn add_no_col(found: &mut Vec<Schema>, atom: &Atom) -> Result<(), AllocError>
-    ensures { OnOk result (found.new.items ≡ with_no_col found.old.items atom.now) }
-{
-    if let Atom::Col(t, k, c) = atom {
-        found.push(Schema::NoCol(*t, copied(k)?, *c))?;
-    }
-    Ok(())
-}
-
-fn add_no_sum(found: &mut Vec<Schema>, atom: &Atom) -> Result<(), AllocError>
-    ensures { OnOk result (found.new.items ≡ with_no_sum found.old.items atom.now) }
-{
-    if let Atom::Sum(t, p, c) = atom {
-        found.push(Schema::NoSum(*t, copied(p)?, *c))?;
-    }
-    Ok(())
-}
-
-fn add_atom(
-    alloc: Global,
-    names: &[Unknown],
-    kind: Kind,
-    found: &mut Vec<Schema>,
-    atom: &Atom,
-) -> Result<(), AllocError>
-    ensures { OnOk result (found.new.items ≡ with_atom names.now kind found.old.items atom.now) }
-{
-    match kind {
-        Kind::Fresh => add_fresh(found, atom),
-        Kind::OneCount => add_one_count(found, atom),
-        Kind::OneSum => add_one_sum(found, atom),
-        Kind::HasRow => add_row(found, atom),
-        Kind::Counted => add_counted(found, atom),
-        Kind::Front => add_front_of(alloc, names, found, atom),
-        Kind::NoCol => add_no_col(found, atom),
-        Kind::NoSum => add_no_sum(found, atom),
-        Kind::Shut | Kind::Opened | Kind::Empty | Kind::Same => Ok(()),
-    }
-}
-
-fn add_plain(
-    alloc: Global,
-    names: &[Unknown],
-    kind: Kind,
-    found: &mut Vec<Schema>,
-    u: &Unknown,
-) -> Result<(), AllocError>
-    ensures { OnOk result (found.new.items ≡ with_plain names.now kind found.old.items u.now) }
-{
-    if !is_plain(u) {
-        return Ok(());
-    }
-    add_atom(alloc, names, kind, found, &u.atom)
 }
 
 // ---- of one kind
@@ -290,29 +203,36 @@ fn add_plain(
 fn add_unknown(
     alloc: Global,
     names: &[Unknown],
-    kind: Kind,
+    kind: AxiomKind,
     found: &mut Vec<Schema>,
     u: &Unknown,
     later: &[Unknown],
 ) -> Result<(), AllocError>
     ensures { OnOk result (found.new.items ≡ with_unknown names.now kind found.old.items u.now later.now) }
 {
-    match kind {
-        Kind::Shut => add_shuts(found, u),
-        Kind::Opened => add_opened(found, u),
-        Kind::Empty => add_empty(found, u),
-        Kind::Same => add_pairs(found, u, later),
-        Kind::Fresh | Kind::OneCount | Kind::OneSum | Kind::HasRow => {
-            add_plain(alloc, names, kind, found, u)
-        }
-        Kind::Counted | Kind::Front | Kind::NoCol | Kind::NoSum => {
-            add_plain(alloc, names, kind, found, u)
-        }
-    }
+    let one = match kind {
+        AxiomKind::Shut => return add_shuts(found, u),
+        AxiomKind::Opened => for_opened(u)?,
+        AxiomKind::Empty => for_empty(u)?,
+        AxiomKind::Same => return add_pairs(found, u, later),
+        AxiomKind::Fresh => keyed(u, AtomKind::Has)?.map(|(t, k)| Schema::Fresh(t, k)),
+        AxiomKind::Has => keyed(u, AtomKind::Has)?.map(|(t, k)| Schema::Has(t, k)),
+        AxiomKind::Front => return add_fronts(alloc, names, found, keyed(u, AtomKind::Has)?),
+        AxiomKind::OneCount => keyed(u, AtomKind::Count)?.map(|(t, k)| Schema::OneCount(t, k)),
+        AxiomKind::Count => keyed(u, AtomKind::Count)?.map(|(t, p)| Schema::Count(t, p)),
+        AxiomKind::NoCol => columned(u, AtomKind::Col)?.map(|(t, k, c)| Schema::NoCol(t, k, c)),
+        AxiomKind::OneSum => columned(u, AtomKind::Sum)?.map(|(t, k, c)| Schema::OneSum(t, k, c)),
+        AxiomKind::NoSum => columned(u, AtomKind::Sum)?.map(|(t, p, c)| Schema::NoSum(t, p, c)),
+    };
+    add(found, one)
 }
 
 /// The axioms of a kind for unknowns, in their order. `Memory` too where an unknown stands under 2^32 values or a key has 2^32 parts.
-pub fn candidates(alloc: Global, names: &[Unknown], kind: Kind) -> Result<Vec<Schema>, AllocError>
+pub fn candidates(
+    alloc: Global,
+    names: &[Unknown],
+    kind: AxiomKind,
+) -> Result<Vec<Schema>, AllocError>
     ensures { IfOk result (λ v. v.items ≡ candidates names.now kind) }
 {
     let mut found = Vec::new(alloc);

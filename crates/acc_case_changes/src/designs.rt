@@ -34,7 +34,7 @@ fn judged(alloc: Global, design: &Design) -> Result<String, AllocError> {
     match well_formed(design) {
         Ok(()) => String::from_str(alloc, "status 0\n"),
         Err(FormError::Bad(rule, line)) => {
-            format!(in alloc; "refused form {rule} {line}\nstatus 2\n")
+            format!(in alloc; "refused form {} {line}\nstatus 2\n", rule.number())
         }
         Err(FormError::Memory) => Err(AllocError),
     }

@@ -32,13 +32,14 @@ fn push_filled(
     ends: bool,
 ) -> Result<(), AllocError> {
     for count in 0..u64::MAX {
-        match engine.draw() {
+        let drawn = engine.draw();
+        match drawn {
             Ok(Drawn::Begun(t)) => {
                 if ends && end(engine, t).is_err() {
                     return Err(AllocError);
                 }
             }
-            drawn => {
+            Ok(Drawn::Empty | Drawn::Full | Drawn::Crowd) | Err(_) => {
                 write!(out, "{count} ")?;
                 return push_drawn(out, drawn);
             }

@@ -6,3 +6,6 @@ mod answers;
 pub mod calls;
 mod items;
 pub mod runs;
+
+pub use calls::asked;
+pub use runs::{Case, push_recovery, push_run, push_whole};

@@ -7,13 +7,13 @@ use crate::calls::asked;
 use crate::items::push_items;
 use acc_base::machines::Call;
 use acc_base::sequences::Seq;
-use acc_case_journals::answers::{push_recover_error, push_wal_error};
+use acc_case_journals::answers::push_recover_error;
 use acc_case_journals::files::create;
 use acc_case_journals::recoveries::{self, fresh};
 use acc_disk::MemDisk;
 use acc_lift::Accepted;
 use acc_progress::Silent;
-use acc_recover::{Recovered, recover};
+use acc_recover::{RecoverError, Recovered, recover};
 use acc_settling::over_journal;
 use acc_store::MapStore;
 use acc_wal::Wal;
@@ -68,6 +68,13 @@ fn push_engine(
     Ok(wal.give_back())
 }
 
+/// Pushes which part of a run is refused, and why.
+fn push_refused(out: &mut String, part: &str, error: RecoverError) -> Result<(), AllocError> {
+    write!(out, "{part} ")?;
+    push_recover_error(out, error)?;
+    out.push_str("; ")
+}
+
 /// Pushes the recovery of a journal just made where it fails, and else what the items answer; hands the disk back.
 fn push_opened(
     alloc: Global,
@@ -82,9 +89,7 @@ fn push_opened(
     match recover(alloc, case.design, MapStore::new(alloc), disk, &mut Silent) {
         Ok(recovered) => push_engine(alloc, out, case, recovered, calls),
         Err((error, _, disk)) => {
-            out.push_str("recover ")?;
-            push_recover_error(out, error)?;
-            out.push_str("; ")?;
+            push_refused(out, "recover", error)?;
             Ok(disk)
         }
     }
@@ -104,9 +109,7 @@ fn push_made(
     match create(alloc, case.design.design(), disk) {
         Ok(disk) => push_opened(alloc, out, case, calls, disk),
         Err((error, disk)) => {
-            out.push_str("create ")?;
-            push_wal_error(out, error)?;
-            out.push_str("; ")?;
+            push_refused(out, "create", RecoverError::Journal(error))?;
             Ok(disk)
         }
     }

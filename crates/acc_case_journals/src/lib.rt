@@ -6,3 +6,8 @@ pub mod answers;
 pub mod commands;
 pub mod files;
 pub mod recoveries;
+
+pub use answers::{push_events, push_recover_error, push_wal_error};
+pub use commands::push_command;
+pub use files::{create, file, push_file};
+pub use recoveries::{fresh, push_counts, push_recovery};

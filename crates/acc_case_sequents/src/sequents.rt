@@ -3,7 +3,7 @@ use crate::designs::names;
 use acc_base::designs::{At, Side};
 use acc_base::forms::{Clause, Form, Rel};
 use acc_base::sequences::Seq;
-use acc_base::sequents::{Origin, Sequent};
+use acc_base::sequents::{Origin, Rule, Sequent};
 use acc_cert_read::parts::Part;
 use serde_json::Value;
 use std::alloc::{AllocError, Global};
@@ -55,7 +55,23 @@ fn point(ty: u32) -> Option<At> {
     Some(At { ty, point: 0 })
 }
 
-fn origin(rule: u32, ty: u32) -> Origin {
+/// The rule with a number, if there is one.
+fn rule(number: u32) -> Option<Rule> {
+    match number {
+        0 => Some(Rule::Begins),
+        1 => Some(Rule::Promises),
+        2 => Some(Rule::Always),
+        3 => Some(Rule::Spares),
+        4 => Some(Rule::There),
+        5 => Some(Rule::Ranges),
+        6 => Some(Rule::Variants),
+        7 => Some(Rule::Clears),
+        8 => Some(Rule::Empty),
+        _ => None,
+    }
+}
+
+fn origin(rule: Rule, ty: u32) -> Origin {
     Origin {
         rule,
         held: None,
@@ -67,16 +83,19 @@ fn origin(rule: u32, ty: u32) -> Origin {
     }
 }
 
-fn sequent(alloc: Global, spelled: Spelled) -> Result<Sequent, AllocError> {
-    let ((rule, vars, ty), hyps, (rels, goal)) = spelled;
+fn sequent(alloc: Global, spelled: Spelled) -> Result<Option<Sequent>, AllocError> {
+    let ((number, vars, ty), hyps, (rels, goal)) = spelled;
+    let Some(rule) = rule(number) else {
+        return Ok(None);
+    };
     let hyps = clauses(alloc, hyps)?;
-    Ok(Sequent {
+    Ok(Some(Sequent {
         origin: origin(rule, ty),
         vars,
         hyps,
         rels: relations(alloc, rels)?,
         goal,
-    })
+    }))
 }
 
 fn spelled(alloc: Global, text: &str) -> Option<Spelled> {
@@ -87,7 +106,7 @@ fn spelled(alloc: Global, text: &str) -> Option<Spelled> {
 /// The sequent of a text, if it is one.
 pub fn read(alloc: Global, text: &str) -> Result<Option<Sequent>, AllocError> {
     match spelled(alloc, text) {
-        Some(spelled) => Ok(Some(sequent(alloc, spelled)?)),
+        Some(spelled) => sequent(alloc, spelled),
         None => Ok(None),
     }
 }

@@ -66,7 +66,7 @@ fn spend(state: &mut State<MapStore>, call: &Call, most: u64) -> Result<(), Allo
         }
         match state.begin(call) {
             Ok(t) => end(state, t)?,
-            Err(_) => return Ok(()),
+            Err(BeginError::Full | BeginError::Crowd | BeginError::Memory) => return Ok(()),
         }
     }
     Ok(())

@@ -6,3 +6,5 @@ mod begins;
 mod dumps;
 pub mod states;
 mod turns;
+
+pub use states::push_answers;

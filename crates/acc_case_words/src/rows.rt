@@ -1,5 +1,6 @@
 //! Questions about the rows of a store.
 use crate::words::{list, small};
+use acc_base::bounds::MOST_KEY_PARTS;
 use acc_base::tables::Row;
 use acc_store::{MapStore, Store, StoreError};
 use std::alloc::{AllocError, Global};
@@ -42,7 +43,7 @@ fn push_look_up(
     key: &[i64],
     col: u32,
 ) -> Result<(), AllocError> {
-    if key.len() > 6 {
+    if key.len() > MOST_KEY_PARTS {
         return out.push_str("no key");
     }
     match verb {

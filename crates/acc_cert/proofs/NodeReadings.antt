@@ -1,10 +1,14 @@
 -- The same of nodes, proofs and certificates.
-use Rattle.std.proofs.Common.{◌≡◌, ℕ, Bool, true, List, [], ◌∷◌, refl, ap, ◌∙◌, ℤ}
-use Rattle.std.specs.Prelude.{◌&&◌, codes, if◌then◌else◌}
+use Rattle.std.proofs.Common.{◌≡◌, ℕ, true, List, [], ◌∷◌, refl, ap, ◌∙◌, ℤ}
+use Rattle.std.specs.Prelude.{◌&&◌, codes}
 use Rattle.std.specs.Cmp.{first_so, second_so}
 use Rattle.std.specs.List.{list_all}
 use Rattle.serde_json.specs.Data.{Data, string}
 use Rattle.acc_farkas.specs.declared.refuting.Mults.{Mults}
+use Rattle.acc_axioms.specs.Kinds.{axiom_kind, axiom_number}
+use Rattle.acc_axioms.proofs.KindNumbers.{number_known}
+use Rattle.acc_axioms.specs.declared.kinds.AxiomKind.{AxiomKind}
+use Rattle.acc_axioms.specs.declared.kinds.AxiomKind.TheVariants as kind
 use Rattle.acc_axioms.specs.declared.nodes.Schema.{Schema}
 use Rattle.acc_axioms.specs.declared.nodes.Schema.TheVariants as schema
 use Rattle.acc_axioms.specs.declared.nodes.Node.{Node}
@@ -13,12 +17,12 @@ use Rattle.acc_axioms.specs.declared.nodes.Proof.{Proof}
 use Rattle.acc_axioms.specs.declared.nodes.Cert.{Cert}
 use Rattle.acc_cert_bounds.specs.InBounds.{is_near}
 use Rattle.acc_cert_bounds.specs.InBounds as bounds
-use Rattle.acc_cert_read.specs.Parts.{Part, Good, Off, and_then, under, gives, two, list_of}
+use Rattle.acc_cert_read.specs.Parts.{Part, Good, and_then, under, gives, two, list_of}
 use Rattle.acc_cert_read.specs.Forms.{index_of, wide_of, lins_of, unknown_of, form_of}
-use Rattle.acc_cert_read.specs.Nodes.{mults_of, is_axiom, schema_of, schema_at, shown_by, axiom_of, node_of, proof_of}
+use Rattle.acc_cert_read.specs.Nodes.{mults_of, schema_of, schema_by, schema_at, shown_by, axiom_of, node_of, proof_of}
 use Rattle.acc_cert_read.specs.Certificates.{cert_of}
-use Rattle.acc_cert.specs.Spelled.{array_of, each, pair, index, signed, lins, unknown, form}
-use Rattle.acc_cert.specs.SpelledNodes.{mults, axiom_number, arguments, node_data, proof, cert}
+use Rattle.acc_cert.specs.Spelled.{array_of, each, pair, index, signed, lins, unknown, form_data}
+use Rattle.acc_cert.specs.SpelledNodes.{mults, arguments, node_data, proof, cert}
 use Rattle.acc_cert.proofs.Readings.{each_read, one_read, one_behind, two_read, three_read, three_behind, index_read, wide_read, lins_read}
 use Rattle.acc_cert.proofs.Readings.{key_read, key_number_read, unknown_read, form_read}
 
@@ -35,7 +39,7 @@ mults_read m h =
 list_read : (ms : List Mults) → list_all bounds.mults ms ≡ true → list_of mults_of (each mults ms) ≡ Good ms
 list_read ms h = each_read mults mults_of bounds.mults mults_read ms h
 
-schema_read : (x : Schema) → bounds.schema_in x ≡ true → schema_of (axiom_number x) (arguments x) ≡ Good x
+schema_read : (x : Schema) → bounds.schema_in x ≡ true → schema_of (axiom_kind x) (arguments x) ≡ Good x
 schema_read (schema.Has t k) h = ap (gives (λ p. schema.Has p.0 p.1)) (key_read t k h)
 schema_read (schema.Count t k) h = ap (gives (λ p. schema.Count p.0 p.1)) (key_read t k h)
 schema_read (schema.Front t k n) h = ap (gives (λ p. schema.Front p.0 p.1 p.2)) (key_number_read t k n h)
@@ -57,34 +61,32 @@ schema_read (schema.Shut u n side) h =
 schema_read (schema.Empty u) h = ap (gives schema.Empty) (one_read unknown_of (unknown u) u (unknown_read u h))
 schema_read (schema.Fresh t k) h = ap (gives (λ p. schema.Fresh p.0 p.1)) (key_read t k h)
 
-numbered : (x : Schema) → (is_axiom (axiom_number x) && bounds.index (axiom_number x)) ≡ true
-numbered (schema.Has t k) = refl
-numbered (schema.Count t k) = refl
-numbered (schema.Front t k n) = refl
-numbered (schema.Same u v) = refl
-numbered (schema.NoCol t k c) = refl
-numbered (schema.NoSum t k c) = refl
-numbered (schema.OneCount t k) = refl
-numbered (schema.OneSum t k c) = refl
-numbered (schema.Opened u) = refl
-numbered (schema.Shut u n side) = refl
-numbered (schema.Empty u) = refl
-numbered (schema.Fresh t k) = refl
+low_number : (k : AxiomKind) → bounds.index (axiom_number k) ≡ true
+low_number kind.Has = refl
+low_number kind.Count = refl
+low_number kind.Front = refl
+low_number kind.Same = refl
+low_number kind.NoCol = refl
+low_number kind.NoSum = refl
+low_number kind.OneCount = refl
+low_number kind.OneSum = refl
+low_number kind.Opened = refl
+low_number kind.Shut = refl
+low_number kind.Empty = refl
+low_number kind.Fresh = refl
 
 abbrev axiom_data : ℕ → Data → List Mults → Data
 axiom_data n args ms = array_of (string (codes "axiom") ∷ index n ∷ args ∷ each mults ms ∷ [])
 
-numbered_as : (n : ℕ) (args : Data) (x : Schema) (ms : List Mults) → is_axiom n ≡ true → bounds.index n ≡ true → schema_of n args ≡ Good x
-    → axiom_of (axiom_data n args ms) ≡ shown_by x (axiom_data n args ms)
-numbered_as n args x ms known low is =
-    let number : index_of (index n) ≡ Good n = index_read n low in
-    let at_two : schema_at n (axiom_data n args ms) ≡ Good x = by n (is_axiom n) known (schema_of n args) is in
-    by_parts (axiom_data n args ms) (index_of (index n)) number (λ m. schema_at m (axiom_data n args ms)) at_two
+numbered_as : (k : AxiomKind) (args : Data) (x : Schema) (ms : List Mults) → schema_of k args ≡ Good x
+    → axiom_of (axiom_data (axiom_number k) args ms) ≡ shown_by x (axiom_data (axiom_number k) args ms)
+numbered_as k args x ms is =
+    let at_two : schema_at (axiom_number k) (axiom_data (axiom_number k) args ms) ≡ Good x =
+    ap (λ o. schema_by o (axiom_data (axiom_number k) args ms)) (number_known k) ∙ ap (under 2) is in
+    by_parts (axiom_data (axiom_number k) args ms) (index_of (index (axiom_number k))) (index_read (axiom_number k) (low_number k))
+    (λ m. schema_at m (axiom_data (axiom_number k) args ms)) at_two
   where
-    by : (m : ℕ) (b : Bool) → b ≡ true → (o : Part Schema) → o ≡ Good x → (if b then under 2 o else Off (1 ∷ [])) ≡ Good x
-    by m b holds o good = rw (holds, good) refl
-
-    by_parts : (d : Data) (i : Part ℕ) → i ≡ Good n → (f : ℕ → Part Schema) → f n ≡ Good x →
+    by_parts : (d : Data) (i : Part ℕ) → i ≡ Good (axiom_number k) → (f : ℕ → Part Schema) → f (axiom_number k) ≡ Good x →
         and_then (under 1 i) (λ m. and_then (f m) (λ y. shown_by y d)) ≡ shown_by x d
     by_parts d i first f second = rw (first, second) refl
 
@@ -95,13 +97,12 @@ shown_read n args x ms all = by (list_of mults_of (each mults ms)) (list_read ms
     by : (o : Part (List Mults)) → o ≡ Good ms → and_then (under 3 o) (λ ys. Good (node.Axiom x ys)) ≡ Good (node.Axiom x ms)
     by o good = rw good refl
 
-axiom_read : (n : ℕ) (args : Data) (x : Schema) (ms : List Mults) → is_axiom n ≡ true → bounds.index n ≡ true → schema_of n args ≡ Good x →
-    list_all bounds.mults ms ≡ true
-    → axiom_of (array_of (string (codes "axiom") ∷ index n ∷ args ∷ each mults ms ∷ [])) ≡ Good (node.Axiom x ms)
-axiom_read n args x ms known low is all = numbered_as n args x ms known low is ∙ shown_read n args x ms all
+axiom_read : (k : AxiomKind) (args : Data) (x : Schema) (ms : List Mults) → schema_of k args ≡ Good x → list_all bounds.mults ms ≡ true
+    → axiom_of (array_of (string (codes "axiom") ∷ index (axiom_number k) ∷ args ∷ each mults ms ∷ [])) ≡ Good (node.Axiom x ms)
+axiom_read k args x ms is all = numbered_as k args x ms is ∙ shown_read (axiom_number k) args x ms all
 
 node_read : (n : Node) → bounds.node_in n ≡ true → node_of (node_data n) ≡ Good n
-node_read (node.Split f) h = ap (gives node.Split) (one_behind form_of (form f) f (form_read f h) (string (codes "split")))
+node_read (node.Split f) h = ap (gives node.Split) (one_behind form_of (form_data f) f (form_read f h) (string (codes "split")))
 node_read (node.Inst i ls ms) h =
     let rest : (bounds.lins ls && list_all bounds.mults ms) ≡ true =
     second_so (bounds.index i) (bounds.lins ls && list_all bounds.mults ms) h in
@@ -110,10 +111,7 @@ node_read (node.Inst i ls ms) h =
     (lins_read ls (first_so (bounds.lins ls) (list_all bounds.mults ms) rest)) (list_of mults_of) (each mults ms) ms
     (list_read ms (second_so (bounds.lins ls) (list_all bounds.mults ms) rest)) (string (codes "inst")))
 node_read (node.Axiom x ms) h =
-    let number = numbered x in
-    axiom_read (axiom_number x) (arguments x) x ms (first_so (is_axiom (axiom_number x)) (bounds.index (axiom_number x)) number)
-    (second_so (is_axiom (axiom_number x)) (bounds.index (axiom_number x)) number)
-    (schema_read x (first_so (bounds.schema_in x) (list_all bounds.mults ms) h))
+    axiom_read (axiom_kind x) (arguments x) x ms (schema_read x (first_so (bounds.schema_in x) (list_all bounds.mults ms) h))
     (second_so (bounds.schema_in x) (list_all bounds.mults ms) h)
 node_read (node.Leaf m) h = ap (gives node.Leaf) (one_behind mults_of (mults m) m (mults_read m h) (string (codes "leaf")))
 

@@ -10,7 +10,8 @@ use Rattle.acc_axioms.specs.declared.nodes.Node.TheVariants as node
 use Rattle.acc_axioms.specs.declared.nodes.Proof.{Proof}
 use Rattle.acc_axioms.specs.declared.nodes.Cert.{Cert}
 use Rattle.acc_cert.specs.Spelled.{pair, index, signed}
-use Rattle.acc_cert.specs.SpelledNodes.{mults, axiom_number, key, key_and_number, arguments, node_data, proof, cert}
+use Rattle.acc_axioms.specs.Kinds.{axiom_kind, axiom_number}
+use Rattle.acc_cert.specs.SpelledNodes.{mults, key, key_and_number, arguments, node_data, proof, cert}
 use Rattle.acc_cert.proofs.Sizes.{IsPlain, none, more, whole, number_plain, text_plain, pair_plain, each_plain, lins_plain, unknown_plain}
 use Rattle.acc_cert.proofs.Sizes.{form_plain}
 
@@ -47,7 +48,7 @@ node_plain (node.Inst h ls ms) =
     (more (each_plain mults 2 mults_plain ms) (omega arith) none))))
 node_plain (node.Axiom x ms) =
     whole (more (text_plain (codes "axiom")) (omega arith)
-    (more (number_plain (axiom_number x)) (omega arith)
+    (more (number_plain (axiom_number (axiom_kind x))) (omega arith)
     (more (arguments_plain x) (omega arith) (more (each_plain mults 2 mults_plain ms) (omega arith) none))))
 node_plain (node.Leaf m) = whole (more (text_plain (codes "leaf")) (omega arith) (more (mults_plain m) (omega arith) none))
 

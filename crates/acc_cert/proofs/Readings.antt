@@ -16,7 +16,7 @@ use Rattle.acc_cert_bounds.specs.InBounds as bounds
 use Rattle.acc_cert_read.specs.Parts.{Part, Good, gives, given, one, two, three, items_from, list_of}
 use Rattle.acc_cert_read.specs.Forms.{index_of, wide_of, narrow_of, lin_of, lins_of, atom_of, unknown_of, form_of}
 use Rattle.acc_cert_read.proofs.Numerals.{number_read, wide_holds, narrow_holds}
-use Rattle.acc_cert.specs.Spelled.{array_of, each, pair, index, signed, lin, lins, atom_data, unknown, form}
+use Rattle.acc_cert.specs.Spelled.{array_of, each, pair, index, signed, lin, lins, atom_data, unknown, form_data}
 
 module _ {A : Type 0} (f : A → Data) (g : Data → Part A) (ok : A → Bool) (h : (x : A) → ok x ≡ true → g (f x) ≡ Good x) where
   items_read : (i : ℕ) (xs : List A) → list_all ok xs ≡ true → items_from g i (items_of (map f xs)) ≡ Good xs
@@ -128,7 +128,7 @@ term_read p h =
     two_read unknown_of (unknown p.0) p.0 (unknown_read p.0 (first_so (bounds.unknown p.0) (is_near p.1) h)) wide_of (signed p.1) p.1
     (wide_read p.1 (second_so (bounds.unknown p.0) (is_near p.1) h))
 
-pub form_read : (f : Form) → bounds.form f ≡ true → form_of (form f) ≡ Good f
+pub form_read : (f : Form) → bounds.form_in f ≡ true → form_of (form_data f) ≡ Good f
 form_read f h =
     let all : Bool = list_all (bounds.pair bounds.unknown is_near) f.terms in
     let a = each_read (pair unknown signed) (two 0 unknown_of wide_of) (bounds.pair bounds.unknown is_near) term_read f.terms

@@ -10,7 +10,7 @@ use Rattle.acc_base.specs.declared.forms.Atom.{Atom}
 use Rattle.acc_base.specs.declared.forms.Atom.TheVariants as atom
 use Rattle.acc_base.specs.declared.forms.Unknown.{Unknown}
 use Rattle.acc_base.specs.declared.forms.Form.{Form}
-use Rattle.acc_cert.specs.Spelled.{each, pair, index, signed, lin, lins, atom_data, unknown, form}
+use Rattle.acc_cert.specs.Spelled.{each, pair, index, signed, lin, lins, atom_data, unknown, form_data}
 
 -- without a float, and nested at most so deep
 pub record IsPlain (k : ℕ) (d : Data) : Type 0 where
@@ -73,7 +73,7 @@ unknown_plain u = whole (more (lins_plain u.under) (omega arith) (more (atom_pla
 term_plain : (p : Unknown × ℤ) → IsPlain 7 (pair unknown signed p)
 term_plain p = whole (more (unknown_plain p.0) (omega arith) (more (text_plain (signed_decimal p.1)) (omega arith) none))
 
-pub form_plain : (f : Form) → IsPlain 9 (form f)
+pub form_plain : (f : Form) → IsPlain 9 (form_data f)
 form_plain f =
     whole (more (each_plain (pair unknown signed) 7 term_plain f.terms) (omega arith)
     (more (text_plain (signed_decimal f.constant)) (omega arith) none))

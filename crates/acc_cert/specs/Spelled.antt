@@ -41,5 +41,5 @@ atom_data (atom.Sum t k c) = array_of (string (codes "sum") ∷ index t ∷ lins
 abbrev pub unknown : Unknown → Data
 unknown u = array_of (lins u.under ∷ atom_data u.atom ∷ [])
 
-abbrev pub form : Form → Data
-form f = array_of (each (pair unknown signed) f.terms ∷ signed f.constant ∷ [])
+abbrev pub form_data : Form → Data
+form_data f = array_of (each (pair unknown signed) f.terms ∷ signed f.constant ∷ [])

@@ -1,7 +1,4 @@
 //! Nodes, proofs and certificates as they are written.
-ghost use Rattle.std.specs.Prelude.{◌≡◌};
-ghost use Rattle.acc_cert.specs.SpelledNodes.{axiom_number};
-
 use crate::spelled::{Spelled, four, one, three, two};
 use acc_axioms::nodes::{Cert, Node, Proof, Schema};
 use acc_farkas::refuting::Mults;
@@ -15,26 +12,6 @@ impl Spelled for Mults {
 
     fn value(&self, alloc: Global) -> Result<Value, AllocError> {
         self.of.value(alloc)
-    }
-}
-
-/// The number of an axiom.
-fn axiom_number(schema: &Schema) -> u32
-    ensures { result ≡ axiom_number schema.now }
-{
-    match schema {
-        Schema::Has(..) => 1,
-        Schema::Count(..) => 2,
-        Schema::Front(..) => 3,
-        Schema::Same(..) => 4,
-        Schema::NoCol(..) => 5,
-        Schema::NoSum(..) => 6,
-        Schema::OneCount(..) => 7,
-        Schema::OneSum(..) => 8,
-        Schema::Opened(..) => 9,
-        Schema::Shut(..) => 10,
-        Schema::Empty(..) => 11,
-        Schema::Fresh(..) => 12,
     }
 }
 
@@ -74,7 +51,7 @@ impl Spelled for Node {
             Node::Axiom(schema, shown) => four(
                 alloc,
                 &"axiom",
-                &axiom_number(schema),
+                &schema.kind().number(),
                 schema,
                 shown,
             ),

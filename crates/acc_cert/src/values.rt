@@ -42,9 +42,9 @@ impl Spelled for Unknown {
 }
 
 impl Spelled for Form {
-    ghost use Rattle.acc_cert.specs.Spelled.{form};
+    ghost use Rattle.acc_cert.specs.Spelled.{form_data};
 
-    ghost spelled = { form };
+    ghost spelled = { form_data };
 
     fn value(&self, alloc: Global) -> Result<Value, AllocError> {
         two(alloc, &self.terms, &self.constant)

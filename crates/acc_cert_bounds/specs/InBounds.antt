@@ -6,6 +6,7 @@ use Rattle.acc_base.specs.declared.forms.Atom.{Atom}
 use Rattle.acc_base.specs.declared.forms.Atom.TheVariants as atom
 use Rattle.acc_base.specs.declared.forms.Unknown.{Unknown}
 use Rattle.acc_base.specs.declared.forms.Form.{Form}
+use Rattle.acc_base.specs.declared.bounds.TheConstants.{LARGEST_SUM}
 use Rattle.acc_farkas.specs.declared.refuting.Mults.{Mults}
 use Rattle.acc_axioms.specs.declared.nodes.Schema.{Schema}
 use Rattle.acc_axioms.specs.declared.nodes.Schema.TheVariants as schema
@@ -16,7 +17,7 @@ use Rattle.acc_axioms.specs.declared.nodes.Cert.{Cert}
 
 -- within 2^120 of 0
 abbrev pub is_near : ℤ → Bool
-is_near z = nat_le (unsigned_abs z) (2 ^ 120)
+is_near z = nat_le (unsigned_abs z) LARGEST_SUM
 
 -- of 64 bits
 abbrev pub is_narrow : ℤ → Bool
@@ -46,8 +47,8 @@ atom_in (atom.Sum t k c) = index t && (lins k && index c)
 abbrev pub unknown : Unknown → Bool
 unknown u = lins u.under && atom_in u.atom
 
-abbrev pub form : Form → Bool
-form f = list_all (pair unknown is_near) f.terms && is_near f.constant
+abbrev pub form_in : Form → Bool
+form_in f = list_all (pair unknown is_near) f.terms && is_near f.constant
 
 abbrev pub mults : Mults → Bool
 mults m = list_all (pair index is_near) m.of
@@ -67,7 +68,7 @@ schema_in (schema.Empty u) = unknown u
 schema_in (schema.Fresh t k) = index t && lins k
 
 abbrev pub node_in : Node → Bool
-node_in (node.Split f) = form f
+node_in (node.Split f) = form_in f
 node_in (node.Inst h ls ms) = index h && (lins ls && list_all mults ms)
 node_in (node.Axiom x ms) = schema_in x && list_all mults ms
 node_in (node.Leaf m) = mults m

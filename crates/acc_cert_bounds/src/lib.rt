@@ -5,3 +5,6 @@ pub mod bounded;
 pub mod nodes;
 pub mod numbers;
 pub mod values;
+
+pub use bounded::Bounded;
+pub use numbers::{is_index, is_narrow, is_near};

@@ -42,9 +42,9 @@ impl Bounded for Unknown {
 }
 
 impl Bounded for Form {
-    ghost use Rattle.acc_cert_bounds.specs.InBounds.{form};
+    ghost use Rattle.acc_cert_bounds.specs.InBounds.{form_in};
 
-    ghost in_bounds = { form };
+    ghost in_bounds = { form_in };
 
     fn is_in_bounds(&self) -> bool {
         self.terms.is_in_bounds() && self.constant.is_in_bounds()

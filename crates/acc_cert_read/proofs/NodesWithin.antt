@@ -1,12 +1,15 @@
 -- The same of nodes, proofs and certificates.
-use Rattle.std.proofs.Common.{◌≡◌, ℕ, Bool, true, false, List, [], ◌∷◌, subst, Option, Some, None, Result, Ok, Err, IfOk}
-use Rattle.std.specs.Prelude.{◌==◌, if◌then◌else◌, IsTrue}
+use Rattle.std.proofs.Common.{◌≡◌, ℕ, Bool, true, false, List, [], subst, Option, Some, None, Result, Ok, Err, IfOk}
+use Rattle.std.specs.Prelude.{if◌then◌else◌, IsTrue}
 use Rattle.std.specs.List.{list_all}
 use Rattle.std.specs.Str.{is_utf8}
 use Rattle.serde_json.specs.Data.{Data}
 use Rattle.serde_json.specs.Read.{read}
 use Rattle.acc_base.specs.declared.forms.Lin.{Lin}
 use Rattle.acc_base.specs.declared.forms.Unknown.{Unknown}
+use Rattle.acc_axioms.specs.Kinds.{kind_numbered}
+use Rattle.acc_axioms.specs.declared.kinds.AxiomKind.{AxiomKind}
+use Rattle.acc_axioms.specs.declared.kinds.AxiomKind.TheVariants as kind
 use Rattle.acc_axioms.specs.declared.nodes.Schema.{Schema}
 use Rattle.acc_axioms.specs.declared.nodes.Schema.TheVariants as schema
 use Rattle.acc_axioms.specs.declared.nodes.Node.TheVariants as node
@@ -19,7 +22,7 @@ use Rattle.acc_cert_read.specs.declared.words.NodeWord.TheVariants as word
 use Rattle.acc_cert_read.specs.Parts.{Good, Off, and_then, given, gives, field, ends, one, two, three, list_of}
 use Rattle.acc_cert_read.specs.Forms.{index_of, wide_of, lins_of, unknown_of, form_of}
 use Rattle.acc_cert_read.specs.Words.{node_word}
-use Rattle.acc_cert_read.specs.Nodes.{mults_of, by_key, by_key_and_number, by_unknown, is_axiom, further_schema_of, schema_of, schema_at}
+use Rattle.acc_cert_read.specs.Nodes.{mults_of, by_key, by_key_and_number, by_unknown, schema_of, schema_by, schema_at}
 use Rattle.acc_cert_read.specs.Nodes.{shown_by, axiom_of, node_rest, node_of, proof_of}
 use Rattle.acc_cert_read.specs.Certificates.{cert_of, cert_in}
 use Rattle.acc_cert_read.proofs.Within.{Within, AllWithin, then_within, gives_within, field_within, ends_within, one_within, list_within}
@@ -63,46 +66,26 @@ same_within d =
     gives_within (bounds.pair bounds.unknown bounds.unknown) bounds.schema_in (two 0 unknown_of unknown_of d) (λ p. schema.Same p.0 p.1)
     (two_within bounds.unknown bounds.unknown unknown_of unknown_of unknown_within unknown_within 0 d) (λ p h. h)
 
-further_within : (n : ℕ) (d : Data) → Within bounds.schema_in (further_schema_of n d)
-further_within n d = by (n == 7) (n == 8) (n == 9) (n == 10) (n == 11)
-  where
-    by : (a b c e f : Bool) → Within bounds.schema_in
-        (if a then by_key schema.OneCount d
-        else (if b then by_key_and_number schema.OneSum d
-        else (if c then by_unknown schema.Opened d
-        else (if e then gives (λ p. schema.Shut p.0 p.1 p.2) (three 0 unknown_of index_of index_of d)
-        else (if f then by_unknown schema.Empty d else by_key schema.Fresh d)))))
-    by true b c e f = by_key_within schema.OneCount (λ p h. h) d
-    by false true c e f = by_number_within schema.OneSum (λ p h. h) d
-    by false false true e f = by_unknown_within schema.Opened (λ u h. h) d
-    by false false false true f = shut_within d
-    by false false false false true = by_unknown_within schema.Empty (λ u h. h) d
-    by false false false false false = by_key_within schema.Fresh (λ p h. h) d
-
-schema_within : (n : ℕ) → AllWithin bounds.schema_in (schema_of n)
-schema_within n d = by (n == 1) (n == 2) (n == 3) (n == 4) (n == 5) (n == 6)
-  where
-    by : (a b c e f g : Bool) → Within bounds.schema_in
-        (if a then by_key schema.Has d
-        else (if b then by_key schema.Count d
-        else (if c then by_key_and_number schema.Front d
-        else (if e then gives (λ p. schema.Same p.0 p.1) (two 0 unknown_of unknown_of d)
-        else (if f then by_key_and_number schema.NoCol d
-        else (if g then by_key_and_number schema.NoSum d else further_schema_of n d))))))
-    by true b c e f g = by_key_within schema.Has (λ p h. h) d
-    by false true c e f g = by_key_within schema.Count (λ p h. h) d
-    by false false true e f g = by_number_within schema.Front (λ p h. h) d
-    by false false false true f g = same_within d
-    by false false false false true g = by_number_within schema.NoCol (λ p h. h) d
-    by false false false false false true = by_number_within schema.NoSum (λ p h. h) d
-    by false false false false false false = further_within n d
+schema_within : (k : AxiomKind) → AllWithin bounds.schema_in (schema_of k)
+schema_within kind.Has d = by_key_within schema.Has (λ p h. h) d
+schema_within kind.Count d = by_key_within schema.Count (λ p h. h) d
+schema_within kind.Front d = by_number_within schema.Front (λ p h. h) d
+schema_within kind.Same d = same_within d
+schema_within kind.NoCol d = by_number_within schema.NoCol (λ p h. h) d
+schema_within kind.NoSum d = by_number_within schema.NoSum (λ p h. h) d
+schema_within kind.OneCount d = by_key_within schema.OneCount (λ p h. h) d
+schema_within kind.OneSum d = by_number_within schema.OneSum (λ p h. h) d
+schema_within kind.Opened d = by_unknown_within schema.Opened (λ u h. h) d
+schema_within kind.Shut d = shut_within d
+schema_within kind.Empty d = by_unknown_within schema.Empty (λ u h. h) d
+schema_within kind.Fresh d = by_key_within schema.Fresh (λ p h. h) d
 
 schema_at_within : (n : ℕ) (d : Data) → Within bounds.schema_in (schema_at n d)
-schema_at_within n d = by (is_axiom n)
+schema_at_within n d = by (kind_numbered n)
   where
-    by : (b : Bool) → Within bounds.schema_in (if b then field 2 (schema_of n) d else Off (1 ∷ []))
-    by true = field_within bounds.schema_in (schema_of n) (schema_within n) 2 d
-    by false = tt
+    by : (o : Option AxiomKind) → Within bounds.schema_in (schema_by o d)
+    by None = tt
+    by (Some k) = field_within bounds.schema_in (schema_of k) (schema_within k) 2 d
 
 -- ---- nodes
 
@@ -125,7 +108,7 @@ axiom_within d =
 rest_within : (w : Option NodeWord) (d : Data) → Within bounds.node_in (node_rest w d)
 rest_within None d = tt
 rest_within (Some word.Split) d =
-    gives_within bounds.form bounds.node_in (one 1 form_of d) node.Split (one_within bounds.form form_of form_within 1 d) (λ f h. h)
+    gives_within bounds.form_in bounds.node_in (one 1 form_of d) node.Split (one_within bounds.form_in form_of form_within 1 d) (λ f h. h)
 rest_within (Some word.Inst) d =
     gives_within (triple bounds.index bounds.lins (list_all bounds.mults)) bounds.node_in (three 1 index_of lins_of (list_of mults_of) d)
     (λ p. node.Inst p.0 p.1 p.2)

@@ -12,8 +12,8 @@ use Rattle.acc_base.specs.declared.forms.Atom.TheVariants as atom
 use Rattle.acc_axioms.proofs.Tests.{both_true}
 use Rattle.acc_cert_bounds.specs.InBounds.{is_near, is_narrow}
 use Rattle.acc_cert_bounds.specs.InBounds as bounds
-use Rattle.acc_cert_read.specs.declared.words.AtomWord.{AtomWord}
-use Rattle.acc_cert_read.specs.declared.words.AtomWord.TheVariants as word
+use Rattle.acc_base.specs.declared.atoms.AtomKind.{AtomKind}
+use Rattle.acc_base.specs.declared.atoms.AtomKind.TheVariants as word
 use Rattle.acc_cert_read.specs.Parts.{Part, Good, Off, and_then, gives, under, given, field, ends, one, two, three, items_from, list_of}
 use Rattle.acc_cert_read.specs.Spellings.{number_within, index_in}
 use Rattle.acc_cert_read.specs.Forms.{index_of, wide_of, narrow_of, word_of, lin_of, lins_of, atom_rest, atom_of, unknown_of, form_of}
@@ -161,7 +161,7 @@ pub key_number_within : (i : ℕ) (d : Data) → Within numbered (three i index_
 key_number_within i d =
     three_within bounds.index bounds.lins index_of lins_of index_within lins_within bounds.index index_of index_within i d
 
-rest_within : (w : Option AtomWord) (d : Data) → Within bounds.atom_in (atom_rest w d)
+rest_within : (w : Option AtomKind) (d : Data) → Within bounds.atom_in (atom_rest w d)
 rest_within None d = tt
 rest_within (Some word.One) d = ends_within bounds.atom_in 1 atom.One refl d
 rest_within (Some word.Var) d =
@@ -197,10 +197,10 @@ unknown_within d =
 term_within : AllWithin (bounds.pair bounds.unknown is_near) (two 0 unknown_of wide_of)
 term_within d = two_within bounds.unknown is_near unknown_of wide_of unknown_within wide_within 0 d
 
-pub form_within : AllWithin bounds.form form_of
+pub form_within : AllWithin bounds.form_in form_of
 form_within d =
     let terms = list_within (bounds.pair bounds.unknown is_near) (two 0 unknown_of wide_of) term_within in
-    gives_within (bounds.pair (list_all (bounds.pair bounds.unknown is_near)) is_near) bounds.form
+    gives_within (bounds.pair (list_all (bounds.pair bounds.unknown is_near)) is_near) bounds.form_in
     (two 0 (list_of (two 0 unknown_of wide_of)) wide_of d) (λ p. record { terms = p.0; constant = p.1 })
     (two_within (list_all (bounds.pair bounds.unknown is_near)) is_near (list_of (two 0 unknown_of wide_of)) wide_of
     terms wide_within 0 d) (λ p h. h)

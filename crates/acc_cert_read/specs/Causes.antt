@@ -14,4 +14,5 @@ TellsOff (Err Memory) part = ⊤
 abbrev pub IsUnder : ℕ → CertError → CertError → Type 0
 IsUnder i (NotCert path) (NotCert longer) = longer ≡ i ∷ path
 IsUnder i Memory (NotCert longer) = ⊥
-IsUnder i cause Memory = ⊤
+IsUnder i (NotCert path) Memory = ⊤
+IsUnder i Memory Memory = ⊤

@@ -7,8 +7,8 @@ use Rattle.acc_base.specs.declared.forms.Atom.{Atom}
 use Rattle.acc_base.specs.declared.forms.Atom.TheVariants as atom
 use Rattle.acc_base.specs.declared.forms.Unknown.{Unknown}
 use Rattle.acc_base.specs.declared.forms.Form.{Form}
-use Rattle.acc_cert_read.specs.declared.words.AtomWord.{AtomWord}
-use Rattle.acc_cert_read.specs.declared.words.AtomWord.TheVariants as word
+use Rattle.acc_base.specs.declared.atoms.AtomKind.{AtomKind}
+use Rattle.acc_base.specs.declared.atoms.AtomKind.TheVariants as kind
 use Rattle.acc_cert_read.specs.Parts.{Part, Off, and_then, gives, given, field, ends, one, two, three, list_of}
 use Rattle.acc_cert_read.specs.Spellings.{near_number, narrow_number, index}
 use Rattle.acc_cert_read.specs.Words.{atom_word}
@@ -33,14 +33,14 @@ abbrev pub lins_of : Data → Part (List Lin)
 lins_of = list_of lin_of
 
 -- what stands behind the word
-abbrev pub atom_rest : Option AtomWord → Data → Part Atom
+abbrev pub atom_rest : Option AtomKind → Data → Part Atom
 atom_rest None d = Off (0 ∷ [])
-atom_rest (Some word.One) d = ends 1 atom.One d
-atom_rest (Some word.Var) d = gives atom.Var (one 1 index_of d)
-atom_rest (Some word.Has) d = gives (λ p. atom.Has p.0 p.1) (two 1 index_of lins_of d)
-atom_rest (Some word.Col) d = gives (λ p. atom.Col p.0 p.1 p.2) (three 1 index_of lins_of index_of d)
-atom_rest (Some word.Count) d = gives (λ p. atom.Count p.0 p.1) (two 1 index_of lins_of d)
-atom_rest (Some word.Sum) d = gives (λ p. atom.Sum p.0 p.1 p.2) (three 1 index_of lins_of index_of d)
+atom_rest (Some kind.One) d = ends 1 atom.One d
+atom_rest (Some kind.Var) d = gives atom.Var (one 1 index_of d)
+atom_rest (Some kind.Has) d = gives (λ p. atom.Has p.0 p.1) (two 1 index_of lins_of d)
+atom_rest (Some kind.Col) d = gives (λ p. atom.Col p.0 p.1 p.2) (three 1 index_of lins_of index_of d)
+atom_rest (Some kind.Count) d = gives (λ p. atom.Count p.0 p.1) (two 1 index_of lins_of d)
+atom_rest (Some kind.Sum) d = gives (λ p. atom.Sum p.0 p.1 p.2) (three 1 index_of lins_of index_of d)
 
 abbrev pub atom_of : Data → Part Atom
 atom_of d = and_then (field 0 word_of d) (λ w. atom_rest (atom_word w) d)

@@ -1,9 +1,12 @@
 -- The shape of multipliers, axioms, nodes and proofs.
-use Rattle.std.specs.Prelude.{ℕ, ◌==◌, ◌&&◌, nat_le, Bool, if◌then◌else◌, List, [], ◌∷◌, Option, Some, None}
+use Rattle.std.specs.Prelude.{ℕ, List, [], ◌∷◌, Option, Some, None}
 use Rattle.serde_json.specs.Data.{Data}
 use Rattle.acc_base.specs.declared.forms.Lin.{Lin}
 use Rattle.acc_base.specs.declared.forms.Unknown.{Unknown}
 use Rattle.acc_farkas.specs.declared.refuting.Mults.{Mults}
+use Rattle.acc_axioms.specs.Kinds.{kind_numbered}
+use Rattle.acc_axioms.specs.declared.kinds.AxiomKind.{AxiomKind}
+use Rattle.acc_axioms.specs.declared.kinds.AxiomKind.TheVariants as kind
 use Rattle.acc_axioms.specs.declared.nodes.Schema.{Schema}
 use Rattle.acc_axioms.specs.declared.nodes.Schema.TheVariants as schema
 use Rattle.acc_axioms.specs.declared.nodes.Node.{Node}
@@ -29,31 +32,28 @@ by_key_and_number make d = gives (λ p. make p.0 p.1 p.2) (three 0 index_of lins
 abbrev pub by_unknown : (Unknown → Schema) → Data → Part Schema
 by_unknown make d = gives make (one 0 unknown_of d)
 
--- there are twelve axioms
-abbrev pub is_axiom : ℕ → Bool
-is_axiom n = nat_le 1 n && nat_le n 12
-
--- the axioms from 7 on
-abbrev pub further_schema_of : ℕ → Data → Part Schema
-further_schema_of n d =
-    if n == 7 then by_key schema.OneCount d
-    else (if n == 8 then by_key_and_number schema.OneSum d
-    else (if n == 9 then by_unknown schema.Opened d
-    else (if n == 10 then gives (λ p. schema.Shut p.0 p.1 p.2) (three 0 unknown_of index_of index_of d)
-    else (if n == 11 then by_unknown schema.Empty d else by_key schema.Fresh d))))
-
-abbrev pub schema_of : ℕ → Data → Part Schema
-schema_of n d =
-    if n == 1 then by_key schema.Has d
-    else (if n == 2 then by_key schema.Count d
-    else (if n == 3 then by_key_and_number schema.Front d
-    else (if n == 4 then gives (λ p. schema.Same p.0 p.1) (two 0 unknown_of unknown_of d)
-    else (if n == 5 then by_key_and_number schema.NoCol d
-    else (if n == 6 then by_key_and_number schema.NoSum d else further_schema_of n d)))))
+-- those of an axiom of a kind
+abbrev pub schema_of : AxiomKind → Data → Part Schema
+schema_of kind.Has d = by_key schema.Has d
+schema_of kind.Count d = by_key schema.Count d
+schema_of kind.Front d = by_key_and_number schema.Front d
+schema_of kind.Same d = gives (λ p. schema.Same p.0 p.1) (two 0 unknown_of unknown_of d)
+schema_of kind.NoCol d = by_key_and_number schema.NoCol d
+schema_of kind.NoSum d = by_key_and_number schema.NoSum d
+schema_of kind.OneCount d = by_key schema.OneCount d
+schema_of kind.OneSum d = by_key_and_number schema.OneSum d
+schema_of kind.Opened d = by_unknown schema.Opened d
+schema_of kind.Shut d = gives (λ p. schema.Shut p.0 p.1 p.2) (three 0 unknown_of index_of index_of d)
+schema_of kind.Empty d = by_unknown schema.Empty d
+schema_of kind.Fresh d = by_key schema.Fresh d
 
 -- the number itself is off where there is no such axiom
+abbrev pub schema_by : Option AxiomKind → Data → Part Schema
+schema_by None d = Off (1 ∷ [])
+schema_by (Some k) d = field 2 (schema_of k) d
+
 abbrev pub schema_at : ℕ → Data → Part Schema
-schema_at n d = if is_axiom n then field 2 (schema_of n) d else Off (1 ∷ [])
+schema_at n d = schema_by (kind_numbered n) d
 
 -- ---- nodes
 

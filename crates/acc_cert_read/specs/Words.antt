@@ -1,12 +1,12 @@
 -- The words of certificates.
 use Rattle.std.specs.Prelude.{ℕ, if◌then◌else◌, List, codes, Option, Some, None}
 use Rattle.std.specs.Str.{bytes_eq}
-use Rattle.acc_cert_read.specs.declared.words.AtomWord.{AtomWord}
-use Rattle.acc_cert_read.specs.declared.words.AtomWord.TheVariants as atom
+use Rattle.acc_base.specs.declared.atoms.AtomKind.{AtomKind}
+use Rattle.acc_base.specs.declared.atoms.AtomKind.TheVariants as atom
 use Rattle.acc_cert_read.specs.declared.words.NodeWord.{NodeWord}
 use Rattle.acc_cert_read.specs.declared.words.NodeWord.TheVariants as node
 
-abbrev pub atom_word : List ℕ → Option AtomWord
+abbrev pub atom_word : List ℕ → Option AtomKind
 atom_word w =
     if bytes_eq w (codes "one") then Some atom.One
     else (if bytes_eq w (codes "var") then Some atom.Var

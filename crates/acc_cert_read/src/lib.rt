@@ -8,3 +8,6 @@ pub mod numbers;
 pub mod parts;
 pub mod values;
 pub mod words;
+
+pub use certificates::read;
+pub use errors::CertError;

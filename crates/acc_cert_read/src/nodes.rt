@@ -3,19 +3,17 @@ ghost use Rattle.std.specs.Prelude.{◌≡◌, IfOk};
 ghost use Rattle.serde_json.specs.View.{view};
 ghost use Rattle.acc_cert_read.specs.Parts.{Good};
 ghost use Rattle.acc_cert_read.specs.Causes.{TellsOff};
-ghost use Rattle.acc_cert_read.specs.Nodes.{schema_of, further_schema_of, schema_at, shown_by, axiom_of, node_rest};
+ghost use Rattle.acc_cert_read.specs.Nodes.{schema_of, schema_at, shown_by, axiom_of, node_rest};
 
 use crate::errors::{CertError, off, under};
 use crate::parts::{Part, ends, field, item, one, three, two};
 use crate::values::word;
 use crate::words::NodeWord;
+use acc_axioms::kinds::AxiomKind;
 use acc_axioms::nodes::{Cert, Node, Proof, Schema};
 use acc_farkas::refuting::Mults;
 use serde_json::Value;
 use std::alloc::Global;
-
-/// The number of the last axiom; the first has 1.
-const AXIOMS: u32 = 12;
 
 impl Part for Mults {
     ghost use Rattle.acc_cert_read.specs.Nodes.{mults_of};
@@ -28,64 +26,24 @@ impl Part for Mults {
     }
 }
 
-/// An axiom from 7 on with its arguments.
-fn further_schema(alloc: Global, number: u32, value: &Value) -> Result<Schema, CertError>
-    ensures value { IfOk result (λ x. further_schema_of number (view value.now) ≡ Good x) }
-    ensures off { TellsOff result (further_schema_of number (view value.now)) }
+/// An axiom of a kind with its arguments.
+fn schema(alloc: Global, kind: AxiomKind, value: &Value) -> Result<Schema, CertError>
+    ensures value { IfOk result (λ x. schema_of kind (view value.now) ≡ Good x) }
+    ensures off { TellsOff result (schema_of kind (view value.now)) }
 {
-    match number {
-        7 => {
-            let (table, key) = two(alloc, value, 0)?;
-            Ok(Schema::OneCount(table, key))
-        }
-        8 => {
-            let (table, key, column) = three(alloc, value, 0)?;
-            Ok(Schema::OneSum(table, key, column))
-        }
-        9 => Ok(Schema::Opened(one(alloc, value, 0)?)),
-        10 => {
-            let (unknown, place, side) = three(alloc, value, 0)?;
-            Ok(Schema::Shut(unknown, place, side))
-        }
-        11 => Ok(Schema::Empty(one(alloc, value, 0)?)),
-        _ => {
-            let (table, key) = two(alloc, value, 0)?;
-            Ok(Schema::Fresh(table, key))
-        }
-    }
-}
-
-/// An axiom with its arguments.
-fn schema(alloc: Global, number: u32, value: &Value) -> Result<Schema, CertError>
-    ensures value { IfOk result (λ x. schema_of number (view value.now) ≡ Good x) }
-    ensures off { TellsOff result (schema_of number (view value.now)) }
-{
-    match number {
-        1 => {
-            let (table, key) = two(alloc, value, 0)?;
-            Ok(Schema::Has(table, key))
-        }
-        2 => {
-            let (table, prefix) = two(alloc, value, 0)?;
-            Ok(Schema::Count(table, prefix))
-        }
-        3 => {
-            let (table, key, front) = three(alloc, value, 0)?;
-            Ok(Schema::Front(table, key, front))
-        }
-        4 => {
-            let (first, second) = two(alloc, value, 0)?;
-            Ok(Schema::Same(first, second))
-        }
-        5 => {
-            let (table, key, column) = three(alloc, value, 0)?;
-            Ok(Schema::NoCol(table, key, column))
-        }
-        6 => {
-            let (table, prefix, column) = three(alloc, value, 0)?;
-            Ok(Schema::NoSum(table, prefix, column))
-        }
-        _ => further_schema(alloc, number, value),
+    match kind {
+        AxiomKind::Has => two(alloc, value, 0).map(|(t, k)| Schema::Has(t, k)),
+        AxiomKind::Count => two(alloc, value, 0).map(|(t, p)| Schema::Count(t, p)),
+        AxiomKind::Front => three(alloc, value, 0).map(|(t, k, n)| Schema::Front(t, k, n)),
+        AxiomKind::Same => two(alloc, value, 0).map(|(u, v)| Schema::Same(u, v)),
+        AxiomKind::NoCol => three(alloc, value, 0).map(|(t, k, c)| Schema::NoCol(t, k, c)),
+        AxiomKind::NoSum => three(alloc, value, 0).map(|(t, p, c)| Schema::NoSum(t, p, c)),
+        AxiomKind::OneCount => two(alloc, value, 0).map(|(t, k)| Schema::OneCount(t, k)),
+        AxiomKind::OneSum => three(alloc, value, 0).map(|(t, k, c)| Schema::OneSum(t, k, c)),
+        AxiomKind::Opened => one(alloc, value, 0).map(|u| Schema::Opened(u)),
+        AxiomKind::Shut => three(alloc, value, 0).map(|(u, n, side)| Schema::Shut(u, n, side)),
+        AxiomKind::Empty => one(alloc, value, 0).map(|u| Schema::Empty(u)),
+        AxiomKind::Fresh => two(alloc, value, 0).map(|(t, k)| Schema::Fresh(t, k)),
     }
 }
 
@@ -94,11 +52,11 @@ fn schema_at(alloc: Global, number: u32, node: &Value) -> Result<Schema, CertErr
     ensures value { IfOk result (λ x. schema_at number (view node.now) ≡ Good x) }
     ensures off { TellsOff result (schema_at number (view node.now)) }
 {
-    if number < 1 || AXIOMS < number {
+    let Some(kind) = AxiomKind::of(number) else {
         return Err(under(1, off(alloc)));
-    }
+    };
     let arguments = item(alloc, node, 2)?;
-    match schema(alloc, number, arguments) {
+    match schema(alloc, kind, arguments) {
         Ok(schema) => Ok(schema),
         Err(cause) => Err(under(2, cause)),
     }

@@ -8,7 +8,8 @@ ghost use Rattle.acc_cert_read.specs.Forms.{word_of, atom_rest};
 use crate::errors::{CertError, off, under};
 use crate::numbers;
 use crate::parts::{Part, ends, item, one, three, two};
-use crate::words::AtomWord;
+use crate::words::atom_word;
+use acc_base::atoms::AtomKind;
 use acc_base::forms::{Atom, Form, Lin, Unknown};
 use serde_json::Value;
 use std::alloc::Global;
@@ -75,26 +76,26 @@ pub fn word(alloc: Global, value: &Value) -> Result<&str, CertError>
 }
 
 /// What stands behind the word of an atom.
-fn atom_behind(alloc: Global, value: &Value, word: Option<AtomWord>) -> Result<Atom, CertError>
-    ensures value { IfOk result (λ a. atom_rest word (view value.now) ≡ Good a) }
-    ensures off { TellsOff result (atom_rest word (view value.now)) }
+fn atom_behind(alloc: Global, value: &Value, kind: Option<AtomKind>) -> Result<Atom, CertError>
+    ensures value { IfOk result (λ a. atom_rest kind (view value.now) ≡ Good a) }
+    ensures off { TellsOff result (atom_rest kind (view value.now)) }
 {
-    match word {
-        Some(AtomWord::One) => ends(alloc, value, 1, Atom::One),
-        Some(AtomWord::Var) => Ok(Atom::Var(one(alloc, value, 1)?)),
-        Some(AtomWord::Has) => {
+    match kind {
+        Some(AtomKind::One) => ends(alloc, value, 1, Atom::One),
+        Some(AtomKind::Var) => Ok(Atom::Var(one(alloc, value, 1)?)),
+        Some(AtomKind::Has) => {
             let (table, key) = two(alloc, value, 1)?;
             Ok(Atom::Has(table, key))
         }
-        Some(AtomWord::Col) => {
+        Some(AtomKind::Col) => {
             let (table, key, column) = three(alloc, value, 1)?;
             Ok(Atom::Col(table, key, column))
         }
-        Some(AtomWord::Count) => {
+        Some(AtomKind::Count) => {
             let (table, prefix) = two(alloc, value, 1)?;
             Ok(Atom::Count(table, prefix))
         }
-        Some(AtomWord::Sum) => {
+        Some(AtomKind::Sum) => {
             let (table, prefix, column) = three(alloc, value, 1)?;
             Ok(Atom::Sum(table, prefix, column))
         }
@@ -109,7 +110,7 @@ impl Part for Atom {
 
     fn read(alloc: Global, value: &Value) -> Result<Self, CertError> {
         let word = word(alloc, value)?;
-        atom_behind(alloc, value, AtomWord::named(word))
+        atom_behind(alloc, value, atom_word(word))
     }
 }
 

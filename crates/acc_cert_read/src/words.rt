@@ -2,16 +2,7 @@
 ghost use Rattle.std.specs.Prelude.{◌≡◌};
 ghost use Rattle.acc_cert_read.specs.Words.{atom_word, node_word};
 
-/// The kind of an atom.
-#[derive(Clone, Copy)]
-pub enum AtomWord {
-    One,
-    Var,
-    Has,
-    Col,
-    Count,
-    Sum,
-}
+use acc_base::atoms::AtomKind;
 
 /// The kind of a node.
 #[derive(Clone, Copy)]
@@ -22,20 +13,18 @@ pub enum NodeWord {
     Leaf,
 }
 
-impl AtomWord {
-    /// The kind that a word names, if it names one.
-    pub fn named(word: &str) -> Option<Self>
-        ensures { result ≡ atom_word word.now }
-    {
-        match word {
-            "one" => Some(AtomWord::One),
-            "var" => Some(AtomWord::Var),
-            "has" => Some(AtomWord::Has),
-            "col" => Some(AtomWord::Col),
-            "count" => Some(AtomWord::Count),
-            "sum" => Some(AtomWord::Sum),
-            _ => None,
-        }
+/// The kind of atoms that a word names, if it names one.
+pub fn atom_word(word: &str) -> Option<AtomKind>
+    ensures { result ≡ atom_word word.now }
+{
+    match word {
+        "one" => Some(AtomKind::One),
+        "var" => Some(AtomKind::Var),
+        "has" => Some(AtomKind::Has),
+        "col" => Some(AtomKind::Col),
+        "count" => Some(AtomKind::Count),
+        "sum" => Some(AtomKind::Sum),
+        _ => None,
     }
 }
 

@@ -1,6 +1,6 @@
 //! Where a certificate's file is wrong.
 use crate::json::{item_of, items_in, line_and_column, place_of, start_of, value_at};
-use crate::shapes::{Shape, item_shape, shape_text};
+use crate::shapes::{Shape, is_array, item_shape, push_shape};
 use acc_explain::Spot;
 use acc_spot::line_spot;
 use serde_json::Value;
@@ -45,15 +45,6 @@ fn shape_at(text: &[u8], path: &[u64]) -> Shape {
         shape = item_shape(shape, item_of(text, place, 0), axiom, *number);
     }
     shape
-}
-
-/// Whether a part of this shape is an array.
-fn is_array(shape: Shape) -> bool {
-    match shape {
-        Shape::NodeWord | Shape::AtomWord | Shape::AxiomNumber => false,
-        Shape::Index | Shape::Wide | Shape::Narrow | Shape::Surplus => false,
-        _ => true,
-    }
 }
 
 /// What is found: an item too many, or an array of so many items.
@@ -102,7 +93,7 @@ fn part_mark(alloc: Global, text: &[u8], path: &[u64]) -> Marked {
     let shape = shape_at(text, path);
     let mut mark = value_mark(alloc, text, place);
     mark.spot.what.push(b"expected ");
-    mark.spot.what.push(shape_text(shape));
+    push_shape(&mut mark.spot.what, shape);
     push_found(&mut mark.spot, text, place, shape);
     mark.spot
         .hint

@@ -4,29 +4,19 @@ use crate::parts::{
     action_from, always_from, first_of, held_from, path_from, point_from, promise_from, side_word,
     step_from, table_from, variant_from,
 };
-use crate::rules::lack_text;
-use acc_base::designs::{At, Design, Side};
-use acc_base::sequents::Origin;
-use acc_base::steps::{Step, Target};
+use crate::rules::{Subject, push_rule_lack, subject_of};
+use acc_base::designs::{At, Design};
+use acc_base::sequents::{Origin, Rule};
+use acc_base::steps::Target;
 use acc_explain::push_quoted;
-use acc_lex::Token;
+use acc_lex::{Token, language};
 use acc_page::{Page, push_at};
 use acc_spot::spot_at;
 use std::alloc::Global;
 
-/// The step of a point at a side.
-fn step_of(d: &Design, at: At, side: Side) -> Option<&Step> {
-    let ty = d.types.as_slice().get(at.ty as usize)?;
-    let point = ty.points.as_slice().get(at.point as usize)?;
-    match side {
-        Side::Next => Some(&point.next),
-        Side::Undo => Some(&point.undo),
-    }
-}
-
 /// Where the path of an obligation leads.
 fn target_of(d: &Design, origin: &Origin) -> Option<Target> {
-    let step = step_of(d, origin.at?, origin.side)?;
+    let step = d.step(origin.at?, origin.side)?;
     let number = origin.path.checked_sub(1)?;
     let path = step.paths.as_slice().get(number as usize)?;
     Some(path.target)
@@ -43,8 +33,8 @@ fn promised_from<'a>(
     let ty = origin.at?.ty;
     match target_of(d, origin)? {
         Target::Point(point) => held_from(text, tokens, At { ty, point }, number),
-        Target::Commit => promise_from(text, tokens, ty, b"ensures", number),
-        Target::Undone => promise_from(text, tokens, ty, b"repairs", number),
+        Target::Commit => promise_from(text, tokens, ty, language::ENSURES, number),
+        Target::Undone => promise_from(text, tokens, ty, language::REPAIRS, number),
         Target::Refuse(_) => None,
     }
 }
@@ -60,10 +50,10 @@ fn counted_from<'a>(text: &[u8], tokens: &'a [Token], at: At) -> Option<&'a [Tok
 /// The tokens from the path of an obligation on, or from its step where no path is named.
 fn taken_from<'a>(text: &[u8], tokens: &'a [Token], origin: &Origin) -> Option<&'a [Token]> {
     let at = origin.at?;
-    match origin.path.checked_sub(1) {
-        Some(number) => path_from(text, tokens, at, origin.side, number),
-        None if origin.rule == 5 => step_from(text, tokens, at, origin.side),
-        None => None,
+    match (origin.path.checked_sub(1), subject_of(origin.rule)) {
+        (Some(number), _) => path_from(text, tokens, at, origin.side, number),
+        (None, Subject::Number) => step_from(text, tokens, at, origin.side),
+        (None, Subject::Stated | Subject::Action | Subject::Variant) => None,
     }
 }
 
@@ -76,14 +66,14 @@ fn asserted_from<'a>(
 ) -> Option<&'a [Token]> {
     let number = origin.clause.checked_sub(1)?;
     match origin.rule {
-        0 => held_from(text, tokens, origin.at?, number),
-        1 => promised_from(text, tokens, d, origin, number),
-        3 => held_from(text, tokens, origin.held?, number),
-        4 => action_from(text, taken_from(text, tokens, origin)?, number),
-        6 => counted_from(text, tokens, origin.at?),
-        7 => table_from(text, tokens, number),
-        2 | 8 => always_from(text, tokens, number),
-        _ => None,
+        Rule::Begins => held_from(text, tokens, origin.at?, number),
+        Rule::Promises => promised_from(text, tokens, d, origin, number),
+        Rule::Always | Rule::Empty => always_from(text, tokens, number),
+        Rule::Spares => held_from(text, tokens, origin.held?, number),
+        Rule::There => action_from(text, taken_from(text, tokens, origin)?, number),
+        Rule::Ranges => None,
+        Rule::Variants => counted_from(text, tokens, origin.at?),
+        Rule::Clears => table_from(text, tokens, number),
     }
 }
 
@@ -113,12 +103,14 @@ pub fn push_path(out: &mut Page, d: &Design, origin: &Origin) {
     let Some(at) = origin.at else {
         return;
     };
-    if origin.path > 0 {
-        out.push(b" path ");
-        out.push_number(origin.path);
-        out.push(b" of");
-    } else if origin.rule != 5 {
-        return;
+    match (origin.path, subject_of(origin.rule)) {
+        (0, Subject::Number) => {}
+        (0, Subject::Stated | Subject::Action | Subject::Variant) => return,
+        (number, _) => {
+            out.push(b" path ");
+            out.push_number(number);
+            out.push(b" of")
+        }
     }
     out.push(b" the step `");
     out.push(side_word(origin.side));
@@ -129,24 +121,25 @@ pub fn push_path(out: &mut Page, d: &Design, origin: &Origin) {
 
 /// What an obligation is about: an assertion as it stands in the text, a variant, or a number, as it is spelled.
 fn push_subject(out: &mut Page, d: &Design, origin: &Origin, statement: &[u8], number: &[u8]) {
-    match (origin.rule, origin.at) {
-        (6, Some(at)) => {
+    match (subject_of(origin.rule), origin.at) {
+        (Subject::Variant, Some(at)) => {
             out.push(b"the variant of `");
             push_at(out, d, at);
             out.push(b"`")
         }
-        (5, _) => push_quoted(out, number),
-        _ => push_quoted(out, statement),
+        (Subject::Number, _) => push_quoted(out, number),
+        (Subject::Variant, None) => push_quoted(out, statement),
+        (Subject::Stated | Subject::Action, _) => push_quoted(out, statement),
     }
 }
 
 /// What isn't shown, in words.
 fn push_lack(out: &mut Page, d: &Design, origin: &Origin, statement: &[u8], number: &[u8]) {
     push_subject(out, d, origin, statement, number);
-    out.push(lack_text(origin.rule, origin.clause));
+    push_rule_lack(out, origin.rule, origin.clause);
     push_path(out, d, origin);
     out.push(b" (rule S");
-    out.push_number(origin.rule);
+    out.push_number(origin.rule.number());
     out.push(b")")
 }
 
@@ -182,8 +175,9 @@ pub fn asserted_mark(
 
 /// The mark of the path of an obligation that speaks of an assertion elsewhere; none of others.
 pub fn path_mark(alloc: Global, text: &[u8], tokens: &[Token], origin: &Origin) -> Option<Marked> {
-    if origin.rule == 4 || origin.rule == 5 {
-        return None;
+    match subject_of(origin.rule) {
+        Subject::Stated | Subject::Variant => {}
+        Subject::Action | Subject::Number => return None,
     }
     let Some(found) = taken_from(text, tokens, origin) else {
         return None;

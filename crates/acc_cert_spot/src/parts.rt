@@ -1,22 +1,19 @@
 //! The statements of a design's parts, by the tokens of its text.
 use acc_base::designs::{At, Side};
-use acc_lex::{Kind, Token};
-use acc_spot::bytes_of;
-
-const ACTIONS: [&[u8]; 4] = [b"put", b"del", b"set", b"add"];
-
-const TARGETS: [&[u8]; 4] = [b"goto", b"commit", b"undone", b"refuse"];
+use acc_lex::{Kind, Token, language};
+use acc_spot::{bytes_of, is_one_of};
 
 /// What begins a part behind the points of a type.
-const BEHIND_POINTS: [&[u8]; 3] = [b"type", b"entry", b"hint"];
+const BEHIND_POINTS: [&[u8]; 3] = [language::TYPE, language::ENTRY, language::HINT];
 
 /// What begins a part behind a step.
-const BEHIND_STEP: [&[u8]; 5] = [b"undo", b"point", b"type", b"entry", b"hint"];
-
-/// Whether a word is one of some words.
-fn is_one_of(words: &[&[u8]], word: &[u8]) -> bool {
-    words.iter().any(|other| *other == word)
-}
+const BEHIND_STEP: [&[u8]; 5] = [
+    language::UNDO,
+    language::POINT,
+    language::TYPE,
+    language::ENTRY,
+    language::HINT,
+];
 
 /// The tokens from the statement on that begins with one of some words and has this number among these, from 0; none where a
 /// statement with one of the other words comes before it.
@@ -64,9 +61,9 @@ pub fn type_from<'a>(text: &[u8], tokens: &'a [Token], ty: u32) -> Option<&'a [T
     from_statement(
         text,
         tokens,
-        &[b"type".as_slice()],
+        &[language::TYPE],
         ty,
-        &[b"entry".as_slice(), b"hint"],
+        &[language::ENTRY, language::HINT],
     )
 }
 
@@ -76,7 +73,7 @@ pub fn point_from<'a>(text: &[u8], tokens: &'a [Token], at: At) -> Option<&'a [T
     from_statement(
         text,
         of,
-        &[b"point".as_slice()],
+        &[language::POINT],
         at.point,
         BEHIND_POINTS.as_slice(),
     )
@@ -85,19 +82,13 @@ pub fn point_from<'a>(text: &[u8], tokens: &'a [Token], at: At) -> Option<&'a [T
 /// The tokens from the assertion of a point on that has this number, from 0.
 pub fn held_from<'a>(text: &[u8], tokens: &'a [Token], at: At, number: u32) -> Option<&'a [Token]> {
     let of = behind(point_from(text, tokens, at)?)?;
-    from_statement(
-        text,
-        of,
-        &[b"holds".as_slice()],
-        number,
-        &[b"next".as_slice()],
-    )
+    from_statement(text, of, &[language::HOLDS], number, &[language::NEXT])
 }
 
 /// The tokens from the variant of a point on.
 pub fn variant_from<'a>(text: &[u8], tokens: &'a [Token], at: At) -> Option<&'a [Token]> {
     let of = behind(point_from(text, tokens, at)?)?;
-    from_statement(text, of, &[b"variant".as_slice()], 0, &[b"next".as_slice()])
+    from_statement(text, of, &[language::VARIANT], 0, &[language::NEXT])
 }
 
 /// The tokens from what a type promises on that has this number, from 0: `ensures`, or `repairs`.
@@ -109,25 +100,19 @@ pub fn promise_from<'a>(
     number: u32,
 ) -> Option<&'a [Token]> {
     let of = behind(type_from(text, tokens, ty)?)?;
-    from_statement(text, of, &[word], number, &[b"point".as_slice()])
+    from_statement(text, of, &[word], number, &[language::POINT])
 }
 
 /// The tokens from what holds always on that has this number, from 0.
 pub fn always_from<'a>(text: &[u8], tokens: &'a [Token], number: u32) -> Option<&'a [Token]> {
-    from_statement(
-        text,
-        tokens,
-        &[b"always".as_slice()],
-        number,
-        &[b"type".as_slice()],
-    )
+    from_statement(text, tokens, &[language::ALWAYS], number, &[language::TYPE])
 }
 
 /// The word of a side.
 pub fn side_word(side: Side) -> &'static [u8] {
     match side {
-        Side::Next => b"next",
-        Side::Undo => b"undo",
+        Side::Next => language::NEXT,
+        Side::Undo => language::UNDO,
     }
 }
 
@@ -139,7 +124,7 @@ pub fn step_from<'a>(text: &[u8], tokens: &'a [Token], at: At, side: Side) -> Op
         of,
         &[side_word(side)],
         0,
-        &[b"point".as_slice(), b"type"],
+        &[language::POINT, language::TYPE],
     )
 }
 
@@ -152,13 +137,7 @@ pub fn path_from<'a>(
     number: u32,
 ) -> Option<&'a [Token]> {
     let of = behind(step_from(text, tokens, at, side)?)?;
-    from_statement(
-        text,
-        of,
-        &[b"path".as_slice()],
-        number,
-        BEHIND_STEP.as_slice(),
-    )
+    from_statement(text, of, &[language::PATH], number, BEHIND_STEP.as_slice())
 }
 
 /// The tokens from an action of the path at the front on that has this number, from 0.
@@ -166,19 +145,13 @@ pub fn action_from<'a>(text: &[u8], of_path: &'a [Token], number: u32) -> Option
     from_statement(
         text,
         behind(of_path)?,
-        ACTIONS.as_slice(),
+        &language::ACTIONS,
         number,
-        TARGETS.as_slice(),
+        &language::TARGETS,
     )
 }
 
 /// The tokens from the table with this number, from 0, on.
 pub fn table_from<'a>(text: &[u8], tokens: &'a [Token], number: u32) -> Option<&'a [Token]> {
-    from_statement(
-        text,
-        tokens,
-        &[b"table".as_slice(), b"private"],
-        number,
-        &[b"type".as_slice()],
-    )
+    from_statement(text, tokens, &language::TABLES, number, &[language::TYPE])
 }

@@ -1,4 +1,7 @@
 //! The shapes of a certificate's parts, and what each is in words.
+use acc_axioms::{Arguments, AxiomKind};
+use acc_explain::push_with;
+use acc_page::Page;
 
 /// What a part of a certificate should be.
 #[derive(Clone, Copy, PartialEq, Eq)]
@@ -8,8 +11,8 @@ pub enum Shape {
     Node,
     NodeWord,
     AxiomNumber,
-    /// The arguments of the axiom with this number.
-    Arguments(u64),
+    /// The arguments of an axiom.
+    Arguments(Arguments),
     Unknown,
     Atom,
     AtomWord,
@@ -40,6 +43,18 @@ fn one_of(shapes: &[Shape], number: u64) -> Shape {
     Shape::Surplus
 }
 
+/// What the arguments of the axiom with this number are; an unknown where there is no such axiom.
+fn arguments_of(axiom: u64) -> Arguments {
+    let kind = match u32::try_from(axiom) {
+        Ok(number) => AxiomKind::of(number),
+        Err(_) => None,
+    };
+    match kind {
+        Some(kind) => kind.arguments(),
+        None => Arguments::Unknown,
+    }
+}
+
 /// The item of a node that begins with this word, as it stands in the file.
 fn of_node(word: &[u8], axiom: u64, number: u64) -> Shape {
     if word == b"\"split\"".as_slice() {
@@ -53,7 +68,7 @@ fn of_node(word: &[u8], axiom: u64, number: u64) -> Shape {
         let shapes = [
             Shape::NodeWord,
             Shape::AxiomNumber,
-            Shape::Arguments(axiom),
+            Shape::Arguments(arguments_of(axiom)),
             Shape::Lists,
         ];
         one_of(&shapes, number)
@@ -65,13 +80,15 @@ fn of_node(word: &[u8], axiom: u64, number: u64) -> Shape {
 }
 
 /// The item of the arguments of an axiom.
-fn of_arguments(axiom: u64, number: u64) -> Shape {
-    match axiom {
-        1 | 2 | 7 | 12 => one_of(&[Shape::Index, Shape::Key], number),
-        3 | 5 | 6 | 8 => one_of(&[Shape::Index, Shape::Key, Shape::Index], number),
-        4 => one_of(&[Shape::Unknown, Shape::Unknown], number),
-        10 => one_of(&[Shape::Unknown, Shape::Index, Shape::Index], number),
-        _ => one_of(&[Shape::Unknown], number),
+fn of_arguments(arguments: Arguments, number: u64) -> Shape {
+    match arguments {
+        Arguments::TableKey => one_of(&[Shape::Index, Shape::Key], number),
+        Arguments::TableKeyNumber => one_of(&[Shape::Index, Shape::Key, Shape::Index], number),
+        Arguments::UnknownPair => one_of(&[Shape::Unknown, Shape::Unknown], number),
+        Arguments::Unknown => one_of(&[Shape::Unknown], number),
+        Arguments::UnknownPlaceSide => {
+            one_of(&[Shape::Unknown, Shape::Index, Shape::Index], number)
+        }
     }
 }
 
@@ -99,7 +116,7 @@ pub fn item_shape(shape: Shape, word: &[u8], axiom: u64, number: u64) -> Shape {
         Shape::Certificate => Shape::Proof,
         Shape::Proof => Shape::Node,
         Shape::Node => of_node(word, axiom, number),
-        Shape::Arguments(axiom) => of_arguments(axiom, number),
+        Shape::Arguments(arguments) => of_arguments(arguments, number),
         Shape::Unknown => one_of(&[Shape::Key, Shape::Atom], number),
         Shape::Atom => of_atom(word, number),
         Shape::Form => one_of(&[Shape::Terms, Shape::Wide], number),
@@ -112,18 +129,19 @@ pub fn item_shape(shape: Shape, word: &[u8], axiom: u64, number: u64) -> Shape {
         Shape::Lists => Shape::Mults,
         Shape::Mults => Shape::Mult,
         Shape::Mult => one_of(&[Shape::Index, Shape::Wide], number),
-        _ => Shape::Surplus,
+        Shape::NodeWord | Shape::AtomWord | Shape::AxiomNumber => Shape::Surplus,
+        Shape::Index | Shape::Wide | Shape::Narrow | Shape::Surplus => Shape::Surplus,
     }
 }
 
 /// The arguments of an axiom, in words.
-fn arguments_text(axiom: u64) -> &'static [u8] {
-    match axiom {
-        1 | 2 | 7 | 12 => b"the arguments `[TABLE, [LIN, ..]]`",
-        3 | 5 | 6 | 8 => b"the arguments `[TABLE, [LIN, ..], NUMBER]`",
-        4 => b"the arguments `[UNKNOWN, UNKNOWN]`",
-        10 => b"the arguments `[UNKNOWN, NUMBER, SIDE]`",
-        _ => b"the arguments `[UNKNOWN]`",
+fn arguments_text(arguments: Arguments) -> &'static [u8] {
+    match arguments {
+        Arguments::TableKey => b"the arguments `[TABLE, [LIN, ..]]`",
+        Arguments::TableKeyNumber => b"the arguments `[TABLE, [LIN, ..], NUMBER]`",
+        Arguments::UnknownPair => b"the arguments `[UNKNOWN, UNKNOWN]`",
+        Arguments::Unknown => b"the arguments `[UNKNOWN]`",
+        Arguments::UnknownPlaceSide => b"the arguments `[UNKNOWN, NUMBER, SIDE]`",
     }
 }
 
@@ -139,42 +157,90 @@ fn list_text(shape: Shape) -> Option<&'static [u8]> {
             b"lists of multipliers `[[[RELATION, \"MULTIPLIER\"], ..], ..]`, one a fact that is shown",
         ),
         Shape::Mults => Some(b"multipliers `[[RELATION, \"MULTIPLIER\"], ..]`"),
-        _ => None,
+        Shape::Node | Shape::Arguments(_) | Shape::Unknown | Shape::Atom | Shape::Form => None,
+        Shape::Term | Shape::Lin | Shape::LinTerm | Shape::Mult => None,
+        Shape::NodeWord | Shape::AtomWord | Shape::AxiomNumber => None,
+        Shape::Index | Shape::Wide | Shape::Narrow | Shape::Surplus => None,
     }
 }
 
-/// A part that is no list, in words.
-fn part_text(shape: Shape) -> &'static [u8] {
+/// An array with parts of several shapes, in words; none where the shape is no such array.
+fn parts_text(shape: Shape) -> Option<&'static [u8]> {
     match shape {
-        Shape::Node =>
+        Shape::Node => Some(
             b"a node `[\"split\", FORM]`, `[\"inst\", H, [LIN, ..], [M, ..]]`, `[\"axiom\", N, ARGS, [M, ..]]` or `[\"leaf\", M]`",
-        Shape::NodeWord => b"one of the words `\"split\"`, `\"inst\"`, `\"axiom\"` and `\"leaf\"`",
-        Shape::AxiomNumber => b"the number of an axiom, from 1 to 12",
-        Shape::Arguments(axiom) => arguments_text(axiom),
-        Shape::Unknown => b"an unknown `[[LIN, ..], ATOM]`",
-        Shape::Atom =>
+        ),
+        Shape::Arguments(arguments) => Some(arguments_text(arguments)),
+        Shape::Unknown => Some(b"an unknown `[[LIN, ..], ATOM]`"),
+        Shape::Atom => Some(
             b"an atom, such as `[\"var\", V]`, `[\"has\", T, [LIN, ..]]` or `[\"col\", T, [LIN, ..], C]`",
-        Shape::AtomWord =>
-            b"one of the words `\"one\"`, `\"var\"`, `\"has\"`, `\"col\"`, `\"count\"` and `\"sum\"`",
-        Shape::Form => b"a form `[[[UNKNOWN, \"COEFFICIENT\"], ..], \"CONSTANT\"]`",
-        Shape::Term => b"a term `[UNKNOWN, \"COEFFICIENT\"]`",
-        Shape::Lin => b"a linear value `[[[VARIABLE, \"COEFFICIENT\"], ..], \"CONSTANT\"]`",
-        Shape::LinTerm => b"a term `[VARIABLE, \"COEFFICIENT\"]`",
-        Shape::Mult => b"a pair `[RELATION, \"MULTIPLIER\"]`",
-        Shape::Index =>
-            b"a whole number from 0 to 4,294,967,295, in digits alone and without quotes",
-        Shape::Wide =>
-            b"a number in quotes: digits without leading zeros, with a `-` where it is below 0, within 2^120 of 0",
-        Shape::Narrow =>
-            b"a number in quotes: digits without leading zeros, with a `-` where it is below 0, of 64 bits",
-        _ => b"the end of the array",
+        ),
+        Shape::Form => Some(b"a form `[[[UNKNOWN, \"COEFFICIENT\"], ..], \"CONSTANT\"]`"),
+        Shape::Term => Some(b"a term `[UNKNOWN, \"COEFFICIENT\"]`"),
+        Shape::Lin => Some(b"a linear value `[[[VARIABLE, \"COEFFICIENT\"], ..], \"CONSTANT\"]`"),
+        Shape::LinTerm => Some(b"a term `[VARIABLE, \"COEFFICIENT\"]`"),
+        Shape::Mult => Some(b"a pair `[RELATION, \"MULTIPLIER\"]`"),
+        Shape::Certificate | Shape::Proof | Shape::Terms | Shape::LinTerms => None,
+        Shape::Key | Shape::Lists | Shape::Mults => None,
+        Shape::NodeWord | Shape::AtomWord | Shape::AxiomNumber => None,
+        Shape::Index | Shape::Wide | Shape::Narrow | Shape::Surplus => None,
     }
 }
 
-/// What a part should be, in words.
-pub fn shape_text(shape: Shape) -> &'static [u8] {
+/// An array, in words; none where the shape is no array.
+fn array_text(shape: Shape) -> Option<&'static [u8]> {
     match list_text(shape) {
-        Some(text) => text,
-        None => part_text(shape),
+        Some(text) => Some(text),
+        None => parts_text(shape),
+    }
+}
+
+/// Whether a part of this shape is an array.
+pub fn is_array(shape: Shape) -> bool {
+    array_text(shape).is_some()
+}
+
+/// How many kinds of axioms there are: their numbers go from 1 to this.
+fn kinds() -> usize {
+    (1..=u32::from(u8::MAX))
+        .filter(|number| AxiomKind::of(*number).is_some())
+        .count()
+}
+
+/// Writes what a part that is no array should be.
+fn push_single(out: &mut Page, shape: Shape) {
+    match shape {
+        Shape::NodeWord => out.push(
+            b"one of the words `\"split\"`, `\"inst\"`, `\"axiom\"` and `\"leaf\"`",
+        ),
+        Shape::AxiomNumber => push_with(out, b"the number of an axiom, from 1 to ", kinds(), b""),
+        Shape::AtomWord => out.push(
+            b"one of the words `\"one\"`, `\"var\"`, `\"has\"`, `\"col\"`, `\"count\"` and `\"sum\"`",
+        ),
+        Shape::Index => push_with(
+            out,
+            b"a whole number from 0 to ",
+            u32::MAX,
+            b", in digits alone and without quotes",
+        ),
+        Shape::Wide => out.push(
+            b"a number in quotes: digits without leading zeros, with a `-` where it is below 0, within 2^120 of 0",
+        ),
+        Shape::Narrow => out.push(
+            b"a number in quotes: digits without leading zeros, with a `-` where it is below 0, of 64 bits",
+        ),
+        Shape::Surplus => out.push(b"the end of the array"),
+        Shape::Certificate | Shape::Proof | Shape::Node | Shape::Arguments(_) => {}
+        Shape::Unknown | Shape::Atom | Shape::Form | Shape::Terms | Shape::Term => {}
+        Shape::Lin | Shape::LinTerms | Shape::LinTerm | Shape::Key => {}
+        Shape::Lists | Shape::Mults | Shape::Mult => {}
+    }
+}
+
+/// Writes what a part should be.
+pub fn push_shape(out: &mut Page, shape: Shape) {
+    match array_text(shape) {
+        Some(text) => out.push(text),
+        None => push_single(out, shape),
     }
 }

@@ -3,6 +3,7 @@ use Rattle.std.specs.Prelude.{◌≡◌, ◌≢◌, ◌⊎◌, ℕ, Bool, true, 
 use Rattle.std.specs.Fmt.{decimal}
 use Rattle.acc_base.specs.declared.designs.Design.{Design}
 use Rattle.acc_base.specs.Lines.{line}
+use Rattle.acc_base.specs.Numbering.{form_rule_number}
 use Rattle.acc_base.specs.Soundness.{IsSound}
 use Rattle.acc_axioms.specs.declared.nodes.Cert.{Cert}
 use Rattle.acc_cert_read.specs.Parts.{Good, Off}
@@ -14,7 +15,7 @@ use Rattle.acc_origins.specs.Origins.{origin_text, path_text}
 
 -- why a design is refused with a certificate; want of memory isn't said
 abbrev pub reason_text : Design → Refusal → List ℕ
-reason_text d (Form rule at) = codes "form " ++ (decimal rule ++ (codes " " ++ decimal at))
+reason_text d (Form rule at) = codes "form " ++ (decimal (form_rule_number rule) ++ (codes " " ++ decimal at))
 reason_text d (ObligWide origin) = codes "wide " ++ origin_text d origin
 reason_text d (Missing origin) = codes "missing " ++ origin_text d origin
 reason_text d (ProofWide origin) = codes "wide " ++ origin_text d origin

@@ -2,6 +2,7 @@
 ghost use Rattle.std.specs.Prelude.{◌≡◌, ◌≢◌, ◌++◌, false, codes, IfOk};
 ghost use Rattle.std.specs.Fmt.{decimal};
 ghost use Rattle.acc_base.specs.Lines.{line};
+ghost use Rattle.acc_base.specs.Numbering.{form_rule_number};
 ghost use Rattle.acc_accept.specs.declared.refusals.Refusal.TheVariants.{Memory as OutOfMemory};
 ghost use Rattle.acc_page.specs.Written.{Adds};
 ghost use Rattle.acc_origins.specs.Origins.{origin_text, path_text};
@@ -11,6 +12,7 @@ ghost use Rattle.acc_check.specs.Admissions.{Admits, AdmitsWith};
 use acc_accept::{Refusal, accept};
 use acc_axioms::nodes::Cert;
 use acc_base::designs::Design;
+use acc_base::rules::FormRule;
 use acc_base::sequents::Origin;
 use acc_cert_read::certificates::read;
 use acc_cert_read::errors::CertError;
@@ -41,11 +43,11 @@ fn push_labelled(out: &mut Page, label: &[u8], d: &Design, origin: &Origin)
     push_origin(out, d, origin)
 }
 
-fn push_rule(out: &mut Page, rule: u32, line: u64)
-    ensures { Adds out.old out.new (codes "form " ++ (decimal rule ++ (codes " " ++ decimal line))) }
+fn push_rule(out: &mut Page, rule: FormRule, line: u64)
+    ensures { Adds out.old out.new (codes "form " ++ (decimal (form_rule_number rule) ++ (codes " " ++ decimal line))) }
 {
     out.push(b"form ");
-    out.push_number(rule);
+    out.push_number(rule.number());
     out.push(b" ");
     out.push_number(line)
 }

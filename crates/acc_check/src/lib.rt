@@ -5,3 +5,4 @@ mod checks;
 pub mod laws;
 
 pub use checks::{Admission, Report, admit, check};
+pub use laws::one_report;

@@ -1,25 +1,26 @@
 -- A step of a loop whose steps may stop.
-use Rattle.std.proofs.Common.{◌≡◌, ℕ, ◌+◌, ◌<◌, List, ◌∷◌, length, get_or, drop, drop-cons, add-one, Result, Ok, Err, ap, sym, ◌∙◌, subst}
+use Rattle.std.proofs.Common.{◌≡◌, ℕ, ◌+◌, ◌<◌, Bool, true, false, List, ◌∷◌, length, get_or, drop, drop-cons, add-one, Result, Ok, Err}
+use Rattle.std.proofs.Common.{ap, sym, ◌∙◌, subst}
 use Rattle.std.specs.Prelude.{IsErrAnd}
 use Rattle.std.proofs.lemmas.Result.{err_from_is_err_and}
+use Rattle.acc_base.specs.Computing.{chain, steps, StopsBy}
 use Rattle.acc_choices.specs.declared.listing.InstError.{InstError}
-use Rattle.acc_choices.specs.declared.listing.InstError.TheVariants.{Crowded, Wide, Memory}
-use Rattle.acc_choices.specs.Parts.{Listing, chain, steps, StoppedBy, Leaves}
+use Rattle.acc_choices.specs.Parts.{Listing, tells, LeavesListing}
 
-stopped_chain : {A B : Type 0} (e : InstError) (r : Listing A) (next : A → Listing B) → StoppedBy e r → StoppedBy e (chain r next)
-stopped_chain Crowded r next h = ap (λ r. chain r next) h
-stopped_chain Wide r next h = ap (λ r. chain r next) h
-stopped_chain Memory r next h = tt
+stopped_chain : {A B : Type 0} (told : Bool) (e : InstError) (r : Listing A) (next : A → Listing B) → StopsBy told e r
+    → StopsBy told e (chain r next)
+stopped_chain true e r next h = ap (λ r. chain r next) h
+stopped_chain false e r next h = tt
 
-pub stopped_along : {A : Type 0} (e : InstError) (r s : Listing A) → r ≡ s → StoppedBy e r → StoppedBy e s
-stopped_along e r s same h = subst (λ x. StoppedBy e x) same h
+pub stopped_along : {A : Type 0} (e : InstError) (r s : Listing A) → r ≡ s → StopsBy (tells e) e r → StopsBy (tells e) e s
+stopped_along e r s same h = subst (λ x. StopsBy (tells e) e x) same h
 
 pub leaves_handed : {A T : Type 0} (r : Result T InstError) (e : InstError) (x : A) (outcome : Listing A) → IsErrAnd r (λ y. y ≡ e) →
-    StoppedBy e outcome → Leaves r x outcome
+    StopsBy (tells e) e outcome → LeavesListing r x outcome
 leaves_handed r e x outcome h stopped =
     let p = err_from_is_err_and r h in
     let same : r ≡ Err e = p.1 ∙ ap Err p.2 in
-    subst (λ y. Leaves y x outcome) (sym same) stopped
+    subst (λ y. LeavesListing y x outcome) (sym same) stopped
 
 drop_more : {X : Type 0} (xs : List X) (i : ℕ) (d x : X) → i < length xs → x ≡ get_or xs i d → drop i xs ≡ x ∷ drop (i + 1) xs
 drop_more xs i d x within here =
@@ -31,8 +32,8 @@ module _ {S X : Type 0} (step : S → X → Listing S) (xs : List X) (i : ℕ) (
   step_on d t within here done =
       ap (λ r. chain r (λ u. steps step u (drop (i + 1) xs))) (sym done) ∙ ap (steps step s) (sym (drop_more xs i d d within here))
 
-  pub step_stopped : (d : X) (e : InstError) → i < length xs → d ≡ get_or xs i d → StoppedBy e (step s d) →
-      StoppedBy e (steps step s (drop i xs))
+  pub step_stopped : (d : X) (e : InstError) → i < length xs → d ≡ get_or xs i d → StopsBy (tells e) e (step s d) →
+      StopsBy (tells e) e (steps step s (drop i xs))
   step_stopped d e within here h =
       stopped_along e _ _ (ap (steps step s) (sym (drop_more xs i d d within here)))
-      (stopped_chain e (step s d) (λ u. steps step u (drop (i + 1) xs)) h)
+      (stopped_chain (tells e) e (step s d) (λ u. steps step u (drop (i + 1) xs)) h)

@@ -1,2 +1,10 @@
 pub mod Chains
+pub mod Numbers
+pub mod TableAtoms
+pub mod Firsts
+pub mod Crowds
+pub mod Choosing
+pub mod Components
+pub mod Levels
+pub mod WalkedValues
 pub mod Lengths

@@ -1,18 +1,7 @@
--- Atoms of tables, and the values that are variables alone.
-use Rattle.std.specs.Prelude.{◌==◌, ℕ, Bool, false, ◌&&◌, List, [], ◌∷◌, Option, Some, None, position, ℤ, pos}
+-- The values that are variables alone.
+use Rattle.std.specs.Prelude.{◌==◌, ℕ, Bool, false, ◌&&◌, List, [], ◌∷◌, Option, position, ℤ, pos}
 use Rattle.std.specs.Ordering.{int_eq}
 use Rattle.acc_base.specs.declared.forms.Lin.{Lin}
-use Rattle.acc_base.specs.declared.forms.Atom.{Atom}
-use Rattle.acc_base.specs.declared.forms.Atom.TheVariants.{One, Var, Has, Col, Count, Sum}
-
--- the table of an atom
-abbrev pub table_of : Atom → Option ℕ
-table_of One = None
-table_of (Var x) = None
-table_of (Has t k) = Some t
-table_of (Col t k c) = Some t
-table_of (Count t p) = Some t
-table_of (Sum t p c) = Some t
 
 -- whether a value is a variable alone
 abbrev pub is_once : ℕ → List (ℕ × ℤ) → Bool

@@ -2,3 +2,4 @@ pub mod Parts
 pub mod Atoms
 pub mod Targets
 pub mod Choices
+pub mod Walks

@@ -1,8 +1,10 @@
--- Parts of a listing, one after the other, and what a call's answer tells of one.
-use Rattle.std.specs.Prelude.{◌≡◌, Bool, if◌then◌else◌, List, [], ◌∷◌, ◌++◌, length, nat_le, Result, Ok, Err}
-use Rattle.std.specs.List.{list_any}
+-- Listings, which may stop, what a call's answer tells of one, and items that are listed once.
+use Rattle.std.specs.Prelude.{Bool, true, false, if◌then◌else◌, List, [], ◌∷◌, ◌++◌, length, nat_lt, Result, Ok, Err}
+use Rattle.std.specs.List.{fold, list_any}
+use Rattle.acc_base.specs.declared.bounds.TheConstants.{MOST_INSTANCES}
 use Rattle.acc_base.specs.declared.sums.FormSum.{FormSum}
 use Rattle.acc_base.specs.declared.sums.FormSum.TheVariants as form_sum
+use Rattle.acc_base.specs.Computing.{Answers, Leaves}
 use Rattle.acc_choices.specs.declared.listing.InstError.{InstError}
 use Rattle.acc_choices.specs.declared.listing.InstError.TheVariants.{Crowded, Wide, Memory}
 
@@ -15,32 +17,30 @@ cause form_sum.Memory = Memory
 abbrev pub Listing : Type 0 → Type 0
 Listing A = Result A InstError
 
-abbrev pub chain : {A B : Type 0} → Listing A → (A → Listing B) → Listing B
-chain (Ok x) next = next x
-chain (Err e) next = Err e
+-- the causes that tell of the listing: want of memory tells nothing
+abbrev pub tells : InstError → Bool
+tells Crowded = true
+tells Wide = true
+tells Memory = false
 
-abbrev pub steps : {S X : Type 0} → (S → X → Listing S) → S → List X → Listing S
-steps step s [] = Ok s
-steps step s (x ∷ xs) = chain (step s x) (λ t. steps step t xs)
+abbrev pub AnswersListing : {A : Type 0} → Result A InstError → Listing A → Type 0
+AnswersListing result listing = Answers tells result listing
 
-abbrev pub StoppedBy : {A : Type 0} → InstError → Listing A → Type 0
-StoppedBy Crowded l = l ≡ Err Crowded
-StoppedBy Wide l = l ≡ Err Wide
-StoppedBy Memory l = Unit {0}
-
-abbrev pub Answers : {A : Type 0} → Result A InstError → Listing A → Type 0
-Answers (Ok x) l = l ≡ Ok x
-Answers (Err e) l = StoppedBy e l
-
-abbrev pub Leaves : {A B : Type 0} → Result B InstError → A → Listing A → Type 0
-Leaves (Ok _) x l = l ≡ Ok x
-Leaves (Err e) x l = StoppedBy e l
+abbrev pub LeavesListing : {A B : Type 0} → Result B InstError → A → Listing A → Type 0
+LeavesListing result x listing = Leaves tells result x listing
 
 -- one more item, unless it stands there
 abbrev pub with_first : {X : Type 0} → (X → X → Bool) → List X → X → List X
 with_first same xs x = if list_any (same x) xs then xs else xs ++ x ∷ []
 
--- the same where so many are the most
-abbrev pub with_few : {X : Type 0} → (X → X → Bool) → List X → X → Listing (List X)
-with_few same xs x =
-    if list_any (same x) xs then Ok xs else (if nat_le 4096 (length xs) then Err Crowded else Ok (xs ++ x ∷ []))
+-- further items, each unless it stands there
+abbrev pub with_firsts : {X : Type 0} → (X → X → Bool) → List X → List X → List X
+with_firsts same xs more = fold (with_first same) xs more
+
+-- items, equal ones once, where they first stand
+abbrev pub firsts : {X : Type 0} → (X → X → Bool) → List X → List X
+firsts same xs = with_firsts same [] xs
+
+-- a list, unless it is longer than the most instances
+abbrev pub unless_crowded : {X : Type 0} → List X → Listing (List X)
+unless_crowded xs = if nat_lt MOST_INSTANCES (length xs) then Err Crowded else Ok xs

@@ -1,34 +1,11 @@
-//! Atoms of tables, and the values that are variables alone.
+//! Values that are variables alone.
 ghost use Rattle.std.specs.Prelude.{◌≡◌, ◌<◌, length, IfSome};
 ghost use Rattle.std.specs.Cmp.Lexicographic.{pointwise};
 ghost use Rattle.acc_base.specs.FormEquality.{lin_eq};
-ghost use Rattle.acc_axioms.specs.Axioms.{key_of};
-ghost use Rattle.acc_choices.specs.Atoms.{table_of, is_once, is_alone, place_in};
+ghost use Rattle.acc_choices.specs.Atoms.{is_once, is_alone, place_in};
 ghost use Rattle.acc_choices.specs.Targets.{same_lins};
 
-use acc_base::forms::{Atom, Lin};
-
-/// The table of an atom.
-pub fn table_of(atom: &Atom) -> Option<u32>
-    ensures { result ≡ table_of atom.now }
-{
-    match atom {
-        Atom::One | Atom::Var(_) => None,
-        Atom::Has(table, _) | Atom::Col(table, _, _) => Some(*table),
-        Atom::Count(table, _) | Atom::Sum(table, _, _) => Some(*table),
-    }
-}
-
-/// The key or the prefix of an atom.
-pub fn key_of(atom: &Atom) -> &[Lin]
-    ensures { result.now ≡ key_of atom.now }
-{
-    match atom {
-        Atom::One | Atom::Var(_) => &[],
-        Atom::Has(_, key) | Atom::Col(_, key, _) => key.as_slice(),
-        Atom::Count(_, prefix) | Atom::Sum(_, prefix, _) => prefix.as_slice(),
-    }
-}
+use acc_base::forms::Lin;
 
 /// Whether two lists of values are the same.
 pub fn same_lins(a: &[Lin], b: &[Lin]) -> bool

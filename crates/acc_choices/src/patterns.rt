@@ -1,52 +1,44 @@
-//! The atoms of a hypothesis, and the targets that fit them.
-ghost use Rattle.std.specs.Prelude.{◌≡◌, ◌+◌, ◌<◌, ◌^◌, [], length, IfOk, OnOk};
+//! The table atoms of a hypothesis as patterns, the targets that fit them, and the patterns that are taken.
+ghost use Rattle.std.specs.Prelude.{◌≡◌, ◌+◌, ◌<◌, ◌^◌, [], IfOk, OnOk};
 ghost use Rattle.std.specs.List.{fold, list_all, list_any};
-ghost use Rattle.acc_choices.specs.Choices.{with_place, places_of, is_there, is_whole, reaches, fits, place_at, has_place, is_had};
-ghost use Rattle.acc_choices.specs.Choices.{with_new};
-ghost use Rattle.acc_choices.specs.Choices.{news_of, with_taken, has_targets, with_lack, have_all};
+ghost use Rattle.acc_choices.specs.Choices.{places_of, is_there, is_whole, reaches, fits, place_at, has_place, is_had, new_place, news_of};
+ghost use Rattle.acc_choices.specs.Choices.{have_all};
+ghost use Rattle.acc_choices.specs.Walks.{patterns_in, take_pattern, has_targets};
 
 use crate::atoms::place_in;
 use crate::targets::Target;
 use acc_base::forms::Lin;
-use acc_base::sequences::{Seq, Text};
+use acc_base::sequences::Seq;
 use std::alloc::{AllocError, Global};
 
-/// The table of an atom, for each own variable the place of its key at which it stands alone, and those places again without
-/// the variables of patterns before it.
+/// The table of an atom, and for each own variable the place of its key at which it stands alone.
 #[derive(Drop)]
 pub struct Pattern {
     pub table: u32,
     pub places: Seq<Option<usize>>,
+}
+
+/// A pattern that is taken, and its places without those of the variables that stand alone in patterns before it.
+#[derive(Drop)]
+pub struct Taken {
+    pub pattern: Pattern,
     pub news: Seq<Option<usize>>,
 }
 
-fn add_place(
-    first: u32,
-    key: &[Lin],
-    places: &mut Seq<Option<usize>>,
-    name: &Text,
-) -> Result<(), AllocError>
-    requires { first + length places.old < 2 ^ 32 }
-    ensures { OnOk result (places.new ≡ with_place first key.now places.old name.now) }
-{
-    let variable = first + places.len() as u32;
-    places.push(place_in(variable, key))?;
-    Ok(())
-}
-
-/// For each own variable the place at which it stands alone.
+/// For each of so many own variables, numbered from a first one on, the first place at which it stands alone.
+#[tactic(auto, using(crate::proofs::Numbers::map_more))]
 pub fn places_of(
     alloc: Global,
     first: u32,
-    vars: &[Text],
+    count: usize,
     key: &[Lin],
 ) -> Result<Seq<Option<usize>>, AllocError>
-    requires { first + length vars.now < 2 ^ 32 }
-    ensures { IfOk result (λ v. v ≡ places_of first vars.now key.now) }
+    requires { first + count < 2 ^ 32 }
+    ensures { IfOk result (λ v. v ≡ places_of first count key.now) }
 {
     let mut places = Seq::new(alloc);
-    for name in vars {
-        add_place(first, key, &mut places, name)?;
+    for i in 0..count {
+        places.push(place_in(first + i as u32, key))?;
     }
     Ok(places)
 }
@@ -126,42 +118,40 @@ fn has_place(i: usize, pattern: &Pattern) -> bool
     }
 }
 
-/// Whether a taken pattern has the variable.
-fn is_had(taken: &[Pattern], i: usize) -> bool
-    ensures { result ≡ is_had taken.now i }
+/// Whether the variable stands alone in a taken pattern.
+fn is_had(taken: &[Taken], i: usize) -> bool
+    ensures { result ≡ is_had (patterns_in taken.now) i }
 {
-    for pattern in taken {
-        if has_place(i, pattern) {
+    for one in taken {
+        if has_place(i, &one.pattern) {
             return true;
         }
     }
     false
 }
 
-fn add_new(
-    taken: &[Pattern],
-    news: &mut Seq<Option<usize>>,
-    place: Option<usize>,
-) -> Result<(), AllocError>
-    ensures { OnOk result (news.new ≡ with_new taken.now news.old place) }
+fn new_place(taken: &[Taken], places: &[Option<usize>], i: usize) -> Option<usize>
+    ensures { result ≡ new_place (patterns_in taken.now) places.now i }
 {
-    let i = news.len();
-    let new = if is_had(taken, i) { None } else { place };
-    news.push(new)?;
-    Ok(())
+    if is_had(taken, i) {
+        None
+    } else {
+        place_at(places, i)
+    }
 }
 
-/// The places of variables that no taken pattern has.
+/// The places of the variables that stand alone in no taken pattern.
+#[tactic(auto, using(crate::proofs::Numbers::map_one_more))]
 fn news_of(
     alloc: Global,
-    taken: &[Pattern],
+    taken: &[Taken],
     places: &[Option<usize>],
 ) -> Result<Seq<Option<usize>>, AllocError>
-    ensures { IfOk result (λ v. v ≡ news_of taken.now places.now) }
+    ensures { IfOk result (λ v. v ≡ news_of (patterns_in taken.now) places.now) }
 {
     let mut news = Seq::new(alloc);
-    for place in places {
-        add_new(taken, &mut news, *place)?;
+    for i in 0..places.len() {
+        news.push(new_place(taken, places, i))?;
     }
     Ok(news)
 }
@@ -176,25 +166,24 @@ fn copied_places(alloc: Global, places: &[Option<usize>]) -> Result<Seq<Option<u
     Ok(again)
 }
 
-fn add_taken(alloc: Global, taken: &mut Vec<Pattern>, pattern: &Pattern) -> Result<(), AllocError>
-    ensures { OnOk result (taken.new.items ≡ with_taken taken.old.items pattern.now) }
+fn add_taken(alloc: Global, taken: &mut Vec<Taken>, pattern: &Pattern) -> Result<(), AllocError>
+    ensures { OnOk result (taken.new.items ≡ take_pattern taken.old.items pattern.now) }
 {
     let news = news_of(alloc, taken.as_slice(), pattern.places.as_slice())?;
     if !any_there(news.as_slice()) {
         return Ok(());
     }
-    let places = copied_places(alloc, pattern.places.as_slice())?;
-    taken.push(Pattern {
+    let pattern = Pattern {
         table: pattern.table,
-        places,
-        news,
-    })?;
+        places: copied_places(alloc, pattern.places.as_slice())?,
+    };
+    taken.push(Taken { pattern, news })?;
     Ok(())
 }
 
-/// The patterns that have a variable that none before has.
-pub fn taken_of(alloc: Global, patterns: &[Pattern]) -> Result<Vec<Pattern>, AllocError>
-    ensures { IfOk result (λ v. v.items ≡ fold with_taken [] patterns.now) }
+/// The patterns in which a variable stands alone that does so in none taken before.
+pub fn taken_of(alloc: Global, patterns: &[Pattern]) -> Result<Vec<Taken>, AllocError>
+    ensures { IfOk result (λ v. v.items ≡ fold take_pattern [] patterns.now) }
 {
     let mut taken = Vec::new(alloc);
     for pattern in patterns {
@@ -226,33 +215,26 @@ fn has_targets(targets: &[Target], pattern: &Pattern) -> bool
     false
 }
 
-/// Whether each pattern has a target.
-pub fn all_have_targets(targets: &[Target], taken: &[Pattern]) -> bool
-    ensures { result ≡ list_all (has_targets targets.now) taken.now }
+/// Whether each taken pattern has a target.
+pub fn all_have_targets(targets: &[Target], taken: &[Taken]) -> bool
+    ensures { result ≡ list_all (has_targets targets.now) (patterns_in taken.now) }
 {
-    for pattern in taken {
-        if !has_targets(targets, pattern) {
+    for one in taken {
+        if !has_targets(targets, &one.pattern) {
             return false;
         }
     }
     true
 }
 
-fn had_too(taken: &[Pattern], i: usize, all: bool, _name: &Text) -> bool
-    ensures { result ≡ (with_lack taken.now (i, all) _name.now).1 }
+/// Whether each of so many own variables stands alone in a taken pattern.
+pub fn have_all(taken: &[Taken], count: usize) -> bool
+    ensures { result ≡ have_all count (patterns_in taken.now) }
 {
-    all && is_had(taken, i)
-}
-
-/// Whether taken patterns have all own variables.
-pub fn have_all(taken: &[Pattern], vars: &[Text]) -> bool
-    ensures { result ≡ have_all taken.now vars.now }
-{
-    let mut all = true;
-    let mut i = 0;
-    for name in vars {
-        all = had_too(taken, i, all, name);
-        i += 1;
+    for i in 0..count {
+        if !is_had(taken, i) {
+            return false;
+        }
     }
-    all
+    true
 }

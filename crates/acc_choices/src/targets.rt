@@ -1,10 +1,10 @@
 //! The targets of a sequent.
-ghost use Rattle.std.specs.Prelude.{◌≡◌, IfOk, OnOk};
-ghost use Rattle.std.specs.List.{fold, list_any};
-ghost use Rattle.acc_choices.specs.Parts.{with_first};
-ghost use Rattle.acc_choices.specs.Targets.{same_target, with_spot, with_term, with_form, with_rel, targets_of};
+ghost use Rattle.std.specs.Prelude.{◌≡◌, ◌∷◌, [], IfOk, OnOk};
+ghost use Rattle.std.specs.List.{list_any};
+ghost use Rattle.acc_choices.specs.Parts.{with_first, with_firsts};
+ghost use Rattle.acc_choices.specs.Targets.{same_target, targets_in, rel_targets, targets_of};
 
-use crate::atoms::{key_of, same_lins, table_of};
+use crate::atoms::same_lins;
 use acc_base::forms::{Form, Lin, Rel, Unknown};
 use acc_base::sequences::{Seq, copied};
 use acc_base::sequents::Sequent;
@@ -57,38 +57,29 @@ fn add(targets: &mut Vec<Target>, target: Target) -> Result<(), AllocError>
     Ok(())
 }
 
-fn add_spot(
-    alloc: Global,
-    targets: &mut Vec<Target>,
-    table: Option<u32>,
-    key: &[Lin],
-) -> Result<(), AllocError>
-    ensures { OnOk result (targets.new.items ≡ with_spot targets.old.items table key.now) }
-{
-    match table {
-        None => Ok(()),
-        Some(table) => {
-            let key = copied_lins(alloc, key)?;
-            add(targets, Target { table, key })
-        }
-    }
-}
-
 /// The target of a term's atom.
+#[tactic(auto, using(crate::proofs::TableAtoms::no_target, crate::proofs::TableAtoms::one_target))]
 fn add_term(
     alloc: Global,
     targets: &mut Vec<Target>,
     term: &(Unknown, i128),
 ) -> Result<(), AllocError>
-    ensures { OnOk result (targets.new.items ≡ with_term targets.old.items term.now) }
+    ensures { OnOk result (targets.new.items ≡ with_firsts same_target targets.old.items (targets_in (term.now ∷ []))) }
 {
     let atom = &term.0.atom;
-    add_spot(alloc, targets, table_of(atom), key_of(atom))
+    match atom.table() {
+        None => Ok(()),
+        Some(table) => {
+            let key = copied_lins(alloc, atom.key())?;
+            add(targets, Target { table, key })
+        }
+    }
 }
 
 /// The targets of a form.
+#[tactic(auto, using(crate::proofs::TableAtoms::one_more))]
 fn add_form(alloc: Global, targets: &mut Vec<Target>, form: &Form) -> Result<(), AllocError>
-    ensures { OnOk result (targets.new.items ≡ with_form targets.old.items form.now) }
+    ensures { OnOk result (targets.new.items ≡ with_firsts same_target targets.old.items (targets_in form.now.terms)) }
 {
     for term in form.terms.as_slice() {
         add_term(alloc, targets, term)?;
@@ -98,7 +89,7 @@ fn add_form(alloc: Global, targets: &mut Vec<Target>, form: &Form) -> Result<(),
 
 /// The targets of relations.
 fn add_rels(alloc: Global, targets: &mut Vec<Target>, rels: &[Rel]) -> Result<(), AllocError>
-    ensures { OnOk result (targets.new.items ≡ fold with_rel targets.old.items rels.now) }
+    ensures { OnOk result (targets.new.items ≡ with_firsts same_target targets.old.items (rel_targets rels.now)) }
 {
     for rel in rels {
         add_form(alloc, targets, &rel.form)?;

@@ -1,16 +1,18 @@
 //! Values for a hypothesis's own variables.
 ghost use Rattle.std.specs.Prelude.{◌≡◌, [], IfOk, OnOk};
-ghost use Rattle.std.specs.List.{fold, list_any};
-ghost use Rattle.acc_choices.specs.Parts.{Leaves, with_few};
-ghost use Rattle.acc_choices.specs.Targets.{same_lins};
+ghost use Rattle.std.specs.List.{list_any};
 ghost use Rattle.acc_instanced.specs.Instances.{zero_lin};
-ghost use Rattle.acc_choices.specs.Choices.{value_by, with_value, values_by, with_nothing, nothings};
+ghost use Rattle.acc_choices.specs.Parts.{LeavesListing};
+ghost use Rattle.acc_choices.specs.Targets.{same_lins};
+ghost use Rattle.acc_choices.specs.Choices.{value_by, values_in};
+ghost use Rattle.acc_choices.specs.Walks.{with_few, with_value, values_by};
 
 use crate::atoms::same_lins;
 use crate::listing::InstError;
 use crate::patterns::place_at;
+use acc_base::bounds::MOST_INSTANCES;
 use acc_base::forms::Lin;
-use acc_base::sequences::{Seq, Text, copied};
+use acc_base::sequences::{Seq, copied};
 use std::alloc::{AllocError, Global};
 
 fn nothing(alloc: Global) -> Lin
@@ -22,20 +24,14 @@ fn nothing(alloc: Global) -> Lin
     }
 }
 
-fn add_nothing(alloc: Global, values: &mut Seq<Lin>, _name: &Text) -> Result<(), AllocError>
-    ensures { OnOk result (values.new ≡ with_nothing values.old _name.now) }
-{
-    values.push(nothing(alloc))?;
-    Ok(())
-}
-
-/// As many zeros as there are variables.
-pub fn nothings(alloc: Global, vars: &[Text]) -> Result<Seq<Lin>, AllocError>
-    ensures { IfOk result (λ v. v ≡ nothings vars.now) }
+/// So many zeros: the values before any target is chosen.
+#[tactic(auto, using(crate::proofs::Numbers::map_one_more))]
+pub fn nothings(alloc: Global, count: usize) -> Result<Seq<Lin>, AllocError>
+    ensures { IfOk result (λ v. v ≡ values_in count []) }
 {
     let mut values = Seq::new(alloc);
-    for name in vars {
-        add_nothing(alloc, &mut values, name)?;
+    for _ in 0..count {
+        values.push(nothing(alloc))?;
     }
     Ok(values)
 }
@@ -101,12 +97,12 @@ fn is_among(found: &[Seq<Lin>], values: &[Lin]) -> bool
 
 /// One more list of values, unless it stands there or there are too many.
 pub fn add_few(found: &mut Vec<Seq<Lin>>, values: Seq<Lin>) -> Result<(), InstError>
-    ensures { Leaves result found.new.items (with_few same_lins found.old.items values) }
+    ensures { LeavesListing result found.new.items (with_few same_lins found.old.items values) }
 {
     if is_among(found.as_slice(), values.as_slice()) {
         return Ok(());
     }
-    if found.len() >= 4096 {
+    if found.len() >= MOST_INSTANCES {
         return Err(InstError::Crowded);
     }
     found.push(values)?;

@@ -2,7 +2,7 @@
 use Rattle.std.specs.Prelude.{not, List, [], ◌++◌, Option, Some, None, ℤ}
 use Rattle.std.specs.List.{flat_map}
 use Rattle.acc_base.specs.Numbers.{is_small}
-use Rattle.acc_limits.specs.declared.limits.Limit.TheVariants as limit
+use Rattle.acc_base.specs.declared.limits.Limit.TheVariants as limit
 use Rattle.acc_limits.specs.Marks.{Mark, past, ending}
 use Rattle.acc_terms.specs.declared.collecting.Terms.{Terms}
 use Rattle.acc_syntax.specs.declared.trees.Sum.{Sum}

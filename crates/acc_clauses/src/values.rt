@@ -173,7 +173,10 @@ pub fn compared<K: Drop>(
 pub fn is_equation(relation: &Relation) -> bool
     ensures { result ≡ is_equation relation.now }
 {
-    matches!(relation, Relation::Equal)
+    match relation {
+        Relation::AtMost | Relation::AtLeast => false,
+        Relation::Equal => true,
+    }
 }
 
 /// The relation of linear values that is written.

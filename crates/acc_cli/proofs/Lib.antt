@@ -2,6 +2,7 @@ pub mod CauseLemmas
 pub mod PromiseLemmas
 pub mod StatusLemmas
 pub mod OneAnswer
+pub mod Completeness
 pub mod DiskLemmas
 pub mod CreationLemmas
 pub mod ProvingLemmas

@@ -148,7 +148,7 @@ module _ (held : List ℕ → Told) (tells : (name : List ℕ) → held name ≢
         settled = (none.1 ∙ sym none'.1) i;
       }
 
-  given_and_refused : (names files : List (List ℕ)) (now : Counts) (disk_now : Seen) (b : Reply) → ¬ Rose counts.faults now.faults →
+  pub given_and_refused : (names files : List (List ℕ)) (now : Counts) (disk_now : Seen) (b : Reply) → ¬ Rose counts.faults now.faults →
       AreFiles held names files → RefusesFile held counts now disk disk_now names b → ⊥
   given_and_refused names files now disk_now b none given (status, history, (label, f, k, told)) =
       let t = must_speak (length k.before) counts now f b.text label none k.counted told in

@@ -9,6 +9,9 @@ use Rattle.acc_cli.specs.declared.status.Status.{Status}
 use Rattle.acc_cli.specs.declared.status.Status.TheVariants.{Sink, Memory, Ran}
 
 -- A sink's fault makes Sink of Done, and leaves a front of the text.
+--
+-- For example, where Ran Done and the text `ok` are meant, and the sink held `a`: it holds `aok` now, and Ran Done is given; or, by a
+-- fault of it, it holds `a`, `ao` or `aok`, and Sink is given. Where Ran DesignRefused is meant, that is given either way.
 pub record Ends (meant : Reply) (old new : Option (List ℕ)) (fault : Type 0) (given : Status) (history : List Event) (settled : ℕ)
     : Type 0 where
   pub given_is : (given ≡ meant.status) ⊎ ((meant.status ≡ Ran Done) × (given ≡ Sink) × fault)

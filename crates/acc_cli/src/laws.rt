@@ -1,6 +1,6 @@
 //! What the definitions of the answers say by themselves.
 ghost use Rattle.acc_cli.specs.Headline.{SchedSurvives};
-ghost use Rattle.acc_cli.specs.Laws.{LinesMeanOne};
+ghost use Rattle.acc_cli.specs.Laws.{LinesMeanOne, AcceptedIsAnswered, ClosedIsAnswered};
 
 use acc_disk::Disk;
 
@@ -8,6 +8,18 @@ use acc_disk::Disk;
 /// fails; but which certificate `prove` makes is free. So each status but that of want of memory comes exactly where its row says.
 pub fn lines_mean_one()
     ensures { LinesMeanOne }
+{}
+
+/// Where no read fails, what is meant by `check` of a design and a certificate with which it is accepted is status 0 and `accepted`.
+/// So it is answered, but where memory lacks or a write fails.
+pub fn accepted_is_answered()
+    ensures { AcceptedIsAnswered }
+{}
+
+/// Where no read fails, what is meant by `prove` of a well-formed design whose searches all close, with no number too large, is status 0
+/// and a certificate with which it is accepted. So it is answered, but where memory lacks or a write fails.
+pub fn closed_is_answered()
+    ensures { ClosedIsAnswered }
 {}
 
 /// What `acc` leaves with `sched` survives a crash at any moment of the call and after it, whatever the status, also where memory ran out:

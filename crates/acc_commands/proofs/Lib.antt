@@ -1,5 +1,6 @@
 pub mod OneRun
 pub mod OneProving
+pub mod Completeness
 pub mod ProvedAccepted
 pub mod OneMeaning
 pub mod RefusedOvers

@@ -1,6 +1,13 @@
 -- What the definitions of the commands say by themselves.
-use Rattle.std.specs.Prelude.{◌≡◌, ℕ, true, List, codes}
+use Rattle.std.specs.Prelude.{◌≡◌, ℕ, true, List, [], None, codes}
+use Rattle.acc_base.specs.declared.designs.Design.{Design}
 use Rattle.acc_base.specs.Lines.{line}
+use Rattle.acc_formed.specs.WellFormed.{IsWellFormed}
+use Rattle.acc_oblig.specs.Laws.{drafts_of, sequents_of}
+use Rattle.acc_goals.specs.Causes.{first_wide}
+use Rattle.acc_parse.specs.Texts.{IsDesignText}
+use Rattle.acc_check.specs.Admissions.{IsAcceptedWith}
+use Rattle.acc_prove.specs.Provings.{AllClose, IsCertified}
 use Rattle.acc_journalled.specs.declared.answers.Ending.TheVariants.{Done}
 use Rattle.acc_journalled.specs.Tellings.{Telling}
 use Rattle.acc_inputs.specs.declared.words.Command.{Command}
@@ -22,3 +29,14 @@ CommandsMeanOne = (c : Command) (files : List (List ℕ)) (old one other : Seen)
 abbrev pub ProvedIsAccepted : Type 0
 ProvedIsAccepted = (design : List ℕ) (proved checked : Said) → ProvesFile design proved → proved.ending ≡ Done
     → ChecksFiles design proved.text checked → Says Done (line (codes "accepted")) checked
+
+-- Where bytes are a certificate with which the design of a text is accepted, `check` says that it is accepted.
+abbrev pub AcceptedIsTold : Type 0
+AcceptedIsTold = (design certificate : List ℕ) (d : Design) (said : Said) → IsDesignText design d → IsAcceptedWith d certificate
+    → ChecksFiles design certificate said → Says Done (line (codes "accepted")) said
+
+-- Where a text is that of a well-formed design, no number of its obligations is too large, and the search for each closes, `prove` says a
+-- certificate with which the design is accepted.
+abbrev pub ClosedIsTold : Type 0
+ClosedIsTold = (design : List ℕ) (d : Design) (said : Said) → IsDesignText design d → IsWellFormed d → first_wide (drafts_of d) ≡ None
+    → AllClose d (sequents_of d) → ProvesFile design said → (said.ending ≡ Done) × IsCertified d said.text × (said.history ≡ [])

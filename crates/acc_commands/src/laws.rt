@@ -1,5 +1,5 @@
 //! What the definitions of the commands say by themselves.
-ghost use Rattle.acc_commands.specs.Laws.{CommandsMeanOne, ProvedIsAccepted};
+ghost use Rattle.acc_commands.specs.Laws.{CommandsMeanOne, ProvedIsAccepted, AcceptedIsTold, ClosedIsTold};
 
 /// Whatever its files hold, a command means one ending, one text and one history; but which certificate `prove` makes is free.
 pub fn commands_mean_one()
@@ -9,4 +9,14 @@ pub fn commands_mean_one()
 /// What `prove` prints where it is done, `check` accepts.
 pub fn proved_is_accepted()
     ensures { ProvedIsAccepted }
+{}
+
+/// What is accepted with a certificate, `check` accepts.
+pub fn accepted_is_told()
+    ensures { AcceptedIsTold }
+{}
+
+/// Where each search closes, `prove` is done.
+pub fn closed_is_told()
+    ensures { ClosedIsTold }
 {}

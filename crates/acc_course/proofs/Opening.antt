@@ -9,17 +9,19 @@ use Rattle.acc_points.specs.Points.{Point}
 use Rattle.acc_axioms.specs.declared.nodes.Node.{Node}
 use Rattle.acc_inst.specs.declared.making.Instance.{Instance}
 use Rattle.acc_branch.specs.declared.halts.Halt.{Halt}
-use Rattle.acc_branch.specs.Courses.{chain, Leaves}
+use Rattle.acc_base.specs.Computing.{chain}
+use Rattle.acc_branch.specs.Courses.{LeavesCourse}
 use Rattle.acc_branch.specs.Known.{State}
 use Rattle.acc_course.specs.Searches.{closing, split_end, three, branch}
 
 pub opened : (d : Design) (q : Sequent) (made : List Instance) (splits : List Form) (e : Form) (s t : State) (o : Option Point) (p : Point)
     (r : Result (Unit {0}) Halt) (nodes : List Node) → 1 ≤ length splits → e ≡ get_or splits 0 e
     → closing d q made s ≡ Ok (t, o) → o ≡ Some p
-    → Leaves r nodes (three (branch d q made (take (length splits - 1) (drop 1 splits))) e t) → Leaves r nodes (branch d q made splits s)
+    → LeavesCourse r nodes (three (branch d q made (take (length splits - 1) (drop 1 splits))) e t)
+    → LeavesCourse r nodes (branch d q made splits s)
 opened d q made [] e s t o p r nodes some first closed open_ h = absurd (omega arith)
 opened d q made (x ∷ xs) e s t o p r nodes some first closed open_ h =
     let goes = ap (λ c. chain c (split_end (three (branch d q made xs) x))) (closed ∙ ap (λ p. Ok (t, p)) open_) in
     let rest = ap (λ es. three (branch d q made es) e t) (take_rest (x ∷ xs) 1) in
     let form = ap (λ f. three (branch d q made xs) f t) first in
-    subst (λ c. Leaves r nodes c) ((rest ∙ form) ∙ sym goes) h
+    subst (λ c. LeavesCourse r nodes c) ((rest ∙ form) ∙ sym goes) h

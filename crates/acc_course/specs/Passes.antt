@@ -7,7 +7,8 @@ use Rattle.acc_base.specs.declared.sequents.Sequent.{Sequent}
 use Rattle.acc_farkas.specs.declared.refuting.Mults.{Mults}
 use Rattle.acc_axioms.specs.declared.nodes.Node.TheVariants as node
 use Rattle.acc_inst.specs.declared.making.Instance.{Instance}
-use Rattle.acc_branch.specs.Courses.{Course, chain, steps}
+use Rattle.acc_base.specs.Computing.{chain, steps}
+use Rattle.acc_branch.specs.Courses.{Course}
 use Rattle.acc_branch.specs.Known.{Known, State, shows_all}
 use Rattle.acc_branch.specs.AxiomPasses.{axioms_pass}
 

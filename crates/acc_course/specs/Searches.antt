@@ -10,7 +10,7 @@ use Rattle.acc_decisions.specs.declared.verdicts.Verdict.{Verdict}
 use Rattle.acc_decisions.specs.declared.verdicts.Verdict.TheVariants.{Refuted, Solved}
 use Rattle.acc_axioms.specs.declared.nodes.Node.{Node}
 use Rattle.acc_axioms.specs.declared.nodes.Node.TheVariants.{Split, Leaf}
-use Rattle.acc_axioms.specs.Axioms.{is_zero}
+use Rattle.acc_base.specs.Forms.{is_zero}
 use Rattle.acc_choices.specs.declared.listing.InstError.{InstError}
 use Rattle.acc_choices.specs.declared.listing.InstError.TheVariants as listing
 use Rattle.acc_inst.specs.declared.making.Instance.{Instance}
@@ -18,8 +18,9 @@ use Rattle.acc_inst.specs.Making.{instance_of}
 use Rattle.acc_inst.specs.Lists.{lists_of}
 use Rattle.acc_branch.specs.declared.halts.Halt.{Halt}
 use Rattle.acc_branch.specs.declared.halts.Halt.TheVariants.{Open, Crowded, Wide, Memory}
-use Rattle.acc_branch.specs.Courses.{Course, chain}
-use Rattle.acc_branch.specs.Known.{Known, State, below, above, verdict}
+use Rattle.acc_base.specs.Computing.{chain}
+use Rattle.acc_branch.specs.Courses.{Course}
+use Rattle.acc_branch.specs.Known.{Known, State, try_below_zero, try_above_zero, verdict}
 use Rattle.acc_course.specs.declared.branches.Sign.{Sign}
 use Rattle.acc_course.specs.declared.branches.Sign.TheVariants.{Below, Zero, Above}
 use Rattle.acc_course.specs.Passes.{passes}
@@ -53,9 +54,9 @@ split_end split (s, Some point) = split s
 -- ---- the three branches of a split, one after the other
 
 abbrev pub relation : Sign → Form → Course Rel
-relation Below e = below e
+relation Below e = try_below_zero e
 relation Zero e = Ok (is_zero e)
-relation Above e = above e
+relation Above e = try_above_zero e
 
 abbrev pub under : Sign → Known → Form → Course Known
 under sign s e = chain (relation sign e) (λ r. Ok (knowing s r))
@@ -102,7 +103,7 @@ starting q contrary = record { rels = q.rels ++ contrary ∷ []; insts = []; axi
 
 -- what is known at first: the relations, and that the goal isn't met
 abbrev pub started : Design → Sequent → List Instance → List Form → Course (List Node)
-started d q made splits = chain (above q.goal) (λ contrary. branch d q made splits (starting q contrary, []))
+started d q made splits = chain (try_above_zero q.goal) (λ contrary. branch d q made splits (starting q contrary, []))
 
 -- Ok where all branches are closed; else what ends the search first
 abbrev pub course : Design → Sequent → List Lin → Course (List Node)

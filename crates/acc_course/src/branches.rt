@@ -1,8 +1,8 @@
 //! The branches of a search, depth first.
 ghost use Rattle.std.specs.Prelude.{◌≡◌, ◌++◌, ◌∷◌, [], Ok, Some, IfOk, OnOk, MatchResult};
-ghost use Rattle.acc_axioms.specs.Axioms.{is_zero};
+ghost use Rattle.acc_base.specs.Forms.{is_zero};
 ghost use Rattle.acc_axioms.specs.declared.nodes.Node.TheVariants.{Split};
-ghost use Rattle.acc_branch.specs.Courses.{Answers, Leaves, LeavesWith, StoppedBy};
+ghost use Rattle.acc_branch.specs.Courses.{AnswersCourse, LeavesCourse, LeavesWith, StoppedBy};
 ghost use Rattle.acc_branch.specs.Known.{known_of};
 ghost use Rattle.acc_course.specs.Searches.{knowing, point_in, nodes_ended, ended, tried, closing, relation, under, leaf_end};
 ghost use Rattle.acc_course.specs.Searches.{branch_under, three, branch};
@@ -15,7 +15,7 @@ use acc_base::forms::{Form, Rel};
 use acc_base::sequences::{Seq, copied};
 use acc_base::sequents::Sequent;
 use acc_branch::halts::Halt;
-use acc_branch::known::{Branch, above, below, verdict};
+use acc_branch::known::{Branch, try_above_zero, try_below_zero, verdict};
 use acc_candidates::copies::{copied_numbers, copied_rels, copied_schemas};
 use acc_decisions::verdicts::Verdict;
 use acc_elim::solver::Solver;
@@ -100,12 +100,12 @@ fn closing(
 
 /// That a form has a sign.
 fn relation(alloc: Global, sign: Sign, form: &Form) -> Result<Rel, Halt>
-    ensures { Answers result (relation sign form.now) }
+    ensures { AnswersCourse result (relation sign form.now) }
 {
     match sign {
-        Sign::Below => below(alloc, form),
+        Sign::Below => try_below_zero(alloc, form),
         Sign::Zero => Ok(is_zero(copied(form)?)),
-        Sign::Above => above(alloc, form),
+        Sign::Above => try_above_zero(alloc, form),
     }
 }
 
@@ -137,7 +137,7 @@ fn leaf(
     known: &mut Branch,
     nodes: &mut Vec<Node>,
 ) -> Result<(), Halt>
-    ensures { Leaves result nodes.new.items (branch design.now sequent.now made.now [] (known_of known.old, nodes.old.items)) }
+    ensures { LeavesCourse result nodes.new.items (branch design.now sequent.now made.now [] (known_of known.old, nodes.old.items)) }
 {
     match closing(alloc, design, sequent, made, known, nodes)? {
         None => Ok(()),
@@ -165,7 +165,7 @@ fn branch_under(
     form: &Form,
     rest: &[Form],
 ) -> Result<(), Halt>
-    ensures { Leaves result nodes.new.items
+    ensures { LeavesCourse result nodes.new.items
         (branch_under (branch design.now sequent.now made.now rest.now) sign form.now (known_of known.now, nodes.old.items)) }
 {
     let mut under = under(alloc, known, sign, form)?;
@@ -184,7 +184,7 @@ fn three(
     form: &Form,
     rest: &[Form],
 ) -> Result<(), Halt>
-    ensures { Leaves result nodes.new.items
+    ensures { LeavesCourse result nodes.new.items
         (three (branch design.now sequent.now made.now rest.now) form.now (known_of known.now, nodes.old.items)) }
 {
     add_split(nodes, form)?;
@@ -234,7 +234,7 @@ pub fn branch(
     nodes: &mut Vec<Node>,
     splits: &[Form],
 ) -> Result<(), Halt>
-    ensures { Leaves result nodes.new.items
+    ensures { LeavesCourse result nodes.new.items
         (branch design.now sequent.now made.now splits.now (known_of known.old, nodes.old.items)) }
 {
     match splits {

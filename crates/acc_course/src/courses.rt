@@ -2,8 +2,9 @@
 ghost use Rattle.std.specs.Prelude.{◌≡◌, Ok, map, IfOk, MatchResult};
 ghost use Rattle.acc_inst.specs.Making.{instance_of};
 ghost use Rattle.acc_inst.specs.Lists.{lists_of};
-ghost use Rattle.acc_branch.specs.Courses.{chain, Answers, Leaves, StoppedBy};
-ghost use Rattle.acc_branch.specs.Known.{known_of, above};
+ghost use Rattle.acc_base.specs.Computing.{chain};
+ghost use Rattle.acc_branch.specs.Courses.{AnswersCourse, LeavesCourse, StoppedBy};
+ghost use Rattle.acc_branch.specs.Known.{known_of, try_above_zero};
 ghost use Rattle.acc_course.specs.Searches.{branch, of_lists, starting, started, course};
 
 use crate::branches::branch;
@@ -13,7 +14,7 @@ use acc_base::forms::{Form, Lin, Rel};
 use acc_base::sequences::Seq;
 use acc_base::sequents::Sequent;
 use acc_branch::halts::Halt;
-use acc_branch::known::{Branch, above};
+use acc_branch::known::{Branch, try_above_zero};
 use acc_candidates::copies::copied_rels;
 use acc_elim::solver::Solver;
 use acc_inst::listing::InstError;
@@ -57,10 +58,10 @@ fn add_nodes(
     splits: &[Form],
     nodes: &mut Vec<Node>,
 ) -> Result<(), Halt>
-    ensures { Leaves result nodes.new.items (chain (above sequent.now.goal) (λ contrary.
+    ensures { LeavesCourse result nodes.new.items (chain (try_above_zero sequent.now.goal) (λ contrary.
         branch design.now sequent.now made.now splits.now (starting sequent.now contrary, nodes.old.items))) }
 {
-    let contrary = above(alloc, &sequent.goal)?;
+    let contrary = try_above_zero(alloc, &sequent.goal)?;
     let mut known = starting(alloc, sequent, contrary)?;
     branch(alloc, design, sequent, made, &mut known, nodes, splits)
 }
@@ -73,7 +74,7 @@ fn started(
     made: &[Instance],
     splits: &[Form],
 ) -> Result<Seq<Node>, Halt>
-    ensures { Answers result (started design.now sequent.now made.now splits.now) }
+    ensures { AnswersCourse result (started design.now sequent.now made.now splits.now) }
 {
     let mut nodes = Vec::new(alloc);
     add_nodes(alloc, design, sequent, made, splits, &mut nodes)?;
@@ -88,7 +89,7 @@ pub fn course(
     sequent: &Sequent,
     hints: &[Lin],
 ) -> Result<Seq<Node>, Halt>
-    ensures { Answers result (course design.now sequent.now hints.now) }
+    ensures { AnswersCourse result (course design.now sequent.now hints.now) }
 {
     let lists = listed(alloc, sequent, hints)?;
     let made = lists.made.as_slice();

@@ -4,3 +4,5 @@
 mod branches;
 pub mod courses;
 mod passes;
+
+pub use courses::course;

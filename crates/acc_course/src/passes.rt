@@ -1,7 +1,7 @@
 //! The two passes of a branch.
 ghost use Rattle.std.specs.Prelude.{◌≡◌, Some, OnOk};
 ghost use Rattle.std.specs.List.{list_any};
-ghost use Rattle.acc_branch.specs.Courses.{Leaves};
+ghost use Rattle.acc_branch.specs.Courses.{LeavesCourse};
 ghost use Rattle.acc_branch.specs.Known.{known_of};
 ghost use Rattle.acc_course.specs.Passes.{is_place, with_instance, try_instance, instances_pass, passes};
 
@@ -53,7 +53,8 @@ fn try_instance(
     i: usize,
     instance: &Instance,
 ) -> Result<(), Halt>
-    ensures { Leaves result (known_of known.new, nodes.new.items) (try_instance (known_of known.old, nodes.old.items) i instance.now) }
+    ensures { LeavesCourse result (known_of known.new, nodes.new.items)
+        (try_instance (known_of known.old, nodes.old.items) i instance.now) }
 {
     if is_added(known.insts.as_slice(), i) {
         return Ok(());
@@ -74,7 +75,7 @@ fn instances_pass(
     nodes: &mut Vec<Node>,
     made: &[Instance],
 ) -> Result<(), Halt>
-    ensures { Leaves result (known_of known.new, nodes.new.items) (instances_pass made.now (known_of known.old, nodes.old.items)) }
+    ensures { LeavesCourse result (known_of known.new, nodes.new.items) (instances_pass made.now (known_of known.old, nodes.old.items)) }
 {
     let mut i = 0;
     for instance in made {
@@ -93,7 +94,7 @@ pub fn passes(
     known: &mut Branch,
     nodes: &mut Vec<Node>,
 ) -> Result<(), Halt>
-    ensures { Leaves result (known_of known.new, nodes.new.items)
+    ensures { LeavesCourse result (known_of known.new, nodes.new.items)
         (passes design.now sequent.now made.now (known_of known.old, nodes.old.items)) }
 {
     instances_pass(alloc, known, nodes, made)?;

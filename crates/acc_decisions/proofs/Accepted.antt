@@ -3,6 +3,7 @@ use Rattle.std.proofs.Common.{◌≡◌, ℕ, suc, ◌+◌, ◌<◌, ◌≤◌, 
 use Rattle.std.proofs.Common.{ℤ, pos, negsuc, ◌-ℤ◌, ◌*ℤ◌, if◌then◌else◌, Option, Some, None, get_or}
 use Rattle.std.specs.Prelude.{All, ◌&&◌, ◌||◌, ◌≢◌, int_le, int_lt, slice_get, unsigned_abs}
 use Rattle.std.specs.List.{list_any}
+use Rattle.std.specs.Option.{option_map_or}
 use Rattle.std.specs.Ordering.{int_eq}
 use Rattle.std.specs.Cmp.{first_so, second_so}
 use Rattle.std.proofs.lemmas.Int.{ints, unsigned_abs-mul}
@@ -11,17 +12,18 @@ use Rattle.std.proofs.lemmas.List.Elements.{All-nil, All-cons, All-head, All-tai
 use Rattle.std.proofs.lemmas.Option.{slice_get-get_or}
 use Rattle.acc_base.specs.declared.forms.Form.{Form}
 use Rattle.acc_base.specs.declared.forms.Rel.{Rel}
+use Rattle.acc_base.specs.declared.bounds.TheConstants.{LARGEST_SUM}
 use Rattle.acc_base.specs.Collecting.{worth, multiple}
 use Rattle.acc_base.specs.Sums.{Term, is_left}
 use Rattle.acc_base.specs.UnknownEquality.{unknown_decides, bare_one}
 use Rattle.acc_base.proofs.CollectedWorths.{worth-multiples}
 use Rattle.acc_farkas.specs.Sums.{Pair, rises, may_have, signs, weighted, nothing, is_positive, refutes_all, is_refuting_wide}
 use Rattle.acc_rows.specs.declared.rows.Row.{Row}
-use Rattle.acc_systems.specs.Made.{Rises, IsProper, Signed, MayStand, OfEquation}
-use Rattle.acc_readings.specs.Readings.{unknowns_of, number_of}
+use Rattle.acc_systems.specs.Made.{Rises, IsProper, IsNear, Signed, MayStand, OfEquation}
+use Rattle.acc_readings.specs.Readings.{place_of, unknowns_of}
 use Rattle.acc_points.specs.FalseConstants.{numbered, Shows}
 use Rattle.acc_readings.proofs.Names.{unknowns_stand}
-use Rattle.acc_decisions.specs.Decisions.{is_turned, turned, multipliers}
+use Rattle.acc_decisions.specs.Decisions.{takes_opposites, opposites, multipliers}
 use Rattle.acc_decisions.specs.Evidence.{Refute}
 use Rattle.acc_decisions.proofs.Lefts.{Fine, nothing_left, all_nothing}
 use Rattle.acc_decisions.proofs.Weights.{worth_of, base, weighted_worth, weighted_neat}
@@ -73,14 +75,14 @@ module _ (rels : List Rel) where
 
 -- ---- opposites
 
-turned_all : (P Q : Pair → Type 0) → ((m : Pair) → P m → Q (multiple (negsuc 0) m)) → (ms : List Pair) → All P ms → All Q (turned ms)
-turned_all P Q h [] all = All-nil Q
-turned_all P Q h (m ∷ ms) all =
-    All-cons Q (multiple (negsuc 0) m) (turned ms) (h m (All-head P m ms all)) (turned_all P Q h ms (All-tail P m ms all))
+opposites_all : (P Q : Pair → Type 0) → ((m : Pair) → P m → Q (multiple (negsuc 0) m)) → (ms : List Pair) → All P ms → All Q (opposites ms)
+opposites_all P Q h [] all = All-nil Q
+opposites_all P Q h (m ∷ ms) all =
+    All-cons Q (multiple (negsuc 0) m) (opposites ms) (h m (All-head P m ms all)) (opposites_all P Q h ms (All-tail P m ms all))
 
-turned_rises : (k : ℕ) (ms : List Pair) → Rises k ms → Rises k (turned ms)
-turned_rises k [] r = tt
-turned_rises k (m ∷ ms) r = (r.0, turned_rises (suc m.0) ms r.1)
+opposites_rise : (k : ℕ) (ms : List Pair) → Rises k ms → Rises k (opposites ms)
+opposites_rise k [] r = tt
+opposites_rise k (m ∷ ms) r = (r.0, opposites_rise (suc m.0) ms r.1)
 
 size_same : (x : ℤ) → unsigned_abs (negsuc 0 *ℤ x) ≡ unsigned_abs x
 size_same x = let e = unsigned_abs-mul (negsuc 0) x in omega (arith, e)
@@ -88,12 +90,16 @@ size_same x = let e = unsigned_abs-mul (negsuc 0) x in omega (arith, e)
 opposite_proper : (n : ℕ) (m : Pair) → IsProper n m → IsProper n (multiple (negsuc 0) m)
 opposite_proper n m h = (h.0, subst (λ k. 0 < k) (sym (size_same m.1)) h.1)
 
+opposite_near : (m : Pair) → IsNear m → IsNear (multiple (negsuc 0) m)
+opposite_near m h = subst (λ k. k ≤ LARGEST_SUM) (sym (size_same m.1)) h
+
 -- ---- multipliers of the relations whose sum is worth a constant above 0
 
 pub record Ready (rels : List Rel) (ms : List Pair) : Type 0 where
   constant : ℤ
   places : Rises 0 ms
   proper : All (IsProper (length rels)) ms
+  near : All IsNear ms
   may : All (MayStand (is_equation rels)) ms
   above : int_lt (pos 0) constant ≡ true
   sum : (f : ℕ → ℤ) → worth (base (numbered f (unknowns_of rels)) rels) ms ≡ constant
@@ -122,12 +128,14 @@ module _ (rels : List Rel) (r : Row) (s : Shows rels r) where
   above_by true false e l b h = test_above r.constant l (not_zero r.constant h)
   above_by false low e l b h = h
 
-  ready_by : (b : Bool) → (r.equal && int_lt r.constant (pos 0)) ≡ b → Ready rels (if b then turned r.by else r.by)
+  ready_by : (b : Bool) → (r.equal && int_lt r.constant (pos 0)) ≡ b → Ready rels (if b then opposites r.by else r.by)
   ready_by true e = record {
     constant = negsuc 0 *ℤ r.constant;
-    places = turned_rises 0 r.by s.places;
-    proper = turned_all (IsProper (length rels)) (IsProper (length rels)) (opposite_proper (length rels)) r.by s.proper;
-    may = turned_all (OfEquation (is_equation rels)) (MayStand (is_equation rels)) (λ m h g. absurd (apart (is_equation rels m.0) h g)) r.by
+    places = opposites_rise 0 r.by s.places;
+    proper = opposites_all (IsProper (length rels)) (IsProper (length rels)) (opposite_proper (length rels)) r.by s.proper;
+    near = opposites_all IsNear IsNear opposite_near r.by s.near;
+    may = opposites_all (OfEquation (is_equation rels)) (MayStand (is_equation rels))
+        (λ m h g. absurd (apart (is_equation rels m.0) h g)) r.by
         (signs_are.equal (first_so r.equal (int_lt r.constant (pos 0)) e));
     above = test_below r.constant (second_so r.equal (int_lt r.constant (pos 0)) e);
     sum = λ f. worth-multiples (base (numbered f (unknowns_of rels)) rels) (negsuc 0) r.by ∙ ap (λ x. negsuc 0 *ℤ x) (sym (sum_is f));
@@ -139,19 +147,22 @@ module _ (rels : List Rel) (r : Row) (s : Shows rels r) where
     constant = r.constant;
     places = s.places;
     proper = s.proper;
+    near = s.near;
     may = signs_are.may;
     above = above_by r.equal (int_lt r.constant (pos 0)) refl refl e s.wrong;
     sum = λ f. sym (sum_is f);
   }
 
   pub ready : Ready rels (multipliers r)
-  ready = ready_by (is_turned r) refl
+  ready = ready_by (takes_opposites r) refl
 
 -- ---- they are accepted
 
 module _ (rels : List Rel) (ms : List Pair) (h : Ready rels ms) where
   one_is : (f : ℕ → ℤ) → numbered f (unknowns_of rels) bare_one ≡ pos 1
-  one_is f = ap (λ b. if b then pos 1 else f (number_of (unknowns_of rels) bare_one)) ((unknown_decides bare_one bare_one).1 refl)
+  one_is f =
+      ap (λ b. if b then pos 1 else option_map_or f (place_of (unknowns_of rels) bare_one) (pos 0))
+      ((unknown_decides bare_one bare_one).1 refl)
 
   abbrev whole : Form
   whole = weighted rels ms nothing
@@ -193,4 +204,4 @@ module _ (rels : List Rel) (ms : List Pair) (h : Ready rels ms) where
       ∙ (ap (λ b. b && is_positive whole) (signed rels ms h.proper h.may) ∙ positive)
 
   pub evidence : is_refuting_wide rels ms ≡ false → Refute rels ms
-  evidence narrow = record { accepted = accepted; narrow = narrow; others = others ms h.proper }
+  evidence narrow = record { accepted = accepted; narrow = narrow; others = others ms h.proper; near = h.near }

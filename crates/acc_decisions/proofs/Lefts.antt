@@ -2,6 +2,7 @@
 use Rattle.std.proofs.Common.{◌≡◌, ◌==◌, ℕ, Bool, true, false, List, [], ◌∷◌, refl, sym, ap, ◌∙◌, arith, ℤ, pos, ◌+ℤ◌, ◌*ℤ◌}
 use Rattle.std.proofs.Common.{if◌then◌else◌}
 use Rattle.std.specs.Prelude.{All}
+use Rattle.std.specs.Option.{option_map_or}
 use Rattle.std.proofs.lemmas.Int.{ints}
 use Rattle.std.proofs.lemmas.Bool.Decides.{nat_tests}
 use Rattle.std.proofs.lemmas.List.Elements.{All-nil, All-cons, All-head, All-tail}
@@ -10,9 +11,9 @@ use Rattle.acc_base.specs.declared.forms.Unknown.{Unknown}
 use Rattle.acc_base.specs.Collecting.{worth}
 use Rattle.acc_base.specs.UnknownEquality.{unknown_eq, unknown_decides, is_bare_one}
 use Rattle.acc_base.specs.Sums.{Term, with_term}
-use Rattle.acc_readings.specs.Readings.{number_of}
+use Rattle.acc_readings.specs.Readings.{place_of}
 use Rattle.acc_points.specs.FalseConstants.{numbered}
-use Rattle.acc_readings.proofs.Names.{Stands, numbers_tell_apart}
+use Rattle.acc_readings.proofs.Names.{Stands, number_in, numbered_place, numbers_tell_apart}
 
 -- ---- collected terms are of different unknowns
 
@@ -60,8 +61,10 @@ module _ (names : List Unknown) where
   pub fine_with : (t : Term) (ts : List Term) → Fine t → All Fine ts → All Fine (with_term t ts)
   fine_with t ts h all = all_with Counts t ts h all
 
-  value_is : (f : ℕ → ℤ) (u : Unknown) → is_bare_one u ≡ false → numbered f names u ≡ f (number_of names u)
-  value_is f u e = ap (λ b. if b then pos 1 else f (number_of names u)) e
+  value_is : (f : ℕ → ℤ) (u : Unknown) → Counts u → numbered f names u ≡ f (number_in names u)
+  value_is f u counts =
+      ap (λ b. if b then pos 1 else option_map_or f (place_of names u) (pos 0)) counts.0
+      ∙ ap (λ place. option_map_or f place (pos 0)) (numbered_place names u counts.1)
 
   -- ---- terms that are worth the same at all worths
 
@@ -69,7 +72,7 @@ module _ (names : List Unknown) where
   all_nothing [] all = refl
   all_nothing (t ∷ ts) all =
       let h = all_nothing ts (All-tail Fine t ts all) in
-      let none = ap (λ z. t.1 *ℤ z) (value_is (λ _. pos 0) t.0 (All-head Fine t ts all).0) ∙ *ℤ-zero t.1 in
+      let none = ap (λ z. t.1 *ℤ z) (value_is (λ _. pos 0) t.0 (All-head Fine t ts all)) ∙ *ℤ-zero t.1 in
       omega (arith, ints, h, none)
 
   abbrev only : ℕ → ℕ → ℤ
@@ -85,14 +88,14 @@ module _ (names : List Unknown) where
   once x = omega (arith, ints)
 
   others_nothing : (u : Unknown) (ts : List Term) → Stands u names → All Fine ts → Others u ts
-      → worth (numbered (only (number_of names u)) names) ts ≡ pos 0
+      → worth (numbered (only (number_in names u)) names) ts ≡ pos 0
   others_nothing u [] s all d = refl
   others_nothing u (t ∷ ts) s all d =
       let h = others_nothing u ts s (All-tail Fine t ts all) (All-tail (λ t. t.0 ≡ u → ⊥) t ts d) in
       let fine = All-head Fine t ts all in
-      let apart = test_other (number_of names t.0) (number_of names u) (λ e.
+      let apart = test_other (number_in names t.0) (number_in names u) (λ e.
       All-head (λ t. t.0 ≡ u → ⊥) t ts d (numbers_tell_apart names t.0 u fine.1 s e)) in
-      let value = value_is (only (number_of names u)) t.0 fine.0 ∙ ap (λ b. if b then pos 1 else pos 0) apart in
+      let value = value_is (only (number_in names u)) t.0 fine ∙ ap (λ b. if b then pos 1 else pos 0) apart in
       let none = ap (λ z. t.1 *ℤ z) value ∙ *ℤ-zero t.1 in
       omega (arith, ints, h, none)
 
@@ -104,10 +107,10 @@ module _ (names : List Unknown) where
       let others = All-tail Fine t ts all in
       let first = h (λ _. pos 0) in
       let none = all_nothing (t ∷ ts) all in
-      let one = h (only (number_of names t.0)) in
+      let one = h (only (number_in names t.0)) in
       let rest = others_nothing t.0 ts fine.1 others d.0 in
-      let value = value_is (only (number_of names t.0)) t.0 fine.0
-      ∙ ap (λ b. if b then pos 1 else pos 0) (test_same (number_of names t.0)) in
+      let value = value_is (only (number_in names t.0)) t.0 fine
+      ∙ ap (λ b. if b then pos 1 else pos 0) (test_same (number_in names t.0)) in
       let here = ap (λ z. t.1 *ℤ z) value ∙ once t.1 in
       let is_zero : t.1 ≡ pos 0 = omega (arith, ints, first, none, one, rest, here) in
       All-cons (λ t. t.1 ≡ pos 0) t ts is_zero (nothing_left ts k others d.1 (λ f. without f is_zero (h f)))

@@ -11,7 +11,8 @@ use Rattle.acc_base.specs.declared.forms.Rel.{Rel}
 use Rattle.acc_base.specs.UnknownEquality.{is_bare_one}
 use Rattle.acc_rows.specs.declared.stops.Stop.{Stop}
 use Rattle.acc_rows.specs.declared.rows.Row.{Row}
-use Rattle.acc_rows.specs.Answers.{Computation, chain, steps, StoppedBy, Leaves}
+use Rattle.acc_base.specs.Computing.{chain, steps, Leaves}
+use Rattle.acc_rows.specs.Answers.{tells, Computation, StoppedBy}
 use Rattle.acc_rows.proofs.Chains.{stopped_chain, stopped_along, steps_append}
 use Rattle.acc_readings.specs.Readings.{place_of, with_term, with_rel, unknowns_of, row_of, rows_from, Read, read_next}
 use Rattle.acc_points.specs.Searches.{found_by, searched}
@@ -134,7 +135,8 @@ names_rest rels n s e =
     ap (λ us. fold with_rel us (drop n rels)) (names_read (take n rels) s e)
     ∙ (sym (fold-append with_rel [] (take n rels) (drop n rels)) ∙ ap unknowns_of (take-append-drop n rels))
 
-pub leaves_other : {A B : Type 0} (r : Result B Stop) (x y : A) (e : Stop) (o : Computation A) → r ≡ Err e → Leaves r x o → Leaves r y o
+pub leaves_other : {A B : Type 0} (r : Result B Stop) (x y : A) (e : Stop) (o : Computation A) → r ≡ Err e → Leaves tells r x o
+    → Leaves tells r y o
 leaves_other (Ok b) x y e o h l = absurd (cc)
 leaves_other (Err d) x y e o h l = l
 

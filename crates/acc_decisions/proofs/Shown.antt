@@ -8,17 +8,18 @@ use Rattle.acc_farkas.specs.Solutions.{HaveNoSolution}
 use Rattle.acc_farkas.proofs.Worths.{refuted as have_no_solution}
 use Rattle.acc_rows.specs.declared.stops.Stop.TheVariants as stop
 use Rattle.acc_rows.specs.declared.rows.Row.{Row}
-use Rattle.acc_rows.specs.Answers.{Computation, Answers}
+use Rattle.acc_base.specs.Computing.{StopsBy, Answers}
+use Rattle.acc_rows.specs.Answers.{tells, Computation}
 use Rattle.acc_points.specs.Points.{Point}
 use Rattle.acc_points.specs.Searches.{searched}
-use Rattle.acc_points.proofs.Searched.{refutes}
+use Rattle.acc_points.proofs.Refuting.{refutes}
 use Rattle.acc_solved.specs.Meetings.{Meets}
 use Rattle.acc_solved.proofs.Readings.{searched_is_met}
 use Rattle.acc_decisions.specs.declared.verdicts.ElimError.{ElimError}
 use Rattle.acc_decisions.specs.declared.verdicts.ElimError.TheVariants.{Wide, Many, Memory}
 use Rattle.acc_decisions.specs.declared.verdicts.Verdict.{Verdict}
 use Rattle.acc_decisions.specs.declared.verdicts.Verdict.TheVariants.{Refuted, Solved}
-use Rattle.acc_decisions.specs.Causes.{StoppedBy, IfRefuted, IfSolved}
+use Rattle.acc_decisions.specs.Causes.{tells as error_tells, IfRefuted, IfSolved}
 use Rattle.acc_decisions.specs.Decisions.{multipliers, are_multipliers_wide, ended, decision}
 use Rattle.acc_decisions.specs.Evidence.{Refute}
 use Rattle.acc_decisions.proofs.Accepted.{ready, evidence}
@@ -79,7 +80,7 @@ solved_is_met rels (Err e) h = tt
 
 -- ---- an answer of the elimination's end is that of the decision
 
-pub told : (rels : List Rel) (end : Computation Point) (o : Result Verdict ElimError) → Answers end (searched rels)
+pub told : (rels : List Rel) (end : Computation Point) (o : Result Verdict ElimError) → Answers tells end (searched rels)
     → IfOk o (λ v. ended rels end ≡ Ok v) → IfOk o (λ v. decision rels ≡ Ok v)
 told rels (Ok point) (Ok v) e h = ap (ended rels) e ∙ h
 told rels (Err (stop.Refuted r)) (Ok v) e h = ap (ended rels) e ∙ h
@@ -88,13 +89,13 @@ told rels (Err stop.Many) (Ok v) e h = ap (ended rels) e ∙ h
 told rels (Err stop.Memory) (Ok v) e h = absurd (cc)
 told rels end (Err d) e h = tt
 
-stopped_by : (d : ElimError) (x y : Result Verdict ElimError) → x ≡ y → StoppedBy d y → StoppedBy d x
+stopped_by : (d : ElimError) (x y : Result Verdict ElimError) → x ≡ y → StopsBy (error_tells d) d y → StopsBy (error_tells d) d x
 stopped_by Wide x y e h = e ∙ h
 stopped_by Many x y e h = e ∙ h
 stopped_by Memory x y e h = tt
 
-pub told_error : (rels : List Rel) (end : Computation Point) (o : Result Verdict ElimError) → Answers end (searched rels)
-    → IfErr o (λ e. StoppedBy e (ended rels end)) → IfErr o (λ e. StoppedBy e (decision rels))
+pub told_error : (rels : List Rel) (end : Computation Point) (o : Result Verdict ElimError) → Answers tells end (searched rels)
+    → IfErr o (λ e. StopsBy (error_tells e) e (ended rels end)) → IfErr o (λ e. StopsBy (error_tells e) e (decision rels))
 told_error rels end (Ok v) e h = tt
 told_error rels (Ok point) (Err d) e h = stopped_by d (decision rels) (ended rels (Ok point)) (ap (ended rels) e) h
 told_error rels (Err (stop.Refuted r)) (Err d) e h =

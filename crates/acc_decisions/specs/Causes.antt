@@ -1,5 +1,5 @@
 -- What an answer tells: of a verdict, of a number that is too large, and of what stops a decision.
-use Rattle.std.specs.Prelude.{◌≡◌, Bool, IsTrue, IsFalse, List, Result, Ok, Err}
+use Rattle.std.specs.Prelude.{Bool, true, false, IsTrue, IsFalse, List, Result, Ok, Err}
 use Rattle.acc_farkas.specs.declared.errors.FarkasError.{FarkasError}
 use Rattle.acc_farkas.specs.declared.errors.FarkasError.TheVariants as farkas
 use Rattle.acc_farkas.specs.Sums.{Pair}
@@ -21,11 +21,11 @@ TellsWide (Err Wide) wide = IsTrue wide
 TellsWide (Err Many) wide = ⊥
 TellsWide (Err Memory) wide = Unit {0}
 
--- an error tells what stops a decision, and want of memory says nothing
-abbrev pub StoppedBy : ElimError → Result Verdict ElimError → Type 0
-StoppedBy Wide decision = decision ≡ Err Wide
-StoppedBy Many decision = decision ≡ Err Many
-StoppedBy Memory decision = Unit {0}
+-- whether an error tells what stops a decision: want of memory tells nothing
+abbrev pub tells : ElimError → Bool
+tells Wide = true
+tells Many = true
+tells Memory = false
 
 -- the multipliers of an answer that refutes, and the point of one that solves
 abbrev pub IfRefuted : Result Verdict ElimError → (List Pair → Type 0) → Type 0

@@ -17,21 +17,21 @@ use Rattle.acc_decisions.specs.declared.verdicts.Verdict.TheVariants.{Refuted, S
 
 -- ---- the multipliers of a false constant: their opposites where it is an equation with a constant below 0
 
-abbrev pub turned : List Pair → List Pair
-turned ms = map (multiple (negsuc 0)) ms
+abbrev pub opposites : List Pair → List Pair
+opposites ms = map (multiple (negsuc 0)) ms
 
-abbrev pub is_turned : Row → Bool
-is_turned r = r.equal && int_lt r.constant (pos 0)
+abbrev pub takes_opposites : Row → Bool
+takes_opposites r = r.equal && int_lt r.constant (pos 0)
 
 abbrev pub multipliers : Row → List Pair
-multipliers r = if is_turned r then turned r.by else r.by
+multipliers r = if takes_opposites r then opposites r.by else r.by
 
 -- whether one of the opposites is beyond 2^120 on either side of 0
-abbrev pub is_turned_wide : List Pair → Bool
-is_turned_wide ms = list_any is_wide (map (λ m. negsuc 0 *ℤ m.1) ms)
+abbrev pub are_opposites_wide : List Pair → Bool
+are_opposites_wide ms = list_any is_wide (map (λ m. negsuc 0 *ℤ m.1) ms)
 
 abbrev pub are_multipliers_wide : Row → Bool
-are_multipliers_wide r = if is_turned r then is_turned_wide r.by else false
+are_multipliers_wide r = if takes_opposites r then are_opposites_wide r.by else false
 
 -- ---- the decision
 

@@ -1,7 +1,8 @@
 -- Relations of which the first ones are read.
 use Rattle.std.specs.Prelude.{◌≡◌, ◌≤◌, List, [], length, take, Ok}
 use Rattle.acc_base.specs.declared.forms.Rel.{Rel}
-use Rattle.acc_rows.specs.Answers.{Computation, steps}
+use Rattle.acc_base.specs.Computing.{steps}
+use Rattle.acc_rows.specs.Answers.{Computation}
 use Rattle.acc_points.specs.Points.{Point}
 use Rattle.acc_points.specs.Searches.{found_by}
 use Rattle.acc_readings.specs.Readings.{Read, read_next}

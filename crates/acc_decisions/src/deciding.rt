@@ -2,10 +2,11 @@
 ghost use Rattle.std.specs.Prelude.{◌≡◌, ◌*ℤ◌, ◌++◌, ◌∷◌, [], negsuc, Ok, IfOk, IfErr, OnOk};
 ghost use Rattle.acc_base.specs.Bounded.{is_wide};
 ghost use Rattle.acc_base.specs.Collecting.{multiple};
+ghost use Rattle.acc_base.specs.Computing.{StopsBy};
 ghost use Rattle.acc_farkas.specs.Solutions.{HaveNoSolution};
 ghost use Rattle.acc_solved.specs.Meetings.{Meets};
-ghost use Rattle.acc_decisions.specs.Causes.{StoppedBy, TellsWide, IfRefuted, IfSolved};
-ghost use Rattle.acc_decisions.specs.Decisions.{is_turned, turned, is_turned_wide, multipliers, are_multipliers_wide};
+ghost use Rattle.acc_decisions.specs.Causes.{tells, TellsWide, IfRefuted, IfSolved};
+ghost use Rattle.acc_decisions.specs.Decisions.{takes_opposites, opposites, are_opposites_wide, multipliers, are_multipliers_wide};
 ghost use Rattle.acc_decisions.specs.Decisions.{refuted, ended, decision};
 ghost use Rattle.acc_decisions.specs.Evidence.{Refute};
 
@@ -28,7 +29,7 @@ fn opposite_of(n: i128) -> Result<i128, ElimError>
 }
 
 /// Pushes the opposite of a multiplier.
-fn push_turned(ms: &mut Seq<(u32, i128)>, m: (u32, i128)) -> Result<(), ElimError>
+fn push_opposite(ms: &mut Seq<(u32, i128)>, m: (u32, i128)) -> Result<(), ElimError>
     ensures value { OnOk result (ms.new ≡ ms.old ++ multiple (negsuc 0) m ∷ []) }
     ensures wide { TellsWide result (is_wide (negsuc 0 *ℤ m.1)) }
 {
@@ -38,20 +39,20 @@ fn push_turned(ms: &mut Seq<(u32, i128)>, m: (u32, i128)) -> Result<(), ElimErro
 }
 
 /// The opposites of multipliers.
-fn turned(alloc: Global, by: &[(u32, i128)]) -> Result<Seq<(u32, i128)>, ElimError>
-    ensures value { IfOk result (λ ms. ms ≡ turned by.now) }
-    ensures wide { TellsWide result (is_turned_wide by.now) }
+fn opposites(alloc: Global, by: &[(u32, i128)]) -> Result<Seq<(u32, i128)>, ElimError>
+    ensures value { IfOk result (λ ms. ms ≡ opposites by.now) }
+    ensures wide { TellsWide result (are_opposites_wide by.now) }
 {
     let mut ms = Seq::new(alloc);
     for m in by {
-        push_turned(&mut ms, *m)?;
+        push_opposite(&mut ms, *m)?;
     }
     Ok(ms)
 }
 
 /// Whether a false constant is an equation with a constant below 0.
-fn is_turned(row: &Row) -> bool
-    ensures { result ≡ is_turned row.now }
+fn takes_opposites(row: &Row) -> bool
+    ensures { result ≡ takes_opposites row.now }
 {
     row.equal && row.constant < 0
 }
@@ -61,8 +62,8 @@ fn multipliers(alloc: Global, row: Row) -> Result<Seq<(u32, i128)>, ElimError>
     ensures value { IfOk result (λ ms. ms ≡ multipliers row) }
     ensures wide { TellsWide result (are_multipliers_wide row) }
 {
-    if is_turned(&row) {
-        return turned(alloc, row.by.as_slice());
+    if takes_opposites(&row) {
+        return opposites(alloc, row.by.as_slice());
     }
     Ok(row.by)
 }
@@ -70,7 +71,7 @@ fn multipliers(alloc: Global, row: Row) -> Result<Seq<(u32, i128)>, ElimError>
 /// The multipliers of a false constant refute the relations; `Wide` where a number of the sum that shows it is too large.
 fn refuted(alloc: Global, rels: &[Rel], row: Row) -> Result<Verdict, ElimError>
     ensures value { IfOk result (λ v. refuted rels.now row ≡ Ok v) }
-    ensures stops { IfErr result (λ e. StoppedBy e (refuted rels.now row)) }
+    ensures stops { IfErr result (λ e. StopsBy (tells e) e (refuted rels.now row)) }
 {
     let ms = multipliers(alloc, row)?;
     refutes(alloc, rels, ms.as_slice())?;
@@ -84,7 +85,7 @@ pub fn ended(
     end: Result<Seq<(i128, i128)>, Stop>,
 ) -> Result<Verdict, ElimError>
     ensures value { IfOk result (λ v. ended rels.now end ≡ Ok v) }
-    ensures stops { IfErr result (λ e. StoppedBy e (ended rels.now end)) }
+    ensures stops { IfErr result (λ e. StopsBy (tells e) e (ended rels.now end)) }
 {
     match end {
         Ok(point) => Ok(Verdict::Solved(point)),
@@ -98,8 +99,8 @@ pub fn ended(
 /// Whether relations hold at some point of rational numbers, by elimination: the unknowns are taken in the order of first appearance,
 /// first by equations and then by pairs of bounds (Fourier and Motzkin). The number 1 without condition counts as 1.
 ///
-/// `Refuted` has multipliers that `refutes` accepts, none of which is 0. `Solved` has a fraction for each unknown, and the relations
-/// hold there.
+/// `Refuted` has multipliers that `refutes` accepts, none of which is 0 or beyond 2^120 on either side of 0. `Solved` has a fraction for
+/// each unknown, and the relations hold there.
 ///
 /// `Wide` where a number of the elimination is beyond 2^120 on either side of 0, and `Many` where a system has more than 4,096
 /// relations, whichever the elimination meets first; the numbers of the sum that shows a refutation come last. `Memory` where memory
@@ -109,7 +110,7 @@ pub fn ended(
 /// compared with all. The elimination may square the number of bounds with each unknown.
 pub fn decide(alloc: Global, rels: &[Rel]) -> Result<Verdict, ElimError>
     ensures value { IfOk result (λ v. decision rels.now ≡ Ok v) }
-    ensures stops { IfErr result (λ e. StoppedBy e (decision rels.now)) }
+    ensures stops { IfErr result (λ e. StopsBy (tells e) e (decision rels.now)) }
     ensures refuted { IfRefuted result (Refute rels.now) }
     ensures unsolvable { IfRefuted result (λ _. HaveNoSolution rels.now) }
     ensures solved { IfSolved result (Meets rels.now) }

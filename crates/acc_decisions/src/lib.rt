@@ -5,3 +5,7 @@
 pub mod deciding;
 pub mod reading;
 pub mod verdicts;
+
+pub use deciding::{decide, ended};
+pub use reading::{Reading, small_length, unknowns};
+pub use verdicts::{ElimError, Verdict};

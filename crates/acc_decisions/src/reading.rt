@@ -1,7 +1,8 @@
 //! Relations that are read once, for many searches.
 ghost use Rattle.std.specs.Prelude.{◌≡◌, length, IfOk, OnOk};
 ghost use Rattle.std.specs.List.{fold};
-ghost use Rattle.acc_rows.specs.Answers.{Leaves, steps};
+ghost use Rattle.acc_base.specs.Computing.{Leaves, steps};
+ghost use Rattle.acc_rows.specs.Answers.{tells};
 ghost use Rattle.acc_readings.specs.Readings.{with_rel, unknowns_of, read_next};
 ghost use Rattle.acc_decisions.specs.Readings.{unread, read_of, AreRead};
 
@@ -21,7 +22,7 @@ pub struct Reading {
 }
 
 /// A length that is a number of 32 bits.
-pub fn counted(length: usize) -> Result<u32, AllocError>
+pub fn small_length(length: usize) -> Result<u32, AllocError>
     ensures { IfOk result (λ n. n ≡ length) }
 {
     if length > u32::MAX as usize {
@@ -62,9 +63,9 @@ pub fn unknowns(alloc: Global, reading: &Reading, rels: &[Rel]) -> Result<Vec<Un
 
 /// One more relation is read.
 fn read(alloc: Global, names: &mut Vec<Unknown>, rows: &mut Vec<Row>, rel: &Rel) -> Result<(), Stop>
-    ensures { Leaves result (names.new.items, rows.new.items) (read_next (names.old.items, rows.old.items) rel.now) }
+    ensures { Leaves tells result (names.new.items, rows.new.items) (read_next (names.old.items, rows.old.items) rel.now) }
 {
-    let place = counted(rows.len())?;
+    let place = small_length(rows.len())?;
     let row = readings::read_next(alloc, names, place, rel)?;
     rows.push(row)?;
     Ok(())
@@ -77,7 +78,7 @@ fn read_all(
     rows: &mut Vec<Row>,
     rels: &[Rel],
 ) -> Result<(), Stop>
-    ensures { Leaves result (names.new.items, rows.new.items) (steps read_next (names.old.items, rows.old.items) rels.now) }
+    ensures { Leaves tells result (names.new.items, rows.new.items) (steps read_next (names.old.items, rows.old.items) rels.now) }
 {
     for rel in rels {
         read(alloc, names, rows, rel)?;
@@ -112,7 +113,7 @@ impl Reading {
     pub fn catch_up(&mut self, alloc: Global, rels: &[Rel]) -> Result<(), Stop>
         requires { AreRead rels.now self.old }
         ensures read { AreRead rels.now self.new }
-        ensures all { Leaves result (read_of self.new) (steps read_next unread rels.now) }
+        ensures all { Leaves tells result (read_of self.new) (steps read_next unread rels.now) }
     {
         let rest = &rels[self.count..];
         let end = read_all(alloc, &mut self.names, &mut self.rows, rest);

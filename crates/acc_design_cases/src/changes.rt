@@ -169,7 +169,9 @@ fn make(alloc: Global, design: &mut Design, change: Edited) -> Result<(), AllocE
 fn judged(alloc: Global, design: &Design) -> Result<String, AllocError> {
     match well_formed(design) {
         Ok(()) => String::from_str(alloc, "formed\n"),
-        Err(FormError::Bad(rule, line)) => format!(in alloc; "rule {rule}, line {line}\n"),
+        Err(FormError::Bad(rule, line)) => {
+            format!(in alloc; "rule {}, line {line}\n", rule.number())
+        }
         Err(FormError::Memory) => Err(AllocError),
     }
 }

@@ -8,23 +8,26 @@ use crate::usage::push_usage;
 use acc_base::designs::Design;
 use acc_base::sequences::Seq;
 use acc_explain::{
-    absent_text, failed_text, line_at, long_text, memory_text, push_note, push_report, sink_text,
+    absent_text, begin_note, end_note, failed_text, line_at, memory_text, push_long, push_note,
+    push_report, sink_text,
 };
 use acc_faults::{Diagnosed, Judged, diagnose, judge};
-use acc_io::{Shelf, ShelfError};
+use acc_io::{LONGEST, Shelf, ShelfError};
 use acc_page::Page;
 use acc_script::{ScriptError, calls, order};
 use acc_spot::{order_spot, script_spot};
 use std::alloc::{AllocError, Global};
 
-/// What is told of a file that isn't given.
-fn file_text(error: ShelfError) -> &'static [u8] {
+/// Says why a file isn't given.
+fn push_file(out: &mut Page, name: &str, error: ShelfError) {
+    begin_note(out, name.as_bytes());
     match error {
-        ShelfError::Failed => failed_text(),
-        ShelfError::Absent => absent_text(),
-        ShelfError::Long(_) => long_text(),
-        ShelfError::Memory => memory_text(),
+        ShelfError::Failed => out.push(failed_text()),
+        ShelfError::Absent => out.push(absent_text()),
+        ShelfError::Long(_) => push_long(out, LONGEST),
+        ShelfError::Memory => out.push(memory_text()),
     }
+    end_note(out, b"")
 }
 
 /// A design without tables and types.
@@ -49,7 +52,7 @@ fn read_all<H: Shelf>(
         match shelf.read(alloc, name.as_str()) {
             Ok(file) => files.push(file)?,
             Err(error) => {
-                push_note(out, name.as_bytes(), file_text(error), b"");
+                push_file(out, name.as_str(), error);
                 return Ok(None);
             }
         }

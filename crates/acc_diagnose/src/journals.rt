@@ -1,5 +1,6 @@
 //! What is told of a journal that is refused, and of a disk that failed.
-use acc_explain::{begin_note, end_note, push_note};
+use acc_base::bounds::MOST_EVENTS;
+use acc_explain::{begin_note, end_note, push_note, push_with};
 use acc_page::Page;
 use std::alloc::{AllocError, Global};
 
@@ -85,10 +86,12 @@ pub fn push_disk(out: &mut Page, verb: &str) {
 
 /// Says why a place stayed unbegun.
 pub fn push_full(out: &mut Page) {
-    push_note(
+    begin_note(out, b"acc");
+    push_with(
         out,
-        b"acc",
-        b"no call begins behind 1,048,576 events of a run, or of a journal; each place that is told as unbegun came behind them",
-        b"what is told of the other places stands",
-    )
+        b"no call begins behind ",
+        MOST_EVENTS,
+        b" events of a run, or of a journal; each place that is told as unbegun came behind them",
+    );
+    end_note(out, b"what is told of the other places stands")
 }

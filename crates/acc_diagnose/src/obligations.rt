@@ -3,7 +3,7 @@ ghost use Rattle.acc_formed.specs.WellFormed.{IsWellFormed};
 
 use acc_accept::{Refusal, obligations};
 use acc_base::designs::Design;
-use acc_base::sequents::Origin;
+use acc_base::sequents::{Origin, Rule};
 use acc_cert_spot::{
     Marked, asserted_mark, obligation_hint, off_mark, path_mark, proof_mark, proofs_in,
 };
@@ -106,7 +106,7 @@ fn push_proof(
     certificate: File,
     place: Place,
     what: &[u8],
-    rule: u32,
+    rule: Rule,
 ) {
     let mut mark = proof_mark(alloc, certificate.text, place.number.saturating_sub(1));
     mark.spot.what.push(b"the proof here, ");

@@ -3,16 +3,18 @@ ghost use Rattle.acc_formed.specs.WellFormed.{IsWellFormed};
 
 use crate::obligations::{File, push_assertion, push_wide};
 use acc_accept::obligations;
+use acc_base::bounds::{MOST_INSTANCES, MOST_SPLITS};
 use acc_base::designs::Design;
 use acc_base::sequents::{Origin, Sequent};
 use acc_cert_spot::obligation_hint;
-use acc_explain::{begin_note, end_note};
+use acc_explain::{begin_note, end_note, push_with};
 use acc_goals::ObligError;
 use acc_openings::{push_cure, push_unspoken, push_values};
 use acc_origins::origins::push_origin;
 use acc_page::Page;
 use acc_prove::searched;
 use acc_prover::found::{Found, SearchError};
+use acc_systems::MOST_RELATIONS;
 use std::alloc::{AllocError, Global};
 
 /// `open O`, the words with which the line of an open obligation begins.
@@ -39,6 +41,17 @@ fn behind_line(text: &[u8]) -> &[u8] {
     }
 }
 
+/// Says that a search has too many instances, or splits.
+fn push_crowded(out: &mut Page) {
+    push_with(
+        out,
+        b"the search has over ",
+        MOST_INSTANCES,
+        b" instances or ",
+    );
+    push_with(out, b"over ", MOST_SPLITS, b" splits")
+}
+
 /// Says how the search for an obligation's proof ended, and at which values the assertion fails, where these are known.
 fn push_end(
     alloc: Global,
@@ -54,15 +67,16 @@ fn push_end(
             let (leaf, point) = (leaf.as_slice(), point.as_slice());
             return push_values(alloc, out, b", at ", d, origin, leaf, point);
         }
-        Err(SearchError::Crowded) => {
-            out.push(b"the search has over 4,096 instances or over 256 splits");
-        }
+        Err(SearchError::Crowded) => push_crowded(out),
         Err(SearchError::Wide) => {
             out.push(b"the search came to a number more than 2^120 away from 0");
         }
-        Err(SearchError::Many) => {
-            out.push(b"the search came to more than 4,096 relations in one system");
-        }
+        Err(SearchError::Many) => push_with(
+            out,
+            b"the search came to more than ",
+            MOST_RELATIONS,
+            b" relations in one system",
+        ),
         Err(SearchError::Memory) => return Err(AllocError),
     }
     Ok(())

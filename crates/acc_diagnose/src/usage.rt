@@ -1,14 +1,10 @@
 //! What is told where the words of a command line are no command.
 use acc_explain::push_quoted;
 use acc_page::Page;
+use acc_spot::is_one_of;
 
 /// Words by which other programs are asked for their commands.
 const ASKING: [&[u8]; 3] = [b"help", b"-h", b"-?"];
-
-/// Whether a word is one of some words.
-fn is_among(words: &[&[u8]], word: &[u8]) -> bool {
-    words.iter().any(|other| *other == word)
-}
 
 /// Whether a line of the usage is about the command of this verb.
 fn is_about(line: &[u8], verb: &[u8]) -> bool {
@@ -37,7 +33,7 @@ fn push_verb(out: &mut Page, verb: &[u8], usage: &[u8]) {
     }
     push_quoted(out, verb);
     out.push(b" is no command");
-    if is_among(&ASKING, verb) {
+    if is_one_of(&ASKING, verb) {
         out.push(b", `--help` is");
     }
 }

@@ -7,7 +7,7 @@ use Rattle.std.proofs.lemmas.Option.{IfSome_then}
 use Rattle.acc_base.specs.declared.forms.Unknown.{Unknown}
 use Rattle.acc_base.specs.declared.forms.Rel.{Rel}
 use Rattle.acc_rows.specs.declared.rows.Row.{Row}
-use Rattle.acc_rows.specs.Answers.{chain, steps}
+use Rattle.acc_base.specs.Computing.{steps}
 use Rattle.acc_readings.specs.Readings.{Read, with_rel, row_of, read_next}
 use Rattle.acc_known.specs.declared.known.Known.{Known}
 use Rattle.acc_known.specs.Ends.{IsKnown, IsCarriedOn}

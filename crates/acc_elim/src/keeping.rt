@@ -1,6 +1,7 @@
 //! Relations that are read once, and whose stage of equations is kept, for many searches.
 ghost use Rattle.std.specs.Prelude.{◌≡◌, ◌≤◌, ◌∷◌, ◌++◌, [], ℕ, None, length, IfOk, IfSome};
-ghost use Rattle.acc_rows.specs.Answers.{Answers, Leaves, steps};
+ghost use Rattle.acc_base.specs.Computing.{Answers, Leaves, steps};
+ghost use Rattle.acc_rows.specs.Answers.{tells};
 ghost use Rattle.acc_readings.specs.Readings.{read_next};
 ghost use Rattle.acc_points.specs.Searches.{searched};
 ghost use Rattle.acc_known.specs.Ends.{IsKnown, IsKnownWithin};
@@ -9,7 +10,7 @@ ghost use Rattle.acc_elim.specs.Keepings.{IsKept, IsCarriedTo, AreKept};
 
 use acc_base::forms::Rel;
 use acc_base::sequences::Seq;
-use acc_decisions::reading::{Reading, counted};
+use acc_decisions::reading::{Reading, small_length};
 use acc_known::known::{Known, carried_on, found, found_with, known_of};
 use acc_readings::readings::read_next;
 use acc_rows::rows::Row;
@@ -53,7 +54,7 @@ impl Kept {
         requires known { IsKept self.old.reading known }
         requires gone { self.old.known ≡ None }
         ensures kept { AreKept rels.now self.new }
-        ensures all { Leaves result (read_of self.new.reading) (steps read_next unread rels.now) }
+        ensures all { Leaves tells result (read_of self.new.reading) (steps read_next unread rels.now) }
     {
         let before = self.reading.rows.len();
         self.reading.catch_up(alloc, rels)?;
@@ -65,7 +66,7 @@ impl Kept {
     fn catch_up(&mut self, alloc: Global, rels: &[Rel]) -> Result<(), Stop>
         requires { AreKept rels.now self.old }
         ensures kept { AreKept rels.now self.new }
-        ensures all { Leaves result (read_of self.new.reading) (steps read_next unread rels.now) }
+        ensures all { Leaves tells result (read_of self.new.reading) (steps read_next unread rels.now) }
     {
         if self.reading.count >= rels.len() {
             return Ok(());
@@ -82,7 +83,7 @@ fn carried(alloc: Global, known: Known, before: usize, reading: &Reading) -> Opt
     requires { before ≤ length reading.now.rows.items }
     ensures { IfSome result (IsCarriedTo reading.now before known) }
 {
-    match counted(reading.names.len()) {
+    match small_length(reading.names.len()) {
         Err(_) => None,
         Ok(unknowns) => carried_on(alloc, known, unknowns, &reading.rows.as_slice()[before..]),
     }
@@ -97,7 +98,7 @@ fn taken(alloc: Global, kept: &mut Option<Known>, reading: &Reading) -> Result<K
     match kept.take() {
         Some(known) => Ok(known),
         None => {
-            let unknowns = counted(reading.names.len())?;
+            let unknowns = small_length(reading.names.len())?;
             let rows = copied_rows(alloc, reading.rows.as_slice())?;
             known_of(alloc, unknowns, rows)
         }
@@ -108,7 +109,7 @@ fn taken(alloc: Global, kept: &mut Option<Known>, reading: &Reading) -> Result<K
 pub fn searched(alloc: Global, kept: &mut Kept, rels: &[Rel]) -> Result<Seq<(i128, i128)>, Stop>
     requires { AreKept rels.now kept.old }
     ensures kept { AreKept rels.now kept.new }
-    ensures value { Answers result (searched rels.now) }
+    ensures value { Answers tells result (searched rels.now) }
 {
     kept.catch_up(alloc, rels)?;
     let mut known = taken(alloc, &mut kept.known, &kept.reading)?;
@@ -128,9 +129,9 @@ fn found_last(
     requires known { IsKnownWithin reading.now.rows.items (length reading.now.names.items) known }
     requires gone { slot.old ≡ None }
     ensures kept { IfSome slot.new (λ k. (n : ℕ) → IsKnown reading.now.rows.items n known → IsKnown reading.now.rows.items n k) }
-    ensures value { Answers result (found_in (reading.now.names.items, reading.now.rows.items ++ row ∷ [])) }
+    ensures value { Answers tells result (found_in (reading.now.names.items, reading.now.rows.items ++ row ∷ [])) }
 {
-    let unknowns = counted(reading.names.len())?;
+    let unknowns = small_length(reading.names.len())?;
     let rows = reading.rows.as_slice();
     let end = found_with(alloc, &mut known, rows, unknowns, row);
     *slot = Some(known);
@@ -146,12 +147,12 @@ pub fn searched_with(
 ) -> Result<Seq<(i128, i128)>, Stop>
     requires { AreKept rels.now kept.old }
     ensures kept { AreKept rels.now kept.new }
-    ensures value { Answers result (searched (rels.now ++ last.now ∷ [])) }
+    ensures value { Answers tells result (searched (rels.now ++ last.now ∷ [])) }
 {
     kept.catch_up(alloc, rels)?;
     let known = taken(alloc, &mut kept.known, &kept.reading)?;
     let count = kept.reading.names.len();
-    let place = counted(kept.reading.rows.len())?;
+    let place = small_length(kept.reading.rows.len())?;
     match read_next(alloc, &mut kept.reading.names, place, last) {
         Err(stop) => {
             kept.forget();

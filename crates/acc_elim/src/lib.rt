@@ -3,3 +3,5 @@
 
 mod keeping;
 pub mod solver;
+
+pub use solver::Solver;

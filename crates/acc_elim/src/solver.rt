@@ -1,7 +1,8 @@
 //! Relations that are asked again and again whether they hold at some point.
 ghost use Rattle.std.specs.Prelude.{◌≡◌, ◌∷◌, ◌++◌, [], Ok, IfOk, IfErr, OnOk};
+ghost use Rattle.acc_base.specs.Computing.{StopsBy};
 ghost use Rattle.acc_readings.specs.Readings.{unknowns_of};
-ghost use Rattle.acc_decisions.specs.Causes.{StoppedBy};
+ghost use Rattle.acc_decisions.specs.Causes.{tells};
 ghost use Rattle.acc_decisions.specs.Decisions.{ended, decision};
 
 use crate::keeping::{Kept, searched, searched_with};
@@ -43,7 +44,7 @@ fn ended_with(
     end: Result<Seq<(i128, i128)>, Stop>,
 ) -> Result<Verdict, ElimError>
     ensures value { IfOk result (λ v. ended (rels.old.items ++ last ∷ []) end ≡ Ok v) }
-    ensures stops { IfErr result (λ e. StoppedBy e (ended (rels.old.items ++ last ∷ []) end)) }
+    ensures stops { IfErr result (λ e. StopsBy (tells e) e (ended (rels.old.items ++ last ∷ []) end)) }
     ensures same { rels.new.items ≡ rels.old.items }
 {
     rels.push(last)?;
@@ -88,7 +89,7 @@ impl Solver {
     /// Whether the relations hold at some point, as `decide` tells it.
     pub fn decide(&mut self, alloc: Global) -> Result<Verdict, ElimError>
         ensures value { IfOk result (λ v. decision self.old ≡ Ok v) }
-        ensures stops { IfErr result (λ e. StoppedBy e (decision self.old)) }
+        ensures stops { IfErr result (λ e. StopsBy (tells e) e (decision self.old)) }
         ensures same { self.new ≡ self.old }
     {
         let end = searched(alloc, &mut self.kept, self.rels.as_slice());
@@ -98,7 +99,7 @@ impl Solver {
     /// The same of the relations with one more behind them, which doesn't stay.
     pub fn decide_with(&mut self, alloc: Global, last: Rel) -> Result<Verdict, ElimError>
         ensures value { IfOk result (λ v. decision (self.old ++ last ∷ []) ≡ Ok v) }
-        ensures stops { IfErr result (λ e. StoppedBy e (decision (self.old ++ last ∷ []))) }
+        ensures stops { IfErr result (λ e. StopsBy (tells e) e (decision (self.old ++ last ∷ []))) }
         ensures same { self.new ≡ self.old }
     {
         let end = searched_with(alloc, &mut self.kept, self.rels.as_slice(), &last);

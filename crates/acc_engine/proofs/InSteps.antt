@@ -9,8 +9,10 @@ use Rattle.std.proofs.lemmas.List.{append-nil, flat_map_more, drop-append-le, dr
 use Rattle.std.proofs.lemmas.List.{get_or-set_other}
 use Rattle.std.proofs.lemmas.List.Sums.{count_by_more_yes, count_by_more_no}
 use Rattle.std.proofs.lemmas.List.Elements.{All-nil, All-push, filter_map-append}
+use Rattle.acc_base.specs.declared.designs.At.{At}
 use Rattle.acc_base.specs.declared.designs.Design.{Design}
 use Rattle.acc_base.specs.declared.machines.Call.{Call}
+use Rattle.acc_base.specs.declared.machines.Cause.{Cause}
 use Rattle.acc_base.specs.declared.machines.Cause.TheVariants.{Refused, Range, Limit, Asked, Victim, Crash}
 use Rattle.acc_base.specs.declared.machines.Event.{Event}
 use Rattle.acc_base.specs.declared.machines.Event.TheVariants.{Begin}
@@ -113,13 +115,16 @@ turn_no_call t event step = refl
 turn_no_call t event undo = refl
 turn_no_call t event (abort c other) = refl
 
-pub lags_turns : {D : Type 0} (t : ℕ) (turn : Turn) (events : List Event) (wal : Journal D) → ((u entry : ℕ) → turn ≡ Blocked u entry → ⊥)
+-- a turn that isn't blocked
+abbrev pub IsMove : Turn → Type 0
+IsMove turn = ((at : At) × (turn ≡ Stepped at)) ⊎ ((c : Cause) × (turn ≡ Turned c)) ⊎ ((at : At) × (turn ≡ Back at)) ⊎ (turn ≡ Ended)
+
+pub lags_turns : {D : Type 0} (t : ℕ) (turn : Turn) (events : List Event) (wal : Journal D) → IsMove turn
     → Lags t turn events wal → AddsTurn t (wal.durable ++ wal.tail) events
-lags_turns t (Blocked u entry) events wal not lags = absurd (not u entry refl)
-lags_turns t (Stepped at) events wal not lags = lags
-lags_turns t (Turned cause) events wal not lags = lags
-lags_turns t (Back at) events wal not lags = lags
-lags_turns t Ended events wal not lags = lags
+lags_turns t turn events wal (inl (at, e)) lags = subst (λ (x : Turn). Lags t x events wal) e lags
+lags_turns t turn events wal (inr (inl (c, e))) lags = subst (λ (x : Turn). Lags t x events wal) e lags
+lags_turns t turn events wal (inr (inr (inl (at, e)))) lags = subst (λ (x : Turn). Lags t x events wal) e lags
+lags_turns t turn events wal (inr (inr (inr e))) lags = subst (λ (x : Turn). Lags t x events wal) e lags
 
 pub caught_up : {D : Type 0} (t : ℕ) (events : List Event) (old new : Journal D) (result : Event)
     (turns : AddsTurn t (old.durable ++ old.tail) events)

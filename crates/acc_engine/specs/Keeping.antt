@@ -4,10 +4,11 @@ use Rattle.std.specs.Prelude.{Some, None, slice_get, slice_index_or, ⊤}
 use Rattle.std.specs.List.{filter_map, count_by}
 use Rattle.acc_base.specs.declared.designs.Design.{Design}
 use Rattle.acc_base.specs.declared.machines.Call.{Call}
-use Rattle.acc_base.specs.declared.machines.Cause.TheVariants.{Crash}
+use Rattle.acc_base.specs.declared.machines.Cause.TheVariants.{Refused, Range, Limit, Asked, Victim, Crash}
 use Rattle.acc_base.specs.declared.machines.Event.{Event}
-use Rattle.acc_base.specs.declared.machines.Event.TheVariants.{Begin, Abort}
+use Rattle.acc_base.specs.declared.machines.Event.TheVariants.{Begin, Step, Abort, Undo}
 use Rattle.acc_base.specs.Machine.{World, call_fits}
+use Rattle.acc_wal.specs.declared.writing.TheConstants.{LONGEST_TURN}
 use Rattle.acc_wal.specs.Spellings.{body, event_bytes}
 use Rattle.acc_machine.specs.Kept.{IsKept}
 
@@ -52,12 +53,21 @@ unbegun (false ∷ marks) (call ∷ calls) = length (event_bytes (Begin call)) +
 -- ---- the events since the engine was made
 
 abbrev pub IsNoCrash : Event → Type 0
+IsNoCrash (Begin call) = ⊤
+IsNoCrash (Step t) = ⊤
+IsNoCrash (Abort t (Refused n)) = ⊤
+IsNoCrash (Abort t Range) = ⊤
+IsNoCrash (Abort t Limit) = ⊤
+IsNoCrash (Abort t Asked) = ⊤
+IsNoCrash (Abort t Victim) = ⊤
 IsNoCrash (Abort t Crash) = ⊥
-IsNoCrash _ = ⊤
+IsNoCrash (Undo t) = ⊤
 
 abbrev pub call_of : Event → Option Call
 call_of (Begin call) = Some call
-call_of _ = None
+call_of (Step t) = None
+call_of (Abort t c) = None
+call_of (Undo t) = None
 
 -- so often the place stands among those that have begun
 abbrev pub times_begun : Bool → ℕ
@@ -73,7 +83,7 @@ pub record BeginsFrom (calls : List Call) (marks : List Bool) (events : List Eve
 
 -- ---- all of it
 
--- the journal's events are the history; its tail is spelled in few bytes, by the calls that have begun and 14 bytes an event
+-- the journal's events are the history; its tail is spelled in few bytes, by the calls that have begun and by the turns
 pub record IsInStep (d : Design) (w : World) (durable tail : List Event) (found : ℕ) (calls : List Call) (marks : List Bool) (lowest : ℕ)
     : Type 0 where
   pub state : IsKept d w
@@ -83,5 +93,5 @@ pub record IsInStep (d : Design) (w : World) (durable tail : List Event) (found 
   pub fits : CallsFit d calls
   pub spelled : ℕ
   pub whole : spelled + unbegun marks calls < 2 ^ 31
-  pub sized : length (body tail) ≤ spelled + 14 * length tail
+  pub sized : length (body tail) ≤ spelled + LONGEST_TURN * length tail
   pub below : (p : ℕ) → p < lowest → is_begun marks p ≡ true

@@ -4,6 +4,7 @@ use Rattle.acc_base.specs.declared.machines.Event.{Event}
 use Rattle.acc_base.specs.declared.machines.Event.TheVariants.{Begin, Step, Abort, Undo}
 use Rattle.acc_base.specs.declared.machines.Turn.{Turn}
 use Rattle.acc_base.specs.declared.machines.Turn.TheVariants.{Stepped, Blocked, Turned, Back, Ended}
+use Rattle.acc_wal.specs.declared.writing.TheConstants.{LONGEST_TURN}
 use Rattle.acc_wal.specs.Spellings.{body, cause_number}
 use Rattle.acc_wal.specs.Wals.{Journal}
 use Rattle.acc_machine.specs.Turns.{IsTurnEvent}
@@ -22,14 +23,14 @@ Lags t (Turned cause) events wal = AddsTurn t (wal.durable ++ wal.tail) events
 Lags t (Back at) events wal = AddsTurn t (wal.durable ++ wal.tail) events
 Lags t Ended events wal = AddsTurn t (wal.durable ++ wal.tail) events
 
--- it has caught up, by events of 14 bytes at most
+-- it has caught up, by events no longer than a turn's
 pub record CatchesUp {D : Type 0} (events : List Event) (old new : Journal D) : Type 0 where
   pub same : new.durable ++ new.tail ≡ events
   pub disk : new.disk ≡ old.disk
   pub base : new.base ≡ old.base
   pub durable : new.durable ≡ old.durable
   pub spent : new.spent ≡ old.spent
-  pub brief : length (body new.tail) + 14 * length old.tail ≤ length (body old.tail) + 14 * length new.tail
+  pub brief : length (body new.tail) + LONGEST_TURN * length old.tail ≤ length (body old.tail) + LONGEST_TURN * length new.tail
 
 -- the last event is a turn
 pub record EndsInTurn (events : List Event) : Type 0 where

@@ -12,7 +12,7 @@ use acc_base::sequences::Seq;
 use acc_disk::Disk;
 use acc_machine::{BeginError, State};
 use acc_store::Store;
-use acc_wal::{Wal, WalError};
+use acc_wal::{LONGEST_TURN, Wal, WalError};
 use std::alloc::Global;
 use std::marker::Model;
 
@@ -201,7 +201,7 @@ impl<'a, S: Store, D: Disk> Engine<'a, S, D> {
         ensures sound { IsSound D.told self.new }
     {
         self.standing();
-        match self.wal.reserve(14) {
+        match self.wal.reserve(LONGEST_TURN) {
             Ok(()) => (),
             Err(WalError::Spent) => return Err(EngineError::Failed),
             Err(_) => return Err(EngineError::Memory),

@@ -2,7 +2,7 @@
 ghost use Rattle.std.specs.Prelude.{◌≡◌, ◌≤◌, ◌<◌, ◌+◌, ◌^◌, ◌++◌, [], ◌∷◌, List, length, false, IfOk};
 ghost use Rattle.acc_base.specs.declared.machines.Event.{Event as TheEvent};
 ghost use Rattle.acc_base.specs.declared.machines.Event.TheVariants.{Begin};
-ghost use Rattle.acc_wal.specs.Spellings.{body, event_bytes, Fits};
+ghost use Rattle.acc_wal.specs.Spellings.{body, cause_number, event_bytes, Fits};
 ghost use Rattle.acc_wal.specs.Settling.{Pushes};
 ghost use Rattle.acc_machine.specs.Kept.{IsKept};
 ghost use Rattle.acc_engine.specs.Lags.{Lags, CatchesUp, EndsInTurn, HasSmallCause};
@@ -12,7 +12,7 @@ use acc_base::sequences::{Boxed, copied};
 use acc_disk::Disk;
 use acc_machine::State;
 use acc_store::Store;
-use acc_wal::Wal;
+use acc_wal::{LONGEST_TURN, Wal};
 use std::alloc::{AllocError, Global};
 
 /// The event by which a call begins.
@@ -36,6 +36,21 @@ pub fn put<D: Disk>(wal: &mut Wal<D>, event: Event)
     }
 }
 
+// A cause again. What is read of it fits its type.
+fn cause_again(cause: &Cause) -> Cause
+    ensures same { result ≡ cause.now }
+    ensures small { cause_number result < 2 ^ 32 }
+{
+    match cause {
+        Cause::Refused(number) => Cause::Refused(*number),
+        Cause::Range => Cause::Range,
+        Cause::Limit => Cause::Limit,
+        Cause::Asked => Cause::Asked,
+        Cause::Victim => Cause::Victim,
+        Cause::Crash => Cause::Crash,
+    }
+}
+
 // The last event again, which is a turn. What is read of it fits its type.
 fn last_turn(events: &[Event]) -> Event
     requires { EndsInTurn events.now }
@@ -44,10 +59,9 @@ fn last_turn(events: &[Event]) -> Event
 {
     match events.last() {
         Some(Event::Step(t)) => Event::Step(*t),
-        Some(Event::Abort(t, Cause::Refused(number))) => Event::Abort(*t, Cause::Refused(*number)),
-        Some(Event::Abort(t, cause)) => Event::Abort(*t, *cause),
+        Some(Event::Abort(t, cause)) => Event::Abort(*t, cause_again(cause)),
         Some(Event::Undo(t)) => Event::Undo(*t),
-        _ => unreachable!(),
+        Some(Event::Begin(_)) | None => unreachable!(),
     }
 }
 
@@ -56,14 +70,16 @@ pub fn note<S: Store, D: Disk>(state: &State<S>, wal: &mut Wal<D>, t: u64, turn:
     requires lags { Lags t turn state.now.world.events wal.old }
     requires number { t < 2 ^ 32 }
     requires unspent { wal.old.spent ≡ false }
-    requires room { 14 ≤ wal.old.room }
-    requires short { length (body wal.old.tail) + 14 < 2 ^ 32 }
+    requires room { LONGEST_TURN ≤ wal.old.room }
+    requires short { length (body wal.old.tail) + LONGEST_TURN < 2 ^ 32 }
     ensures up { CatchesUp state.now.world.events wal.old wal.new }
     ensures kept { IsKept state.now.design state.now.world }
 {
     let events = state.events();
-    if let Turn::Blocked(_, _) = turn {
-        return;
+    match turn {
+        Turn::Blocked(_, _) => (),
+        Turn::Stepped(_) | Turn::Turned(_) | Turn::Back(_) | Turn::Ended => {
+            put(wal, last_turn(events.as_slice()));
+        }
     }
-    put(wal, last_turn(events.as_slice()));
 }

@@ -16,7 +16,17 @@ pub fn created(alloc: Global, design: &Accepted, from: Option<u64>) -> Result<Me
     match create(alloc, design.design(), failing(alloc, from)?) {
         Ok(disk) => Ok(disk),
         Err((WalError::Memory, _)) => Err(AllocError),
-        Err((_, disk)) => Ok(disk),
+        Err(
+            (
+                WalError::Exists
+                | WalError::NotJournal
+                | WalError::OtherVersion(_)
+                | WalError::Damaged(_)
+                | WalError::Disk
+                | WalError::Spent,
+                disk,
+            ),
+        ) => Ok(disk),
     }
 }
 

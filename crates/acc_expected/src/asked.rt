@@ -4,8 +4,8 @@ use crate::signs::{
     is_clause, is_head, is_of_part, is_of_path, is_of_point, is_of_type, is_path_end, is_read,
 };
 use crate::wanted::Wanted;
-use acc_lex::signs::keyword;
-use acc_lex::words::Sign;
+use acc_lex::{Sign, keyword, language};
+use acc_spot::is_one_of;
 
 /// Words of the language that are alike.
 #[derive(Clone, Copy)]
@@ -89,7 +89,7 @@ fn is_of(group: Group, sign: Sign) -> bool {
 
 /// Whether a word stands between the two values of a relation.
 fn is_relation(word: &[u8]) -> bool {
-    word == b"<=".as_slice() || word == b">=".as_slice() || word == b"=".as_slice()
+    is_one_of(&language::RELATIONS, word)
 }
 
 /// Whether a word is a name.

@@ -6,6 +6,7 @@ use crate::asked::Place::{Anywhere, BehindName, In};
 use crate::hints;
 use crate::mistakes::{Mistake, hint_among, push_hint};
 use crate::wanted::Wanted;
+use acc_lex::language::{PRIVATE, TABLE, TYPE};
 use acc_page::Page;
 use std::alloc::Global;
 
@@ -92,9 +93,9 @@ const BYTES: [Mistake; COUNT] = [
     (Anywhere, Free, Front(b"%"), hints::REMAINDER),
     (Anywhere, Free, Front(b"\t"), hints::TAB),
     (Anywhere, Free, Front(b"\r"), hints::CARRIAGE_RETURN),
-    (In(b"table"), Free, Front(b"("), hints::COMPONENTS),
-    (In(b"private"), Free, Front(b"("), hints::COMPONENTS),
-    (In(b"type"), Free, Front(b"("), hints::PARAMETERS),
+    (In(TABLE), Free, Front(b"("), hints::COMPONENTS),
+    (In(PRIVATE), Free, Front(b"("), hints::COMPONENTS),
+    (In(TYPE), Free, Front(b"("), hints::PARAMETERS),
     (BehindName, Free, Front(b"("), hints::NO_BRACKETS),
     (Anywhere, Free, Front(b"("), hints::NO_PARENTHESES),
     (Anywhere, Free, Front(b")"), hints::NO_PARENTHESES),

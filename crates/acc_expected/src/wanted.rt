@@ -1,5 +1,5 @@
 //! What could stand at a place among words: each word with which some design goes on there.
-use crate::signs::{COUNT, SIGNS, sign_text};
+use crate::signs::{COUNT, SIGNS, push_sign};
 use acc_base::sequences::Seq;
 use acc_designs::{SyntaxError, syntax};
 use acc_lex::words::{Sign, Word};
@@ -56,7 +56,8 @@ impl Wanted {
             push_item(out, b"a number", &mut left);
         }
         for sign in &self.signs {
-            push_item(out, sign_text(*sign), &mut left);
+            push_sign(out, *sign);
+            push_parting(out, &mut left);
         }
         if self.end {
             push_item(out, b"the end of the design", &mut left);
@@ -67,6 +68,11 @@ impl Wanted {
 /// Writes an item of a list, with what parts it from the next, where there is one.
 fn push_item(out: &mut Page, item: &[u8], left: &mut u64) {
     out.push(item);
+    push_parting(out, left)
+}
+
+/// Writes what parts an item of a list from the next, where there is one.
+fn push_parting(out: &mut Page, left: &mut u64) {
     *left = left.saturating_sub(1);
     match *left {
         0 => {}

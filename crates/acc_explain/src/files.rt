@@ -1,13 +1,20 @@
 //! What is said where no line of a file is wrong.
+use crate::numbers::push_with;
+use acc_page::Page;
 
 /// A file that isn't there.
 pub fn absent_text() -> &'static [u8] {
     b"there is no such file"
 }
 
-/// A file that has too many bytes.
-pub fn long_text() -> &'static [u8] {
-    b"the file is too long: a file has at most 67,108,864 bytes"
+/// Writes that a file has more bytes than a file may have.
+pub fn push_long(out: &mut Page, most: u64) {
+    push_with(
+        out,
+        b"the file is too long: a file has at most ",
+        most,
+        b" bytes",
+    )
 }
 
 /// A file that can't be read.

@@ -1,6 +1,7 @@
 -- On which line of its text a design is refused.
 use Rattle.std.specs.Prelude.{◌-◌, ℕ, List}
 use Rattle.acc_base.specs.declared.designs.Design.{Design}
+use Rattle.acc_base.specs.declared.rules.FormRule.{FormRule}
 use Rattle.acc_statements.specs.Lines.{IsLineOf}
 use Rattle.acc_form.specs.declared.rules.FormError.TheVariants.{Bad}
 use Rattle.acc_form.specs.Judged.{IsFaultInPrint}
@@ -15,7 +16,7 @@ use Rattle.acc_faults.specs.declared.designs.Diagnosed.{Diagnosed}
 use Rattle.acc_faults.specs.declared.designs.Diagnosed.TheVariants as diagnosed
 
 -- The text's design breaks the rule on this line of its print, and the statement that is printed there ends on that line of the text.
-pub record IsFormFaultAt (text : List ℕ) (rule printed line : ℕ) : Type 0 where
+pub record IsFormFaultAt (text : List ℕ) (rule : FormRule) (printed line : ℕ) : Type 0 where
   pub design : Design
   pub stands : IsDesignText text design
   pub broken : IsFaultInPrint design (Bad rule printed)
@@ -27,7 +28,7 @@ pub record IsFormFaultAt (text : List ℕ) (rule printed line : ℕ) : Type 0 wh
 abbrev pub IsRefused : List ℕ → Refusal → ℕ → Type 0
 IsRefused text refusal.Syntax line = IsWrongAt text line
 IsRefused text refusal.Name line = IsNameFaultAt text line
-IsRefused text (refusal.Limit which) line = IsLimitAt text line which
+IsRefused text (refusal.Limit limit) line = IsLimitAt text line limit
 IsRefused text (refusal.Form rule printed) line = IsFormFaultAt text rule printed line
 
 -- the design of the text, which can be played; or the line on which it is refused

@@ -9,9 +9,11 @@ ghost use Rattle.acc_faults.specs.Refusals.{IsRefused, IsDiagnosed};
 use crate::forms::source_line;
 use crate::tokens::tokens_of;
 use acc_base::designs::Design;
+use acc_base::limits::Limit;
+use acc_base::rules::FormRule;
 use acc_designs::syntax;
 use acc_expected::syntax_spot;
-use acc_explain::{Spot, rule_hint, rule_text};
+use acc_explain::{Spot, push_rule, rule_hint};
 use acc_form::{FormError, well_formed};
 use acc_lex::texts::words;
 use acc_names::names_of;
@@ -26,10 +28,10 @@ pub enum Refusal {
     Syntax,
     /// A name isn't defined, or is defined a second time.
     Name,
-    /// It passes the limit with this number.
-    Limit(u32),
-    /// It breaks the form rule with this number, on this line of its print.
-    Form(u32, u64),
+    /// It passes this limit.
+    Limit(Limit),
+    /// It breaks this form rule, on this line of its print.
+    Form(FormRule, u64),
 }
 
 /// What is wrong with the text of a design.
@@ -69,9 +71,9 @@ fn wrong_name(alloc: Global, text: &[u8]) -> Result<Spot, AllocError> {
 }
 
 /// The spot that passes a limit.
-fn passed_limit(alloc: Global, text: &[u8], line: u64, which: u32) -> Result<Spot, AllocError> {
+fn passed_limit(alloc: Global, text: &[u8], line: u64, limit: Limit) -> Result<Spot, AllocError> {
     let tokens = tokens_of(alloc, text)?;
-    Ok(limit_spot(alloc, text, tokens.as_slice(), line, which))
+    Ok(limit_spot(alloc, text, tokens.as_slice(), line, limit))
 }
 
 /// What is wrong with a text that is refused with an error.
@@ -90,20 +92,20 @@ fn text_diagnosis(alloc: Global, text: &[u8], error: ParseError) -> Result<Diagn
             line,
             spot: wrong_name(alloc, text)?,
         }),
-        ParseError::Limit(line, which) => Ok(Diagnosis {
-            refusal: Refusal::Limit(which),
+        ParseError::Limit(line, limit) => Ok(Diagnosis {
+            refusal: Refusal::Limit(limit),
             line,
-            spot: passed_limit(alloc, text, line, which)?,
+            spot: passed_limit(alloc, text, line, limit)?,
         }),
         ParseError::Memory => Err(AllocError),
     }
 }
 
 /// Says which form rule a statement breaks.
-fn push_rule(spot: &mut Spot, rule: u32) {
-    spot.what.push(rule_text(rule));
+fn push_broken(spot: &mut Spot, rule: FormRule) {
+    push_rule(&mut spot.what, rule);
     spot.what.push(b" (form rule ");
-    spot.what.push_number(rule);
+    spot.what.push_number(rule.number());
     spot.what.push(b")");
     spot.hint.push(rule_hint(rule));
 }
@@ -113,7 +115,7 @@ fn form_diagnosis(
     alloc: Global,
     text: &[u8],
     design: &Design,
-    rule: u32,
+    rule: FormRule,
     printed: u64,
 ) -> Result<Diagnosis, AllocError>
     requires stands { IsDesignText text.now design.now }
@@ -123,7 +125,7 @@ fn form_diagnosis(
     let source = source_line(alloc, text, design, rule, printed)?;
     let tokens = tokens_of(alloc, text)?;
     let mut spot = statement_spot(alloc, text, tokens.as_slice(), source.statement);
-    push_rule(&mut spot, rule);
+    push_broken(&mut spot, rule);
     Ok(Diagnosis {
         refusal: Refusal::Form(rule, printed),
         line: source.line,

@@ -12,6 +12,7 @@ ghost use Rattle.acc_sources.specs.Sources.{IsPrintedBehind};
 ghost use Rattle.acc_faults.specs.Refusals.{IsFormFaultAt};
 
 use acc_base::designs::Design;
+use acc_base::rules::FormRule;
 use acc_base::sequences::Seq;
 use acc_designs::syntax;
 use acc_lex::texts::words;
@@ -81,7 +82,7 @@ pub fn source_line(
     alloc: Global,
     text: &[u8],
     design: &Design,
-    rule: u32,
+    rule: FormRule,
     printed: u64,
 ) -> Result<SourceLine, AllocError>
     requires stands { IsDesignText text.now design.now }

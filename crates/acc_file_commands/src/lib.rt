@@ -6,3 +6,9 @@ pub mod memory_runs;
 pub mod plays;
 pub mod provings;
 pub mod schedules;
+
+pub use designs::{check_files, print_file};
+pub use memory_runs::{Run, unplayed};
+pub use plays::play_files;
+pub use provings::prove_file;
+pub use schedules::schedule_files;

@@ -5,6 +5,7 @@ use Rattle.std.specs.List.{list_all}
 use Rattle.std.proofs.lemmas.Bool.{false≢true, and_parts, and_from, cases_lt}
 use Rattle.std.proofs.lemmas.Bool.Decides.{nat_tests}
 use Rattle.std.proofs.lemmas.List.Folds.{list_all-append}
+use Rattle.acc_base.specs.declared.rules.FormRule.{FormRule}
 use Rattle.acc_form.specs.Marks.{Mark, Broken, End, asked, numbered_from, numbered}
 use Rattle.acc_formed.specs.WellFormed.{EachNumbered}
 
@@ -24,18 +25,18 @@ clean_from xs ys h g = list_all-append is_end xs ys ∙ and_from (list_all is_en
 
 -- ---- a rule that is asked
 
-kept_of_clean : (rule : ℕ) (b : Bool) → Clean (asked rule b) → b ≡ true
+kept_of_clean : (rule : FormRule) (b : Bool) → Clean (asked rule b) → b ≡ true
 kept_of_clean rule true h = refl
 kept_of_clean rule false h = absurd (false≢true h)
 
-clean_of_kept : (rule : ℕ) (b : Bool) → b ≡ true → Clean (asked rule b)
+clean_of_kept : (rule : FormRule) (b : Bool) → b ≡ true → Clean (asked rule b)
 clean_of_kept rule true h = refl
 clean_of_kept rule false h = absurd (false≢true h)
 
-pub asks : (rule : ℕ) (b : Bool) (ms : List Mark) → Clean (asked rule b ++ ms) → (b ≡ true) × Clean ms
+pub asks : (rule : FormRule) (b : Bool) (ms : List Mark) → Clean (asked rule b ++ ms) → (b ≡ true) × Clean ms
 asks rule b ms h = let p = clean_parts (asked rule b) ms h in (kept_of_clean rule b p.0, p.1)
 
-pub keeps : (rule : ℕ) (b : Bool) (ms : List Mark) → b ≡ true → Clean ms → Clean (asked rule b ++ ms)
+pub keeps : (rule : FormRule) (b : Bool) (ms : List Mark) → b ≡ true → Clean ms → Clean (asked rule b ++ ms)
 keeps rule b ms h g = clean_from (asked rule b) ms (clean_of_kept rule b h) g
 
 -- a statement that may be left out

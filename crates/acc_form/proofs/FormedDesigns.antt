@@ -2,6 +2,7 @@
 use Rattle.std.proofs.Common.{◌≡◌, ◌==◌, true, ◌&&◌, not, List, [], take, refl}
 use Rattle.std.specs.List.{list_any}
 use Rattle.std.proofs.lemmas.Bool.{and_parts, and_from}
+use Rattle.acc_base.specs.declared.rules.FormRule.TheVariants as rules
 use Rattle.acc_base.specs.declared.tables.Table.{Table}
 use Rattle.acc_base.specs.declared.designs.TxType.{TxType}
 use Rattle.acc_base.specs.declared.designs.Entry.{Entry}
@@ -20,37 +21,38 @@ use Rattle.acc_form.proofs.FormedTypes.{type_asks}
 table_asks : (tables : List Table) → Asks (table_marks tables) 64 (IsTableFormed tables)
 table_asks tables = record {
   opens = λ i t h.
-      let a = asks 4 (not (i == 64) && table_small t) _ h in
-      let b = asks 6 (not (names_table (take i tables) t.name) && are_distinct t.cols) ending a.1 in
+      let a = asks rules.Limits (not (i == 64) && table_small t) _ h in
+      let b = asks rules.Names (not (names_table (take i tables) t.name) && are_distinct t.cols) ending a.1 in
       let l = and_parts (not (i == 64)) (table_small t) a.0 in
       let m = and_parts (not (names_table (take i tables) t.name)) (are_distinct t.cols) b.0 in
       (l.0, record { limits = l.1; new = m.0; columns = m.1 });
   shuts = λ i t n f.
-      keeps 4 (not (i == 64) && table_small t) _ (and_from (not (i == 64)) (table_small t) n f.limits) (
-      keeps 6 (not (names_table (take i tables) t.name) && are_distinct t.cols) ending (and_from _ _ f.new f.columns) refl);
+      keeps rules.Limits (not (i == 64) && table_small t) _ (and_from (not (i == 64)) (table_small t) n f.limits) (
+      keeps rules.Names (not (names_table (take i tables) t.name) && are_distinct t.cols) ending (and_from _ _ f.new f.columns) refl);
 }
 
 entry_asks : (types : List TxType) (entries : List Entry) → Asks (entry_marks types entries) 1024 (IsEntryFormed types entries)
 entry_asks types entries = record {
   opens = λ i e h.
-      let a = asks 4 (not (i == 1024)) _ h in
-      let b = asks 14 (leaves_starts e) _ a.1 in
-      let f = asks 15 (not (list_any (same_entry e) (take i entries))) _ b.1 in
-      let g = asks 16 (pairs_stay types e) ending f.1 in
+      let a = asks rules.Limits (not (i == 1024)) _ h in
+      let b = asks rules.Starts (leaves_starts e) _ a.1 in
+      let f = asks rules.Entries (not (list_any (same_entry e) (take i entries))) _ b.1 in
+      let g = asks rules.Pairs (pairs_stay types e) ending f.1 in
       (a.0, record { starts = b.0; new = f.0; pairs = g.0 });
   shuts = λ i e n f.
-      keeps 4 (not (i == 1024)) _ n (
-      keeps 14 (leaves_starts e) _ f.starts (
-      keeps 15 (not (list_any (same_entry e) (take i entries))) _ f.new (keeps 16 (pairs_stay types e) ending f.pairs refl)));
+      keeps rules.Limits (not (i == 1024)) _ n (
+      keeps rules.Starts (leaves_starts e) _ f.starts (
+      keeps rules.Entries (not (list_any (same_entry e) (take i entries))) _ f.new (
+      keeps rules.Pairs (pairs_stay types e) ending f.pairs refl)));
 }
 
 hint_asks : Asks hint_marks 1024 (λ i h. IsHintFormed h)
 hint_asks = record {
   opens = λ i h g.
-      let a = asks 4 (not (i == 1024) && lin_small h.lin) ending g in
+      let a = asks rules.Limits (not (i == 1024) && lin_small h.lin) ending g in
       and_parts (not (i == 1024)) (lin_small h.lin) a.0;
   shuts = λ i h n f.
-      keeps 4 (not (i == 1024) && lin_small h.lin) ending (and_from (not (i == 1024)) (lin_small h.lin) n f) refl;
+      keeps rules.Limits (not (i == 1024) && lin_small h.lin) ending (and_from (not (i == 1024)) (lin_small h.lin) n f) refl;
 }
 
 pub design_opens : (d : Design) → design_in d ≡ true → Clean (design_marks d) → IsWellFormed d

@@ -5,6 +5,7 @@ use Rattle.std.specs.List.{list_all}
 use Rattle.std.proofs.lemmas.Bool.{and_parts, and_from, eqb-true}
 use Rattle.std.proofs.lemmas.Bool.Decides.{Decides-int_eq}
 use Rattle.std.specs.Ordering.{int_eq}
+use Rattle.acc_base.specs.declared.rules.FormRule.TheVariants as rules
 use Rattle.acc_base.specs.declared.forms.Lin.{Lin}
 use Rattle.acc_base.specs.declared.tables.Table.{Table}
 use Rattle.acc_base.specs.declared.designs.Side.TheVariants.{Next, Undo}
@@ -33,21 +34,21 @@ zero_small l h =
 
 variant_opens : (l : Lin) → Clean (variant_marks l) → lin_small l ≡ true
 variant_opens l h =
-    elim (is_zero l) as (λ b. is_zero l ≡ b → Clean (if b then [] else (asked 4 (lin_small l) ++ ending)) → lin_small l ≡ true) [
+    elim (is_zero l) as (λ b. is_zero l ≡ b → Clean (if b then [] else (asked rules.Limits (lin_small l) ++ ending)) → lin_small l ≡ true) [
       | true ↦ λ e g. zero_small l e
-      | false ↦ λ e g. (asks 4 (lin_small l) ending g).0
+      | false ↦ λ e g. (asks rules.Limits (lin_small l) ending g).0
     ] refl h
 
 variant_shuts : (l : Lin) → lin_small l ≡ true → Clean (variant_marks l)
-variant_shuts l h = clean_unless (is_zero l) (asked 4 (lin_small l) ++ ending) (keeps 4 (lin_small l) ending h refl)
+variant_shuts l h = clean_unless (is_zero l) (asked rules.Limits (lin_small l) ++ ending) (keeps rules.Limits (lin_small l) ending h refl)
 
 -- ---- points
 
 point_opens : (tables : List Table) (t : TxType) (i : ℕ) (p : Point) →
     Clean (point_marks tables t i p) → (not (i == 32) ≡ true) × IsPointFormed tables t i p
 point_opens tables t i p h =
-    let a = asks 4 (not (i == 32) && is_short p.name) _ h in
-    let b = asks 6 (not (names_point (take i t.points) p.name)) _ a.1 in
+    let a = asks rules.Limits (not (i == 32) && is_short p.name) _ h in
+    let b = asks rules.Names (not (names_point (take i t.points) p.name)) _ a.1 in
     let e = clean_parts (variant_marks p.variant) _ b.1 in
     let f = clean_parts (numbered (clause_marks tables t.locals 64) p.clauses) _ e.1 in
     let g = clean_parts (step_marks tables t Next false p.next) (step_marks tables t Undo (i == 0) p.undo) f.1 in
@@ -66,8 +67,8 @@ point_opens tables t i p h =
 point_shuts : (tables : List Table) (t : TxType) (i : ℕ) (p : Point) →
     not (i == 32) ≡ true → IsPointFormed tables t i p → Clean (point_marks tables t i p)
 point_shuts tables t i p n f =
-    keeps 4 (not (i == 32) && is_short p.name) _ (and_from (not (i == 32)) (is_short p.name) n f.limits) (
-    keeps 6 (not (names_point (take i t.points) p.name)) _ f.new (
+    keeps rules.Limits (not (i == 32) && is_short p.name) _ (and_from (not (i == 32)) (is_short p.name) n f.limits) (
+    keeps rules.Names (not (names_point (take i t.points) p.name)) _ f.new (
     clean_from (variant_marks p.variant) _ (variant_shuts p.variant f.variant) (
     clean_from (numbered (clause_marks tables t.locals 64) p.clauses) _ (clauses_shut tables t.locals 64 p.clauses f.clauses) (
     clean_from (step_marks tables t Next false p.next) (step_marks tables t Undo (i == 0) p.undo)

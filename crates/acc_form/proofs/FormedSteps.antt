@@ -2,6 +2,7 @@
 use Rattle.std.proofs.Common.{◌≡◌, ℕ, ◌+◌, ◌<◌, ◌==◌, Bool, true, ◌&&◌, ◌||◌, not, nat_lt, List, length, get_or, refl, arith}
 use Rattle.std.proofs.lemmas.Bool.{and_parts, and_from}
 use Rattle.std.proofs.lemmas.Bool.Decides.{nat_tests}
+use Rattle.acc_base.specs.declared.rules.FormRule.TheVariants as rules
 use Rattle.acc_base.specs.declared.forms.Clause.{Clause}
 use Rattle.acc_base.specs.declared.tables.Table.{Table}
 use Rattle.acc_base.specs.declared.steps.Path.{Path}
@@ -23,15 +24,15 @@ clause_asks : (tables : List Table) (names : List (List ℕ)) (most : ℕ) →
     Asks (clause_marks tables names most) most (λ i c. IsClauseFormed tables names c)
 clause_asks tables names most = record {
   opens = λ i c h.
-      let a = asks 2 (clause_fits tables c) _ h in
-      let b = asks 4 (not (i == most) && clause_small c) _ a.1 in
-      let e = asks 6 (are_new names c.vars) ending b.1 in
+      let a = asks rules.Widths (clause_fits tables c) _ h in
+      let b = asks rules.Limits (not (i == most) && clause_small c) _ a.1 in
+      let e = asks rules.Names (are_new names c.vars) ending b.1 in
       let f = and_parts (not (i == most)) (clause_small c) b.0 in
       (f.0, record { widths = a.0; limits = f.1; new = e.0 });
   shuts = λ i c n p.
-      keeps 2 (clause_fits tables c) _ p.widths (
-      keeps 4 (not (i == most) && clause_small c) _ (and_from (not (i == most)) (clause_small c) n p.limits) (
-      keeps 6 (are_new names c.vars) ending p.new refl));
+      keeps rules.Widths (clause_fits tables c) _ p.widths (
+      keeps rules.Limits (not (i == most) && clause_small c) _ (and_from (not (i == most)) (clause_small c) n p.limits) (
+      keeps rules.Names (are_new names c.vars) ending p.new refl));
 }
 
 pub clauses_open : (tables : List Table) (names : List (List ℕ)) (most : ℕ) (cs : List Clause) →
@@ -52,36 +53,37 @@ clauses_shut tables names most cs all =
 read_asks : (tables : List Table) (t : TxType) (side : Side) → Asks (read_marks tables t side) 32 (λ i r. IsReadFormed tables t side r)
 read_asks tables t side = record {
   opens = λ i r h.
-      let a = asks 2 (read_fits tables r) _ h in
-      let b = asks 3 (read_leaves_a_component tables r) _ a.1 in
-      let e = asks 4 (not (i == 32) && read_small r) _ b.1 in
-      let f = asks 5 (divides r) _ e.1 in
-      let g = asks 11 (assigns_local t r) _ f.1 in
-      let k = asks 12 (may_read side r) ending g.1 in
+      let a = asks rules.Widths (read_fits tables r) _ h in
+      let b = asks rules.ShortPrefixes (read_leaves_a_component tables r) _ a.1 in
+      let e = asks rules.Limits (not (i == 32) && read_small r) _ b.1 in
+      let f = asks rules.Numbers (divides r) _ e.1 in
+      let g = asks rules.Assigned (assigns_local t r) _ f.1 in
+      let k = asks rules.UndoReads (may_read side r) ending g.1 in
       let l = and_parts (not (i == 32)) (read_small r) e.0 in
       (l.0, record { widths = a.0; short_prefix = b.0; limits = l.1; divisor = f.0; assigns = g.0; allowed = k.0 });
   shuts = λ i r n p.
-      keeps 2 (read_fits tables r) _ p.widths (
-      keeps 3 (read_leaves_a_component tables r) _ p.short_prefix (
-      keeps 4 (not (i == 32) && read_small r) _ (and_from (not (i == 32)) (read_small r) n p.limits) (
-      keeps 5 (divides r) _ p.divisor (
-      keeps 11 (assigns_local t r) _ p.assigns (keeps 12 (may_read side r) ending p.allowed refl)))));
+      keeps rules.Widths (read_fits tables r) _ p.widths (
+      keeps rules.ShortPrefixes (read_leaves_a_component tables r) _ p.short_prefix (
+      keeps rules.Limits (not (i == 32) && read_small r) _ (and_from (not (i == 32)) (read_small r) n p.limits) (
+      keeps rules.Numbers (divides r) _ p.divisor (
+      keeps rules.Assigned (assigns_local t r) _ p.assigns (keeps rules.UndoReads (may_read side r) ending p.allowed refl)))));
 }
 
 action_asks : (tables : List Table) (t : TxType) (is_bare : Bool) →
     Asks (action_marks tables t is_bare) 16 (λ i a. IsActionFormed tables t is_bare a)
 action_asks tables t is_bare = record {
   opens = λ i x h.
-      let a = asks 2 (action_fits tables x) _ h in
-      let b = asks 4 (not (i == 16) && action_small x) _ a.1 in
-      let e = asks 10 (action_is_own tables (length t.locals) x) _ b.1 in
-      let f = asks 13 (not is_bare) ending e.1 in
+      let a = asks rules.Widths (action_fits tables x) _ h in
+      let b = asks rules.Limits (not (i == 16) && action_small x) _ a.1 in
+      let e = asks rules.PrivateKeys (action_is_own tables (length t.locals) x) _ b.1 in
+      let f = asks rules.StartUndos (not is_bare) ending e.1 in
       let l = and_parts (not (i == 16)) (action_small x) b.0 in
       (l.0, record { widths = a.0; limits = l.1; own = e.0; allowed = f.0 });
   shuts = λ i x n p.
-      keeps 2 (action_fits tables x) _ p.widths (
-      keeps 4 (not (i == 16) && action_small x) _ (and_from (not (i == 16)) (action_small x) n p.limits) (
-      keeps 10 (action_is_own tables (length t.locals) x) _ p.own (keeps 13 (not is_bare) ending p.allowed refl)));
+      keeps rules.Widths (action_fits tables x) _ p.widths (
+      keeps rules.Limits (not (i == 16) && action_small x) _ (and_from (not (i == 16)) (action_small x) n p.limits) (
+      keeps rules.PrivateKeys (action_is_own tables (length t.locals) x) _ p.own (
+      keeps rules.StartUndos (not is_bare) ending p.allowed refl)));
 }
 
 -- ---- paths: whether one is the last is asked beside
@@ -94,14 +96,14 @@ path_opens : (tables : List Table) (t : TxType) (side : Side) (is_bare : Bool) (
     Clean (path_marks tables t side is_bare count i p) → (not (i == 16) ≡ true) × IsPathOf tables t side is_bare count i p
 unfolding IsPathOf
 path_opens tables t side is_bare count i p h =
-    let a = asks 4 (not (i == 16) && guard_small p.guard) _ h in
-    let b = asks 7 (nat_lt (i + 1) count || (length p.guard == 0)) _ a.1 in
+    let a = asks rules.Limits (not (i == 16) && guard_small p.guard) _ h in
+    let b = asks rules.LastPaths (nat_lt (i + 1) count || (length p.guard == 0)) _ a.1 in
     let e = clean_parts (numbered (action_marks tables t is_bare) p.actions) (target_marks t side is_bare p) b.1 in
-    let f = asks 4 (target_small t.points p.target) _ e.1 in
-    let g = asks 5 (refuses_by_number p.target) _ f.1 in
-    let k = asks 8 (may_end side p.target) _ g.1 in
-    let m = asks 9 (refuses_plainly p.actions p.target) _ k.1 in
-    let n = asks 13 (not is_bare || is_undone p.target) ending m.1 in
+    let f = asks rules.Limits (target_small t.points p.target) _ e.1 in
+    let g = asks rules.Numbers (refuses_by_number p.target) _ f.1 in
+    let k = asks rules.Ends (may_end side p.target) _ g.1 in
+    let m = asks rules.Refusals (refuses_plainly p.actions p.target) _ k.1 in
+    let n = asks rules.StartUndos (not is_bare || is_undone p.target) ending m.1 in
     let l = and_parts (not (i == 16)) (guard_small p.guard) a.0 in
     let all = each_of_clean (action_marks tables t is_bare) 16 (λ i x. IsActionFormed tables t is_bare x) (action_asks tables t is_bare)
     p.actions e.0 in
@@ -112,15 +114,16 @@ path_shuts : (tables : List Table) (t : TxType) (side : Side) (is_bare : Bool) (
 unfolding IsPathOf
 path_shuts tables t side is_bare count i p n q =
     let x = q.0 in
-    keeps 4 (not (i == 16) && guard_small p.guard) _ (and_from (not (i == 16)) (guard_small p.guard) n x.guard) (
-    keeps 7 (nat_lt (i + 1) count || (length p.guard == 0)) _ q.1 (
+    keeps rules.Limits (not (i == 16) && guard_small p.guard) _ (and_from (not (i == 16)) (guard_small p.guard) n x.guard) (
+    keeps rules.LastPaths (nat_lt (i + 1) count || (length p.guard == 0)) _ q.1 (
     clean_from (numbered (action_marks tables t is_bare) p.actions) (target_marks t side is_bare p)
     (clean_of_each (action_marks tables t is_bare) 16 (λ i x. IsActionFormed tables t is_bare x) (action_asks tables t is_bare) p.actions
     x.few x.actions) (
-    keeps 4 (target_small t.points p.target) _ x.limits (
-    keeps 5 (refuses_by_number p.target) _ x.number (
-    keeps 8 (may_end side p.target) _ x.ends (
-    keeps 9 (refuses_plainly p.actions p.target) _ x.plain (keeps 13 (not is_bare || is_undone p.target) ending x.bare refl)))))))
+    keeps rules.Limits (target_small t.points p.target) _ x.limits (
+    keeps rules.Numbers (refuses_by_number p.target) _ x.number (
+    keeps rules.Ends (may_end side p.target) _ x.ends (
+    keeps rules.Refusals (refuses_plainly p.actions p.target) _ x.plain (
+    keeps rules.StartUndos (not is_bare || is_undone p.target) ending x.bare refl)))))))
 
 path_asks : (tables : List Table) (t : TxType) (side : Side) (is_bare : Bool) (count : ℕ) →
     Asks (path_marks tables t side is_bare count) 16 (IsPathOf tables t side is_bare count)

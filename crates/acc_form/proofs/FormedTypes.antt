@@ -6,6 +6,7 @@ use Rattle.std.proofs.lemmas.Bool.{and_parts, and_from, leb-true, le-leb}
 use Rattle.std.proofs.lemmas.List.{take-append-drop, drop_all}
 use Rattle.std.proofs.lemmas.List.Folds.{list_all-append}
 use Rattle.std.proofs.lemmas.List.Sums.{list_all-from_AllPass}
+use Rattle.acc_base.specs.declared.rules.FormRule.TheVariants as rules
 use Rattle.acc_base.specs.declared.tables.Table.{Table}
 use Rattle.acc_base.specs.declared.designs.TxType.{TxType}
 use Rattle.acc_form.specs.Marks.{Mark, ending, asked, numbered}
@@ -39,8 +40,8 @@ record HasLocals (t : TxType) : Type 0 where
 
 locals_rest : TxType → List Mark
 locals_rest t =
-    asked 4 (nat_le (length t.locals) 48 && list_all is_short (drop t.params t.locals)) ++ (
-    asked 6 (are_new (take t.params t.locals) (drop t.params t.locals)) ++ ending)
+    asked rules.Limits (nat_le (length t.locals) 48 && list_all is_short (drop t.params t.locals)) ++ (
+    asked rules.Names (are_new (take t.params t.locals) (drop t.params t.locals)) ++ ending)
 
 no_others : (t : TxType) → t.params ≤ 48 → length t.locals ≤ t.params → HasLocals t
 no_others t few l =
@@ -50,8 +51,8 @@ no_others t few l =
 some_others : (t : TxType) → Clean (locals_rest t) → HasLocals t
 unfolding locals_rest
 some_others t h =
-    let a = asks 4 (nat_le (length t.locals) 48 && list_all is_short (drop t.params t.locals)) _ h in
-    let b = asks 6 (are_new (take t.params t.locals) (drop t.params t.locals)) ending a.1 in
+    let a = asks rules.Limits (nat_le (length t.locals) 48 && list_all is_short (drop t.params t.locals)) _ h in
+    let b = asks rules.Names (are_new (take t.params t.locals) (drop t.params t.locals)) ending a.1 in
     let l = and_parts (nat_le (length t.locals) 48) (list_all is_short (drop t.params t.locals)) a.0 in
     record { few = leb-true (length t.locals) 48 l.0; others = l.1; new = b.0 }
 
@@ -68,9 +69,9 @@ locals_shut : (t : TxType) → HasLocals t → Clean (locals_marks t)
 unfolding locals_rest
 locals_shut t f =
     clean_unless (nat_le (length t.locals) t.params) (locals_rest t) (
-    keeps 4 (nat_le (length t.locals) 48 && list_all is_short (drop t.params t.locals)) _
+    keeps rules.Limits (nat_le (length t.locals) 48 && list_all is_short (drop t.params t.locals)) _
     (and_from _ _ (le-leb (length t.locals) 48 f.few) f.others) (
-    keeps 6 (are_new (take t.params t.locals) (drop t.params t.locals)) ending f.new refl))
+    keeps rules.Names (are_new (take t.params t.locals) (drop t.params t.locals)) ending f.new refl))
 
 -- a returned name is one of the locals'
 short_at : (names : List (List ℕ)) (x : ℕ) → list_all is_short names ≡ true → is_short_or_none (slice_get names x) ≡ true
@@ -80,8 +81,8 @@ short_at (n ∷ ns) (suc x) h = short_at ns x (and_parts (is_short n) (list_all 
 
 returns_shut : (t : TxType) → list_all is_short t.locals ≡ true → Clean (returns_marks t)
 returns_shut t h =
-    clean_unless (length t.returns == 0) (asked 4 (returns_small t.locals t.returns) ++ ending) (
-    keeps 4 (returns_small t.locals t.returns) ending
+    clean_unless (length t.returns == 0) (asked rules.Limits (returns_small t.locals t.returns) ++ ending) (
+    keeps rules.Limits (returns_small t.locals t.returns) ending
     (list_all-from_AllPass (λ x. is_short_or_none (slice_get t.locals x)) t.returns (λ k d l. short_at t.locals _ h)) refl)
 
 -- ---- types
@@ -96,9 +97,9 @@ type_opens tables types i t h =
     let f = clean_parts (numbered (clause_marks tables t.locals 64) t.posts) _ e.1 in
     let g = clean_parts (numbered (clause_marks tables t.locals 64) t.repairs) (numbered (point_marks tables t) t.points) f.1 in
     let points = each_of_clean (point_marks tables t) 32 (IsPointFormed tables t) (point_asks tables t) t.points g.1 in
-    let k = asks 4 (not (i == 64) && is_short t.name && nat_le t.params 48 && list_all is_short params) _ a.0 in
-    let m = asks 6 (not (names_type (take i types) t.name) && are_distinct params) _ k.1 in
-    let n = asks 5 (is_limit t.limit) ending m.1 in
+    let k = asks rules.Limits (not (i == 64) && is_short t.name && nat_le t.params 48 && list_all is_short params) _ a.0 in
+    let m = asks rules.Names (not (names_type (take i types) t.name) && are_distinct params) _ k.1 in
+    let n = asks rules.Numbers (is_limit t.limit) ending m.1 in
     let names = and_parts (not (names_type (take i types) t.name)) (are_distinct params) m.0 in
     let p = and_parts (not (i == 64) && is_short t.name && nat_le t.params 48) (list_all is_short params) k.0 in
     let q = and_parts (not (i == 64) && is_short t.name) (nat_le t.params 48) p.0 in
@@ -131,9 +132,9 @@ type_shuts tables types i t n f =
     let limits : (not (i == 64) && is_short t.name && nat_le t.params 48 && list_all is_short params) ≡ true =
     and_from _ _ (and_from _ _ (and_from _ _ n f.name) (le-leb t.params 48 f.few_params)) parts.0 in
     clean_from (head_marks types i t) _ (
-    keeps 4 (not (i == 64) && is_short t.name && nat_le t.params 48 && list_all is_short params) _ limits (
-    keeps 6 (not (names_type (take i types) t.name) && are_distinct params) _ (and_from _ _ f.new f.params_distinct) (
-    keeps 5 (is_limit t.limit) ending f.limit refl))) (
+    keeps rules.Limits (not (i == 64) && is_short t.name && nat_le t.params 48 && list_all is_short params) _ limits (
+    keeps rules.Names (not (names_type (take i types) t.name) && are_distinct params) _ (and_from _ _ f.new f.params_distinct) (
+    keeps rules.Numbers (is_limit t.limit) ending f.limit refl))) (
     clean_from (returns_marks t) _ (returns_shut t f.locals) (
     clean_from (locals_marks t) _ (locals_shut t locals) (
     clean_from (numbered (clause_marks tables t.locals 64) t.posts) _ (clauses_shut tables t.locals 64 t.posts f.posts) (

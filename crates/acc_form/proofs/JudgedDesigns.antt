@@ -5,6 +5,7 @@ use Rattle.std.specs.List.{flat_map, list_all}
 use Rattle.std.specs.Fmt.{decimal}
 use Rattle.std.proofs.lemmas.Bool.{eqb-true, eqb-false, leb-true, leb-false}
 use Rattle.std.proofs.lemmas.List.{length-drop, length-map}
+use Rattle.acc_base.specs.declared.rules.FormRule.TheVariants as rules
 use Rattle.acc_base.specs.Lines.{line, at_text}
 use Rattle.acc_base.specs.declared.forms.Clause.{Clause}
 use Rattle.acc_base.specs.declared.tables.Table.{Table}
@@ -40,9 +41,10 @@ head_judged types i t =
     let few = not (i == 64) && is_short t.name && nat_le t.params 48 && list_all is_short (take t.params t.locals) in
     let new = not (names_type (take i types) t.name) && are_distinct (take t.params t.locals) in
     rejudged (both_judged (one_judged (codes "type " ++ (t.name ++ flat_map spaced (take t.params t.locals))) (type_name_marks types i t)
-    (asks 4 few (asks 6 new one_statement)))
-    (one_judged (codes "limit " ++ decimal t.limit) (asked 5 (is_limit t.limit) ++ ending) (asks 5 (is_limit t.limit) one_statement))) refl
-    (behind_two (asked 4 few) (asked 6 new) ending (asked 5 (is_limit t.limit) ++ ending))
+    (asks rules.Limits few (asks rules.Names new one_statement)))
+    (one_judged (codes "limit " ++ decimal t.limit) (asked rules.Numbers (is_limit t.limit) ++ ending)
+    (asks rules.Numbers (is_limit t.limit) one_statement))) refl
+    (behind_two (asked rules.Limits few) (asked rules.Names new) ending (asked rules.Numbers (is_limit t.limit) ++ ending))
 
 -- names are said where there are some
 no_names : (word : List ℕ) (xs : List (List ℕ)) → length xs ≤ 0 → names_lines word xs ≡ []
@@ -58,10 +60,11 @@ returns_judged : (t : TxType)
 returns_judged t =
     let names = map (name_at t.locals) t.returns in
     let count = length-map t.returns (name_at t.locals) in
-    judged_unless (length t.returns == 0) (names_lines (codes "returns") names) (asked 4 (returns_small t.locals t.returns) ++ ending)
+    judged_unless (length t.returns == 0) (names_lines (codes "returns") names)
+    (asked rules.Limits (returns_small t.locals t.returns) ++ ending)
     (λ e. let none = eqb-true (length t.returns) 0 e in no_names (codes "returns") names (omega (arith, none, count)))
     (λ e. some_names (codes "returns") names (some (length t.returns) (length names) count (eqb-false (length t.returns) 0 e)))
-    (asks 4 (returns_small t.locals t.returns) one_statement)
+    (asks rules.Limits (returns_small t.locals t.returns) one_statement)
   where
     some : (n m : ℕ) → m ≡ n → (n ≡ 0 → ⊥) → 1 ≤ m
     some n m e h = omega (arith, e, h)
@@ -72,10 +75,11 @@ locals_judged t =
     let count = length-drop t.params t.locals in
     let few = nat_le (length t.locals) 48 && list_all is_short names in
     let new = are_new (take t.params t.locals) names in
-    judged_unless (nat_le (length t.locals) t.params) (names_lines (codes "local") names) (asked 4 few ++ (asked 6 new ++ ending))
+    judged_unless (nat_le (length t.locals) t.params) (names_lines (codes "local") names)
+    (asked rules.Limits few ++ (asked rules.Names new ++ ending))
     (λ e. let none = leb-true (length t.locals) t.params e in no_names (codes "local") names (omega (arith, none, count)))
     (λ e. let some = leb-false (length t.locals) t.params e in some_names (codes "local") names (omega (arith, some, count)))
-    (asks 4 few (asks 6 new one_statement))
+    (asks rules.Limits few (asks rules.Names new one_statement))
 
 -- what the type begins with is printed before the rest of it
 head_first : (name limit returns locals rest : List ℕ)

@@ -5,6 +5,8 @@ use Rattle.std.specs.Prelude.{Contains}
 use Rattle.std.proofs.lemmas.Bool.{lt-ltb}
 use Rattle.std.proofs.lemmas.List.Elements.{All-nil, All-cons, All-contains}
 use Rattle.std.proofs.lemmas.List.Concat.{flat_map-append}
+use Rattle.acc_base.specs.declared.rules.FormRule.TheVariants as rules
+use Rattle.acc_base.specs.declared.rules.FormRule.{FormRule}
 use Rattle.acc_base.specs.declared.designs.Design.{Design}
 use Rattle.acc_form.specs.declared.rules.FormError.TheVariants.{Bad}
 use Rattle.acc_form.specs.Marks.{Mark, Broken, End}
@@ -25,22 +27,22 @@ pub line_of_few : (n : ℕ) → n < 2 ^ 64 - 1 → line_of n ≡ n + 1
 line_of_few zero h = refl
 line_of_few (suc n) h =
     let before = line_of_few n (omega (arith, h)) in
-    ap next_line before ∙ counted (n + 1) (omega (arith, h)) ∙ omega arith
+    ap next_line before ∙ goes_up (n + 1) (omega (arith, h)) ∙ omega arith
   where
-    counted : (line : ℕ) → line < 2 ^ 64 - 1 → next_line line ≡ line + 1
-    counted line less = rw (lt-ltb line (2 ^ 64 - 1) less) refl
+    goes_up : (line : ℕ) → line < 2 ^ 64 - 1 → next_line line ≡ line + 1
+    goes_up line less = rw (lt-ltb line (2 ^ 64 - 1) less) refl
 
 -- ---- faults are placed on the lines of their statements
 
 -- the fault's mark, and the line of its statement: so many statements end before it
-record IsPlaced (first : ℕ) (ms : List Mark) (f : ℕ × ℕ) : Type 0 where
+record IsPlaced (first : ℕ) (ms : List Mark) (f : FormRule × ℕ) : Type 0 where
   earlier : List Mark
   later : List Mark
   is : ms ≡ earlier ++ Broken f.0 ∷ later
   on_line : f.1 ≡ line_of (first + ends_of earlier)
 
 -- behind another mark of the statement at hand, and behind its end
-behind_mark : (first rule : ℕ) (ms : List Mark) (f : ℕ × ℕ) → IsPlaced first ms f → IsPlaced first (Broken rule ∷ ms) f
+behind_mark : (first : ℕ) (rule : FormRule) (ms : List Mark) (f : FormRule × ℕ) → IsPlaced first ms f → IsPlaced first (Broken rule ∷ ms) f
 behind_mark first rule ms f p = record {
   earlier = Broken rule ∷ p.earlier;
   later = p.later;
@@ -48,7 +50,7 @@ behind_mark first rule ms f p = record {
   on_line = p.on_line;
 }
 
-behind_end : (first : ℕ) (ms : List Mark) (f : ℕ × ℕ) → IsPlaced (suc first) ms f → IsPlaced first (End ∷ ms) f
+behind_end : (first : ℕ) (ms : List Mark) (f : FormRule × ℕ) → IsPlaced (suc first) ms f → IsPlaced first (End ∷ ms) f
 behind_end first ms f p =
     let next : suc first + ends_of p.earlier ≡ first + suc (ends_of p.earlier) = omega arith in
     record {
@@ -74,10 +76,11 @@ texts_around : (js ks : List Judged) (j : Judged) → texts_of (js ++ j ∷ ks) 
 texts_around js ks j = flat_map-append text_of js (j ∷ ks)
 
 -- a fault of a design whose numbers are in range
-pub fault_judged : (d : Design) → design_in d ≡ true → (rule at : ℕ) → Contains (form_faults d) (rule, at) → IsJudgedOn d rule at
+pub fault_judged : (d : Design) → design_in d ≡ true → (rule : FormRule) (at : ℕ) → Contains (form_faults d) (rule, at) →
+    IsJudgedOn d rule at
 fault_judged d inside rule at c =
     let p : IsPlaced 0 (design_marks d) (rule, at) = All-contains (IsPlaced 0 (design_marks d)) (placed 1 (design_marks d)) (rule, at)
-    (each_placed 0 (design_marks d)) (subst (λ (fs : List (ℕ × ℕ)). Contains fs (rule, at)) (faults_in d inside) c) in
+    (each_placed 0 (design_marks d)) (subst (λ (fs : List (FormRule × ℕ)). Contains fs (rule, at)) (faults_in d inside) c) in
     let b = broken_at (judged d) (design_judged d).ones p.earlier p.later rule (judged_is_marked d ∙ p.is) in
     let all : 0 + ends_of p.earlier ≡ ends_of p.earlier = omega arith in
     record {
@@ -90,20 +93,22 @@ fault_judged d inside rule at c =
 -- ---- any fault
 
 -- the faults where a number is out of range
-abbrev out_of_range : List (ℕ × ℕ)
-out_of_range = (1, 0) ∷ []
+abbrev out_of_range : List (FormRule × ℕ)
+out_of_range = (rules.Ranges, 0) ∷ []
 
-only_one : (f g : ℕ × ℕ) (k : ℕ) → k < length (f ∷ []) → get_or (f ∷ []) k g ≡ g → g ≡ f
+only_one : (f g : FormRule × ℕ) (k : ℕ) → k < length (f ∷ []) → get_or (f ∷ []) k g ≡ g → g ≡ f
 only_one f g zero less e = sym e
 only_one f g (suc k) less e = absurd (omega (arith, less))
 
-alone : (rule at : ℕ) → Contains out_of_range (rule, at) → (rule ≡ 1) × (at ≡ 0)
+alone : (rule : FormRule) (at : ℕ) → Contains out_of_range (rule, at) → (rule ≡ rules.Ranges) × (at ≡ 0)
 alone rule at h =
-    let same = only_one (1, 0) (rule, at) h.0 h.1 h.2 in (ap (λ (f : ℕ × ℕ). f.0) same, ap (λ (f : ℕ × ℕ). f.1) same)
+    let same = only_one (rules.Ranges, 0) (rule, at) h.0 h.1 h.2 in
+    (ap (λ (f : FormRule × ℕ). f.0) same, ap (λ (f : FormRule × ℕ). f.1) same)
 
-pub fault_in_print : (d : Design) (rule at : ℕ) → Contains (form_faults d) (rule, at) → IsFaultInPrint d (Bad rule at)
+pub fault_in_print : (d : Design) (rule : FormRule) (at : ℕ) → Contains (form_faults d) (rule, at) → IsFaultInPrint d (Bad rule at)
 fault_in_print d rule at c =
     elim (design_in d) as (λ b. design_in d ≡ b → IsFaultInPrint d (Bad rule at)) [
       | true ↦ λ e. inr (fault_judged d e rule at c)
-      | false ↦ λ e. let k = alone rule at (subst (λ (fs : List (ℕ × ℕ)). Contains fs (rule, at)) (faults_out d e) c) in inl (e, k.0, k.1)
+      | false ↦ λ e. let k = alone rule at (subst (λ (fs : List (FormRule × ℕ)). Contains fs (rule, at)) (faults_out d e) c) in
+          inl (e, k.0, k.1)
     ] refl

@@ -3,6 +3,7 @@ use Rattle.std.proofs.Common.{◌≡◌, ℕ, suc, List, [], ◌∷◌, ◌++◌
 use Rattle.std.specs.Prelude.{Contains}
 use Rattle.std.specs.List.{flat_map}
 use Rattle.std.proofs.lemmas.List.Elements.{Contains-append_right}
+use Rattle.acc_base.specs.declared.rules.FormRule.{FormRule}
 use Rattle.acc_form.specs.Marks.{Mark, Broken, End}
 use Rattle.acc_form.specs.Judged.{Judged, IsBroken}
 use Rattle.acc_form.proofs.StatementEnds.{Counts, AreEnded, ends_of, no_statement, recounted, both}
@@ -19,7 +20,7 @@ none_behind [] e h = refl
 none_behind (Broken rule ∷ ms) e h = let some = h.0 in absurd (omega (arith, e, some))
 none_behind (End ∷ ms) e h = absurd (omega (arith, e))
 
-behind_one : (j : Judged) (js : List Judged) (rule n : ℕ) → IsBroken js rule n → IsBroken (j ∷ js) rule (suc n)
+behind_one : (j : Judged) (js : List Judged) (rule : FormRule) (n : ℕ) → IsBroken js rule n → IsBroken (j ∷ js) rule (suc n)
 behind_one j js rule n b =
     record {
       before = j ∷ b.before;
@@ -32,9 +33,10 @@ behind_one j js rule n b =
 
 -- the mark is one of these marks of the first statement, or of those behind it
 within_one : (j : Judged) (js : List Judged)
-    → ((earlier later : List Mark) (rule : ℕ) → flat_map marks_of js ≡ earlier ++ Broken rule ∷ later → IsBroken js rule (ends_of earlier))
+    → ((earlier later : List Mark) (rule : FormRule) → flat_map marks_of js ≡ earlier ++ Broken rule ∷ later →
+    IsBroken js rule (ends_of earlier))
     → (front ms : List Mark) → j.marks ≡ front ++ ms → Counts ms 1
-    → (earlier later : List Mark) (rule : ℕ) → ms ++ flat_map marks_of js ≡ earlier ++ Broken rule ∷ later → IsBroken (j ∷ js) rule
+    → (earlier later : List Mark) (rule : FormRule) → ms ++ flat_map marks_of js ≡ earlier ++ Broken rule ∷ later → IsBroken (j ∷ js) rule
     (ends_of earlier)
 within_one j js others front [] is c earlier later rule e = let none = c.ends in absurd (omega (arith, none))
 within_one j js others front (Broken r ∷ ms) is c [] later rule e =
@@ -57,7 +59,7 @@ within_one j js others front (End ∷ ms) is c (End ∷ es) later rule e =
     (subst (λ (ns : List Mark). ns ++ flat_map marks_of js ≡ es ++ Broken rule ∷ later) none behind))
 
 -- so many statements end before the statement that breaks the rule
-pub broken_at : (js : List Judged) → AreOnes js → (earlier later : List Mark) (rule : ℕ)
+pub broken_at : (js : List Judged) → AreOnes js → (earlier later : List Mark) (rule : FormRule)
     → flat_map marks_of js ≡ earlier ++ Broken rule ∷ later → IsBroken js rule (ends_of earlier)
 broken_at [] h [] later rule e = absurd cc
 broken_at [] h (m ∷ es) later rule e = absurd cc

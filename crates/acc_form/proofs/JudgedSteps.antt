@@ -1,6 +1,7 @@
 -- Statements that are judged are those in print, with the marks of the form rules: steps and points.
 use Rattle.std.proofs.Common.{ℕ, ◌+◌, Bool, false, List, ◌++◌, length, take, refl, sym, ◌∙◌, append_assoc}
 use Rattle.std.specs.Prelude.{◌==◌, ◌&&◌, ◌||◌, nat_lt, not, codes}
+use Rattle.acc_base.specs.declared.rules.FormRule.TheVariants as rules
 use Rattle.acc_base.specs.Lines.{line}
 use Rattle.acc_base.specs.declared.forms.Lin.{Lin}
 use Rattle.acc_base.specs.declared.forms.Clause.{Clause}
@@ -54,12 +55,13 @@ path_judged tables t side is_bare count i p =
     let few = not (i == 16) && guard_small p.guard in
     let last = nat_lt (i + 1) count || (length p.guard == 0) in
     let guard = one_judged (codes "path" ++ listed (lin_rel_text s.names) (codes " ") p.guard) (guard_marks count i p)
-    (asks 4 few (asks 7 last one_statement)) in
+    (asks rules.Limits few (asks rules.LastPaths last one_statement)) in
     let actions = each_judged (judged_action tables t is_bare) (action_line s) (action_marks tables t is_bare)
     (action_judged tables t is_bare) 0 p.actions in
     let target = one_judged (target_text t.points p.target) (target_marks t side is_bare p) (target_counts t side is_bare p) in
     rejudged (both_judged guard (both_judged actions target)) refl
-    (behind_two (asked 4 few) (asked 7 last) ending (numbered (action_marks tables t is_bare) p.actions ++ target_marks t side is_bare p))
+    (behind_two (asked rules.Limits few) (asked rules.LastPaths last) ending
+    (numbered (action_marks tables t is_bare) p.actions ++ target_marks t side is_bare p))
 
 step_judged : (tables : List Table) (t : TxType) (side : Side) (is_bare : Bool) (s : Step)
     → Judges (judged_step tables t side is_bare s) (line (side_word side) ++ step_lines (within tables t) t.points s)
@@ -86,18 +88,19 @@ variant_judged : (tables : List Table) (t : TxType) (l : Lin)
     → Judges (judged_variant tables t l) (variant_lines (within tables t).names l) (variant_marks l)
 variant_judged tables t l =
     let names = (within tables t).names in
-    judged_unless (is_zero l) (variant_lines names l) (asked 4 (lin_small l) ++ ending) (λ e. rw (sym (same_zero l) ∙ e) refl)
-    (λ e. (codes "variant " ++ lin_text names l, rw (sym (same_zero l) ∙ e) refl)) (asks 4 (lin_small l) one_statement)
+    judged_unless (is_zero l) (variant_lines names l) (asked rules.Limits (lin_small l) ++ ending) (λ e. rw (sym (same_zero l) ∙ e) refl)
+    (λ e. (codes "variant " ++ lin_text names l, rw (sym (same_zero l) ∙ e) refl)) (asks rules.Limits (lin_small l) one_statement)
 
 pub point_judged : (tables : List Table) (t : TxType) (i : ℕ) (p : Point)
     → Judges (judged_point tables t i p) (point_lines (within tables t) t.points p) (point_marks tables t i p)
 point_judged tables t i p =
     let few = not (i == 32) && is_short p.name in
     let new = not (names_point (take i t.points) p.name) in
-    let name = one_judged (codes "point " ++ p.name) (point_name_marks t i p) (asks 4 few (asks 6 new one_statement)) in
+    let name = one_judged (codes "point " ++ p.name) (point_name_marks t i p)
+    (asks rules.Limits few (asks rules.Names new one_statement)) in
     let holds = each_judged (judged_clause tables t (codes "holds ")) (clause_line (within tables t) (codes "holds "))
     (clause_marks tables t.locals 64) (clause_judged tables t (codes "holds ")) 0 p.clauses in
     rejudged (both_judged name (both_judged (variant_judged tables t p.variant) (both_judged holds (sides_judged tables t i p)))) refl
-    (behind_two (asked 4 few) (asked 6 new) ending
+    (behind_two (asked rules.Limits few) (asked rules.Names new) ending
     (variant_marks p.variant ++ (numbered (clause_marks tables t.locals 64) p.clauses ++
     (step_marks tables t Next false p.next ++ step_marks tables t Undo (i == 0) p.undo))))

@@ -5,6 +5,7 @@ pub mod FormedSteps
 pub mod FormedPoints
 pub mod FormedTypes
 pub mod FormedDesigns
+pub mod OneFault
 pub mod Placed
 pub mod StatementEnds
 pub mod StatementCounts

@@ -3,6 +3,8 @@ use Rattle.std.proofs.Common.{◌≡◌, ℕ, true, false, List, [], ◌∷◌, 
 use Rattle.std.proofs.Common.{refl, sym, ap, subst, ◌∙◌, arith}
 use Rattle.std.proofs.lemmas.Bool.{false≢true}
 use Rattle.std.proofs.lemmas.List.Elements.{All-nil, All-cons}
+use Rattle.acc_base.specs.declared.rules.FormRule.TheVariants as rules
+use Rattle.acc_base.specs.declared.rules.FormRule.{FormRule}
 use Rattle.acc_base.specs.declared.designs.Design.{Design}
 use Rattle.acc_form.specs.declared.walks.Walk.{Walk}
 use Rattle.acc_form.specs.Marks.{Mark, Broken, End}
@@ -44,25 +46,27 @@ first_of_design d w v inside begun ended =
     let faults = form_faults d in
     let kept : v.first ≡ fold (better is_before) None faults =
     ap (λ (u : Walk). u.first) (ended ∙ ap (λ (u : Walk). after u (design_marks d)) begun) ∙ first_after start (design_marks d) ∙ ap
-    (λ (fs : List (ℕ × ℕ)). fold (better is_before) None fs) (sym (faults_in d inside)) in
-    subst (λ (o : Option (ℕ × ℕ)). MatchOption o (faults ≡ []) (IsLeast is_before faults)) (sym kept)
+    (λ (fs : List (FormRule × ℕ)). fold (better is_before) None fs) (sym (faults_in d inside)) in
+    subst (λ (o : Option (FormRule × ℕ)). MatchOption o (faults ≡ []) (IsLeast is_before faults)) (sym kept)
     (matched (fold (better is_before) None faults) (faults ≡ []) (IsLeast is_before faults) (none_of is_before faults)
     (least_of is_before before_is_order faults))
 
 -- ---- a number out of range is the first fault
 
-pub faults_out : (d : Design) → design_in d ≡ false → form_faults d ≡ (1, 0) ∷ []
+pub faults_out : (d : Design) → design_in d ≡ false → form_faults d ≡ (rules.Ranges, 0) ∷ []
 unfolding form_faults
 faults_out d outside = rw outside refl
 
-alone_is_least : (f : ℕ × ℕ) → IsLeast is_before (f ∷ []) f
+alone_is_least : (f : FormRule × ℕ) → IsLeast is_before (f ∷ []) f
 alone_is_least f = record {
   there = (0, omega arith, refl);
   least = All-cons (λ g. ¬ IsTrue (is_before g f)) f [] (before_is_order.irreflexive f) (All-nil (λ g. ¬ IsTrue (is_before g f)));
 }
 
-pub range_fault : (d : Design) → design_in d ≡ false → IsLeast is_before (form_faults d) (1, 0)
-range_fault d outside = subst (λ (fs : List (ℕ × ℕ)). IsLeast is_before fs (1, 0)) (sym (faults_out d outside)) (alone_is_least (1, 0))
+pub range_fault : (d : Design) → design_in d ≡ false → IsLeast is_before (form_faults d) (rules.Ranges, 0)
+range_fault d outside =
+    subst (λ (fs : List (FormRule × ℕ)). IsLeast is_before fs (rules.Ranges, 0)) (sym (faults_out d outside))
+    (alone_is_least (rules.Ranges, 0))
 
 -- ---- no fault
 
@@ -76,21 +80,21 @@ none_of_clean line [] h = refl
 none_of_clean line (Broken rule ∷ ms) h = absurd (false≢true h)
 none_of_clean line (End ∷ ms) h = none_of_clean (next_line line) ms h
 
-not_empty : (f : ℕ × ℕ) → ¬ (f ∷ [] ≡ [])
+not_empty : (f : FormRule × ℕ) → ¬ (f ∷ [] ≡ [])
 not_empty f h = absurd (cc)
 
 pub well_formed_of_none : (d : Design) → form_faults d ≡ [] → IsWellFormed d
 well_formed_of_none d h =
     elim (design_in d) as (λ b. design_in d ≡ b → IsWellFormed d) [
       | true ↦ λ e. design_opens d e (clean_of_none 1 (design_marks d) (sym (faults_in d e) ∙ h))
-      | false ↦ λ e. absurd (not_empty (1, 0) (sym (faults_out d e) ∙ h))
+      | false ↦ λ e. absurd (not_empty (rules.Ranges, 0) (sym (faults_out d e) ∙ h))
     ] refl
 
 pub none_of_well_formed : (d : Design) → IsWellFormed d → form_faults d ≡ []
 none_of_well_formed d w = faults_in d w.in_range ∙ none_of_clean 1 (design_marks d) (design_shuts d w)
 
 -- a design with a fault isn't well-formed
-pub faulty_of_least : (d : Design) (f : ℕ × ℕ) → IsLeast is_before (form_faults d) f → ¬ IsWellFormed d
+pub faulty_of_least : (d : Design) (f : FormRule × ℕ) → IsLeast is_before (form_faults d) f → ¬ IsWellFormed d
 faulty_of_least d f least w =
-    let there : Contains [] f = subst (λ (fs : List (ℕ × ℕ)). Contains fs f) (none_of_well_formed d w) least.there in
+    let there : Contains [] f = subst (λ (fs : List (FormRule × ℕ)). Contains fs f) (none_of_well_formed d w) least.there in
     absurd (omega (arith, there.1))

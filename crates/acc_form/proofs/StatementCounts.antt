@@ -5,6 +5,7 @@ use Rattle.std.specs.List.{list_any}
 use Rattle.std.specs.Ordering.{int_eq}
 use Rattle.std.proofs.lemmas.Bool.{ne_eqb}
 use Rattle.std.proofs.lemmas.Bool.Decides.{Decides-int_eq}
+use Rattle.acc_base.specs.declared.rules.FormRule.TheVariants as rules
 use Rattle.acc_base.specs.declared.forms.Lin.{Lin}
 use Rattle.acc_base.specs.declared.forms.Clause.{Clause}
 use Rattle.acc_base.specs.declared.tables.Table.{Table}
@@ -28,37 +29,41 @@ use Rattle.acc_form.proofs.StatementEnds.{Counts, one_statement, asks}
 
 pub clause_counts : (tables : List Table) (names : List (List ℕ)) (most i : ℕ) (c : Clause) → Counts (clause_marks tables names most i c) 1
 clause_counts tables names most i c =
-    asks 2 (clause_fits tables c) (asks 4 (not (i == most) && clause_small c) (asks 6 (are_new names c.vars) one_statement))
+    asks rules.Widths (clause_fits tables c) (asks rules.Limits (not (i == most) && clause_small c)
+    (asks rules.Names (are_new names c.vars) one_statement))
 
 pub read_counts : (tables : List Table) (t : TxType) (side : Side) (i : ℕ) (r : Read) → Counts (read_marks tables t side i r) 1
 read_counts tables t side i r =
-    asks 2 (read_fits tables r) (asks 3 (read_leaves_a_component tables r) (asks 4 (not (i == 32) && read_small r)
-    (asks 5 (divides r) (asks 11 (assigns_local t r) (asks 12 (may_read side r) one_statement)))))
+    asks rules.Widths (read_fits tables r) (asks rules.ShortPrefixes (read_leaves_a_component tables r)
+    (asks rules.Limits (not (i == 32) && read_small r) (asks rules.Numbers (divides r)
+    (asks rules.Assigned (assigns_local t r) (asks rules.UndoReads (may_read side r) one_statement)))))
 
 pub action_counts : (tables : List Table) (t : TxType) (is_bare : Bool) (i : ℕ) (a : Action)
     → Counts (action_marks tables t is_bare i a) 1
 action_counts tables t is_bare i a =
-    asks 2 (action_fits tables a) (asks 4 (not (i == 16) && action_small a)
-    (asks 10 (action_is_own tables (length t.locals) a) (asks 13 (not is_bare) one_statement)))
+    asks rules.Widths (action_fits tables a) (asks rules.Limits (not (i == 16) && action_small a)
+    (asks rules.PrivateKeys (action_is_own tables (length t.locals) a) (asks rules.StartUndos (not is_bare) one_statement)))
 
 pub target_counts : (t : TxType) (side : Side) (is_bare : Bool) (p : Path) → Counts (target_marks t side is_bare p) 1
 target_counts t side is_bare p =
-    asks 4 (target_small t.points p.target) (asks 5 (refuses_by_number p.target) (asks 8 (may_end side p.target)
-    (asks 9 (refuses_plainly p.actions p.target) (asks 13 (not is_bare || is_undone p.target) one_statement))))
+    asks rules.Limits (target_small t.points p.target) (asks rules.Numbers (refuses_by_number p.target)
+    (asks rules.Ends (may_end side p.target) (asks rules.Refusals (refuses_plainly p.actions p.target)
+    (asks rules.StartUndos (not is_bare || is_undone p.target) one_statement))))
 
 -- ---- tables, entries and hints
 
 pub table_counts : (tables : List Table) (i : ℕ) (t : Table) → Counts (table_marks tables i t) 1
 table_counts tables i t =
-    asks 4 (not (i == 64) && table_small t) (asks 6 (not (names_table (take i tables) t.name) && are_distinct t.cols) one_statement)
+    asks rules.Limits (not (i == 64) && table_small t)
+    (asks rules.Names (not (names_table (take i tables) t.name) && are_distinct t.cols) one_statement)
 
 pub entry_counts : (types : List TxType) (entries : List Entry) (i : ℕ) (e : Entry) → Counts (entry_marks types entries i e) 1
 entry_counts types entries i e =
-    asks 4 (not (i == 1024)) (asks 14 (leaves_starts e)
-    (asks 15 (not (list_any (same_entry e) (take i entries))) (asks 16 (pairs_stay types e) one_statement)))
+    asks rules.Limits (not (i == 1024)) (asks rules.Starts (leaves_starts e)
+    (asks rules.Entries (not (list_any (same_entry e) (take i entries))) (asks rules.Pairs (pairs_stay types e) one_statement)))
 
 pub hint_counts : (i : ℕ) (h : Hint) → Counts (hint_marks i h) 1
-hint_counts i h = asks 4 (not (i == 1024) && lin_small h.lin) one_statement
+hint_counts i h = asks rules.Limits (not (i == 1024) && lin_small h.lin) one_statement
 
 -- ---- variants
 

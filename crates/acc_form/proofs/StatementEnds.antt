@@ -1,6 +1,7 @@
 -- How many statements end among the marks of the form rules; behind each rule that is broken its statement's end follows.
 use Rattle.std.proofs.Common.{◌≡◌, ◌≤◌, ℕ, suc, ◌+◌, Bool, true, false, List, [], ◌∷◌, ◌++◌, refl, sym, ap, subst, arith}
 use Rattle.std.specs.Prelude.{if◌then◌else◌}
+use Rattle.acc_base.specs.declared.rules.FormRule.{FormRule}
 use Rattle.acc_form.specs.Marks.{Mark, Broken, End, ending, asked}
 
 -- how many statements end
@@ -52,7 +53,7 @@ pub one_more : {ms : List Mark} {n : ℕ} → Counts ms n → Counts (ending ++ 
 one_more c = record { ends = ap suc c.ends; ended = c.ended }
 
 -- a rule is asked of a statement that ends behind it
-pub asks : {ms : List Mark} {n : ℕ} (rule : ℕ) (b : Bool) → Counts ms (suc n) → Counts (asked rule b ++ ms) (suc n)
+pub asks : {ms : List Mark} {n : ℕ} (rule : FormRule) (b : Bool) → Counts ms (suc n) → Counts (asked rule b ++ ms) (suc n)
 asks rule true c = c
 asks rule false c = let e = c.ends in record { ends = c.ends; ended = (omega (arith, e), c.ended) }
 

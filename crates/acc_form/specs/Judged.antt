@@ -3,8 +3,9 @@ use Rattle.std.specs.Prelude.{◌≡◌, ◌⊎◌, ℕ, zero, suc, ◌+◌, Boo
 use Rattle.std.specs.Prelude.{length, map, take, drop, Contains, if◌then◌else◌, codes}
 use Rattle.std.specs.List.{flat_map, list_all}
 use Rattle.std.specs.Fmt.{decimal}
-use Rattle.acc_base.specs.declared.rules.TheConstants.{LAST_PATHS, LIMITS, NAMES, NUMBERS}
-use Rattle.acc_base.specs.declared.bounds.TheConstants.{MOST_CLAUSES, MOST_LOCALS, MOST_PATHS, MOST_POINTS, MOST_TYPES}
+use Rattle.acc_base.specs.declared.rules.FormRule.{FormRule}
+use Rattle.acc_base.specs.declared.rules.FormRule.TheVariants as rules
+use Rattle.acc_base.specs.declared.bounds.TheConstants.{MOST_ALWAYS, MOST_CLAUSES, MOST_LOCALS, MOST_PATHS, MOST_POINTS, MOST_TYPES}
 use Rattle.acc_base.specs.Lines.{line}
 use Rattle.acc_base.specs.declared.forms.Lin.{Lin}
 use Rattle.acc_base.specs.declared.forms.Clause.{Clause}
@@ -64,7 +65,7 @@ judged_table tables i t = judge (table_line t) (table_marks tables i t)
 
 -- `always`: one of at most 128, outside types
 abbrev pub judged_always : List Table → ℕ → Clause → List Judged
-judged_always tables i c = judge (clause_line (outside tables) (codes "always ") c) (clause_marks tables [] 128 i c)
+judged_always tables i c = judge (clause_line (outside tables) (codes "always ") c) (clause_marks tables [] MOST_ALWAYS i c)
 
 -- `ensures`, `repairs` or `holds`, within a type
 abbrev pub judged_clause : List Table → TxType → List ℕ → ℕ → Clause → List Judged
@@ -85,8 +86,8 @@ judged_target t side is_bare p = judge (line (target_text t.points p.target)) (t
 -- what is asked of `path` with its guard, one of at most 16 and of so many
 abbrev pub guard_marks : ℕ → ℕ → Path → List Mark
 guard_marks count i p =
-    asked LIMITS (not (i == MOST_PATHS) && guard_small p.guard) ++ (
-    asked LAST_PATHS (nat_lt (i + 1) count || (length p.guard == 0)) ++ ending)
+    asked rules.Limits (not (i == MOST_PATHS) && guard_small p.guard) ++ (
+    asked rules.LastPaths (nat_lt (i + 1) count || (length p.guard == 0)) ++ ending)
 
 -- `path` with its guard, its actions, its end
 abbrev pub judged_path : List Table → TxType → Side → Bool → ℕ → ℕ → Path → List Judged
@@ -114,7 +115,8 @@ judged_variant tables t l = if is_zero l then [] else judge (variant_lines (with
 -- what is asked of `point` with its name, one of at most 32
 abbrev pub point_name_marks : TxType → ℕ → Point → List Mark
 point_name_marks t i p =
-    asked LIMITS (not (i == MOST_POINTS) && is_short p.name) ++ (asked NAMES (not (names_point (take i t.points) p.name)) ++ ending)
+    asked rules.Limits (not (i == MOST_POINTS) && is_short p.name) ++ (
+    asked rules.Names (not (names_point (take i t.points) p.name)) ++ ending)
 
 -- `point` with its name; the variant; what holds; the two steps
 abbrev pub judged_point : List Table → TxType → ℕ → Point → List Judged
@@ -129,15 +131,15 @@ judged_point tables t i p =
 -- what is asked of `type` with its name and parameters, one of at most 64 and with at most 48 parameters
 abbrev pub type_name_marks : List TxType → ℕ → TxType → List Mark
 type_name_marks types i t =
-    asked LIMITS (not (i == MOST_TYPES) && is_short t.name && nat_le t.params MOST_LOCALS
+    asked rules.Limits (not (i == MOST_TYPES) && is_short t.name && nat_le t.params MOST_LOCALS
     && list_all is_short (take t.params t.locals)) ++ (
-    asked NAMES (not (names_type (take i types) t.name) && are_distinct (take t.params t.locals)) ++ ending)
+    asked rules.Names (not (names_type (take i types) t.name) && are_distinct (take t.params t.locals)) ++ ending)
 
 -- `type` with its name and parameters; `limit`
 abbrev pub judged_head : List TxType → ℕ → TxType → List Judged
 judged_head types i t =
     judge (line (codes "type " ++ (t.name ++ flat_map spaced (take t.params t.locals)))) (type_name_marks types i t) ++
-    judge (line (codes "limit " ++ decimal t.limit)) (asked NUMBERS (is_limit t.limit) ++ ending)
+    judge (line (codes "limit " ++ decimal t.limit)) (asked rules.Numbers (is_limit t.limit) ++ ending)
 
 -- `returns`, where something is returned
 abbrev pub judged_returns : TxType → List Judged
@@ -175,7 +177,7 @@ judged d =
     each (judged_entry d) d.entries ++ each (judged_hint d) d.hints)))
 
 -- the statement of this number, from 0, breaks the rule by its own marks
-pub record IsBroken (js : List Judged) (rule n : ℕ) : Type 0 where
+pub record IsBroken (js : List Judged) (rule : FormRule) (n : ℕ) : Type 0 where
   pub before : List Judged
   pub statement : Judged
   pub after : List Judged
@@ -192,13 +194,13 @@ abbrev pub texts_of : List Judged → List ℕ
 texts_of js = flat_map (λ j. j.text) js
 
 -- In print the statement on this line breaks the rule: its text follows those of the statements before it, each a line.
-pub record IsJudgedOn (d : Design) (rule at : ℕ) : Type 0 where
+pub record IsJudgedOn (d : Design) (rule : FormRule) (at : ℕ) : Type 0 where
   pub number : ℕ
   pub broken : IsBroken (judged d) rule number
   pub on_line : at ≡ line_of number
   pub text : printed d ≡ texts_of broken.before ++ (broken.statement.text ++ texts_of broken.after)
 
--- a number is out of range, which is rule 1 on no line; or the statement on the line breaks the rule
+-- a number is out of range, which breaks the rule of ranges on no line; or the statement on the line breaks the rule
 abbrev pub IsFaultInPrint : Design → FormError → Type 0
-IsFaultInPrint d (Bad rule at) = ((design_in d ≡ false) × (rule ≡ 1) × (at ≡ 0)) ⊎ IsJudgedOn d rule at
+IsFaultInPrint d (Bad rule at) = ((design_in d ≡ false) × (rule ≡ rules.Ranges) × (at ≡ 0)) ⊎ IsJudgedOn d rule at
 IsFaultInPrint d Memory = ⊥

@@ -1,9 +1,10 @@
 -- A design as the marks on its statements in print: each rule that is broken, and each statement's end, line by line.
 use Rattle.std.specs.Prelude.{ℕ, ◌+◌, Bool, List, [], ◌∷◌, ◌++◌, if◌then◌else◌}
+use Rattle.acc_base.specs.declared.rules.FormRule.{FormRule}
 
 pub data Mark : Type 0 where
-  -- the statement at hand breaks the rule of this number
-  Broken : (rule : ℕ) → Mark
+  -- the statement at hand breaks the rule
+  Broken : (rule : FormRule) → Mark
   -- the statement at hand ends
   End : Mark
 
@@ -11,8 +12,8 @@ pub data Mark : Type 0 where
 abbrev pub ending : List Mark
 ending = End ∷ []
 
--- the rule of this number is asked of the statement at hand
-abbrev pub asked : ℕ → Bool → List Mark
+-- the rule is asked of the statement at hand
+abbrev pub asked : FormRule → Bool → List Mark
 asked rule is_kept = if is_kept then [] else (Broken rule ∷ [])
 
 -- the marks on items, one after another, the first of them with the number i

@@ -1,6 +1,6 @@
 -- What a walk over a design keeps of the marks that it met.
 -- Only the code speaks of this; Statements and Faults say what is broken where.
-use Rattle.std.specs.Prelude.{Bool, List, fold}
+use Rattle.std.specs.Prelude.{List, fold}
 use Rattle.acc_base.specs.Leasts.{better}
 use Rattle.acc_form.specs.declared.walks.Walk.{Walk}
 use Rattle.acc_form.specs.Marks.{Mark, Broken, End}

@@ -9,7 +9,7 @@ use crate::sizes::clause_small;
 use crate::walks::Walk;
 use crate::widths::clause_fits;
 use acc_base::forms::Clause;
-use acc_base::rules::{LIMITS, NAMES, WIDTHS};
+use acc_base::rules::FormRule;
 use acc_base::sequences::Text;
 use acc_base::tables::Table;
 
@@ -24,9 +24,9 @@ fn meet_clause(
 )
     ensures { walk.new ≡ after walk.old (clause_marks tables.now names.now most i clause.now) }
 {
-    walk.ask(WIDTHS, clause_fits(tables, clause));
-    walk.ask(LIMITS, i != most && clause_small(clause));
-    walk.ask(NAMES, are_new(names, clause.vars.as_slice()));
+    walk.ask(FormRule::Widths, clause_fits(tables, clause));
+    walk.ask(FormRule::Limits, i != most && clause_small(clause));
+    walk.ask(FormRule::Names, are_new(names, clause.vars.as_slice()));
     walk.end();
 }
 

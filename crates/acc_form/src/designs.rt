@@ -16,18 +16,18 @@ use crate::rules::FormError;
 use crate::sizes::{lin_small, table_small};
 use crate::types::meet_type;
 use crate::walks::Walk;
-use acc_base::bounds::{MOST_ENTRIES, MOST_HINTS, MOST_TABLES};
+use acc_base::bounds::{MOST_ALWAYS, MOST_ENTRIES, MOST_HINTS, MOST_TABLES};
 use acc_base::designs::{Design, Entry, Hint, TxType};
-use acc_base::rules::{ENTRIES, LIMITS, NAMES, PAIRS, RANGES, STARTS};
+use acc_base::rules::FormRule;
 use acc_base::tables::Table;
 
 fn meet_table(walk: &mut Walk, tables: &[Table], i: usize, table: &Table)
     requires { i ≤ length tables.now }
     ensures { walk.new ≡ after walk.old (table_marks tables.now i table.now) }
 {
-    walk.ask(LIMITS, i != MOST_TABLES && table_small(table));
+    walk.ask(FormRule::Limits, i != MOST_TABLES && table_small(table));
     walk.ask(
-        NAMES,
+        FormRule::Names,
         !names_table(&tables[..i], &table.name) && are_distinct(table.cols.as_slice()),
     );
     walk.end();
@@ -55,10 +55,10 @@ fn meet_entry(walk: &mut Walk, types: &[TxType], entries: &[Entry], i: usize, en
     requires { i ≤ length entries.now }
     ensures { walk.new ≡ after walk.old (entry_marks types.now entries.now i entry.now) }
 {
-    walk.ask(LIMITS, i != MOST_ENTRIES);
-    walk.ask(STARTS, leaves_starts(entry));
-    walk.ask(ENTRIES, !stands_among(&entries[..i], entry));
-    walk.ask(PAIRS, pairs_stay(types, entry));
+    walk.ask(FormRule::Limits, i != MOST_ENTRIES);
+    walk.ask(FormRule::Starts, leaves_starts(entry));
+    walk.ask(FormRule::Entries, !stands_among(&entries[..i], entry));
+    walk.ask(FormRule::Pairs, pairs_stay(types, entry));
     walk.end();
 }
 
@@ -74,7 +74,7 @@ fn meet_entries(walk: &mut Walk, types: &[TxType], entries: &[Entry])
 fn meet_hint(walk: &mut Walk, i: usize, hint: &Hint)
     ensures { walk.new ≡ after walk.old (hint_marks i hint.now) }
 {
-    walk.ask(LIMITS, i != MOST_HINTS && lin_small(&hint.lin));
+    walk.ask(FormRule::Limits, i != MOST_HINTS && lin_small(&hint.lin));
     walk.end();
 }
 
@@ -93,18 +93,18 @@ fn meet_design(walk: &mut Walk, design: &Design)
     let tables = design.tables.as_slice();
     let types = design.types.as_slice();
     meet_tables(walk, tables);
-    meet_clauses(walk, tables, &[], 128, design.always.as_slice());
+    meet_clauses(walk, tables, &[], MOST_ALWAYS, design.always.as_slice());
     meet_types(walk, tables, types);
     meet_entries(walk, types, design.entries.as_slice());
     meet_hints(walk, design.hints.as_slice());
 }
 
 /// The lowest rule that is broken, and the first line that breaks it.
-fn first_fault(design: &Design) -> Option<(u32, u64)>
+fn first_fault(design: &Design) -> Option<(FormRule, u64)>
     ensures { MatchOption result (form_faults design.now ≡ []) (IsLeast is_before (form_faults design.now)) }
 {
     if !design_in(design) {
-        return Some((RANGES, 0));
+        return Some((FormRule::Ranges, 0));
     }
     let mut walk = Walk::new();
     meet_design(&mut walk, design);
@@ -116,7 +116,7 @@ fn first_fault(design: &Design) -> Option<(u32, u64)>
 pub fn well_formed(design: &Design) -> Result<(), FormError>
     ensures ok { IsOk result ↔ IsWellFormed design.now }
     ensures bad { IfErr result (IsFirstFault design.now) }
-    // Above rule 1 the statement on the line breaks the rule.
+    // But for the rule of ranges, the statement on the line breaks the rule.
     ensures printed { IfErr result (IsFaultInPrint design.now) }
 {
     match first_fault(design) {

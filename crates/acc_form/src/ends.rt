@@ -21,8 +21,16 @@ pub fn divides(read: &Read) -> bool
     ensures { result ≡ divides read.now }
 {
     match read {
+        Read::Let(_, _)
+        | Read::Col(_, _, _, _)
+        | Read::Has(_, _, _)
+        | Read::Count(_, _, _)
+        | Read::Sum(_, _, _, _)
+        | Read::Least(_, _, _)
+        | Read::Greatest(_, _, _)
+        | Read::Take(_)
+        | Read::Mul(_, _, _) => true,
         Read::Div(_, _, divisor) => 1 <= *divisor,
-        _ => true,
     }
 }
 
@@ -59,14 +67,30 @@ pub fn assigns_local(ty: &TxType, read: &Read) -> bool
     ty.params <= local && (local as usize) < ty.locals.len()
 }
 
+fn undo_may_read(read: &Read) -> bool
+    ensures { result ≡ may_read Side.Undo read.now }
+{
+    match read {
+        Read::Let(_, _)
+        | Read::Col(_, _, _, _)
+        | Read::Has(_, _, _)
+        | Read::Count(_, _, _)
+        | Read::Sum(_, _, _, _)
+        | Read::Least(_, _, _)
+        | Read::Greatest(_, _, _)
+        | Read::Div(_, _, _) => true,
+        Read::Take(_) => false,
+        Read::Mul(_, _, _) => false,
+    }
+}
+
 /// Whether a read neither takes nor multiplies on the undo side.
 pub fn may_read(side: Side, read: &Read) -> bool
     ensures { result ≡ may_read side read.now }
 {
-    match (side, read) {
-        (Side::Undo, Read::Take(_)) => false,
-        (Side::Undo, Read::Mul(_, _, _)) => false,
-        _ => true,
+    match side {
+        Side::Next => true,
+        Side::Undo => undo_may_read(read),
     }
 }
 

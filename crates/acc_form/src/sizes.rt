@@ -58,11 +58,7 @@ fn all_lins_small(lins: &[Lin]) -> bool
 fn atom_small(atom: &Atom) -> bool
     ensures { result ≡ atom_small atom.now }
 {
-    match atom {
-        Atom::One | Atom::Var(_) => true,
-        Atom::Has(_, key) | Atom::Col(_, key, _) | Atom::Count(_, key) | Atom::Sum(_, key, _) =>
-            all_lins_small(key.as_slice()),
-    }
+    all_lins_small(atom.key())
 }
 
 fn product_small(product: &(Unknown, i128)) -> bool

@@ -12,10 +12,7 @@ use crate::walks::Walk;
 use crate::widths::{action_fits, action_is_own, read_fits, read_leaves_a_component};
 use acc_base::bounds::{MOST_ACTIONS, MOST_PATHS, MOST_READS};
 use acc_base::designs::{Side, TxType};
-use acc_base::rules::{
-    ASSIGNED, ENDS, LAST_PATHS, LIMITS, NUMBERS, PRIVATE_KEYS, REFUSALS, SHORT_PREFIXES,
-    START_UNDOS, UNDO_READS, WIDTHS,
-};
+use acc_base::rules::FormRule;
 use acc_base::steps::{Action, Path, Read, Step};
 use acc_base::tables::Table;
 
@@ -35,12 +32,15 @@ pub struct Around<'a> {
 fn meet_read(walk: &mut Walk, around: &Around<'_>, i: usize, read: &Read)
     ensures { walk.new ≡ after walk.old (read_marks around.now.tables.now around.now.ty.now around.now.side i read.now) }
 {
-    walk.ask(WIDTHS, read_fits(around.tables, read));
-    walk.ask(SHORT_PREFIXES, read_leaves_a_component(around.tables, read));
-    walk.ask(LIMITS, i != MOST_READS && read_small(read));
-    walk.ask(NUMBERS, divides(read));
-    walk.ask(ASSIGNED, assigns_local(around.ty, read));
-    walk.ask(UNDO_READS, may_read(around.side, read));
+    walk.ask(FormRule::Widths, read_fits(around.tables, read));
+    walk.ask(
+        FormRule::ShortPrefixes,
+        read_leaves_a_component(around.tables, read),
+    );
+    walk.ask(FormRule::Limits, i != MOST_READS && read_small(read));
+    walk.ask(FormRule::Numbers, divides(read));
+    walk.ask(FormRule::Assigned, assigns_local(around.ty, read));
+    walk.ask(FormRule::UndoReads, may_read(around.side, read));
     walk.end();
 }
 
@@ -56,13 +56,13 @@ fn meet_reads(walk: &mut Walk, around: &Around<'_>, reads: &[Read])
 fn meet_action(walk: &mut Walk, around: &Around<'_>, i: usize, action: &Action)
     ensures { walk.new ≡ after walk.old (action_marks around.now.tables.now around.now.ty.now around.now.is_bare i action.now) }
 {
-    walk.ask(WIDTHS, action_fits(around.tables, action));
-    walk.ask(LIMITS, i != MOST_ACTIONS && action_small(action));
+    walk.ask(FormRule::Widths, action_fits(around.tables, action));
+    walk.ask(FormRule::Limits, i != MOST_ACTIONS && action_small(action));
     walk.ask(
-        PRIVATE_KEYS,
+        FormRule::PrivateKeys,
         action_is_own(around.tables, around.ty.locals.len(), action),
     );
-    walk.ask(START_UNDOS, !around.is_bare);
+    walk.ask(FormRule::StartUndos, !around.is_bare);
     walk.end();
 }
 
@@ -79,11 +79,17 @@ fn meet_target(walk: &mut Walk, around: &Around<'_>, path: &Path)
     ensures { walk.new ≡ after walk.old (target_marks around.now.ty.now around.now.side around.now.is_bare path.now) }
 {
     let target = path.target;
-    walk.ask(LIMITS, target_small(around.ty.points.as_slice(), target));
-    walk.ask(NUMBERS, refuses_by_number(target));
-    walk.ask(ENDS, may_end(around.side, target));
-    walk.ask(REFUSALS, refuses_plainly(path.actions.as_slice(), target));
-    walk.ask(START_UNDOS, !around.is_bare || is_undone(target));
+    walk.ask(
+        FormRule::Limits,
+        target_small(around.ty.points.as_slice(), target),
+    );
+    walk.ask(FormRule::Numbers, refuses_by_number(target));
+    walk.ask(FormRule::Ends, may_end(around.side, target));
+    walk.ask(
+        FormRule::Refusals,
+        refuses_plainly(path.actions.as_slice(), target),
+    );
+    walk.ask(FormRule::StartUndos, !around.is_bare || is_undone(target));
     walk.end();
 }
 
@@ -94,8 +100,8 @@ fn meet_path(walk: &mut Walk, around: &Around<'_>, count: usize, i: usize, path:
         (path_marks around.now.tables.now around.now.ty.now around.now.side around.now.is_bare count i path.now) }
 {
     let guard = path.guard.as_slice();
-    walk.ask(LIMITS, i != MOST_PATHS && guard_small(guard));
-    walk.ask(LAST_PATHS, i + 1 < count || guard.is_empty());
+    walk.ask(FormRule::Limits, i != MOST_PATHS && guard_small(guard));
+    walk.ask(FormRule::LastPaths, i + 1 < count || guard.is_empty());
     walk.end();
     meet_actions(walk, around, path.actions.as_slice());
     meet_target(walk, around, path);

@@ -12,7 +12,7 @@ use crate::walks::Walk;
 use acc_base::bounds::{LARGEST_LIMIT, MOST_CLAUSES, MOST_LOCALS, MOST_POINTS, MOST_TYPES};
 use acc_base::designs::{Point, Side, TxType};
 use acc_base::forms::Lin;
-use acc_base::rules::{LIMITS, NAMES, NUMBERS};
+use acc_base::rules::FormRule;
 use acc_base::sequences::Text;
 use acc_base::tables::Table;
 
@@ -27,7 +27,7 @@ fn meet_variant(walk: &mut Walk, variant: &Lin)
     ensures { walk.new ≡ after walk.old (variant_marks variant.now) }
 {
     if !is_zero(variant) {
-        walk.ask(LIMITS, lin_small(variant));
+        walk.ask(FormRule::Limits, lin_small(variant));
         walk.end();
     }
 }
@@ -38,8 +38,8 @@ fn meet_point(walk: &mut Walk, tables: &[Table], ty: &TxType, i: usize, point: &
     ensures { walk.new ≡ after walk.old (point_marks tables.now ty.now i point.now) }
 {
     let earlier = &ty.points.as_slice()[..i];
-    walk.ask(LIMITS, i != MOST_POINTS && is_short(&point.name));
-    walk.ask(NAMES, !names_point(earlier, &point.name));
+    walk.ask(FormRule::Limits, i != MOST_POINTS && is_short(&point.name));
+    walk.ask(FormRule::Names, !names_point(earlier, &point.name));
     walk.end();
     meet_variant(walk, &point.variant);
     meet_clauses(
@@ -100,18 +100,21 @@ fn meet_head(walk: &mut Walk, types: &[TxType], i: usize, ty: &TxType)
 {
     let params = params_of(ty);
     walk.ask(
-        LIMITS,
+        FormRule::Limits,
         i != MOST_TYPES
             && is_short(&ty.name)
             && ty.params as usize <= MOST_LOCALS
             && all_short(params),
     );
     walk.ask(
-        NAMES,
+        FormRule::Names,
         !names_type(&types[..i], &ty.name) && are_distinct(params),
     );
     walk.end();
-    walk.ask(NUMBERS, 1 <= ty.limit && ty.limit <= LARGEST_LIMIT);
+    walk.ask(
+        FormRule::Numbers,
+        1 <= ty.limit && ty.limit <= LARGEST_LIMIT,
+    );
     walk.end();
 }
 
@@ -121,7 +124,10 @@ fn meet_returns(walk: &mut Walk, ty: &TxType)
 {
     let returns = ty.returns.as_slice();
     if !returns.is_empty() {
-        walk.ask(LIMITS, returns_small(ty.locals.as_slice(), returns));
+        walk.ask(
+            FormRule::Limits,
+            returns_small(ty.locals.as_slice(), returns),
+        );
         walk.end();
     }
 }
@@ -132,8 +138,11 @@ fn meet_locals(walk: &mut Walk, ty: &TxType)
 {
     if ty.locals.len() > ty.params as usize {
         let others = others_of(ty);
-        walk.ask(LIMITS, ty.locals.len() <= MOST_LOCALS && all_short(others));
-        walk.ask(NAMES, are_new(params_of(ty), others));
+        walk.ask(
+            FormRule::Limits,
+            ty.locals.len() <= MOST_LOCALS && all_short(others),
+        );
+        walk.ask(FormRule::Names, are_new(params_of(ty), others));
         walk.end();
     }
 }

@@ -1,9 +1,11 @@
 //! A walk over the lines of a design in print, which keeps the first fault.
 ghost use Rattle.std.specs.Prelude.{◌≡◌, [], ◌∷◌};
 ghost use Rattle.acc_form.specs.Marks.{Broken, End, asked};
-ghost use Rattle.acc_form.specs.Faults.{is_before, next_line};
+ghost use Rattle.acc_form.specs.Faults.{is_lower, is_before, next_line};
 ghost use Rattle.acc_form.specs.Walks.{noted, after};
 ghost use Rattle.acc_base.specs.Leasts.{better};
+
+use acc_base::rules::FormRule;
 
 /// The line at hand, and what was met so far.
 #[derive(Drop)]
@@ -11,19 +13,27 @@ pub struct Walk {
     /// The line of the statement at hand, from 1.
     pub line: u64,
     /// The first fault so far: the lowest rule, and the first line that breaks it.
-    pub first: Option<(u32, u64)>,
+    pub first: Option<(FormRule, u64)>,
+}
+
+/// Whether a rule has a lower number than another.
+#[tactic(auto, unfolding(crate::specs::Faults::is_lower))]
+fn is_lower(a: FormRule, b: FormRule) -> bool
+    ensures { result ≡ is_lower a b }
+{
+    a.number() < b.number()
 }
 
 /// Whether a fault comes before another: by its rule, then by its line.
 #[tactic(auto, unfolding(crate::specs::Faults::is_before))]
-fn is_before(a: (u32, u64), b: (u32, u64)) -> bool
+fn is_before(a: (FormRule, u64), b: (FormRule, u64)) -> bool
     ensures { result ≡ is_before a b }
 {
-    a.0 < b.0 || (a.0 == b.0 && a.1 < b.1)
+    is_lower(a.0, b.0) || (a.0.number() == b.0.number() && a.1 < b.1)
 }
 
 /// The earlier one of the first fault so far and another.
-fn earlier(first: Option<(u32, u64)>, fault: (u32, u64)) -> Option<(u32, u64)>
+fn earlier(first: Option<(FormRule, u64)>, fault: (FormRule, u64)) -> Option<(FormRule, u64)>
     ensures { result ≡ better is_before first fault }
 {
     match first {
@@ -45,14 +55,14 @@ impl Walk {
 
     /// The statement at hand breaks the rule.
     #[tactic(auto, unfolding(crate::specs::Walks::noted))]
-    fn break_rule(&mut self, rule: u32)
+    fn break_rule(&mut self, rule: FormRule)
         ensures { self.new ≡ noted self.old (Broken rule) }
     {
         self.first = earlier(self.first, (rule, self.line));
     }
 
     /// The rule is asked of the statement at hand.
-    pub fn ask(&mut self, rule: u32, is_kept: bool)
+    pub fn ask(&mut self, rule: FormRule, is_kept: bool)
         ensures { self.new ≡ after self.old (asked rule is_kept) }
     {
         if !is_kept {

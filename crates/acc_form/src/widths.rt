@@ -39,14 +39,10 @@ fn fills(tables: &[Table], table: u32, values: &[Lin]) -> bool
 fn atom_fits(tables: &[Table], atom: &Atom) -> bool
     ensures { result ≡ atom_fits tables.now atom.now }
 {
-    match atom {
-        Atom::One | Atom::Var(_) => true,
-        Atom::Has(table, key) | Atom::Col(table, key, _) => {
-            is_key(tables, *table, key.as_slice())
-        }
-        Atom::Count(table, prefix) | Atom::Sum(table, prefix, _) => {
-            is_prefix(tables, *table, prefix.as_slice())
-        }
+    match atom.table() {
+        None => true,
+        Some(table) if atom.is_of_prefix() => is_prefix(tables, table, atom.key()),
+        Some(table) => is_key(tables, table, atom.key()),
     }
 }
 
@@ -87,7 +83,12 @@ pub fn read_fits(tables: &[Table], read: &Read) -> bool
         Read::Count(_, table, prefix) | Read::Sum(_, table, prefix, _) => {
             is_prefix(tables, *table, prefix.as_slice())
         }
-        _ => true,
+        Read::Let(_, _)
+        | Read::Least(_, _, _)
+        | Read::Greatest(_, _, _)
+        | Read::Take(_)
+        | Read::Mul(_, _, _)
+        | Read::Div(_, _, _) => true,
     }
 }
 
@@ -122,7 +123,14 @@ pub fn read_leaves_a_component(tables: &[Table], read: &Read) -> bool
         Read::Least(_, table, prefix) | Read::Greatest(_, table, prefix) => {
             is_short_prefix(tables, *table, prefix.as_slice())
         }
-        _ => true,
+        Read::Let(_, _)
+        | Read::Col(_, _, _, _)
+        | Read::Has(_, _, _)
+        | Read::Count(_, _, _)
+        | Read::Sum(_, _, _, _)
+        | Read::Take(_)
+        | Read::Mul(_, _, _)
+        | Read::Div(_, _, _) => true,
     }
 }
 

@@ -26,8 +26,16 @@ refuses_by_number (target.Refuse n) = nat_le 1 n && nat_le n LARGEST_REFUSAL
 
 -- the divisor of a read
 abbrev pub divides : Read → Bool
+divides (read.Let x v) = true
+divides (read.Col x t k c) = true
+divides (read.Has x t k) = true
+divides (read.Count x t p) = true
+divides (read.Sum x t p c) = true
+divides (read.Least x t p) = true
+divides (read.Greatest x t p) = true
+divides (read.Take x) = true
+divides (read.Mul x y z) = true
 divides (read.Div x y c) = int_le (pos 1) c
-divides _ = true
 
 -- ---- rule 8: a forward path doesn't end undone, and an undo path neither commits nor refuses
 
@@ -60,9 +68,17 @@ assigns_local t r = nat_le t.params (assigned r) && nat_lt (assigned r) (length 
 
 -- a read of a step of this side
 abbrev pub may_read : Side → Read → Bool
+may_read Next r = true
+may_read Undo (read.Let x v) = true
+may_read Undo (read.Col x t k c) = true
+may_read Undo (read.Has x t k) = true
+may_read Undo (read.Count x t p) = true
+may_read Undo (read.Sum x t p c) = true
+may_read Undo (read.Least x t p) = true
+may_read Undo (read.Greatest x t p) = true
 may_read Undo (read.Take x) = false
 may_read Undo (read.Mul x y z) = false
-may_read side _ = true
+may_read Undo (read.Div x y c) = true
 
 -- ---- rule 13: the paths of a start point's undo end undone
 

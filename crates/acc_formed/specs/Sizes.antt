@@ -6,7 +6,6 @@ use Rattle.acc_base.specs.declared.bounds.TheConstants.{LONGEST_NAME, MOST_COLUM
 use Rattle.acc_base.specs.declared.forms.Lin.{Lin}
 use Rattle.acc_base.specs.declared.forms.LinRel.{LinRel}
 use Rattle.acc_base.specs.declared.forms.Atom.{Atom}
-use Rattle.acc_base.specs.declared.forms.Atom.TheVariants as atom
 use Rattle.acc_base.specs.declared.forms.Unknown.{Unknown}
 use Rattle.acc_base.specs.declared.forms.Rel.{Rel}
 use Rattle.acc_base.specs.declared.forms.Clause.{Clause}
@@ -18,6 +17,7 @@ use Rattle.acc_base.specs.declared.steps.Action.TheVariants as action
 use Rattle.acc_base.specs.declared.steps.Target.{Target}
 use Rattle.acc_base.specs.declared.steps.Target.TheVariants as target
 use Rattle.acc_base.specs.declared.designs.Point.{Point}
+use Rattle.acc_base.specs.Atoms.{key_of}
 use Rattle.acc_base.specs.Numbers.{is_small}
 
 -- a name
@@ -43,12 +43,7 @@ lin_rel_small r = lin_small r.lin
 
 -- the key or the prefix of an atom
 abbrev pub atom_small : Atom → Bool
-atom_small atom.One = true
-atom_small (atom.Var x) = true
-atom_small (atom.Has t k) = list_all lin_small k
-atom_small (atom.Col t k c) = list_all lin_small k
-atom_small (atom.Count t p) = list_all lin_small p
-atom_small (atom.Sum t p c) = list_all lin_small p
+atom_small a = list_all lin_small (key_of a)
 
 -- an atom and its coefficient
 abbrev pub product_small : Unknown × ℤ → Bool

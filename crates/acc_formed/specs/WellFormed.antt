@@ -2,9 +2,8 @@
 use Rattle.std.specs.Prelude.{◌≡◌, ℕ, ◌+◌, ◌<◌, ◌≤◌, Bool, false, not, ◌||◌, ◌==◌, List, [], length, take, drop, slice_index_or, IsTrue}
 use Rattle.std.specs.Prelude.{All}
 use Rattle.std.specs.List.{list_all, list_any}
-use Rattle.acc_base.specs.declared.bounds.TheConstants.{MOST_ACTIONS, MOST_CLAUSES, MOST_ENTRIES, MOST_HINTS, MOST_LOCALS, MOST_PATHS}
-use Rattle.acc_base.specs.declared.bounds.TheConstants.{MOST_POINTS, MOST_READS}
-use Rattle.acc_base.specs.declared.bounds.TheConstants.{MOST_TABLES, MOST_TYPES}
+use Rattle.acc_base.specs.declared.bounds.TheConstants.{MOST_ACTIONS, MOST_ALWAYS, MOST_CLAUSES, MOST_ENTRIES, MOST_HINTS}
+use Rattle.acc_base.specs.declared.bounds.TheConstants.{MOST_LOCALS, MOST_PATHS, MOST_POINTS, MOST_READS, MOST_TABLES, MOST_TYPES}
 use Rattle.acc_base.specs.declared.forms.Clause.{Clause}
 use Rattle.acc_base.specs.declared.tables.Table.{Table}
 use Rattle.acc_base.specs.declared.steps.Read.{Read}
@@ -113,7 +112,7 @@ pub record IsWellFormed (d : Design) : Type 0 where
   pub in_range : IsTrue (design_in d)
   pub few_tables : length d.tables ≤ MOST_TABLES
   pub tables : EachNumbered (IsTableFormed d.tables) d.tables
-  pub always : AreClausesFormed d.tables [] 128 d.always
+  pub always : AreClausesFormed d.tables [] MOST_ALWAYS d.always
   pub few_types : length d.types ≤ MOST_TYPES
   pub types : EachNumbered (IsTypeFormed d.tables d.types) d.types
   pub few_entries : length d.entries ≤ MOST_ENTRIES

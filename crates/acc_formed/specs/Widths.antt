@@ -5,7 +5,6 @@ use Rattle.std.specs.List.{list_all}
 use Rattle.std.specs.Ordering.{int_eq}
 use Rattle.acc_base.specs.declared.forms.Lin.{Lin}
 use Rattle.acc_base.specs.declared.forms.Atom.{Atom}
-use Rattle.acc_base.specs.declared.forms.Atom.TheVariants as atom
 use Rattle.acc_base.specs.declared.forms.Unknown.{Unknown}
 use Rattle.acc_base.specs.declared.forms.Rel.{Rel}
 use Rattle.acc_base.specs.declared.forms.Clause.{Clause}
@@ -14,6 +13,7 @@ use Rattle.acc_base.specs.declared.steps.Read.{Read}
 use Rattle.acc_base.specs.declared.steps.Read.TheVariants as read
 use Rattle.acc_base.specs.declared.steps.Action.{Action}
 use Rattle.acc_base.specs.declared.steps.Action.TheVariants as action
+use Rattle.acc_base.specs.Atoms.{table_of, key_of, is_of_prefix}
 
 -- ---- rule 2: a key has as many components as the table's width, a prefix 1 up to the width, a row that is put a value a column
 
@@ -32,14 +32,15 @@ abbrev pub fills : Option Table → List Lin → Bool
 fills None vs = false
 fills (Some t) vs = length vs == length t.cols
 
+-- a key of a table, or a prefix; where no table is named, there is neither
+abbrev pub key_fits : List Table → Option ℕ → Bool → List Lin → Bool
+key_fits tables None of_prefix k = true
+key_fits tables (Some t) true k = is_prefix (slice_get tables t) k
+key_fits tables (Some t) false k = is_key (slice_get tables t) k
+
 -- an atom of rows names a key or a prefix
 abbrev pub atom_fits : List Table → Atom → Bool
-atom_fits tables atom.One = true
-atom_fits tables (atom.Var x) = true
-atom_fits tables (atom.Has t k) = is_key (slice_get tables t) k
-atom_fits tables (atom.Col t k c) = is_key (slice_get tables t) k
-atom_fits tables (atom.Count t p) = is_prefix (slice_get tables t) p
-atom_fits tables (atom.Sum t p c) = is_prefix (slice_get tables t) p
+atom_fits tables a = key_fits tables (table_of a) (is_of_prefix a) (key_of a)
 
 -- an atom and its coefficient
 abbrev pub product_fits : List Table → Unknown × ℤ → Bool
@@ -55,11 +56,16 @@ clause_fits tables c = list_all (rel_fits tables) c.guards && rel_fits tables c.
 
 -- a read names a key or a prefix
 abbrev pub read_fits : List Table → Read → Bool
+read_fits tables (read.Let x v) = true
 read_fits tables (read.Col x t k c) = is_key (slice_get tables t) k
 read_fits tables (read.Has x t k) = is_key (slice_get tables t) k
 read_fits tables (read.Count x t p) = is_prefix (slice_get tables t) p
 read_fits tables (read.Sum x t p c) = is_prefix (slice_get tables t) p
-read_fits tables _ = true
+read_fits tables (read.Least x t p) = true
+read_fits tables (read.Greatest x t p) = true
+read_fits tables (read.Take x) = true
+read_fits tables (read.Mul x y z) = true
+read_fits tables (read.Div x y c) = true
 
 -- an action names a key
 abbrev pub action_fits : List Table → Action → Bool
@@ -77,9 +83,16 @@ is_short_prefix (Some t) p = nat_lt (length p) t.width
 
 -- a read for the least or the greatest component
 abbrev pub read_leaves_a_component : List Table → Read → Bool
+read_leaves_a_component tables (read.Let x v) = true
+read_leaves_a_component tables (read.Col x t k c) = true
+read_leaves_a_component tables (read.Has x t k) = true
+read_leaves_a_component tables (read.Count x t p) = true
+read_leaves_a_component tables (read.Sum x t p c) = true
 read_leaves_a_component tables (read.Least x t p) = is_short_prefix (slice_get tables t) p
 read_leaves_a_component tables (read.Greatest x t p) = is_short_prefix (slice_get tables t) p
-read_leaves_a_component tables _ = true
+read_leaves_a_component tables (read.Take x) = true
+read_leaves_a_component tables (read.Mul x y z) = true
+read_leaves_a_component tables (read.Div x y c) = true
 
 -- ---- rule 10: a write to a private table has `self` alone as last component of its key
 

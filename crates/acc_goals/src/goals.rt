@@ -19,9 +19,9 @@ pub fn goals_of(alloc: Global, r: Rel) -> Result<Seq<Form>, FormSum>
             terms: Seq::new(alloc),
             constant: 0,
         };
-        let turned = none.plus(alloc, &r.form, -1)?;
+        let opposite = none.plus(alloc, &r.form, -1)?;
         goals.push(r.form)?;
-        goals.push(turned)?;
+        goals.push(opposite)?;
     } else {
         goals.push(r.form)?;
     }

@@ -7,4 +7,7 @@ mod goals;
 pub mod sequents;
 pub mod small_goals;
 
+pub use clauses::goals_after;
 pub use errors::ObligError;
+pub use sequents::{Shared, add_clause, add_goals, at_case, sequent};
+pub use small_goals::{add_goal, add_small_goals};

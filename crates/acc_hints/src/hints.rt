@@ -1,34 +1,30 @@
 //! The values that the search for an obligation's proof may use.
 ghost use Rattle.std.specs.Prelude.{◌≡◌, ◌≤◌, [], ◌∷◌, ◌++◌, length, slice_get, IfOk, OnOk};
 ghost use Rattle.acc_base.specs.declared.bounds.TheConstants.{MOST_LOCALS, MOST_READS};
-ghost use Rattle.acc_base.specs.Effects.{step_at, step_of};
+ghost use Rattle.acc_base.specs.Effects.{step_of};
 ghost use Rattle.acc_formed.specs.Ranges.{locals_of};
 ghost use Rattle.acc_places.specs.Rooms.{IsSmallDesign};
 ghost use Rattle.acc_hints.specs.Hints.{has_no_reads, reads_of, reads_at, names_after, hint_naming, is_hint_at, hints_at, hints_of};
 
 use acc_assumptions::settings::{Setting, last_names};
-use acc_base::designs::{At, Design, Hint, Point, Side};
+use acc_base::designs::{At, Design, Hint, Side};
 use acc_base::forms::Lin;
 use acc_base::sequences::Seq;
-use acc_base::sequents::{Origin, Sequent};
-use acc_base::steps::{Read, Step};
+use acc_base::sequents::{Origin, Rule, Sequent};
+use acc_base::steps::Read;
 use acc_named::naming::named_lin;
 use acc_oblig::naming::Naming;
 use std::alloc::{AllocError, Global};
 
+/// Whether an obligation is of a transaction that begins, or of one that rests at a point: it has no variable of a read.
 fn has_no_reads(origin: &Origin) -> bool
     ensures { result ≡ has_no_reads origin.now }
 {
-    origin.rule == 0 || (origin.rule == 6 && origin.clause < 3)
-}
-
-/// The step of a point on a side.
-fn step_on(side: Side, point: &Point) -> &Step
-    ensures { result.now ≡ step_at side point.now }
-{
-    match side {
-        Side::Next => &point.next,
-        Side::Undo => &point.undo,
+    match origin.rule {
+        Rule::Begins => true,
+        Rule::Variants => origin.clause < 3,
+        Rule::Promises | Rule::Always | Rule::Spares | Rule::There => false,
+        Rule::Ranges | Rule::Clears | Rule::Empty => false,
     }
 }
 
@@ -36,11 +32,8 @@ fn step_on(side: Side, point: &Point) -> &Step
 fn reads_of(d: &Design, at: At, side: Side) -> &[Read]
     ensures reads { result.now ≡ reads_of (step_of d.now at.ty at.point side) }
 {
-    match d.types.as_slice().get(at.ty as usize) {
-        Some(ty) => match ty.points.as_slice().get(at.point as usize) {
-            Some(point) => step_on(side, point).reads.as_slice(),
-            None => &[],
-        },
+    match d.step(at, side) {
+        Some(step) => step.reads.as_slice(),
         None => &[],
     }
 }

@@ -2,3 +2,5 @@
 #![tactic(auto)]
 
 pub mod hints;
+
+pub use hints::hints_of;

@@ -4,13 +4,14 @@ use Rattle.std.specs.Prelude.{◌⊎◌, codes, Contains}
 use Rattle.std.specs.Fmt.{decimal}
 use Rattle.acc_base.specs.declared.designs.Design.{Design}
 use Rattle.acc_base.specs.Lines.{line}
+use Rattle.acc_base.specs.Numbering.{form_rule_number, limit_number}
 use Rattle.acc_lex.proofs.WholeTexts.{one_reading}
 use Rattle.acc_designs.proofs.WholeLaws.{one_tree}
 use Rattle.acc_statements.specs.Lines.{first_lines, IsLineOf}
 use Rattle.acc_statements.proofs.FirstLines.{later_lines}
 use Rattle.acc_statements.proofs.OneLine.{one_line_of}
 use Rattle.acc_names.specs.Faults.{first_fault_of}
-use Rattle.acc_limits.specs.declared.limits.Limit.{Limit}
+use Rattle.acc_base.specs.declared.limits.Limit.{Limit}
 use Rattle.acc_meaning.specs.Designs.{design_of}
 use Rattle.acc_parse.specs.Texts.{IsGrammatical, IsDesignText, past_limits}
 use Rattle.acc_parse.specs.Syntax.{IsWrongAt}
@@ -20,8 +21,8 @@ use Rattle.acc_parse.specs.declared.errors.ParseError.TheVariants as errors
 use Rattle.acc_form.specs.Faults.{form_faults, is_before}
 use Rattle.acc_base.specs.Leasts.{IsLeast}
 use Rattle.acc_formed.specs.WellFormed.{IsWellFormed}
+use Rattle.acc_form.proofs.OneFault.{one_least}
 use Rattle.acc_form.proofs.Placed.{faulty_of_least}
-use Rattle.acc_accept.proofs.OneFault.{one_least}
 use Rattle.acc_journalled.specs.declared.answers.Ending.{Ending}
 use Rattle.acc_journalled.specs.declared.answers.Ending.TheVariants.{DesignRefused}
 use Rattle.acc_inputs.specs.Text.{Said, Says}
@@ -53,7 +54,7 @@ read_or_refused text d (errors.Syntax at) said h r s = r.none h.of
 read_or_refused text d (errors.Name at) said h r s =
     none_some r.statement (sym h.allowed.names ∙ ap first_fault_of (one_grammar text h.of r.of) ∙ r.first)
 read_or_refused text d (errors.Limit at which) said h r s =
-    none_contained (past_limits r.of.tree) (r.passed.statement, r.passed.limit)
+    none_contained (past_limits r.of.tree) (r.passed.statement, which)
     (ap past_limits (one_grammar text r.of h.of) ∙ h.allowed.limits) r.passed.there
 read_or_refused text d errors.Memory said h r s = s
 
@@ -84,19 +85,19 @@ both_first m n v w (inl h) (inr k) = absurd (omega (arith, h, k.0))
 both_first m n v w (inr h) (inl k) = absurd (omega (arith, h.0, k))
 both_first m n v w (inr h) (inr k) = (h.0, omega (arith, h.1, k.1))
 
-one_limit : (text : List ℕ) (m n v w : ℕ) → IsLimitAt text m v → IsLimitAt text n w → (m ≡ n) × (v ≡ w)
+one_limit : (text : List ℕ) (m n : ℕ) (v w : Limit) → IsLimitAt text m v → IsLimitAt text n w →
+    (m ≡ n) × (limit_number v ≡ limit_number w)
 one_limit text m n v w h k =
     let faults : past_limits h.of.tree ≡ past_limits k.of.tree = ap past_limits (one_grammar text h.of k.of) in
     let first =
-    h.passed.first k.passed.statement k.passed.limit n
-    (subst (λ (xs : List (ℕ × Limit)). Contains xs (k.passed.statement, k.passed.limit)) (sym faults) k.passed.there) k.passed.on_line in
+    h.passed.first k.passed.statement w n
+    (subst (λ (xs : List (ℕ × Limit)). Contains xs (k.passed.statement, w)) (sym faults) k.passed.there) k.passed.on_line in
     let second =
-    k.passed.first h.passed.statement h.passed.limit m
-    (subst (λ (xs : List (ℕ × Limit)). Contains xs (h.passed.statement, h.passed.limit)) faults h.passed.there) h.passed.on_line in
-    both_first m n v w (subst (λ (z : ℕ). (m < n) ⊎ ((m ≡ n) × (v ≤ z))) (sym k.passed.number) first)
-    (subst (λ (z : ℕ). (n < m) ⊎ ((n ≡ m) × (w ≤ z))) (sym h.passed.number) second)
+    k.passed.first h.passed.statement v m
+    (subst (λ (xs : List (ℕ × Limit)). Contains xs (h.passed.statement, v)) faults h.passed.there) h.passed.on_line in
+    both_first m n (limit_number v) (limit_number w) first second
 
-name_or_limit : (text : List ℕ) (m n w : ℕ) → IsNameFaultAt text m → IsLimitAt text n w → ⊥
+name_or_limit : (text : List ℕ) (m n : ℕ) (w : Limit) → IsNameFaultAt text m → IsLimitAt text n w → ⊥
 name_or_limit text m n w h k = none_some h.statement (sym k.named ∙ ap first_fault_of (one_grammar text k.of h.of) ∙ h.first)
 
 one_error : (text : List ℕ) (e f : ParseError) (a b : Said) → Refuses text e → Refuses text f → SaysError e a → SaysError f b → a ≡ b
@@ -126,8 +127,8 @@ one_form text a b h k =
     let first =
     one_least (form_faults k.d) h.rule h.at k.rule k.at
     (subst (λ (d : Design). IsLeast is_before (form_faults d) (h.rule, h.at)) same h.first) k.first in
-    said_same DesignRefused _ _ a b (λ i. line (codes "refused form " ++ (decimal (first.0 i) ++ (codes " " ++ decimal (first.1 i)))))
-    h.says k.says
+    said_same DesignRefused _ _ a b
+    (λ i. line (codes "refused form " ++ (decimal (form_rule_number (first.0 i)) ++ (codes " " ++ decimal (first.1 i))))) h.says k.says
 
 pub one_refusal : (text : List ℕ) (a b : Said) → RefusesDesign text a → RefusesDesign text b → a ≡ b
 one_refusal text a b (inl h) (inl k) = one_error text h.error k.error a b h.refused k.refused h.says k.says

@@ -1,7 +1,9 @@
 -- A design that is refused: by its text, by the form rules, or with a certificate.
 use Rattle.std.specs.Prelude.{◌≡◌, ◌⊎◌, ℕ, ◌-◌, false, List, [], ◌++◌, codes}
 use Rattle.std.specs.Fmt.{decimal}
+use Rattle.acc_base.specs.declared.rules.FormRule.{FormRule}
 use Rattle.acc_base.specs.declared.designs.Design.{Design}
+use Rattle.acc_base.specs.Numbering.{form_rule_number, limit_number}
 use Rattle.acc_base.specs.Lines.{line}
 use Rattle.acc_statements.specs.Lines.{IsLineOf, first_lines}
 use Rattle.acc_print.specs.Designs.{printed}
@@ -20,8 +22,8 @@ use Rattle.acc_inputs.specs.Text.{Said, Says}
 abbrev pub SaysError : ParseError → Said → Type 0
 SaysError (errors.Syntax at) said = Says DesignRefused (line (codes "refused syntax " ++ decimal at)) said
 SaysError (errors.Name at) said = Says DesignRefused (line (codes "refused name " ++ decimal at)) said
-SaysError (errors.Limit at which) said =
-    Says DesignRefused (line (codes "refused limit " ++ (decimal at ++ (codes " " ++ decimal which)))) said
+SaysError (errors.Limit at limit) said =
+    Says DesignRefused (line (codes "refused limit " ++ (decimal at ++ (codes " " ++ decimal (limit_number limit))))) said
 SaysError errors.Memory said = ⊥
 
 -- the text isn't of the grammar, or has a fault of names, or passes a limit
@@ -31,15 +33,16 @@ pub record RefusesText (design : List ℕ) (said : Said) : Type 0 where
   pub says : SaysError error said
 
 -- what is said of a rule and the line that breaks it
-abbrev pub SaysRule : ℕ → ℕ → Said → Type 0
-SaysRule rule at said = Says DesignRefused (line (codes "refused form " ++ (decimal rule ++ (codes " " ++ decimal at)))) said
+abbrev pub SaysRule : FormRule → ℕ → Said → Type 0
+SaysRule rule at said =
+    Says DesignRefused (line (codes "refused form " ++ (decimal (form_rule_number rule) ++ (codes " " ++ decimal at)))) said
 
 -- The text is that of this design, which breaks form rules: the lowest one, and the first line that breaks it. In the design's
 -- print a statement ends on that line, and it is the one that breaks the rule: its text is the whole of the line.
 pub record RefusesForm (design : List ℕ) (said : Said) : Type 0 where
   pub d : Design
   pub is_text : IsDesignText design d
-  pub rule : ℕ
+  pub rule : FormRule
   pub at : ℕ
   pub first : IsLeast is_before (form_faults d) (rule, at)
   pub on_line : IsLineOf (printed d) (at - 1) at

@@ -6,6 +6,7 @@ ghost use Rattle.acc_inputs.specs.Refusals.{SaysError, SaysRule};
 ghost use Rattle.acc_inputs.specs.ReadDesigns.{Reads};
 
 use acc_base::designs::Design;
+use acc_base::rules::FormRule;
 use acc_form::{FormError, well_formed};
 use acc_journalled::{Answer, Ending, one_line};
 use acc_parse::{ParseError, parse};
@@ -35,17 +36,21 @@ fn text_refusal(alloc: Global, error: ParseError) -> Result<Answer, AllocError>
     let text = match error {
         ParseError::Syntax(line) => format!(in alloc; "refused syntax {line}")?,
         ParseError::Name(line) => format!(in alloc; "refused name {line}")?,
-        ParseError::Limit(line, which) => format!(in alloc; "refused limit {line} {which}")?,
+        ParseError::Limit(line, limit) => {
+            let which = limit.number();
+            format!(in alloc; "refused limit {line} {which}")?
+        }
         ParseError::Memory => return Err(AllocError),
     };
     Ok(one_line(alloc, Ending::DesignRefused, text.as_str())?)
 }
 
 /// What is answered to a design that breaks a form rule.
-fn form_refusal(alloc: Global, rule: u32, line: u64) -> Result<Answer, AllocError>
+fn form_refusal(alloc: Global, rule: FormRule, line: u64) -> Result<Answer, AllocError>
     ensures { IfOk result (λ a. SaysRule rule line (said_alone a)) }
 {
-    let text = format!(in alloc; "refused form {rule} {line}")?;
+    let which = rule.number();
+    let text = format!(in alloc; "refused form {which} {line}")?;
     Ok(one_line(alloc, Ending::DesignRefused, text.as_str())?)
 }
 

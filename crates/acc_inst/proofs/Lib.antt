@@ -1,2 +1,4 @@
+pub mod Patterns
+pub mod Collected
 pub mod OfHypotheses
-pub mod Made
+pub mod ListsMade

@@ -1,3 +1,4 @@
 pub mod Making
 pub mod Instances
+pub mod Walks
 pub mod Lists

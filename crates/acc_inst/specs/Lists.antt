@@ -1,10 +1,10 @@
 -- The lists of a sequent: its instances, and the forms to split by.
-use Rattle.std.specs.Prelude.{ℕ, Bool, true, false, ◌||◌, ◌&&◌, if◌then◌else◌, List, [], ◌∷◌, ◌++◌, length, map, Ok, Err, nat_lt, ℤ, pos}
+use Rattle.std.specs.Prelude.{Bool, true, false, ◌||◌, ◌&&◌, if◌then◌else◌, List, [], ◌∷◌, length, map, Ok, Err, nat_lt, ℤ, pos}
 use Rattle.std.specs.Prelude.{negsuc}
 use Rattle.std.specs.List.{fold, list_any}
 use Rattle.std.specs.Ordering.{int_eq}
+use Rattle.acc_base.specs.declared.bounds.TheConstants.{MOST_SPLITS}
 use Rattle.acc_base.specs.declared.forms.Lin.{Lin}
-use Rattle.acc_base.specs.declared.forms.Atom.TheVariants as atom
 use Rattle.acc_base.specs.declared.forms.Form.{Form}
 use Rattle.acc_base.specs.declared.forms.Rel.{Rel}
 use Rattle.acc_base.specs.declared.sequents.Sequent.{Sequent}
@@ -14,7 +14,8 @@ use Rattle.acc_inst.specs.declared.listing.Listed.{Listed}
 use Rattle.acc_choices.specs.declared.listing.InstError.TheVariants.{Crowded, Wide}
 use Rattle.acc_inst.specs.declared.making.Instance.{Instance}
 use Rattle.acc_inst.specs.Making.{Chosen, instance_of, is_instance_wide}
-use Rattle.acc_choices.specs.Parts.{Listing, chain, with_first}
+use Rattle.acc_base.specs.Computing.{chain}
+use Rattle.acc_choices.specs.Parts.{Listing, with_first}
 use Rattle.acc_inst.specs.Instances.{instances_of}
 
 -- ---- forms to split by
@@ -72,7 +73,7 @@ splits_of q hints made =
 
 -- where the splits are few
 abbrev pub few : List Form → List Chosen → Listing Listed
-few splits insts = if nat_lt 256 (length splits) then Err Crowded else Ok (record { splits = splits; insts = insts })
+few splits insts = if nat_lt MOST_SPLITS (length splits) then Err Crowded else Ok (record { splits = splits; insts = insts })
 
 abbrev pub listed : Sequent → List Lin → List Chosen → Listing Listed
 listed q hints insts =

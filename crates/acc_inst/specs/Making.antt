@@ -1,5 +1,5 @@
 -- An instance: the guards and the relation of a hypothesis at linear values for its own variables.
-use Rattle.std.specs.Prelude.{◌≡◌, ℕ, Bool, false, IsFalse, ◌||◌, true, List, [], length, map, Option, Some, None, slice_get, pos}
+use Rattle.std.specs.Prelude.{◌≡◌, ℕ, Bool, false, ◌||◌, true, List, [], length, map, Option, Some, None, slice_get, pos}
 use Rattle.std.specs.List.{list_any}
 use Rattle.acc_base.specs.declared.forms.Lin.{Lin}
 use Rattle.acc_base.specs.declared.forms.Rel.{Rel}

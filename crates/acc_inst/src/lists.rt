@@ -1,7 +1,8 @@
 //! The lists of a sequent.
 ghost use Rattle.std.specs.Prelude.{◌≡◌, Ok, map, IsFalse, All, IfOk, IfErr};
 ghost use Rattle.std.specs.List.{list_any};
-ghost use Rattle.acc_choices.specs.Parts.{Answers, StoppedBy};
+ghost use Rattle.acc_base.specs.Computing.{StopsBy};
+ghost use Rattle.acc_choices.specs.Parts.{tells, AnswersListing};
 ghost use Rattle.acc_inst.specs.Making.{instance_of, is_instance_wide, IsOf};
 ghost use Rattle.acc_inst.specs.Lists.{few, listed, lists_of};
 
@@ -9,6 +10,7 @@ use crate::instances::instances_of;
 use crate::listing::{InstError, Listed};
 use crate::making::{Instance, instances_at};
 use crate::splits::splits_of;
+use acc_base::bounds::MOST_SPLITS;
 use acc_base::forms::{Form, Lin};
 use acc_base::sequences::Seq;
 use acc_base::sequents::Sequent;
@@ -22,9 +24,9 @@ pub struct Made {
 }
 
 fn few(splits: Seq<Form>, insts: Seq<(u32, Seq<Lin>)>) -> Result<Listed, InstError>
-    ensures { Answers result (few splits insts) }
+    ensures { AnswersListing result (few splits insts) }
 {
-    if splits.len() > 256 {
+    if splits.len() > MOST_SPLITS {
         return Err(InstError::Crowded);
     }
     Ok(Listed { splits, insts })
@@ -37,7 +39,7 @@ fn listed(
     insts: Seq<(u32, Seq<Lin>)>,
 ) -> Result<Made, InstError>
     ensures value { IfOk result (λ m. listed sequent.now hints.now insts ≡ Ok m.listed) }
-    ensures stops { IfErr result (λ e. StoppedBy e (listed sequent.now hints.now insts)) }
+    ensures stops { IfErr result (λ e. StopsBy (tells e) e (listed sequent.now hints.now insts)) }
     ensures made { IfOk result (λ m. m.made ≡ map (instance_of sequent.now) m.listed.insts) }
     ensures narrow { IfOk result (λ m. IsFalse (list_any (is_instance_wide sequent.now) m.listed.insts)) }
 {
@@ -50,7 +52,7 @@ fn listed(
 /// The lists of a sequent with what its instances say, or the first reason why there are none.
 pub fn made_lists(alloc: Global, sequent: &Sequent, hints: &[Lin]) -> Result<Made, InstError>
     ensures value { IfOk result (λ m. lists_of sequent.now hints.now ≡ Ok m.listed) }
-    ensures stops { IfErr result (λ e. StoppedBy e (lists_of sequent.now hints.now)) }
+    ensures stops { IfErr result (λ e. StopsBy (tells e) e (lists_of sequent.now hints.now)) }
     ensures made { IfOk result (λ m. m.made ≡ map (instance_of sequent.now) m.listed.insts) }
     ensures narrow { IfOk result (λ m. IsFalse (list_any (is_instance_wide sequent.now) m.listed.insts)) }
     ensures of { IfOk result (λ m. All (IsOf sequent.now) m.listed.insts) }
@@ -67,7 +69,7 @@ pub fn made_lists(alloc: Global, sequent: &Sequent, hints: &[Lin]) -> Result<Mad
 ///
 /// Each target, each list of values and each split is compared with those before it.
 pub fn lists(alloc: Global, sequent: &Sequent, hints: &[Lin]) -> Result<Listed, InstError>
-    ensures { Answers result (lists_of sequent.now hints.now) }
+    ensures { AnswersListing result (lists_of sequent.now hints.now) }
 {
     let made = made_lists(alloc, sequent, hints)?;
     Ok(made.listed)

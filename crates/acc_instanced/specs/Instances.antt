@@ -8,6 +8,7 @@ use Rattle.acc_base.specs.declared.forms.Atom.TheVariants.{One, Var, Has, Col, C
 use Rattle.acc_base.specs.declared.forms.Unknown.{Unknown}
 use Rattle.acc_base.specs.declared.forms.Form.{Form}
 use Rattle.acc_base.specs.declared.forms.Rel.{Rel}
+use Rattle.acc_base.specs.Atoms.{key_of, with_key}
 use Rattle.acc_base.specs.Sums.{Term, form_sum, is_sum_wide}
 use Rattle.acc_instanced.specs.Coefficients.{Coefficient, with_coefficient, with_coefficients, enlarged, counts, is_long}
 use Rattle.acc_instanced.specs.Summands.{lin_parts, part_summand, with_summands, are_summands_wide}
@@ -70,21 +71,12 @@ module _ (n : ℕ) (own : List Lin) where
 
   -- ---- unknowns
 
+  -- an atom with its key or prefix at the values
   abbrev pub atom_at : Atom → Atom
-  atom_at One = One
-  atom_at (Var x) = Var x
-  atom_at (Has t k) = Has t (map lin_at k)
-  atom_at (Col t k c) = Col t (map lin_at k) c
-  atom_at (Count t p) = Count t (map lin_at p)
-  atom_at (Sum t p c) = Sum t (map lin_at p) c
+  atom_at a = with_key a (map lin_at (key_of a))
 
   abbrev pub is_atom_long : Atom → Bool
-  is_atom_long One = false
-  is_atom_long (Var x) = false
-  is_atom_long (Has t k) = list_any is_lin_long k
-  is_atom_long (Col t k c) = list_any is_lin_long k
-  is_atom_long (Count t p) = list_any is_lin_long p
-  is_atom_long (Sum t p c) = list_any is_lin_long p
+  is_atom_long a = list_any is_lin_long (key_of a)
 
   -- what stands for an atom, if it is an own variable
   abbrev pub value_of : Atom → Option Lin

@@ -19,14 +19,8 @@ fn atom_at(alloc: Global, n: u32, own: &[Lin], atom: &Atom) -> Result<Atom, Form
     ensures value { IfOk result (λ a. a ≡ atom_at n own.now atom.now) }
     ensures wide { TellsWide result (is_atom_long n own.now atom.now) }
 {
-    match atom {
-        Atom::One => Ok(Atom::One),
-        Atom::Var(x) => Ok(Atom::Var(*x)),
-        Atom::Has(t, k) => Ok(Atom::Has(*t, lins_at(alloc, n, own, k.as_slice())?)),
-        Atom::Col(t, k, c) => Ok(Atom::Col(*t, lins_at(alloc, n, own, k.as_slice())?, *c)),
-        Atom::Count(t, p) => Ok(Atom::Count(*t, lins_at(alloc, n, own, p.as_slice())?)),
-        Atom::Sum(t, p, c) => Ok(Atom::Sum(*t, lins_at(alloc, n, own, p.as_slice())?, *c)),
-    }
+    let key = lins_at(alloc, n, own, atom.key())?;
+    Ok(atom.with_key(key))
 }
 
 /// What stands for an atom, if it is an own variable.
@@ -35,7 +29,8 @@ fn value_of<'a>(n: u32, own: &'a [Lin], atom: &Atom) -> Option<&'a Lin>
 {
     match atom {
         Atom::Var(x) => value_for(n, own, *x),
-        _ => None,
+        Atom::One | Atom::Has(_, _) | Atom::Col(_, _, _) => None,
+        Atom::Count(_, _) | Atom::Sum(_, _, _) => None,
     }
 }
 

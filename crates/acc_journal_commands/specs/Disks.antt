@@ -43,6 +43,10 @@ pub record LeavesSo {D : Type 0} (clock : D → ℕ) (left_since : D → ℕ →
   pub left : (file : List ℕ) → told old ≡ Some file → Only file (may_leave old) → IfSome (told new) (IsSo file)
 
 -- How a command ends over the disk that it is handed.
+--
+-- For example `init` on an empty disk: `old` tells [] and `new` tells 0xA5 ∷ rest_of base, where base is the design's printed text; the
+-- answer is `created` and ends as Done; the history is [], and 0 events are durable. Where the disk fails its third call, the answer is
+-- `fault disk` and ends as DiskFailed, and `new` tells any of the images that a crash leaves.
 pub record Ends {D : Type 0} (told : D → Option (List ℕ)) (may_leave : D → List ℕ → Type 0) (faults : D → ℕ)
     (Means : Seen → Seen → Telling → Type 0) (Leaves : D → D → List Event → ℕ → Type 0)
     (old new : D) (answer : Result Answer AllocError) (history : List Event) (settled : ℕ) : Type 0 where

@@ -4,3 +4,7 @@
 pub mod journals;
 pub mod recoveries;
 pub mod runs;
+
+pub use journals::init_file;
+pub use recoveries::recover_files;
+pub use runs::run_files;

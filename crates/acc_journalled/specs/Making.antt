@@ -6,7 +6,7 @@ use Rattle.acc_print.specs.Designs.{printed}
 use Rattle.acc_wal.specs.Journals.{Counts}
 use Rattle.acc_wal.specs.Creating.{rest_of, IsThere}
 use Rattle.acc_wal.specs.declared.errors.WalError.{WalError}
-use Rattle.acc_wal.specs.declared.errors.WalError.TheVariants.{Exists, Disk, Memory}
+use Rattle.acc_wal.specs.declared.errors.WalError.TheVariants.{Exists, NotJournal, OtherVersion, Damaged, Disk, Spent, Memory}
 use Rattle.acc_journalled.specs.declared.answers.Ending.TheVariants.{Done, JournalRefused, DiskFailed}
 use Rattle.acc_journalled.specs.Tellings.{Telling, Says}
 
@@ -15,13 +15,20 @@ abbrev pub IsMakingError : WalError → Type 0
 IsMakingError Exists = ⊤
 IsMakingError Disk = ⊤
 IsMakingError Memory = ⊤
-IsMakingError _ = ⊥
+IsMakingError NotJournal = ⊥
+IsMakingError (OtherVersion version) = ⊥
+IsMakingError (Damaged place) = ⊥
+IsMakingError Spent = ⊥
 
 -- what is said for each; want of memory says nothing
 abbrev pub SaysNotMade : WalError → Telling → Type 0
 SaysNotMade Exists t = Says JournalRefused (line (codes "refused journal exists")) t
 SaysNotMade Disk t = Says DiskFailed (line (codes "fault disk")) t
-SaysNotMade _ t = ⊥
+SaysNotMade NotJournal t = ⊥
+SaysNotMade (OtherVersion version) t = ⊥
+SaysNotMade (Damaged place) t = ⊥
+SaysNotMade Spent t = ⊥
+SaysNotMade Memory t = ⊥
 
 -- There was none. Now the disk holds these bytes, which are a journal of the design's printed text without an event.
 pub record Makes (d : Design) (told told' : Option (List ℕ)) (t : Telling) : Type 0 where

@@ -11,7 +11,7 @@ use Rattle.acc_dump.specs.Dumps.{dump_text}
 use Rattle.acc_print.specs.Designs.{printed}
 use Rattle.acc_wal.specs.Journals.{Counts}
 use Rattle.acc_wal.specs.declared.errors.WalError.{WalError}
-use Rattle.acc_wal.specs.declared.errors.WalError.TheVariants.{NotJournal, OtherVersion, Damaged}
+use Rattle.acc_wal.specs.declared.errors.WalError.TheVariants.{Exists, NotJournal, OtherVersion, Damaged, Disk as NoDisk, Spent, Memory as NoMemory}
 use Rattle.acc_recover.specs.Recoveries.{IsRecovery, LeavesUnfinished}
 use Rattle.acc_recover.specs.Refusals.{RefusesRecovery, IsOfJournal, IsOfBytes, CountsSame}
 use Rattle.acc_recover.specs.declared.errors.RecoverError.{RecoverError}
@@ -55,20 +55,29 @@ abbrev pub IsReadingError : WalError → Type 0
 IsReadingError NotJournal = ⊤
 IsReadingError (OtherVersion version) = ⊤
 IsReadingError (Damaged place) = ⊤
-IsReadingError _ = ⊥
+IsReadingError Exists = ⊥
+IsReadingError NoDisk = ⊥
+IsReadingError Spent = ⊥
+IsReadingError NoMemory = ⊥
 
 abbrev pub SaysNotRead : WalError → Telling → Type 0
 SaysNotRead NotJournal t = Says JournalRefused (line (codes "refused journal none")) t
 SaysNotRead (OtherVersion version) t = Says JournalRefused (line (codes "refused journal version " ++ decimal version)) t
 SaysNotRead (Damaged place) t = Says JournalRefused (line (codes "refused journal damaged " ++ decimal place)) t
-SaysNotRead _ t = ⊥
+SaysNotRead Exists t = ⊥
+SaysNotRead NoDisk t = ⊥
+SaysNotRead Spent t = ⊥
+SaysNotRead NoMemory t = ⊥
 
 abbrev pub SaysUnlawful : ℕ → Telling → Type 0
 SaysUnlawful at t = Says JournalRefused (line (codes "refused journal unlawful " ++ decimal at)) t
 
 abbrev pub IsRecoverError : RecoverError → Type 0
 IsRecoverError (Journal error) = IsReadingError error
-IsRecoverError _ = ⊤
+IsRecoverError OtherDesign = ⊤
+IsRecoverError (Unlawful at) = ⊤
+IsRecoverError Disk = ⊤
+IsRecoverError Memory = ⊤
 
 -- want of memory says nothing
 abbrev pub SaysNotRecovered : RecoverError → Telling → Type 0

@@ -36,7 +36,8 @@ pub fn not_made(alloc: Global, error: WalError) -> Result<Answer, AllocError>
         WalError::Exists => one_line(alloc, Ending::JournalRefused, "refused journal exists"),
         WalError::Disk => one_line(alloc, Ending::DiskFailed, "fault disk"),
         WalError::Memory => Err(AllocError),
-        _ => unreachable!(),
+        WalError::NotJournal | WalError::OtherVersion(_) | WalError::Damaged(_) | WalError::Spent =>
+            unreachable!(),
     }
 }
 
@@ -50,7 +51,7 @@ fn not_read(alloc: Global, error: WalError) -> Result<Answer, AllocError>
         WalError::NotJournal => format!(in alloc; "refused journal none")?,
         WalError::OtherVersion(version) => format!(in alloc; "refused journal version {version}")?,
         WalError::Damaged(place) => format!(in alloc; "refused journal damaged {place}")?,
-        _ => unreachable!(),
+        WalError::Exists | WalError::Disk | WalError::Spent | WalError::Memory => unreachable!(),
     };
     one_line(alloc, Ending::JournalRefused, text.as_str())
 }

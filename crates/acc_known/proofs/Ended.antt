@@ -9,8 +9,10 @@ use Rattle.std.proofs.lemmas.List.Folds.{list_any-append}
 use Rattle.acc_rows.specs.declared.rows.Row.{Row}
 use Rattle.acc_systems.specs.declared.systems.Reduced.{Reduced}
 use Rattle.acc_systems.specs.declared.systems.Bounded.{Bounded}
-use Rattle.acc_rows.specs.Answers.{Computation, chain, steps}
-use Rattle.acc_systems.specs.Systems.{admitted, taken, whole, set_aside, counted, crossed, unbounded}
+use Rattle.acc_base.specs.Computing.{chain, steps}
+use Rattle.acc_rows.specs.Answers.{Computation}
+use Rattle.acc_base.specs.Items.{numbers_from}
+use Rattle.acc_systems.specs.Systems.{admitted, taken, whole, set_aside, crossed, unbounded}
 use Rattle.acc_points.specs.Points.{Point, placed, placed_by, zeros, point_of}
 use Rattle.acc_points.specs.Searches.{found_by}
 use Rattle.acc_stages.specs.declared.stages.Step.{Step}
@@ -40,34 +42,34 @@ found_parts n rows = by (steps admitted [] rows)
     mid (Err e) = refl
 
     by : (o : Computation (List Row))
-        → chain (chain o (λ system. chain (steps set_aside (whole system) (counted 0 n))
+        → chain (chain o (λ system. chain (steps set_aside (whole system) (numbers_from 0 n))
         (λ r. chain (steps crossed (unbounded r.rows) r.left) (λ b. Ok (record { aside = r.aside; bounds = b.bounds }))))) (point_of n)
-        ≡ chain (chain o (λ system. steps set_aside (whole system) (counted 0 n))) (rest n)
-    by (Ok system) = mid (steps set_aside (whole system) (counted 0 n))
+        ≡ chain (chain o (λ system. steps set_aside (whole system) (numbers_from 0 n))) (rest n)
+    by (Ok system) = mid (steps set_aside (whole system) (numbers_from 0 n))
     by (Err e) = refl
 
 -- ---- more unknowns
 
-counted_append : (n k i : ℕ) → counted i (n + k) ≡ counted i n ++ counted (i + n) k
-counted_append zero k i =
+numbers_append : (n k i : ℕ) → numbers_from i (n + k) ≡ numbers_from i n ++ numbers_from (i + n) k
+numbers_append zero k i =
     let e : i ≡ i + zero = omega arith in
     let none : zero + k ≡ k = omega arith in
-    ap (counted i) none ∙ ap (λ j. counted j k) e
-counted_append (suc n) k i =
-    let e : suc i + n ≡ i + suc n = omega arith in
+    ap (numbers_from i) none ∙ ap (λ j. numbers_from j k) e
+numbers_append (suc n) k i =
+    let e : (i + 1) + n ≡ i + suc n = omega arith in
     let one : suc n + k ≡ suc (n + k) = omega arith in
-    ap (counted i) one ∙ ap (λ us. i ∷ us) (counted_append n k (suc i) ∙ ap (λ j. counted (suc i) n ++ counted j k) e)
+    ap (numbers_from i) one ∙ ap (λ us. i ∷ us) (numbers_append n k (i + 1) ∙ ap (λ j. numbers_from (i + 1) n ++ numbers_from j k) e)
 
-counted_split : (n m : ℕ) → n ≤ m → counted 0 m ≡ counted 0 n ++ counted n (m - n)
-counted_split n m h =
+numbers_split : (n m : ℕ) → n ≤ m → numbers_from 0 m ≡ numbers_from 0 n ++ numbers_from n (m - n)
+numbers_split n m h =
     let e : m ≡ n + (m - n) = omega (arith, h) in
     let f : 0 + n ≡ n = omega arith in
-    ap (counted 0) e ∙ (counted_append n (m - n) 0 ∙ ap (λ j. counted 0 n ++ counted j (m - n)) f)
+    ap (numbers_from 0) e ∙ (numbers_append n (m - n) 0 ∙ ap (λ j. numbers_from 0 n ++ numbers_from j (m - n)) f)
 
-pub begun_more : (rows : List Row) (n m : ℕ) → n ≤ m → begun rows m ≡ chain (begun rows n) (λ s. steps set_aside s (counted n (m - n)))
+pub begun_more : (rows : List Row) (n m : ℕ) → n ≤ m → begun rows m ≡ chain (begun rows n) (λ s. steps set_aside s (numbers_from n (m - n)))
 begun_more rows n m h =
-    ap (λ us. chain (steps admitted [] rows) (λ system. steps set_aside (whole system) us)) (counted_split n m h)
-    ∙ begun_append rows (counted n (m - n)) (counted 0 n)
+    ap (λ us. chain (steps admitted [] rows) (λ system. steps set_aside (whole system) us)) (numbers_split n m h)
+    ∙ begun_append rows (numbers_from n (m - n)) (numbers_from 0 n)
 
 -- ---- relations of which none is an equation
 
@@ -82,14 +84,14 @@ none_taken u (r ∷ rs) e =
     not_taken u r rs both.0 (none_taken u rs both.1)
 
 all_left : (k n : ℕ) (rows : List Row) (aside : List (ℕ × Row)) (left : List ℕ) → list_any is_equation rows ≡ false
-    → steps set_aside (record { rows = rows; aside = aside; left = left }) (counted n k)
-    ≡ Ok (record { rows = rows; aside = aside; left = left ++ counted n k })
+    → steps set_aside (record { rows = rows; aside = aside; left = left }) (numbers_from n k)
+    ≡ Ok (record { rows = rows; aside = aside; left = left ++ numbers_from n k })
 all_left zero n rows aside left none =
     ap (λ us. Ok (record { rows = rows; aside = aside; left = us })) (sym (append-nil left))
 all_left (suc k) n rows aside left none =
-    ap (λ o. chain o (λ s. steps set_aside s (counted (suc n) k))) one
-    ∙ (all_left k (suc n) rows aside (left ++ n ∷ []) none
-    ∙ ap (λ us. Ok (record { rows = rows; aside = aside; left = us })) (append_assoc left (n ∷ []) (counted (suc n) k)))
+    ap (λ o. chain o (λ s. steps set_aside s (numbers_from (n + 1) k))) one
+    ∙ (all_left k (n + 1) rows aside (left ++ n ∷ []) none
+    ∙ ap (λ us. Ok (record { rows = rows; aside = aside; left = us })) (append_assoc left (n ∷ []) (numbers_from (n + 1) k)))
   where
     one : set_aside (record { rows = rows; aside = aside; left = left }) n
         ≡ Ok (record { rows = rows; aside = aside; left = left ++ n ∷ [] })
@@ -104,7 +106,7 @@ module _ (rows : List Row) (n m : ℕ) (g : Stage) (is : Laws rows n g) (within 
       found_parts n rows
       ∙ (ap (λ o. chain o (rest n)) is.alone
       ∙ (λ i. found_from n (sym (append-nil g.rows) i) (aside_of g.path.steps)
-      ((sym (append-nil g.left) ∙ ap (λ k. g.left ++ counted n k) (sym none)) i)))
+      ((sym (append-nil g.left) ∙ ap (λ k. g.left ++ numbers_from n k) (sym none)) i)))
 
   module _ (t : Row) (equal : t.equal ≡ false)
       (settled : (n ≡ m) ⊎ (list_any is_equation g.rows ≡ false)) where
@@ -113,13 +115,13 @@ module _ (rows : List Row) (n m : ℕ) (g : Stage) (is : Laws rows n g) (within 
     none_listed (Some r) h = ap (λ b. b || false) h
 
     more_left : (o : Option Row) → IfSome o (λ r. r.equal ≡ false) → (n ≡ m) ⊎ (list_any is_equation g.rows ≡ false)
-        → steps set_aside (with_last (reduced g) o) (counted n (m - n))
-        ≡ Ok (record { rows = g.rows ++ listed o; aside = aside_of g.path.steps; left = g.left ++ counted n (m - n) })
+        → steps set_aside (with_last (reduced g) o) (numbers_from n (m - n))
+        ≡ Ok (record { rows = g.rows ++ listed o; aside = aside_of g.path.steps; left = g.left ++ numbers_from n (m - n) })
     more_left o h (inl e) =
         let none : m - n ≡ 0 = omega (arith, e) in
-        ap (λ k. steps set_aside (with_last (reduced g) o) (counted n k)) none
+        ap (λ k. steps set_aside (with_last (reduced g) o) (numbers_from n k)) none
         ∙ ap (λ us. Ok (record { rows = g.rows ++ listed o; aside = aside_of g.path.steps; left = us }))
-        (sym (append-nil g.left) ∙ ap (λ k. g.left ++ counted n k) (sym none))
+        (sym (append-nil g.left) ∙ ap (λ k. g.left ++ numbers_from n k) (sym none))
     more_left o h (inr e) =
         all_left (m - n) n (g.rows ++ listed o) (aside_of g.path.steps) g.left
         (list_any-append is_equation g.rows (listed o) ∙ (λ i. e i || none_listed o h i))
@@ -128,11 +130,11 @@ module _ (rows : List Row) (n m : ℕ) (g : Stage) (is : Laws rows n g) (within 
     found_more =
         found_parts m (rows ++ t ∷ [])
         ∙ (ap (λ o. chain o (rest m)) (begun_more (rows ++ t ∷ []) n m within
-        ∙ ap (λ o. chain o (λ s. steps set_aside s (counted n (m - n)))) (is.after t equal))
+        ∙ ap (λ o. chain o (λ s. steps set_aside s (numbers_from n (m - n)))) (is.after t equal))
         ∙ by (through g.path t) (through_same false g.path t equal))
       where
         by : (c : Computation (Option Row)) → IfOk c (λ o. IfSome o (λ r. r.equal ≡ false))
-            → chain (chain (chain c (λ o. Ok (with_last (reduced g) o))) (λ s. steps set_aside s (counted n (m - n)))) (rest m)
+            → chain (chain (chain c (λ o. Ok (with_last (reduced g) o))) (λ s. steps set_aside s (numbers_from n (m - n)))) (rest m)
             ≡ chain c (λ o. found_behind g n o m)
         by (Ok o) h = ap (λ c. chain c (rest m)) (more_left o h settled)
         by (Err e) h = refl

@@ -8,9 +8,12 @@ use Rattle.acc_rows.specs.declared.stops.Stop.{Stop}
 use Rattle.acc_rows.specs.declared.stops.Stop.TheVariants.{Refuted, Wide, Many, Memory}
 use Rattle.acc_rows.specs.declared.rows.Row.{Row}
 use Rattle.acc_systems.specs.declared.systems.Reduced.{Reduced}
-use Rattle.acc_rows.specs.Answers.{Computation, StoppedBy, chain, steps}
-use Rattle.acc_systems.specs.Systems.{admitted, taken, replaced, whole, set_aside, counted}
+use Rattle.acc_base.specs.Computing.{chain, steps}
+use Rattle.acc_rows.specs.Answers.{Computation, StoppedBy}
+use Rattle.acc_base.specs.Items.{numbers_from}
+use Rattle.acc_systems.specs.Systems.{admitted, taken, replaced, whole, set_aside}
 use Rattle.acc_rows.proofs.Chains.{steps_append}
+use Rattle.acc_systems.proofs.SystemSteps.{numbers_suc}
 use Rattle.acc_points.specs.Searches.{found_by}
 use Rattle.acc_stages.specs.declared.stages.Stage.{Stage}
 use Rattle.acc_stages.specs.declared.stages.Path.{Path}
@@ -75,7 +78,7 @@ found_stopped rows n s is =
     let u = is.unknown in
     found_parts n rows
     ∙ ap (λ o. chain o (rest n)) (begun_more rows (suc u) n is.within
-    ∙ ap (λ o. chain o (λ s. steps set_aside s (counted (suc u) (n - suc u)))) (begun_next rows u
+    ∙ ap (λ o. chain o (λ s. steps set_aside s (numbers_from (suc u) (n - suc u)))) (begun_next rows u
     ∙ (ap (λ o. chain o (λ s. set_aside s u)) (laws u rows is.stage is.is_stage).alone ∙ is.stops)))
 
 pub found_stopped_with : (rows : List Row) (n m : ℕ) (s : Stopped) (t : Row) → IsStopped rows n s → n ≤ m → t.equal ≡ false
@@ -83,16 +86,17 @@ pub found_stopped_with : (rows : List Row) (n m : ℕ) (s : Stopped) (t : Row) �
 found_stopped_with rows n m s t is within equal =
     found_parts m (rows ++ t ∷ [])
     ∙ (ap (λ o. chain o (rest m)) (begun_more (rows ++ t ∷ []) (suc is.unknown) m (omega (arith, within, is.within))
-    ∙ ap (λ o. chain o (λ s. steps set_aside s (counted (suc is.unknown) (m - suc is.unknown)))) (begun_next (rows ++ t ∷ []) is.unknown
+    ∙ ap (λ o. chain o (λ s. steps set_aside s (numbers_from (suc is.unknown) (m - suc is.unknown))))
+    (begun_next (rows ++ t ∷ []) is.unknown
     ∙ ap (λ o. chain o (λ s. set_aside s is.unknown)) ((laws is.unknown rows is.stage is.is_stage).after t equal)))
     ∙ (by (through is.stage.path t) (through_same false is.stage.path t equal) ∙ ap (λ p. chain (through p t) (λ _. Err s.stop)) is.path))
   where
     by : (c : Computation (Option Row)) → IfOk c (λ o. IfSome o (λ r. r.equal ≡ false))
         → chain (chain (chain (chain c (λ o. Ok (with_last (reduced is.stage) o))) (λ s. set_aside s is.unknown))
-        (λ s. steps set_aside s (counted (suc is.unknown) (m - suc is.unknown)))) (rest m)
+        (λ s. steps set_aside s (numbers_from (suc is.unknown) (m - suc is.unknown)))) (rest m)
         ≡ chain c (λ _. Err s.stop)
     by (Ok o) same =
-        ap (λ c. chain (chain c (λ s. steps set_aside s (counted (suc is.unknown) (m - suc is.unknown)))) (rest m))
+        ap (λ c. chain (chain c (λ s. steps set_aside s (numbers_from (suc is.unknown) (m - suc is.unknown)))) (rest m))
         (set_stopped (reduced is.stage) is.unknown o (aside_of is.stage.path.steps) is.stage.left s.stop same is.stops)
     by (Err d) same = refl
 
@@ -101,7 +105,7 @@ found_stopped_with rows n m s t is within equal =
 pub found_unbegun : (rows : List Row) (n : ℕ) (e : Stop) → steps admitted [] rows ≡ Err e → found_by n rows ≡ Err e
 found_unbegun rows n e h =
     found_parts n rows
-    ∙ ap (λ o. chain (chain o (λ system. steps set_aside (whole system) (counted 0 n))) (rest n)) h
+    ∙ ap (λ o. chain (chain o (λ system. steps set_aside (whole system) (numbers_from 0 n))) (rest n)) h
 
 pub unbegun_with : (rows : List Row) (t : Row) (e : Stop) → steps admitted [] rows ≡ Err e → steps admitted [] (rows ++ t ∷ []) ≡ Err e
 unbegun_with rows t e h = steps_append admitted rows (t ∷ []) [] ∙ ap (λ o. chain o (λ s. steps admitted s (t ∷ []))) h
@@ -109,19 +113,20 @@ unbegun_with rows t e h = steps_append admitted rows (t ∷ []) [] ∙ ap (λ o.
 -- ---- more unknowns
 
 extended_by : (rows : List Row) (k n m : ℕ) (g : Stage) → m ≡ n + k → list_any is_equation g.rows ≡ false → IsStage rows n g
-    → IsStage rows m (record { path = g.path; rows = g.rows; left = g.left ++ counted n k })
+    → IsStage rows m (record { path = g.path; rows = g.rows; left = g.left ++ numbers_from n k })
 extended_by rows zero n m g same none is =
     let e : n ≡ m = omega (arith, same) in
     subst (λ left. IsStage rows m (record { path = g.path; rows = g.rows; left = left })) (sym (append-nil g.left))
     (subst (λ i. IsStage rows i g) e is)
 extended_by rows (suc k) n m g same none is =
     let e : m ≡ suc n + k = omega (arith, same) in
-    subst (λ left. IsStage rows m (record { path = g.path; rows = g.rows; left = left })) (append_assoc g.left (n ∷ []) (counted (suc n) k))
+    subst (λ left. IsStage rows m (record { path = g.path; rows = g.rows; left = left }))
+    (append_assoc g.left (n ∷ []) (numbers_from (suc n) k) ∙ ap (λ us. g.left ++ us) (sym (numbers_suc n k)))
     (extended_by rows k (suc n) m (with_left g n) e none
     (g, is, subst (FollowsBy g n (with_left g n)) (sym (none_taken n g.rows none)) refl))
 
 pub extended_stage : (rows : List Row) (n m : ℕ) (g : Stage) → n ≤ m → list_any is_equation g.rows ≡ false → IsStage rows n g
-    → IsStage rows m (record { path = g.path; rows = g.rows; left = g.left ++ counted n (m - n) })
+    → IsStage rows m (record { path = g.path; rows = g.rows; left = g.left ++ numbers_from n (m - n) })
 extended_stage rows n m g within none is =
     extended_by rows (m - n) n m g (omega (arith, within)) none is
 
@@ -186,7 +191,7 @@ pub whole_same : (rows : List Row) (n m : ℕ) (w : Whole) → n ≡ m → IsWho
 whole_same rows n m w same is = subst (λ i. IsWhole rows i w) same is
 
 pub extended_whole_by : (rows : List Row) (n m : ℕ) (w : Whole) (left : List ℕ) → n ≤ m → list_any is_equation w.stage.rows ≡ false
-    → left ≡ w.stage.left ++ counted w.unknowns (m - w.unknowns) → IsWhole rows n w
+    → left ≡ w.stage.left ++ numbers_from w.unknowns (m - w.unknowns) → IsWhole rows n w
     → IsWhole rows m (record {
       unknowns = m;
       stage = record { path = w.stage.path; rows = w.stage.rows; left = left };
@@ -195,7 +200,7 @@ pub extended_whole_by : (rows : List Row) (n m : ℕ) (w : Whole) (left : List �
 extended_whole_by rows n m w left within none same is = record {
   unknowns = refl;
   stage = subst (λ left. IsStage rows m (record { path = w.stage.path; rows = w.stage.rows; left = left }))
-      (sym (same ∙ ap (λ u. w.stage.left ++ counted u (m - u)) is.unknowns))
+      (sym (same ∙ ap (λ u. w.stage.left ++ numbers_from u (m - u)) is.unknowns))
       (extended_stage rows n m w.stage within none is.stage);
   point = tt;
 }

@@ -1,8 +1,12 @@
 -- What an elimination ends with, from its stage of equations on, and what is kept of relations.
+-- For instance: of x - y = 0 and x - 3 <= 0 the stage sets the equation aside for x, and y is left with y - 3 <= 0. No lower bound of y
+-- is there, so it gets the upper one, 3, and by the equation x is 3 too: the point is 3, 3.
 use Rattle.std.specs.Prelude.{◌≡◌, ◌≤◌, ◌-◌, ℕ, suc, Bool, List, ◌∷◌, [], ◌++◌, Option, None, Ok, Err, IfSome}
 use Rattle.acc_rows.specs.declared.rows.Row.{Row}
-use Rattle.acc_rows.specs.Answers.{Computation, Answers, chain, steps}
-use Rattle.acc_systems.specs.Systems.{admitted, set_aside, unbounded, crossed, counted}
+use Rattle.acc_base.specs.Computing.{Answers, chain, steps}
+use Rattle.acc_rows.specs.Answers.{tells, Computation}
+use Rattle.acc_base.specs.Items.{numbers_from}
+use Rattle.acc_systems.specs.Systems.{admitted, set_aside, unbounded, crossed}
 use Rattle.acc_points.specs.Points.{Point, placed_by, point_of}
 use Rattle.acc_points.specs.Searches.{found_by}
 use Rattle.acc_stages.specs.declared.stages.Step.{Step}
@@ -26,7 +30,7 @@ found_from unknowns rows aside left =
 -- the same behind a stage of so many unknowns, with one more relation and more unknowns
 abbrev pub found_behind : Stage → ℕ → Option Row → ℕ → Computation Point
 found_behind g known o unknowns =
-    found_from unknowns (g.rows ++ listed o) (aside_of g.path.steps) (g.left ++ counted known (unknowns - known))
+    found_from unknowns (g.rows ++ listed o) (aside_of g.path.steps) (g.left ++ numbers_from known (unknowns - known))
 
 abbrev pub is_equation : Row → Bool
 is_equation r = r.equal
@@ -72,7 +76,7 @@ StaysKnown k l = (rows : List Row) (n : ℕ) → IsKnown rows n k → IsKnown ro
 
 -- an answer is the point of the relations of which this is kept
 abbrev pub AnswersKnown : Known → Computation Point → Type 0
-AnswersKnown k result = (rows : List Row) (n : ℕ) → IsKnown rows n k → Answers result (found_by n rows)
+AnswersKnown k result = (rows : List Row) (n : ℕ) → IsKnown rows n k → Answers tells result (found_by n rows)
 
 -- the second is kept of the relations of which the first is kept with more unknowns
 abbrev pub IsExtended : Known → ℕ → Known → Type 0

@@ -1,7 +1,8 @@
 //! The rest of an elimination, from a stage of equations that is kept.
 ghost use Rattle.std.specs.Prelude.{◌≡◌, ◌-◌, ◌++◌, reverse, IfOk};
-ghost use Rattle.acc_rows.specs.Answers.{Answers, steps};
-ghost use Rattle.acc_systems.specs.Systems.{counted};
+ghost use Rattle.acc_base.specs.Computing.{Answers, steps};
+ghost use Rattle.acc_rows.specs.Answers.{tells};
+ghost use Rattle.acc_base.specs.Items.{numbers_from};
 ghost use Rattle.acc_stages.specs.Stages.{aside_of};
 ghost use Rattle.acc_known.specs.Ends.{placed_at, found_from, found_behind};
 
@@ -18,7 +19,7 @@ use std::alloc::{AllocError, Global};
 
 /// Values for the unknowns by the equations of steps, the last first.
 fn place_by_steps(mut point: Vec<(i128, i128)>, walked: &[Step]) -> Result<Seq<(i128, i128)>, Stop>
-    ensures { Answers result (steps placed_at point.items (reverse walked.now)) }
+    ensures { Answers tells result (steps placed_at point.items (reverse walked.now)) }
 {
     let mut left = walked.len();
     while left > 0 {
@@ -36,7 +37,7 @@ fn found_from(
     walked: &[Step],
     left: &[u32],
 ) -> Result<Seq<(i128, i128)>, Stop>
-    ensures { Answers result (found_from unknowns rows (aside_of walked.now) left.now) }
+    ensures { Answers tells result (found_from unknowns rows (aside_of walked.now) left.now) }
 {
     let Bounded { rows: _, bounds } = cross_each(alloc, left, rows)?;
     let zeros = zeros(alloc, unknowns)?;
@@ -46,7 +47,7 @@ fn found_from(
 
 /// The unknowns that are left, and those from `known` on behind them.
 pub fn left_with(left: &Seq<u32>, known: u32, unknowns: u32) -> Result<Vec<u32>, AllocError>
-    ensures { IfOk result (λ all. all.items ≡ left.now ++ counted known (unknowns - known)) }
+    ensures { IfOk result (λ all. all.items ≡ left.now ++ numbers_from known (unknowns - known)) }
 {
     let mut all = copied(left)?.into_vec();
     for unknown in known..unknowns {
@@ -63,7 +64,7 @@ pub fn found_behind(
     rest: Option<Row>,
     unknowns: u32,
 ) -> Result<Seq<(i128, i128)>, Stop>
-    ensures { Answers result (found_behind stage.now known rest unknowns) }
+    ensures { Answers tells result (found_behind stage.now known rest unknowns) }
 {
     let mut rows = Seq::from_vec(copied_rows(alloc, stage.rows.as_slice())?);
     add_left(&mut rows, rest)?;

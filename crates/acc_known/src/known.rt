@@ -3,7 +3,8 @@ ghost use Rattle.std.specs.Prelude.{◌≡◌, ◌≢◌, ◌≤◌, ◌⊎◌, 
 ghost use Rattle.std.specs.List.{list_any};
 ghost use Rattle.acc_rows.specs.declared.rows.Row.{Row};
 ghost use Rattle.acc_rows.specs.declared.stops.Stop.TheVariants.{Memory as OutOfMemory};
-ghost use Rattle.acc_rows.specs.Answers.{Answers, chain};
+ghost use Rattle.acc_base.specs.Computing.{Answers, chain};
+ghost use Rattle.acc_rows.specs.Answers.{tells};
 ghost use Rattle.acc_points.specs.Searches.{found_by};
 ghost use Rattle.acc_stages.specs.Followed.{through};
 ghost use Rattle.acc_known.specs.Ends.{found_behind, is_equation, KeepsPoint, IsWhole, IsStopped, IsKnown, HasPoint};
@@ -52,7 +53,9 @@ fn lasting(stop: Stop) -> Result<Stop, AllocError>
 {
     match stop {
         Stop::Memory => Err(AllocError),
-        other => Ok(other),
+        Stop::Refuted(row) => Ok(Stop::Refuted(row)),
+        Stop::Wide => Ok(Stop::Wide),
+        Stop::Many => Ok(Stop::Many),
     }
 }
 
@@ -84,7 +87,7 @@ fn found_whole(alloc: Global, whole: &mut Whole) -> Result<Seq<(i128, i128)>, St
     ensures kept { KeepsPoint whole.new }
     ensures unknowns { whole.new.unknowns ≡ whole.old.unknowns }
     ensures stage { whole.new.stage ≡ whole.old.stage }
-    ensures value { Answers result (found_behind whole.old.stage whole.old.unknowns None whole.old.unknowns) }
+    ensures value { Answers tells result (found_behind whole.old.stage whole.old.unknowns None whole.old.unknowns) }
 {
     if let Some(point) = &whole.point {
         return Ok(copied(point)?);
@@ -118,7 +121,7 @@ fn found_left(
     ensures kept { KeepsPoint whole.new }
     ensures unknowns { whole.new.unknowns ≡ whole.old.unknowns }
     ensures stage { whole.new.stage ≡ whole.old.stage }
-    ensures value { Answers result (found_behind whole.old.stage whole.old.unknowns rest unknowns) }
+    ensures value { Answers tells result (found_behind whole.old.stage whole.old.unknowns rest unknowns) }
 {
     if rest.is_none() && whole.unknowns == unknowns {
         return found_whole(alloc, whole);
@@ -153,7 +156,7 @@ fn found_anew(
     unknowns: u32,
     row: Row,
 ) -> Result<Seq<(i128, i128)>, Stop>
-    ensures { Answers result (found_by unknowns (rows.now ++ row ∷ [])) }
+    ensures { Answers tells result (found_by unknowns (rows.now ++ row ∷ [])) }
 {
     let mut all = copied_rows(alloc, rows)?;
     all.push(row)?;
@@ -172,7 +175,7 @@ fn found_whole_with(
     requires within { whole.old.unknowns ≤ unknowns }
     requires equal { row.equal ≡ false }
     ensures known { IsWhole rows.now whole.old.unknowns whole.new }
-    ensures value { Answers result (found_by unknowns (rows.now ++ row ∷ [])) }
+    ensures value { Answers tells result (found_by unknowns (rows.now ++ row ∷ [])) }
 {
     if !is_settled(whole, unknowns) {
         return found_anew(alloc, rows, unknowns, row);
@@ -183,7 +186,7 @@ fn found_whole_with(
 
 /// What stops relations of which the stage stops, with one more inequality behind them: what stops that one, or what stops the stage.
 fn stop_with(alloc: Global, stopped: &Stopped, row: Row) -> Result<Seq<(i128, i128)>, Stop>
-    ensures { Answers result (chain (through stopped.now.path row) (λ _. Err stopped.now.stop)) }
+    ensures { Answers tells result (chain (through stopped.now.path row) (λ _. Err stopped.now.stop)) }
 {
     follow(alloc, &stopped.path, row)?;
     Err(copied_stop(&stopped.stop)?)
@@ -200,7 +203,7 @@ pub fn found_with(
 ) -> Result<Seq<(i128, i128)>, Stop>
     requires { IsKnownWithin rows.now unknowns known.old }
     ensures known { (n : ℕ) → IsKnown rows.now n known.old → IsKnown rows.now n known.new }
-    ensures value { Answers result (found_by unknowns (rows.now ++ row ∷ [])) }
+    ensures value { Answers tells result (found_by unknowns (rows.now ++ row ∷ [])) }
 {
     if row.equal {
         return found_anew(alloc, rows, unknowns, row);

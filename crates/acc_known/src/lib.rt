@@ -3,3 +3,5 @@
 
 mod ending;
 pub mod known;
+
+pub use known::{Known, Stopped, Whole, carried_on, found, found_with, known_of};

@@ -7,3 +7,4 @@ pub mod LineTokens
 pub mod Readings
 pub mod Slices
 pub mod Texts
+pub mod Signs

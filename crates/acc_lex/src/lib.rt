@@ -2,6 +2,7 @@
 //! doesn't fit.
 #![tactic(auto)]
 
+pub mod language;
 pub mod lexers;
 mod parts;
 mod readers;
@@ -12,4 +13,6 @@ pub mod tokens;
 pub mod words;
 
 pub use lexers::{LexError, lex};
+pub use signs::{keyword, spelling};
 pub use tokens::{Kind, Token};
+pub use words::{Sign, Word};

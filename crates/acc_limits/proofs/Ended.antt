@@ -12,9 +12,9 @@ use Rattle.acc_syntax.specs.declared.trees.TypeTree.{TypeTree}
 use Rattle.acc_syntax.specs.declared.trees.EntryTree.{EntryTree}
 use Rattle.acc_syntax.specs.declared.trees.HintTree.{HintTree}
 use Rattle.acc_syntax.specs.declared.trees.DesignTree.{DesignTree}
-use Rattle.acc_limits.specs.declared.limits.Limit.{Limit}
-use Rattle.acc_limits.specs.declared.limits.Limit.TheVariants as limit
-use Rattle.acc_limits.specs.Marks.{Mark, Past, End, ending, past, counted_from, counted}
+use Rattle.acc_base.specs.declared.limits.Limit.{Limit}
+use Rattle.acc_base.specs.declared.limits.Limit.TheVariants as limit
+use Rattle.acc_limits.specs.Marks.{Mark, Past, End, ending, past, limited_from, limited}
 use Rattle.acc_limits.specs.Words.{name_marks, number_marks, clause_marks, point_name_marks, pairs_marks}
 use Rattle.acc_limits.specs.Statements.{table_marks, clause_statement_marks, target_marks, path_marks, step_marks, point_marks, head_marks}
 use Rattle.acc_limits.specs.Statements.{returns_marks, locals_marks, type_marks, entry_marks, hint_marks, design_marks}
@@ -88,22 +88,22 @@ last_behind xs ys h = record {
 }
 
 pub last_counted : {T : Type 0} (i : ℕ) (limit : Limit) (most : ℕ) (marks : T → List Mark) (ys : List Mark) (xs : List T) →
-    ((x : T) → EndsLast (marks x)) → EndsLast ys → EndsLast (ys ++ counted_from i limit most marks xs)
+    ((x : T) → EndsLast (marks x)) → EndsLast ys → EndsLast (ys ++ limited_from i limit most marks xs)
 last_counted i limit most marks ys [] f h = subst EndsLast (sym (append-nil ys)) h
 last_counted i limit most marks ys (x ∷ xs) f h =
     let passed = past limit (i == most) in
-    let rest = counted_from (i + 1) limit most marks xs in
+    let rest = limited_from (i + 1) limit most marks xs in
     let same : ((ys ++ passed) ++ marks x) ++ rest ≡ ys ++ (passed ++ (marks x ++ rest)) =
     append_assoc (ys ++ passed) (marks x) rest ∙ append_assoc ys passed (marks x ++ rest) in
     subst EndsLast same (last_counted (i + 1) limit most marks ((ys ++ passed) ++ marks x) xs f
     (last_behind (ys ++ passed) (marks x) (f x)))
 
 pub ended_counted : {T : Type 0} (i : ℕ) (limit : Limit) (most : ℕ) (marks : T → List Mark) (xs : List T) →
-    ((x : T) → EndsLast (marks x)) → AreEnded (counted_from i limit most marks xs)
+    ((x : T) → EndsLast (marks x)) → AreEnded (limited_from i limit most marks xs)
 ended_counted i limit most marks [] f = ended_nil
 ended_counted i limit most marks (x ∷ xs) f =
     let passed = past limit (i == most) in
-    let rest = counted_from (i + 1) limit most marks xs in
+    let rest = limited_from (i + 1) limit most marks xs in
     let here : AreEnded (passed ++ marks x) = ended_last (passed ++ marks x) (last_behind passed (marks x) (f x)) in
     subst AreEnded (append_assoc passed (marks x) rest)
     (ended_append (passed ++ marks x) rest here (ended_counted (i + 1) limit most marks xs f))
@@ -137,8 +137,8 @@ type_last t =
     last_behind (head_marks t) _ (
     last_behind (returns_marks t.returns) _ (
     last_behind (locals_marks (length t.params) t.locals) _ (
-    last_behind (counted limit.Clauses 64 clause_statement_marks t.ensured) _ (
-    last_behind (counted limit.Clauses 64 clause_statement_marks t.repaired) _ (
+    last_behind (limited limit.Clauses 64 clause_statement_marks t.ensured) _ (
+    last_behind (limited limit.Clauses 64 clause_statement_marks t.repaired) _ (
     last_counted 0 limit.Points 31 point_marks (point_marks t.first) t.others point_last (point_last t.first))))))
 
 entry_last : (e : EntryTree) → EndsLast (entry_marks e)

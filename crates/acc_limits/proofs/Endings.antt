@@ -22,9 +22,9 @@ use Rattle.acc_syntax.specs.declared.trees.EntryTree.{EntryTree}
 use Rattle.acc_syntax.specs.declared.trees.HintTree.{HintTree}
 use Rattle.acc_syntax.specs.declared.trees.DesignTree.{DesignTree}
 use Rattle.acc_statements.specs.Counts.{if_there, path_statements, step_statements, point_statements, type_statements, statements_of}
-use Rattle.acc_limits.specs.declared.limits.Limit.{Limit}
-use Rattle.acc_limits.specs.declared.limits.Limit.TheVariants as limit
-use Rattle.acc_limits.specs.Marks.{Mark, ending, past, counted_from, counted}
+use Rattle.acc_base.specs.declared.limits.Limit.{Limit}
+use Rattle.acc_base.specs.declared.limits.Limit.TheVariants as limit
+use Rattle.acc_limits.specs.Marks.{Mark, ending, past, limited_from, limited}
 use Rattle.acc_limits.specs.Words.{name_marks, number_marks, names_marks, variable_marks, sum_marks, place_marks, cell_marks, guard_marks}
 use Rattle.acc_limits.specs.Words.{clause_marks, point_name_marks, pairs_marks}
 use Rattle.acc_limits.specs.Statements.{table_marks, clause_statement_marks, read_words_marks, read_marks, values_marks, action_words_marks}
@@ -37,7 +37,7 @@ use Rattle.acc_limits.proofs.WordEndings.{place_none, cell_none, guard_none, cla
 -- ---- items, one behind another
 
 counted_sum : {T : Type 0} (i : ℕ) (limit : Limit) (most : ℕ) (marks : T → List Mark) (count : T → ℕ) (xs : List T) →
-    ((x : T) → HasEndings (count x) (marks x)) → HasEndings (sum_by count xs) (counted_from i limit most marks xs)
+    ((x : T) → HasEndings (count x) (marks x)) → HasEndings (sum_by count xs) (limited_from i limit most marks xs)
 counted_sum i limit most marks count [] h = no_marks
 counted_sum i limit most marks count (x ∷ xs) h =
     let rest = counted_sum (i + 1) limit most marks count xs h in
@@ -46,7 +46,7 @@ counted_sum i limit most marks count (x ∷ xs) h =
     record { is = omega (arith, whole.is, sum_by-cons count x xs) }
 
 counted_ones : {T : Type 0} (i : ℕ) (limit : Limit) (most : ℕ) (marks : T → List Mark) (xs : List T) → ((x : T) → HasEndings 1 (marks x)) →
-    HasEndings (length xs) (counted_from i limit most marks xs)
+    HasEndings (length xs) (limited_from i limit most marks xs)
 counted_ones i limit most marks [] h = no_marks
 counted_ones i limit most marks (x ∷ xs) h =
     let rest = counted_ones (i + 1) limit most marks xs h in
@@ -133,7 +133,7 @@ hint_one h = past_part 1 (point_name_marks h.of) _ (point_name_none h.of) (ended
 path_endings : (p : PathTree) → HasEndings (path_statements p) (path_marks p)
 path_endings p =
     let actions = counted_ones 0 limit.Actions 16 action_marks p.actions action_one in
-    let rest = behind (length p.actions) 1 (counted limit.Actions 16 action_marks p.actions) (target_marks p.target) actions
+    let rest = behind (length p.actions) 1 (limited limit.Actions 16 action_marks p.actions) (target_marks p.target) actions
     (target_one p.target) in
     let whole = past_part (1 + (length p.actions + 1)) (guard_marks p.guard) _ (guard_none p.guard)
     (end_then (length p.actions + 1) _ rest) in
@@ -143,7 +143,7 @@ step_endings : (s : StepTree) → HasEndings (step_statements s) (step_marks s)
 step_endings s =
     let others = counted_sum 0 limit.Paths 15 path_marks path_statements s.others path_endings in
     let paths = behind (path_statements s.first) (sum_by path_statements s.others) (path_marks s.first) _ (path_endings s.first) others in
-    let reads = behind (length s.reads) _ (counted limit.Reads 32 read_marks s.reads) _
+    let reads = behind (length s.reads) _ (limited limit.Reads 32 read_marks s.reads) _
     (counted_ones 0 limit.Reads 32 read_marks s.reads read_one) paths in
     let whole = end_then _ _ reads in
     record { is = omega (arith, whole.is) }
@@ -152,7 +152,7 @@ point_endings : (p : PointTree) → HasEndings (point_statements p) (point_marks
 point_endings p =
     let steps = behind (step_statements p.next) (step_statements p.undo) (step_marks p.next) (step_marks p.undo) (step_endings p.next)
     (step_endings p.undo) in
-    let holds = behind (length p.holds) _ (counted limit.Clauses 64 clause_statement_marks p.holds) _
+    let holds = behind (length p.holds) _ (limited limit.Clauses 64 clause_statement_marks p.holds) _
     (counted_ones 0 limit.Clauses 64 clause_statement_marks p.holds clause_one) steps in
     let rest = behind (if_there p.variant) _ (variant_marks p.variant) _ (variant_endings p.variant) holds in
     let whole = past_part _ (name_marks p.name) _ (name_none p.name) (end_then _ _ rest) in
@@ -169,9 +169,9 @@ type_endings t =
     let others = counted_sum 0 limit.Points 31 point_marks point_statements t.others point_endings in
     let points = behind (point_statements t.first) (sum_by point_statements t.others) (point_marks t.first) _ (point_endings t.first)
     others in
-    let repaired = behind (length t.repaired) _ (counted limit.Clauses 64 clause_statement_marks t.repaired) _
+    let repaired = behind (length t.repaired) _ (limited limit.Clauses 64 clause_statement_marks t.repaired) _
     (counted_ones 0 limit.Clauses 64 clause_statement_marks t.repaired clause_one) points in
-    let ensured = behind (length t.ensured) _ (counted limit.Clauses 64 clause_statement_marks t.ensured) _
+    let ensured = behind (length t.ensured) _ (limited limit.Clauses 64 clause_statement_marks t.ensured) _
     (counted_ones 0 limit.Clauses 64 clause_statement_marks t.ensured clause_one) repaired in
     let locals = behind (if_there t.locals) _ (locals_marks (length t.params) t.locals) _ (locals_endings (length t.params) t.locals)
     ensured in
@@ -185,12 +185,12 @@ pub design_endings : (d : DesignTree) → endings (design_marks d) ≡ statement
 unfolding statements_of
 design_endings d =
     let hints = counted_ones 0 limit.EntriesAndHints 1024 hint_marks d.hints hint_one in
-    let entries = behind (length d.entries) (length d.hints) (counted limit.EntriesAndHints 1024 entry_marks d.entries) _
+    let entries = behind (length d.entries) (length d.hints) (limited limit.EntriesAndHints 1024 entry_marks d.entries) _
     (counted_ones 0 limit.EntriesAndHints 1024 entry_marks d.entries entry_one) hints in
-    let types = behind (sum_by type_statements d.types) _ (counted limit.Types 64 type_marks d.types) _
+    let types = behind (sum_by type_statements d.types) _ (limited limit.Types 64 type_marks d.types) _
     (counted_sum 0 limit.Types 64 type_marks type_statements d.types type_endings) entries in
-    let always = behind (length d.always) _ (counted limit.AlwaysClauses 128 clause_statement_marks d.always) _
+    let always = behind (length d.always) _ (limited limit.AlwaysClauses 128 clause_statement_marks d.always) _
     (counted_ones 0 limit.AlwaysClauses 128 clause_statement_marks d.always clause_one) types in
-    let whole = behind (length d.tables) _ (counted limit.Tables 64 table_marks d.tables) _
+    let whole = behind (length d.tables) _ (limited limit.Tables 64 table_marks d.tables) _
     (counted_ones 0 limit.Tables 64 table_marks d.tables table_one) always in
     omega (arith, whole.is)

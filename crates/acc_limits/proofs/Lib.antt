@@ -1,4 +1,4 @@
-pub mod Counted
+pub mod Limited
 pub mod Orders
 pub mod Placed
 pub mod Ended

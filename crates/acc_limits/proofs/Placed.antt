@@ -4,7 +4,7 @@ use Rattle.std.proofs.Common.{nat_le, fold, map, refl, ap, arith, ◌∙◌}
 use Rattle.std.proofs.lemmas.Bool.Decides.{nat_tests}
 use Rattle.acc_syntax.specs.declared.trees.DesignTree.{DesignTree}
 use Rattle.acc_statements.specs.Counts.{statements_of}
-use Rattle.acc_limits.specs.declared.limits.Limit.{Limit}
+use Rattle.acc_base.specs.declared.limits.Limit.{Limit}
 use Rattle.acc_limits.specs.declared.walks.Walk.{Walk}
 use Rattle.acc_limits.specs.Numbers.{is_lower, is_before}
 use Rattle.acc_limits.specs.Marks.{Mark, Past, End}

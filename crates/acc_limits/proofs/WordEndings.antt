@@ -25,7 +25,7 @@ use Rattle.acc_syntax.specs.declared.trees.ClauseTree.{ClauseTree}
 use Rattle.acc_syntax.specs.declared.trees.PointName.{PointName}
 use Rattle.acc_syntax.specs.declared.trees.PairTree.{PairTree}
 use Rattle.acc_syntax.specs.declared.trees.Pairs.{Pairs}
-use Rattle.acc_limits.specs.declared.limits.Limit.{Limit}
+use Rattle.acc_base.specs.declared.limits.Limit.{Limit}
 use Rattle.acc_limits.specs.Marks.{Mark, Past, End, ending, past}
 use Rattle.acc_limits.specs.Words.{name_marks, number_marks, small_number_marks, names_marks, variable_marks, term_marks, signed_term_marks}
 use Rattle.acc_limits.specs.Words.{sum_marks, sums_marks, place_marks, cell_marks, lin_rel_marks, guard_marks, operand_marks}

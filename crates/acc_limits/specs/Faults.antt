@@ -1,7 +1,7 @@
 -- The faults of a design: which statements pass which limits; the first fault, and the lowest limit on some statements.
 use Rattle.std.specs.Prelude.{ℕ, ◌+◌, Bool, ◌&&◌, List, [], ◌∷◌, nat_lt, nat_le, map, filter}
 use Rattle.acc_syntax.specs.declared.trees.DesignTree.{DesignTree}
-use Rattle.acc_limits.specs.declared.limits.Limit.{Limit}
+use Rattle.acc_base.specs.declared.limits.Limit.{Limit}
 use Rattle.acc_limits.specs.Marks.{Mark, Past, End}
 use Rattle.acc_limits.specs.Statements.{design_marks}
 

@@ -1,6 +1,6 @@
 -- A design as the marks on its statements: each limit that is passed, and each statement's end, in the order of the text.
 use Rattle.std.specs.Prelude.{ℕ, ◌+◌, Bool, ◌==◌, List, [], ◌∷◌, ◌++◌, if◌then◌else◌}
-use Rattle.acc_limits.specs.declared.limits.Limit.{Limit}
+use Rattle.acc_base.specs.declared.limits.Limit.{Limit}
 
 pub data Mark : Type 0 where
   -- the statement at hand passes the limit
@@ -17,11 +17,11 @@ abbrev pub past : Limit → Bool → List Mark
 past limit is_passed = if is_passed then Past limit ∷ [] else []
 
 -- the marks on items, one after another, the first of them with the number i: the one with the number `most` passes the limit
-abbrev pub counted_from : {T : Type 0} → ℕ → Limit → ℕ → (T → List Mark) → List T → List Mark
-counted_from i limit most marks [] = []
-counted_from i limit most marks (x ∷ xs) =
-    past limit (i == most) ++ (marks x ++ counted_from (i + 1) limit most marks xs)
+abbrev pub limited_from : {T : Type 0} → ℕ → Limit → ℕ → (T → List Mark) → List T → List Mark
+limited_from i limit most marks [] = []
+limited_from i limit most marks (x ∷ xs) =
+    past limit (i == most) ++ (marks x ++ limited_from (i + 1) limit most marks xs)
 
 -- the marks on items of which there may be `most`: the first one behind those passes the limit
-abbrev pub counted : {T : Type 0} → Limit → ℕ → (T → List Mark) → List T → List Mark
-counted limit most marks xs = counted_from 0 limit most marks xs
+abbrev pub limited : {T : Type 0} → Limit → ℕ → (T → List Mark) → List T → List Mark
+limited limit most marks xs = limited_from 0 limit most marks xs

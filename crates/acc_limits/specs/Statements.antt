@@ -22,8 +22,8 @@ use Rattle.acc_syntax.specs.declared.trees.TypeTree.{TypeTree}
 use Rattle.acc_syntax.specs.declared.trees.EntryTree.{EntryTree}
 use Rattle.acc_syntax.specs.declared.trees.HintTree.{HintTree}
 use Rattle.acc_syntax.specs.declared.trees.DesignTree.{DesignTree}
-use Rattle.acc_limits.specs.declared.limits.Limit.TheVariants as limit
-use Rattle.acc_limits.specs.Marks.{Mark, ending, past, counted}
+use Rattle.acc_base.specs.declared.limits.Limit.TheVariants as limit
+use Rattle.acc_limits.specs.Marks.{Mark, ending, past, limited}
 use Rattle.acc_limits.specs.Words.{name_marks, number_marks, small_number_marks, names_marks, variable_marks, sum_marks, sums_marks}
 use Rattle.acc_limits.specs.Words.{place_marks, cell_marks, guard_marks, clause_marks, point_name_marks, pairs_marks}
 
@@ -103,21 +103,21 @@ hint_marks h = point_name_marks h.of ++ (sum_marks h.value ++ ending)
 
 -- `path` with its guard, at most 16 actions, and the target
 abbrev pub path_marks : PathTree → List Mark
-path_marks p = guard_marks p.guard ++ (ending ++ (counted limit.Actions MOST_ACTIONS action_marks p.actions ++ target_marks p.target))
+path_marks p = guard_marks p.guard ++ (ending ++ (limited limit.Actions MOST_ACTIONS action_marks p.actions ++ target_marks p.target))
 
 -- `next` or `undo`, at most 32 reads, and at most 16 paths: a first one, and 15 others
 abbrev pub step_marks : StepTree → List Mark
 step_marks s =
     ending ++ (
-    counted limit.Reads MOST_READS read_marks s.reads ++ (
-    path_marks s.first ++ counted limit.Paths (MOST_PATHS - 1) path_marks s.others))
+    limited limit.Reads MOST_READS read_marks s.reads ++ (
+    path_marks s.first ++ limited limit.Paths (MOST_PATHS - 1) path_marks s.others))
 
 -- `point` with its name, the variant, at most 64 clauses that hold, and the two steps
 abbrev pub point_marks : PointTree → List Mark
 point_marks p =
     name_marks p.name ++ (ending ++ (
     variant_marks p.variant ++ (
-    counted limit.Clauses MOST_CLAUSES clause_statement_marks p.holds ++ (
+    limited limit.Clauses MOST_CLAUSES clause_statement_marks p.holds ++ (
     step_marks p.next ++ step_marks p.undo))))
 
 -- `type` with its name and parameters, and the number of steps
@@ -133,16 +133,16 @@ type_marks t =
     head_marks t ++ (
     returns_marks t.returns ++ (
     locals_marks (length t.params) t.locals ++ (
-    counted limit.Clauses MOST_CLAUSES clause_statement_marks t.ensured ++ (
-    counted limit.Clauses MOST_CLAUSES clause_statement_marks t.repaired ++ (
-    point_marks t.first ++ counted limit.Points (MOST_POINTS - 1) point_marks t.others)))))
+    limited limit.Clauses MOST_CLAUSES clause_statement_marks t.ensured ++ (
+    limited limit.Clauses MOST_CLAUSES clause_statement_marks t.repaired ++ (
+    point_marks t.first ++ limited limit.Points (MOST_POINTS - 1) point_marks t.others)))))
 
 -- ---- the whole text
 
 -- at most 64 tables, 128 clauses that hold always, 64 types, 1,024 entries and 1,024 hints
 abbrev pub design_marks : DesignTree → List Mark
 design_marks d =
-    counted limit.Tables MOST_TABLES table_marks d.tables ++ (
-    counted limit.AlwaysClauses MOST_ALWAYS clause_statement_marks d.always ++ (
-    counted limit.Types MOST_TYPES type_marks d.types ++ (
-    counted limit.EntriesAndHints MOST_ENTRIES entry_marks d.entries ++ counted limit.EntriesAndHints MOST_HINTS hint_marks d.hints)))
+    limited limit.Tables MOST_TABLES table_marks d.tables ++ (
+    limited limit.AlwaysClauses MOST_ALWAYS clause_statement_marks d.always ++ (
+    limited limit.Types MOST_TYPES type_marks d.types ++ (
+    limited limit.EntriesAndHints MOST_ENTRIES entry_marks d.entries ++ limited limit.EntriesAndHints MOST_HINTS hint_marks d.hints)))

@@ -26,7 +26,7 @@ use Rattle.acc_syntax.specs.declared.trees.ClauseTree.{ClauseTree}
 use Rattle.acc_syntax.specs.declared.trees.PointName.{PointName}
 use Rattle.acc_syntax.specs.declared.trees.PairTree.{PairTree}
 use Rattle.acc_syntax.specs.declared.trees.Pairs.{Pairs}
-use Rattle.acc_limits.specs.declared.limits.Limit.TheVariants as limit
+use Rattle.acc_base.specs.declared.limits.Limit.TheVariants as limit
 use Rattle.acc_limits.specs.Marks.{Mark, past}
 
 -- ---- names and numbers

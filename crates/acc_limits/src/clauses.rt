@@ -5,10 +5,10 @@ ghost use Rattle.acc_limits.specs.Words.{operand_marks, form_term_marks, signed_
 ghost use Rattle.acc_limits.specs.Words.{premises_marks, clause_marks};
 ghost use Rattle.acc_limits.specs.Walks.{after};
 
-use crate::limits::Limit;
 use crate::values::{meet_cell, meet_names, meet_number, meet_place, meet_variable};
 use crate::walks::Walk;
 use acc_base::bounds::{MOST_GUARDS, MOST_VARIABLES};
+use acc_base::limits::Limit;
 use acc_syntax::trees::{
     ClauseTree, FormRelTree, FormRels, FormTerm, FormTree, Names, Operand, SignedFormTerm,
 };

@@ -2,21 +2,21 @@
 ghost use Rattle.std.specs.Prelude.{◌≡◌, ◌^◌, ◌<◌, [], IfSome, IfNone};
 ghost use Rattle.acc_statements.specs.Counts.{statements_of};
 ghost use Rattle.acc_limits.specs.Numbers.{is_lower, is_before};
-ghost use Rattle.acc_limits.specs.Marks.{counted};
+ghost use Rattle.acc_limits.specs.Marks.{limited};
 ghost use Rattle.acc_limits.specs.Statements.{table_marks, clause_statement_marks, type_marks, entry_marks, hint_marks, design_marks};
 ghost use Rattle.acc_limits.specs.Faults.{limit_faults, limits_on};
 ghost use Rattle.acc_base.specs.Leasts.{IsLeast};
 ghost use Rattle.acc_limits.specs.Walks.{after};
 
-use crate::limits::Limit;
 use crate::types::{meet_clause_statement, meet_entry, meet_hint, meet_table, meet_type};
 use crate::walks::Walk;
 use acc_base::bounds::{MOST_ALWAYS, MOST_ENTRIES, MOST_HINTS, MOST_TABLES, MOST_TYPES};
+use acc_base::limits::Limit;
 use acc_syntax::trees::{ClauseTree, DesignTree, EntryTree, HintTree, TableTree, TypeTree};
 
 /// At most 64 tables.
 fn meet_tables(walk: &mut Walk, tables: &[TableTree])
-    ensures { walk.new ≡ after walk.old (counted Limit.Tables MOST_TABLES table_marks tables.now) }
+    ensures { walk.new ≡ after walk.old (limited Limit.Tables MOST_TABLES table_marks tables.now) }
 {
     for (i, table) in tables.iter().enumerate() {
         walk.pass_if(Limit::Tables, i == MOST_TABLES);
@@ -26,7 +26,7 @@ fn meet_tables(walk: &mut Walk, tables: &[TableTree])
 
 /// At most 128 clauses that hold always.
 fn meet_always(walk: &mut Walk, clauses: &[ClauseTree])
-    ensures { walk.new ≡ after walk.old (counted Limit.AlwaysClauses MOST_ALWAYS clause_statement_marks clauses.now) }
+    ensures { walk.new ≡ after walk.old (limited Limit.AlwaysClauses MOST_ALWAYS clause_statement_marks clauses.now) }
 {
     for (i, clause) in clauses.iter().enumerate() {
         walk.pass_if(Limit::AlwaysClauses, i == MOST_ALWAYS);
@@ -36,7 +36,7 @@ fn meet_always(walk: &mut Walk, clauses: &[ClauseTree])
 
 /// At most 64 types.
 fn meet_types(walk: &mut Walk, types: &[TypeTree])
-    ensures { walk.new ≡ after walk.old (counted Limit.Types MOST_TYPES type_marks types.now) }
+    ensures { walk.new ≡ after walk.old (limited Limit.Types MOST_TYPES type_marks types.now) }
 {
     for (i, t) in types.iter().enumerate() {
         walk.pass_if(Limit::Types, i == MOST_TYPES);
@@ -46,7 +46,7 @@ fn meet_types(walk: &mut Walk, types: &[TypeTree])
 
 /// At most 1,024 entries.
 fn meet_entries(walk: &mut Walk, entries: &[EntryTree])
-    ensures { walk.new ≡ after walk.old (counted Limit.EntriesAndHints MOST_ENTRIES entry_marks entries.now) }
+    ensures { walk.new ≡ after walk.old (limited Limit.EntriesAndHints MOST_ENTRIES entry_marks entries.now) }
 {
     for (i, entry) in entries.iter().enumerate() {
         walk.pass_if(Limit::EntriesAndHints, i == MOST_ENTRIES);
@@ -56,7 +56,7 @@ fn meet_entries(walk: &mut Walk, entries: &[EntryTree])
 
 /// At most 1,024 hints.
 fn meet_hints(walk: &mut Walk, hints: &[HintTree])
-    ensures { walk.new ≡ after walk.old (counted Limit.EntriesAndHints MOST_HINTS hint_marks hints.now) }
+    ensures { walk.new ≡ after walk.old (limited Limit.EntriesAndHints MOST_HINTS hint_marks hints.now) }
 {
     for (i, hint) in hints.iter().enumerate() {
         walk.pass_if(Limit::EntriesAndHints, i == MOST_HINTS);

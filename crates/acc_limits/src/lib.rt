@@ -3,12 +3,11 @@
 
 mod clauses;
 mod designs;
-mod limits;
 mod steps;
 mod types;
 mod values;
 mod walks;
 
+pub use acc_base::limits::Limit;
 pub use designs::{first_fault, lowest_on};
-pub use limits::Limit;
 pub use walks::Walk;

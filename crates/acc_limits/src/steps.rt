@@ -1,17 +1,17 @@
 //! The statements of a step: its reads, and its paths with what they write and where they end.
 ghost use Rattle.std.specs.Prelude.{◌≡◌, ◌-◌};
-ghost use Rattle.acc_limits.specs.Marks.{counted};
+ghost use Rattle.acc_limits.specs.Marks.{limited};
 ghost use Rattle.acc_limits.specs.Statements.{read_words_marks, read_marks, values_marks, action_words_marks, action_marks};
 ghost use Rattle.acc_limits.specs.Statements.{target_words_marks, target_marks, path_marks, step_marks};
 ghost use Rattle.acc_limits.specs.Walks.{after};
 
-use crate::limits::Limit;
 use crate::values::{
     meet_cell, meet_guard, meet_name, meet_number, meet_place, meet_small_number, meet_sum,
     meet_sums, meet_variable,
 };
 use crate::walks::Walk;
 use acc_base::bounds::{MOST_ACTIONS, MOST_PATHS, MOST_READS};
+use acc_base::limits::Limit;
 use acc_syntax::boxes::Boxed;
 use acc_syntax::trees::{ActionTree, PathTree, ReadTree, StepTree, Sums, TargetTree};
 
@@ -57,7 +57,7 @@ fn meet_read(walk: &mut Walk, read: &ReadTree)
 
 /// At most 32 reads.
 fn meet_reads(walk: &mut Walk, reads: &[ReadTree])
-    ensures { walk.new ≡ after walk.old (counted Limit.Reads MOST_READS read_marks reads.now) }
+    ensures { walk.new ≡ after walk.old (limited Limit.Reads MOST_READS read_marks reads.now) }
 {
     for (i, read) in reads.iter().enumerate() {
         walk.pass_if(Limit::Reads, i == MOST_READS);
@@ -98,7 +98,7 @@ fn meet_action(walk: &mut Walk, action: &ActionTree)
 
 /// At most 16 actions.
 fn meet_actions(walk: &mut Walk, actions: &[ActionTree])
-    ensures { walk.new ≡ after walk.old (counted Limit.Actions MOST_ACTIONS action_marks actions.now) }
+    ensures { walk.new ≡ after walk.old (limited Limit.Actions MOST_ACTIONS action_marks actions.now) }
 {
     for (i, action) in actions.iter().enumerate() {
         walk.pass_if(Limit::Actions, i == MOST_ACTIONS);
@@ -128,7 +128,7 @@ fn meet_path(walk: &mut Walk, path: &PathTree)
 
 /// The paths behind the first: at most 15.
 fn meet_other_paths(walk: &mut Walk, paths: &[PathTree])
-    ensures { walk.new ≡ after walk.old (counted Limit.Paths (MOST_PATHS - 1) path_marks paths.now) }
+    ensures { walk.new ≡ after walk.old (limited Limit.Paths (MOST_PATHS - 1) path_marks paths.now) }
 {
     for (i, path) in paths.iter().enumerate() {
         walk.pass_if(Limit::Paths, i == MOST_PATHS - 1);

@@ -1,12 +1,11 @@
 //! The statements of tables, clauses, points, types, entries and hints.
 ghost use Rattle.std.specs.Prelude.{◌≡◌, ◌-◌, length};
-ghost use Rattle.acc_limits.specs.Marks.{counted};
+ghost use Rattle.acc_limits.specs.Marks.{limited};
 ghost use Rattle.acc_limits.specs.Statements.{table_marks, clause_statement_marks, returns_marks, locals_marks, variant_marks, point_marks};
 ghost use Rattle.acc_limits.specs.Statements.{head_marks, type_marks, entry_marks, hint_marks};
 ghost use Rattle.acc_limits.specs.Walks.{after};
 
 use crate::clauses::meet_clause;
-use crate::limits::Limit;
 use crate::steps::meet_step;
 use crate::values::{
     meet_each_name, meet_name, meet_names, meet_number, meet_pairs, meet_point_name,
@@ -14,6 +13,7 @@ use crate::values::{
 };
 use crate::walks::Walk;
 use acc_base::bounds::{MOST_CLAUSES, MOST_COLUMNS, MOST_KEY_PARTS, MOST_LOCALS, MOST_POINTS};
+use acc_base::limits::Limit;
 use acc_syntax::trees::{
     ClauseTree, EntryTree, HintTree, Names, PointTree, Sum, TableTree, TypeTree,
 };
@@ -42,7 +42,7 @@ pub fn meet_clause_statement(walk: &mut Walk, clause: &ClauseTree)
 
 /// At most 64 clauses, of a point or of a type.
 fn meet_clauses(walk: &mut Walk, clauses: &[ClauseTree])
-    ensures { walk.new ≡ after walk.old (counted Limit.Clauses MOST_CLAUSES clause_statement_marks clauses.now) }
+    ensures { walk.new ≡ after walk.old (limited Limit.Clauses MOST_CLAUSES clause_statement_marks clauses.now) }
 {
     for (i, clause) in clauses.iter().enumerate() {
         walk.pass_if(Limit::Clauses, i == MOST_CLAUSES);
@@ -72,7 +72,7 @@ fn meet_point(walk: &mut Walk, point: &PointTree)
 
 /// The points behind the first: at most 31.
 fn meet_other_points(walk: &mut Walk, points: &[PointTree])
-    ensures { walk.new ≡ after walk.old (counted Limit.Points (MOST_POINTS - 1) point_marks points.now) }
+    ensures { walk.new ≡ after walk.old (limited Limit.Points (MOST_POINTS - 1) point_marks points.now) }
 {
     for (i, point) in points.iter().enumerate() {
         walk.pass_if(Limit::Points, i == MOST_POINTS - 1);

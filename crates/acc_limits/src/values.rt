@@ -6,9 +6,9 @@ ghost use Rattle.acc_limits.specs.Words.{signed_term_marks, sum_marks, sums_mark
 ghost use Rattle.acc_limits.specs.Words.{point_name_marks, pair_marks, pairs_marks};
 ghost use Rattle.acc_limits.specs.Walks.{after};
 
-use crate::limits::Limit;
 use crate::walks::Walk;
 use acc_base::bounds::{LARGEST_NUMBER, LONGEST_NAME, MOST_GUARDS, PAST_SMALL_NUMBERS};
+use acc_base::limits::Limit;
 use acc_base::sequences::Text;
 use acc_syntax::boxes::Boxed;
 use acc_syntax::trees::{

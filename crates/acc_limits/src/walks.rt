@@ -5,7 +5,7 @@ ghost use Rattle.acc_limits.specs.Marks.{Past, End, past};
 ghost use Rattle.acc_limits.specs.Walks.{noted, after};
 ghost use Rattle.acc_base.specs.Leasts.{better};
 
-use crate::limits::Limit;
+use acc_base::limits::Limit;
 
 /// The statement at hand, and what was met so far.
 #[derive(Drop)]

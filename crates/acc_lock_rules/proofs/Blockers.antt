@@ -1,4 +1,4 @@
--- Who blocks a step can be told: the code's answers are there, whether or not it has memory.
+-- Who blocks a step can be told: each of the definitions that tell it has an answer.
 use Rattle.std.proofs.Common.{◌≡◌, ◌⊎◌, ◌<◌, inl, inr, ℕ, zero, suc, List, [], ◌∷◌, Option, Some, None, refl, sym, subst, ◌∙◌, arith, ℤ}
 use Rattle.std.specs.Prelude.{◌≢◌, slice_get}
 use Rattle.std.proofs.lemmas.Option.{none-some, same_Some}

@@ -22,10 +22,10 @@ pub record HasCome (d : Design) (from : World) (events : List Event) (here : Wor
   pub came : LeadLawfully d from (take count events) here
 
 -- why not all of the events have come, and where those that have lead
-abbrev pub StopsBy : Design → World → List Event → World → ReplayError → Type 0
-StopsBy d from events here (Unlawful at) = IsFirstUnlawful d from events at here
-StopsBy d from events here Memory = HasCome d from events here
+abbrev pub StopsReplay : Design → World → List Event → World → ReplayError → Type 0
+StopsReplay d from events here (Unlawful at) = IsFirstUnlawful d from events at here
+StopsReplay d from events here Memory = HasCome d from events here
 
 -- the rows are those of the state in which a history stops
 abbrev pub IsRefusedSo : Design → List Event → ReplayError → List Row → Type 0
-IsRefusedSo d events e rows = (w : World) × StopsBy d start events w e × (rows ≡ w.rows)
+IsRefusedSo d events e rows = (w : World) × StopsReplay d start events w e × (rows ≡ w.rows)

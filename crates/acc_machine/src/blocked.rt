@@ -33,13 +33,9 @@ fn clash(d: &Design, f: &Frame, locals: &[i64], h: &Frame, to: Target) -> Option
     match to {
         Target::Point(p) => {
             let next = At { ty: f.ty, point: p };
-            let held = At {
-                ty: h.ty,
-                point: h.point,
-            };
-            compatible(d, next, locals, held, h.locals.as_slice())
+            compatible(d, next, locals, h.at(), h.locals.as_slice())
         }
-        _ => None,
+        Target::Commit | Target::Undone | Target::Refuse(_) => None,
     }
 }
 
@@ -50,10 +46,7 @@ pub fn blocking(d: &Design, f: &Frame, locals: &[i64], h: &Frame, outlook: Outlo
     requires leads { LooksTo d.now f.now.ty outlook }
     ensures { TellsLowest (Blocks d.now f.now locals.now h.now outlook) result }
 {
-    let here = At {
-        ty: f.ty,
-        point: f.point,
-    };
+    let here = f.at();
     match outlook {
         Outlook::Range => None,
         Outlook::Refused(_) => forbids(d, h, here, Side::Next, locals),

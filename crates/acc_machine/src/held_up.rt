@@ -9,6 +9,7 @@ ghost use Rattle.acc_machine.specs.Blocked.{AreAtPoints};
 ghost use Rattle.acc_machine.specs.HeldUp.{leads_on, goes_ahead, TellsHeldUp};
 
 use crate::blocked::blocker;
+use acc_base::bounds::{LARGEST_SUM, MOST_LOCALS};
 use acc_base::designs::{Design, Side};
 use acc_base::machines::Frame;
 use acc_plain::{is_asked, limit_of};
@@ -21,7 +22,7 @@ fn leads_on(outlook: Outlook) -> bool
 {
     match outlook {
         Outlook::Goes(_) => true,
-        _ => false,
+        Outlook::Range | Outlook::Refused(_) => false,
     }
 }
 
@@ -38,11 +39,11 @@ pub fn held_up<S: Store>(d: &Design, frames: &[Frame], f: &Frame, s: &S) -> Opti
     requires runnable { IsRunnable d.now }
     requires fits { IsSmallFrame f.now }
     requires order { IsInOrder (S.rows s.now) }
-    requires within { AreWithin (2 ^ 120) (S.rows s.now) }
+    requires within { AreWithin LARGEST_SUM (S.rows s.now) }
     requires holders { AreAtPoints d.now frames.now }
     ensures { TellsHeldUp d.now (S.rows s.now) frames.now f.now result }
 {
-    let mut places = [0; 48];
+    let mut places = [0; MOST_LOCALS];
     let outlook = look(d, f, Side::Next, s, &mut places);
     if !goes_ahead(d, f, outlook) {
         return None;

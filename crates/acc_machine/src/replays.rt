@@ -2,7 +2,7 @@
 ghost use Rattle.std.specs.Prelude.{◌≡◌, [], IfOk, IfErr, OnOk};
 ghost use Rattle.acc_base.specs.Machine.{start};
 ghost use Rattle.acc_base.specs.Lawful.{LeadLawfully};
-ghost use Rattle.acc_machine.specs.Replays.{StopsBy, IsRefusedSo};
+ghost use Rattle.acc_machine.specs.Replays.{StopsReplay, IsRefusedSo};
 
 use crate::errors::{ReplayError, StateError, TakeError};
 use crate::states::State;
@@ -29,7 +29,7 @@ fn take_all<S: Store, P: Progress>(
     progress: &mut P,
 ) -> Result<(), ReplayError>
     ensures all { OnOk result (LeadLawfully state.old.design state.old.world events.now state.new.world) }
-    ensures stops { IfErr result (StopsBy state.old.design state.old.world events.now state.new.world) }
+    ensures stops { IfErr result (StopsReplay state.old.design state.old.world events.now state.new.world) }
     ensures design { state.new.design ≡ state.old.design }
 {
     for at in 0..events.len() {

@@ -317,7 +317,11 @@ impl<'a, S: Store> State<'a, S> {
             Event::Begin(_) => self.has_room(),
             Event::Step(t) => self.held_at(*t).is_none(),
             Event::Abort(_, Cause::Victim) => self.stuck(),
-            Event::Abort(_, _) | Event::Undo(_) => true,
+            Event::Abort(
+                _,
+                Cause::Refused(_) | Cause::Range | Cause::Limit | Cause::Asked | Cause::Crash,
+            )
+            | Event::Undo(_) => true,
         }
     }
 

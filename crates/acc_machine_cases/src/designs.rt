@@ -12,7 +12,7 @@ fn read(alloc: Global, text: &str) -> Result<Option<Design>, AllocError> {
     match parse(alloc, text.as_bytes()) {
         Ok(design) => Ok(Some(design)),
         Err(ParseError::Memory) => Err(AllocError),
-        Err(_) => Ok(None),
+        Err(ParseError::Syntax(_) | ParseError::Name(_) | ParseError::Limit(_, _)) => Ok(None),
     }
 }
 

@@ -30,7 +30,7 @@ use Rattle.acc_syntax.specs.declared.trees.TypeTree.{TypeTree}
 use Rattle.acc_syntax.specs.declared.trees.HintTree.{HintTree}
 use Rattle.acc_syntax.specs.declared.trees.DesignTree.{DesignTree}
 use Rattle.acc_statements.specs.Counts.{if_there, path_statements, step_statements, point_statements, type_statements, statements_of}
-use Rattle.acc_limits.specs.declared.limits.Limit.TheVariants as limit
+use Rattle.acc_base.specs.declared.limits.Limit.TheVariants as limit
 use Rattle.acc_limits.specs.Marks.{Mark, ending}
 use Rattle.acc_limits.proofs.WordEndings.{endings, HasEndings, no_marks, behind, past_part, end_then, end_last, passed, each_none}
 use Rattle.acc_clauses.specs.Scopes.{Variables, Scope}

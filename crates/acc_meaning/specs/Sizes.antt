@@ -2,7 +2,7 @@
 -- The numbers as they are written are a matter of the limits of a text.
 use Rattle.std.specs.Prelude.{ℕ, List, [], ◌++◌, Option, Some, None}
 use Rattle.std.specs.List.{flat_map}
-use Rattle.acc_limits.specs.declared.limits.Limit.{Limit}
+use Rattle.acc_base.specs.declared.limits.Limit.{Limit}
 use Rattle.acc_limits.specs.Marks.{Mark, ending}
 use Rattle.acc_limits.specs.Faults.{placed}
 use Rattle.acc_syntax.specs.declared.trees.Sum.{Sum}

@@ -1,8 +1,9 @@
 //! Forms and relations of an obligation's variables.
 ghost use Rattle.std.specs.Prelude.{◌≡◌, [], ◌∷◌, ◌++◌, map, IfOk, OnOk, pos, negsuc, neg_ℤ, ◌+ℤ◌};
-ghost use Rattle.acc_oblig.specs.Relations.{times, variable, coefficient_term, form, lin_form, negated_term, negated, plus_number};
-ghost use Rattle.acc_oblig.specs.Relations.{not_above, is_none, at_most, at_least, is_number, is_nothing, value_bounds, number_bounds};
-ghost use Rattle.acc_oblig.specs.Relations.{below, alone, not_all_none, never};
+ghost use Rattle.acc_base.specs.Forms.{at_most, form, is_zero};
+ghost use Rattle.acc_oblig.specs.Relations.{times, variable, coefficient_term, lin_form, negated_term, negated, plus_number};
+ghost use Rattle.acc_oblig.specs.Relations.{is_at_most_bound, is_at_least_minus_bound, is_number, is_nothing, value_bounds, number_bounds};
+ghost use Rattle.acc_oblig.specs.Relations.{is_less, alone, not_all_none, never};
 
 use acc_base::bounds::LARGEST_NUMBER;
 use acc_base::forms::{Atom, Form, Lin, Rel, Unknown};
@@ -52,33 +53,33 @@ pub fn two_terms(
 }
 
 /// That a form is at most 0.
-pub fn not_above(form: Form) -> Rel
-    ensures { result ≡ not_above form }
+pub fn at_most(form: Form) -> Rel
+    ensures { result ≡ at_most form }
 {
     Rel { form, equal: false }
 }
 
 /// That a form is 0.
-pub fn is_none(form: Form) -> Rel
-    ensures { result ≡ is_none form }
+pub fn is_zero(form: Form) -> Rel
+    ensures { result ≡ is_zero form }
 {
     Rel { form, equal: true }
 }
 
 /// That a variable is at most the largest number.
-fn at_most(alloc: Global, x: u32) -> Result<Rel, AllocError>
-    ensures { IfOk result (λ r. r ≡ at_most x) }
+fn is_at_most_bound(alloc: Global, x: u32) -> Result<Rel, AllocError>
+    ensures { IfOk result (λ r. r ≡ is_at_most_bound x) }
 {
     let x = variable(alloc, 1, x);
-    Ok(not_above(one_term(alloc, x, -(LARGEST_NUMBER as i128))?))
+    Ok(at_most(one_term(alloc, x, -(LARGEST_NUMBER as i128))?))
 }
 
 /// That a variable is at least minus the largest number.
-fn at_least(alloc: Global, x: u32) -> Result<Rel, AllocError>
-    ensures { IfOk result (λ r. r ≡ at_least x) }
+fn is_at_least_minus_bound(alloc: Global, x: u32) -> Result<Rel, AllocError>
+    ensures { IfOk result (λ r. r ≡ is_at_least_minus_bound x) }
 {
     let x = variable(alloc, -1, x);
-    Ok(not_above(one_term(alloc, x, -(LARGEST_NUMBER as i128))?))
+    Ok(at_most(one_term(alloc, x, -(LARGEST_NUMBER as i128))?))
 }
 
 /// That a variable is at least 1.
@@ -86,7 +87,7 @@ fn is_number(alloc: Global, x: u32) -> Result<Rel, AllocError>
     ensures { IfOk result (λ r. r ≡ is_number x) }
 {
     let x = variable(alloc, -1, x);
-    Ok(not_above(one_term(alloc, x, 1)?))
+    Ok(at_most(one_term(alloc, x, 1)?))
 }
 
 /// That a variable is 0.
@@ -94,31 +95,31 @@ pub fn is_nothing(alloc: Global, x: u32) -> Result<Rel, AllocError>
     ensures { IfOk result (λ r. r ≡ is_nothing x) }
 {
     let x = variable(alloc, 1, x);
-    Ok(is_none(one_term(alloc, x, 0)?))
+    Ok(is_zero(one_term(alloc, x, 0)?))
 }
 
 /// That a variable is less than another.
-pub fn below(alloc: Global, x: u32, y: u32) -> Result<Rel, AllocError>
-    ensures { IfOk result (λ r. r ≡ below x y) }
+pub fn is_less(alloc: Global, x: u32, y: u32) -> Result<Rel, AllocError>
+    ensures { IfOk result (λ r. r ≡ is_less x y) }
 {
     let x = variable(alloc, 1, x);
     let y = variable(alloc, -1, y);
-    Ok(not_above(two_terms(alloc, x, y, 1)?))
+    Ok(at_most(two_terms(alloc, x, y, 1)?))
 }
 
 /// Adds that a variable lies within the range.
 pub fn add_value_bounds(alloc: Global, out: &mut Seq<Rel>, x: u32) -> Result<(), AllocError>
     ensures { OnOk result (out.new ≡ out.old ++ value_bounds x) }
 {
-    out.push(at_most(alloc, x)?)?;
-    out.push(at_least(alloc, x)?)
+    out.push(is_at_most_bound(alloc, x)?)?;
+    out.push(is_at_least_minus_bound(alloc, x)?)
 }
 
 /// Adds that a variable is a number of a transaction.
 pub fn add_number_bounds(alloc: Global, out: &mut Seq<Rel>, x: u32) -> Result<(), AllocError>
     ensures { OnOk result (out.new ≡ out.old ++ number_bounds x) }
 {
-    out.push(at_most(alloc, x)?)?;
+    out.push(is_at_most_bound(alloc, x)?)?;
     out.push(is_number(alloc, x)?)
 }
 
@@ -208,14 +209,14 @@ pub fn not_all_none(alloc: Global, under: Seq<Lin>) -> Result<Rel, AllocError>
         under,
         atom: Atom::One,
     };
-    Ok(is_none(one_term(alloc, (unknown, 1), 0)?))
+    Ok(is_zero(one_term(alloc, (unknown, 1), 0)?))
 }
 
 /// What never holds.
 pub fn never(alloc: Global) -> Rel
     ensures { result ≡ never }
 {
-    not_above(Form {
+    at_most(Form {
         terms: Seq::new(alloc),
         constant: 1,
     })

@@ -1,6 +1,7 @@
 //! Values under the names that their variables have in an obligation.
 ghost use Rattle.std.specs.Prelude.{◌+◌, ◌^◌, ◌<◌, length, ◌≡◌, ◌++◌, map, IfOk, OnOk};
-ghost use Rattle.acc_oblig.specs.Naming.{counted, own_naming, named_clause, own_clause, named, named_coeff, named_lin, named_lins};
+ghost use Rattle.acc_base.specs.Items.{numbers_from};
+ghost use Rattle.acc_oblig.specs.Naming.{own_naming, named_clause, own_clause, named, named_coeff, named_lin, named_lins};
 ghost use Rattle.acc_oblig.specs.Naming.{named_atom, named_unknown, named_term, named_form, named_rel, named_action};
 
 use acc_base::forms::{Atom, Clause, Form, Lin, Rel, Unknown};
@@ -120,9 +121,9 @@ pub fn named_rel(alloc: Global, n: &Naming, r: &Rel) -> Result<Rel, AllocError>
 }
 
 /// Adds so many variables, from one on.
-pub fn add_counted(out: &mut Seq<u32>, own: u32, k: u32) -> Result<(), AllocError>
+pub fn add_numbers_from(out: &mut Seq<u32>, own: u32, k: u32) -> Result<(), AllocError>
     requires { own + k < 2 ^ 32 }
-    ensures { OnOk result (out.new ≡ out.old ++ counted own k) }
+    ensures { OnOk result (out.new ≡ out.old ++ numbers_from own k) }
 {
     for i in 0..k {
         out.push(own + i)?;
@@ -136,7 +137,7 @@ pub fn own_naming(names: &Seq<u32>, own: u32, k: u32) -> Result<Naming, AllocErr
     ensures { IfOk result (λ n. n ≡ own_naming names.now own k) }
 {
     let mut names = copied(names)?;
-    add_counted(&mut names, own, k)?;
+    add_numbers_from(&mut names, own, k)?;
     Ok(Naming {
         names,
         past: own + k,

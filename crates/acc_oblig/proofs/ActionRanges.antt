@@ -1,5 +1,6 @@
 -- Where the obligations on the numbers of actions are true, the actions of an undo path stay in range, and share it.
-use Rattle.std.proofs.Common.{◌≡◌, ℕ, ◌^◌, ◌≤◌, true, false, if◌then◌else◌, List, [], ◌∷◌, ◌++◌, map, length, refl, ap, ◌∙◌, subst, arith}
+use Rattle.std.proofs.Common.{◌≡◌, ◌≢◌, ℕ, ◌^◌, ◌≤◌, true, false, if◌then◌else◌, List, [], ◌∷◌, ◌++◌, map, length, refl, ap, ◌∙◌, subst}
+use Rattle.std.proofs.Common.{arith}
 use Rattle.std.proofs.Common.{Some, None, ℤ, pos, neg_ℤ, ◌+ℤ◌, ◌≤ℤ◌}
 use Rattle.std.specs.Prelude.{unsigned_abs, count_by, ◌&&◌}
 use Rattle.std.specs.List.{list_all, AllByRecursion}
@@ -15,6 +16,7 @@ use Rattle.acc_base.specs.declared.designs.Side.TheVariants.{Undo}
 use Rattle.acc_base.specs.declared.designs.Point.{Point}
 use Rattle.acc_base.specs.declared.designs.Design.{Design}
 use Rattle.acc_base.specs.declared.machines.Frame.{Frame}
+use Rattle.acc_base.specs.declared.sequents.Rule.TheVariants.{Begins, Ranges, Empty}
 use Rattle.acc_base.specs.Numbers.{is_small, IsSmall}
 use Rattle.acc_base.specs.Linear.{variables, lin_value, lin_values}
 use Rattle.acc_base.specs.Reads.{Reading, unread}
@@ -105,11 +107,11 @@ module _ (d : Design) (db : List Row) (fit : RowsFit d db) (f : Frame) (p : Poin
       let v = values_long db f step.reads (unread f) in
       omega (arith, l, v)
 
-  not_8 : ◌≡◌ {A = ℕ} 5 8 → ⊥
-  not_8 h = omega arith
+  not_empty : Ranges ≢ Empty
+  not_empty h = cc
 
-  not_0 : ◌≡◌ {A = ℕ} 5 0 → ⊥
-  not_0 h = omega arith
+  not_begins : Ranges ≢ Begins
+  not_begins h = cc
 
   pub number_stays :
       (k : ℕ) (w : Place) (m : ActionNumber) → AllByRecursion (DraftTrue d) (action_range_in k w s (step_vars s) m)
@@ -119,8 +121,8 @@ module _ (d : Design) (db : List Row) (fit : RowsFit d db) (f : Frame) (p : Poin
       let v = lin_form (named_lin n m.value) in
       let worth = lin_form_value db F (named_lin n m.value)
       ∙ lin_named n F (variables f.t last.locals) (after_agrees d db f p step last j path on []) m.value in
-      let goals = goals_true d db F fit (path_origin 5 None k w)
-      (λ q. record { empty = λ z. absurd (not_8 z); fresh = λ z. absurd (not_0 z) }) (length F) refl (step_hyps s (length F))
+      let goals = goals_true d db F fit (path_origin Ranges None k w)
+      (λ q. record { empty = λ z. absurd (not_empty z); fresh = λ z. absurd (not_begins z) }) (length F) refl (step_hyps s (length F))
       (hyps_true d db f p step last j path on []) (path_rels s (length F)) (rels_true d db f p step last j path on []) false 1
       (within v m.most) (subst (λ vars. AllByRecursion (DraftTrue d) (action_range_in k w s vars m)) long h) in
       let up = int_le_holds (form_value db F (plus_number v (neg_ℤ (pos m.most)))) (pos 0) goals.0 in

@@ -1,5 +1,5 @@
 -- Where the obligations on begins are true, a transaction that begins has its start point's assertion.
-use Rattle.std.proofs.Common.{◌≡◌, ℕ, zero, suc, ◌+◌, ◌-◌, ◌≤◌, ◌<◌, List, [], ◌∷◌, ◌++◌, length, refl, ap, sym, ◌∙◌, subst, arith, Option}
+use Rattle.std.proofs.Common.{◌≡◌, ◌≢◌, ℕ, zero, suc, ◌+◌, ◌-◌, ◌≤◌, ◌<◌, List, [], ◌∷◌, ◌++◌, length, refl, ap, sym, ◌∙◌, subst, arith}
 use Rattle.std.proofs.Common.{Some, None, ℤ, pos}
 use Rattle.std.specs.Prelude.{slice_get}
 use Rattle.std.specs.List.{AllByRecursion}
@@ -13,6 +13,7 @@ use Rattle.acc_base.specs.declared.designs.Design.{Design}
 use Rattle.acc_base.specs.declared.designs.Side.TheVariants.{Next}
 use Rattle.acc_base.specs.declared.machines.Frame.{Frame}
 use Rattle.acc_base.specs.declared.sequents.Origin.{Origin}
+use Rattle.acc_base.specs.declared.sequents.Rule.TheVariants.{Begins, Empty}
 use Rattle.acc_base.specs.Linear.{var, variables}
 use Rattle.acc_base.specs.Reads.{unread}
 use Rattle.acc_base.specs.Truth.{rel_true, ClauseTrue}
@@ -21,11 +22,10 @@ use Rattle.acc_formed.specs.WellFormed.{IsWellFormed}
 use Rattle.acc_base.specs.Fits.{RowsFit}
 use Rattle.acc_base.specs.PrivateRows.{HasNoPrivate}
 use Rattle.acc_oblig.specs.Settings.{Setting, first_now, step_vars, step_bounds, step_hyps}
-use Rattle.acc_oblig.specs.Naming.{counted}
 use Rattle.acc_oblig.specs.Drafts.{clause_drafts, each}
 use Rattle.acc_oblig.specs.PathPromises.{point_clauses}
-use Rattle.acc_base.specs.Machine.{locals_in as locals_of}
-use Rattle.acc_base.specs.TrueSequents.{NoneOwned}
+use Rattle.acc_base.specs.TrueSequents.{NoneOwned, NoneOwnedBy}
+use Rattle.acc_base.specs.Items.{numbers_from}
 use Rattle.acc_oblig.specs.PointRules.{zeros, begin_at, begin_drafts}
 use Rattle.acc_oblig.proofs.Names.{agrees_by}
 use Rattle.acc_oblig.proofs.FormValues.{is_nothing_true}
@@ -47,7 +47,7 @@ bare p = record p { clauses = [] }
 
 abbrev begin_origin : ℕ → ℕ → ℕ → Origin
 begin_origin k ty case = record {
-  rule = 0;
+  rule = Begins;
   held = None;
   clause = k + 1;
   at = Some (record { ty = ty; point = 0 });
@@ -71,10 +71,10 @@ module _ (d : Design) (wf : IsWellFormed d) (db : List Row) (fit : RowsFit d db)
   s n = record { always = d.always; clauses = []; locals = n; reads = []; earlier = []; guard = []; actions = [] }
 
   abbrev rels : ℕ → ℕ → List Rel
-  rels n vars = step_bounds (s n) 0 ++ zeros (counted x.params (n - x.params))
+  rels n vars = step_bounds (s n) 0 ++ zeros (numbers_from x.params (n - x.params))
 
   zeros_true :
-      (F : List ℤ) (i m : ℕ) → ((k : ℕ) → i ≤ k → k < i + m → var F k ≡ pos 0) → AllByRecursion (TrueRel db F) (zeros (counted i m))
+      (F : List ℤ) (i m : ℕ) → ((k : ℕ) → i ≤ k → k < i + m → var F k ≡ pos 0) → AllByRecursion (TrueRel db F) (zeros (numbers_from i m))
   zeros_true F i zero h = tt
   zeros_true F i (suc m) h = (
     is_nothing_true db F i (h i (omega arith) (omega arith)),
@@ -92,14 +92,14 @@ module _ (d : Design) (wf : IsWellFormed d) (db : List Row) (fit : RowsFit d db)
       let bounds = (both_pass (rel_true db F) (step_bounds (s (length f.locals)) 0) []
       (rels_true d db f (bare p) rest_step (unread f) 0 rest_path on own)).0 in
       let me : NoneOwned d db F (Some (record { ty = f.ty; point = 0 })) =
-      subst (λ (o : Option TxType). HasNoPrivate d (var F (locals_of o)) db) (sym is_type)
+      subst (NoneOwnedBy d db F) (sym is_type)
       (subst (λ n. HasNoPrivate d (var F n) db) each_local (subst (λ z. HasNoPrivate d z db) (sym c.me) fresh)) in
       record {
         long = refl;
-        asks = λ q. record { empty = λ z. absurd (not_8 z); fresh = λ z. me };
+        asks = λ q. record { empty = λ z. absurd (not_empty z); fresh = λ z. me };
         hyps_true = hyps_true d db f (bare p) rest_step (unread f) 0 rest_path on own;
         rels_true =
-            passes_append (rel_true db F) (step_bounds (s (length f.locals)) 0) (zeros (counted x.params (length f.locals - x.params)))
+            passes_append (rel_true db F) (step_bounds (s (length f.locals)) 0) (zeros (numbers_from x.params (length f.locals - x.params)))
             bounds
             (passes (rel_true db F) _ (zeros_true F x.params (length f.locals - x.params)
             (λ i l g. get_or_append_left f.locals _ (pos 0) i (omega (arith, l, g)) ∙ behind.zero_at i l (omega (arith, l, g)))));
@@ -111,8 +111,8 @@ module _ (d : Design) (wf : IsWellFormed d) (db : List Row) (fit : RowsFit d db)
             own names (own_behind f [] own (step_vars (s (length f.locals))) refl);
       }
     where
-      not_8 : ◌≡◌ {A = ℕ} 0 8 → ⊥
-      not_8 h = omega arith
+      not_empty : Begins ≢ Empty
+      not_empty h = cc
 
   begin_clause :
       (k : ℕ) (c : Clause) → ClauseFits d.tables c

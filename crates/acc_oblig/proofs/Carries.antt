@@ -5,26 +5,26 @@ use Rattle.std.proofs.Math.Seq.{get_or-append_seam}
 use Rattle.std.proofs.lemmas.List.{map-append, get_or_past}
 use Rattle.acc_base.specs.declared.machines.Frame.{Frame}
 use Rattle.acc_base.specs.Linear.{var, variables}
+use Rattle.acc_base.specs.Items.{numbers_from}
 use Rattle.acc_oblig.specs.Settings.{with_self}
-use Rattle.acc_oblig.specs.Naming.{counted}
 use Rattle.acc_oblig.proofs.Names.{Agrees, agrees_at}
 
 -- the variables from one on, so many of them, are worth these
-pub in_between : (xs ys zs : List ℤ) → map (var (xs ++ (ys ++ zs))) (counted (length xs) (length ys)) ≡ ys
+pub in_between : (xs ys zs : List ℤ) → map (var (xs ++ (ys ++ zs))) (numbers_from (length xs) (length ys)) ≡ ys
 in_between xs [] zs = refl
 in_between xs (y ∷ ys) zs =
     let here : var (xs ++ (y ∷ (ys ++ zs))) (length xs) ≡ y = get_or-append_seam xs y (ys ++ zs) (pos 0) in
     let long : length (xs ++ y ∷ []) ≡ length xs + 1 = length-append xs (y ∷ []) in
     let same : (xs ++ y ∷ []) ++ (ys ++ zs) ≡ xs ++ (y ∷ (ys ++ zs)) = append_assoc xs (y ∷ []) (ys ++ zs) in
-    let rest : map (var (xs ++ (y ∷ (ys ++ zs)))) (counted (length xs + 1) (length ys)) ≡ ys =
-    subst (λ z. map (var z) (counted (length xs + 1) (length ys)) ≡ ys) same
-    (subst (λ n. map (var ((xs ++ y ∷ []) ++ (ys ++ zs))) (counted n (length ys)) ≡ ys) long (in_between (xs ++ y ∷ []) ys zs)) in
+    let rest : map (var (xs ++ (y ∷ (ys ++ zs)))) (numbers_from (length xs + 1) (length ys)) ≡ ys =
+    subst (λ z. map (var z) (numbers_from (length xs + 1) (length ys)) ≡ ys) same
+    (subst (λ n. map (var ((xs ++ y ∷ []) ++ (ys ++ zs))) (numbers_from n (length ys)) ≡ ys) long (in_between (xs ++ y ∷ []) ys zs)) in
     λ i. here i ∷ rest i
 
 pub record Carries (f : Frame) (vs E : List ℤ) (past : ℕ) : Type 0 where
-  pub locals : map (var E) (counted 0 (length f.locals)) ≡ f.locals
+  pub locals : map (var E) (numbers_from 0 (length f.locals)) ≡ f.locals
   pub me : var E (length f.locals) ≡ pos f.t
-  pub values : map (var E) (counted (length f.locals + 1) (length vs)) ≡ vs
+  pub values : map (var E) (numbers_from (length f.locals + 1) (length vs)) ≡ vs
   pub none : (j : ℕ) → past ≤ j → var E j ≡ pos 0
 
 abbrev pub carried : Frame → List ℤ → List ℤ → List ℤ
@@ -44,8 +44,8 @@ carries f vs more past h =
       locals = in_between [] f.locals (pos f.t ∷ (vs ++ more));
       me = get_or-append_seam f.locals (pos f.t) (vs ++ more) (pos 0);
       values =
-          subst (λ z. map (var z) (counted (length f.locals + 1) (length vs)) ≡ vs) same
-          (subst (λ n. map (var ((f.locals ++ pos f.t ∷ []) ++ (vs ++ more))) (counted n (length vs)) ≡ vs) long
+          subst (λ z. map (var z) (numbers_from (length f.locals + 1) (length vs)) ≡ vs) same
+          (subst (λ n. map (var ((f.locals ++ pos f.t ∷ []) ++ (vs ++ more))) (numbers_from n (length vs)) ≡ vs) long
           (in_between (f.locals ++ pos f.t ∷ []) vs more));
       none = λ j l. get_or_past (carried f vs more) j (pos 0) (omega (arith, h, l));
     }

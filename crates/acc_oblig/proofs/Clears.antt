@@ -20,6 +20,7 @@ use Rattle.acc_base.specs.declared.steps.Step.{Step}
 use Rattle.acc_base.specs.declared.designs.Design.{Design}
 use Rattle.acc_base.specs.declared.designs.Side.{Side}
 use Rattle.acc_base.specs.declared.machines.Frame.{Frame}
+use Rattle.acc_base.specs.declared.sequents.Rule.TheVariants as rule
 use Rattle.acc_base.specs.Tables.{place_of, place_cmp, is_at, has_row}
 use Rattle.acc_base.specs.Linear.{var, variables, lin_value, lin_values}
 use Rattle.acc_base.specs.Reads.{Reading, unread}
@@ -35,9 +36,9 @@ use Rattle.acc_formed.specs.WellFormed.{IsWellFormed}
 use Rattle.acc_base.specs.Fits.{IsReady}
 use Rattle.acc_base.specs.PrivateRows.{HasNoneOf, is_own_table, last_is, type_puts}
 use Rattle.acc_base.specs.Soundness.{ClearsAt}
+use Rattle.acc_base.specs.Items.{numbers_from}
 use Rattle.acc_oblig.specs.Relations.{alone}
 use Rattle.acc_oblig.specs.Settings.{Setting, last_now}
-use Rattle.acc_oblig.specs.Naming.{counted}
 use Rattle.acc_oblig.specs.Drafts.{Place, path_drafts, each_path}
 use Rattle.acc_oblig.specs.PointRules.{is_end, none_of, clear_at, clear_drafts}
 use Rattle.acc_oblig.proofs.FormValues.{meets_zero}
@@ -49,7 +50,7 @@ use Rattle.acc_oblig.proofs.PathClauses.{path_clause}
 use Rattle.acc_oblig.proofs.OnPath.{OnPath}
 use Rattle.acc_oblig.proofs.Carries.{in_between, carried}
 use Rattle.acc_oblig.proofs.Reading.{read_values}
-use Rattle.acc_oblig.proofs.Entries.{counted_long, now_long}
+use Rattle.acc_oblig.proofs.Entries.{numbers_long, now_long}
 
 -- ---- rows after actions keep the tables' shapes
 
@@ -125,11 +126,11 @@ module _ (after : List Row) (t : ℕ) (width me : ℕ) (number : ℕ) (locals : 
     env_long : length env ≡ me + 1
     env_long = length-append locals (pos number ∷ []) ∙ ap (λ n. n + 1) long
 
-    own_names : map (var (env ++ own)) (counted (me + 1) (width - 1)) ≡ own
+    own_names : map (var (env ++ own)) (numbers_from (me + 1) (width - 1)) ≡ own
     own_names =
-        subst (λ n. map (var (env ++ own)) (counted n (width - 1)) ≡ own) env_long
-        (subst (λ n. map (var (env ++ own)) (counted (length env) n) ≡ own) own_long
-        (subst (λ z. map (var (env ++ z)) (counted (length env) (length own)) ≡ own) (append-nil own) (in_between env own [])))
+        subst (λ n. map (var (env ++ own)) (numbers_from n (width - 1)) ≡ own) env_long
+        (subst (λ n. map (var (env ++ own)) (numbers_from (length env) n) ≡ own) own_long
+        (subst (λ z. map (var (env ++ z)) (numbers_from (length env) (length own)) ≡ own) (append-nil own) (in_between env own [])))
 
     me_is : var (env ++ own) me ≡ pos number
     me_is =
@@ -137,10 +138,10 @@ module _ (after : List Row) (t : ℕ) (width me : ℕ) (number : ℕ) (locals : 
         get_or_append_left env own (pos 0) me (omega (arith, l))
         ∙ subst (λ n. var env n ≡ pos number) long (get_or-append_seam locals (pos number) [] (pos 0))
 
-    key_is : lin_values (env ++ own) (map alone (counted (me + 1) (width - 1)) ++ alone me ∷ []) ≡ r.key.parts
+    key_is : lin_values (env ++ own) (map alone (numbers_from (me + 1) (width - 1)) ++ alone me ∷ []) ≡ r.key.parts
     key_is =
-        map-append (lin_value (env ++ own)) (map alone (counted (me + 1) (width - 1))) (alone me ∷ [])
-        ∙ ((λ i. (lones (env ++ own) (counted (me + 1) (width - 1)) ∙ own_names) i ++ (lone (var (env ++ own) me) ∙ me_is) i ∷ [])
+        map-append (lin_value (env ++ own)) (map alone (numbers_from (me + 1) (width - 1))) (alone me ∷ [])
+        ∙ ((λ i. (lones (env ++ own) (numbers_from (me + 1) (width - 1)) ∙ own_names) i ++ (lone (var (env ++ own) me) ∙ me_is) i ∷ [])
         ∙ sym (last_of r.key.parts (pos number) ends))
 
     none_here : list_any (is_at t r.key.parts) after ≡ false
@@ -192,28 +193,29 @@ module _ (d : Design) (wf : IsWellFormed d) (db : List Row) (f : Frame) (ready :
       let made = path_at (DraftTrue d) d (clear_at d t table) tables f.ty f.point o.x o.p side j o.path o.is_type o.is_point o.is_path in
       let all_three : (table.own && type_puts t (Some o.x) && is_end o.path.target) ≡ true = (λ i. own i && puts i && ends i) in
       let mine = subst (λ b. AllByRecursion (DraftTrue d)
-      (if b then path_drafts 7 (with_locals (length o.x.locals)) t place
+      (if b then path_drafts rule.Clears (with_locals (length o.x.locals)) t place
       (last_now (with_locals (length o.x.locals)) ++ length o.x.locals ∷ []) (none_of (length o.x.locals) t table.width) else [])) all_three
       made in
       let here_now = subst (λ n. AllByRecursion (DraftTrue d)
-      (path_drafts 7 (with_locals n) t place (last_now (with_locals n) ++ n ∷ []) (none_of n t table.width))) (sym o.each) mine in
-      path_clause d db ready.rows f o.p step last j o.path o.on o.path.actions o.acts_fit there after left 7 t (λ q. omega arith)
-      (λ q. omega arith) place (last_now (with_locals (length f.locals)) ++ length f.locals ∷ []) env'
+      (path_drafts rule.Clears (with_locals n) t place (last_now (with_locals n) ++ n ∷ []) (none_of n t table.width))) (sym o.each) mine in
+      path_clause d db ready.rows f o.p step last j o.path o.on o.path.actions o.acts_fit there after left rule.Clears t (λ q. cc)
+      (λ q. cc) place (last_now (with_locals (length f.locals)) ++ length f.locals ∷ []) env'
       (λ own_values. names_worth d db f o.p step last j o.path o.on own_values) (none_of (length f.locals) t table.width)
       (record {
         guards = tt;
         rel = (
-          subst (λ z. IsFullKey z (length (map alone (counted (length f.locals + 1) (table.width - 1)) ++ alone (length f.locals) ∷ [])))
+          subst (λ z. IsFullKey z (length (map alone (numbers_from (length f.locals + 1) (table.width - 1)) ++ alone
+              (length f.locals) ∷ [])))
               (sym e) key_long,
           tt,
         );
       }) here_now
     where
-      key_long : length (map alone (counted (length f.locals + 1) (table.width - 1)) ++ alone (length f.locals) ∷ []) ≡ table.width
+      key_long : length (map alone (numbers_from (length f.locals + 1) (table.width - 1)) ++ alone (length f.locals) ∷ []) ≡ table.width
       key_long =
-          let a = length-append (map alone (counted (length f.locals + 1) (table.width - 1))) (alone (length f.locals) ∷ []) in
-          let b = length-map (counted (length f.locals + 1) (table.width - 1)) alone in
-          let c = counted_long (length f.locals + 1) (table.width - 1) in
+          let a = length-append (map alone (numbers_from (length f.locals + 1) (table.width - 1))) (alone (length f.locals) ∷ []) in
+          let b = length-map (numbers_from (length f.locals + 1) (table.width - 1)) alone in
+          let c = numbers_long (length f.locals + 1) (table.width - 1) in
           omega (arith, a, b, c, wide)
 
   locals_long : length last.locals ≡ length f.locals
@@ -221,8 +223,8 @@ module _ (d : Design) (wf : IsWellFormed d) (db : List Row) (f : Frame) (ready :
       let worth = last_worth d db f o.p step last j o.path o.on [] _ _ (here d db f o.p step last j o.path o.on []) in
       let now = last_now (with_locals (length f.locals)) in
       let a = length-map now (var (carried f (read_values db f (unread f) step.reads) [])) in
-      let b = now_long (counted 0 (length f.locals)) (length f.locals + 1) step.reads in
-      let c = counted_long 0 (length f.locals) in
+      let b = now_long (numbers_from 0 (length f.locals)) (length f.locals + 1) step.reads in
+      let c = numbers_long 0 (length f.locals) in
       sym (ap (λ (z : List ℤ). length z) worth) ∙ (a ∙ (b ∙ c))
 
   cleared : is_end o.path.target ≡ true → HasNoneOf d f.ty (pos f.t) after

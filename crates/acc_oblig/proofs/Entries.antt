@@ -26,8 +26,8 @@ use Rattle.acc_formed.specs.Ranges.{locals_of, pair_in}
 use Rattle.acc_formed.specs.Entries.{same_point, same_side}
 use Rattle.acc_formed.proofs.InRange.{EntryInRange}
 use Rattle.acc_base.specs.Entries.{at_of, judged, IsFree}
+use Rattle.acc_base.specs.Items.{numbers_from}
 use Rattle.acc_oblig.specs.Settings.{Setting, now_after, first_now, last_now, step_vars}
-use Rattle.acc_oblig.specs.Naming.{counted}
 use Rattle.acc_oblig.specs.Spares.{is_for, entry_for, judged_var, pair_lin, pairs_differ}
 use Rattle.acc_oblig.proofs.FormValues.{meets_zero, differ_true}
 
@@ -93,9 +93,9 @@ forbids d g f side last e here free agree =
 
 -- ---- the pairs under their names
 
-pub counted_long : (x n : ℕ) → length (counted x n) ≡ n
-counted_long x zero = refl
-counted_long x (suc n) = ap suc (counted_long (x + 1) n)
+pub numbers_long : (x n : ℕ) → length (numbers_from x n) ≡ n
+numbers_long x zero = refl
+numbers_long x (suc n) = ap suc (numbers_long (x + 1) n)
 
 pub now_long : (now : List ℕ) (x : ℕ) (rs : List Read) → length (now_after now x rs) ≡ length now
 now_long now x [] = refl
@@ -109,7 +109,7 @@ module _ (db : List Row) (E : List ℤ) (s : Setting) (side : Side) (held : List
       (first_worth : (i : ℕ) → i < s.locals → var E i ≡ var f.locals i) (last_worth : map (var E) (last_now s) ≡ reading.locals) where
     judged_worth : (z : Side) (y : ℕ) → y < s.locals → var E (judged_var s z y) ≡ var (judges z) y
     judged_worth Next y l =
-        let long : length (last_now s) ≡ s.locals = now_long (first_now s) (s.locals + 1) s.reads ∙ counted_long 0 s.locals in
+        let long : length (last_now s) ≡ s.locals = now_long (first_now s) (s.locals + 1) s.reads ∙ numbers_long 0 s.locals in
         let within : y < length (last_now s) = omega (arith, long, l) in
         sym (ap (λ z. var z y) (sym last_worth) ∙ get_or-map (var E) (last_now s) y 0 (pos 0) within)
     judged_worth Undo y l = first_worth y l

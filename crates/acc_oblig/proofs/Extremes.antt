@@ -15,7 +15,7 @@ use Rattle.acc_base.specs.Truth.{rel_true, ClauseTrue}
 use Rattle.acc_preconditions.proofs.PartValues.{one_times, minus_times}
 use Rattle.acc_oblig.specs.declared.naming.Naming.{Naming}
 use Rattle.acc_oblig.specs.Naming.{named_lins}
-use Rattle.acc_oblig.specs.Relations.{some_rows, no_rows, none_there, is_nothing, alone, below, extreme}
+use Rattle.acc_oblig.specs.Relations.{some_rows, no_rows, none_there, is_nothing, alone, is_less, extreme}
 use Rattle.acc_oblig.proofs.Names.{AgreesNear, lins_named}
 use Rattle.acc_oblig.proofs.FormValues.{int_le_true, int_le_holds, zero_meets, is_nothing_true}
 use Rattle.acc_oblig.proofs.Parts.{parts, passing_is, rows_with, rows_below, HasPart, none_best, best_counts, beyond_best, min_one_of}
@@ -57,8 +57,8 @@ below_worth x y h =
     let f = minus_times y in
     omega (arith, ints, h, e, f)
 
-pub true_below : (db : List Row) (F : List ℤ) (x y : ℕ) → rel_true db F (below x y) ≡ true → var F x <ℤ var F y
-true_below db F x y h = below_worth (var F x) (var F y) (int_le_holds _ _ h)
+pub true_is_less : (db : List Row) (F : List ℤ) (x y : ℕ) → rel_true db F (is_less x y) ≡ true → var F x <ℤ var F y
+true_is_less db F x y h = below_worth (var F x) (var F y) (int_le_holds _ _ h)
 
 worth_below : (x y : ℤ) → x <ℤ y → ((pos 1 *ℤ x +ℤ (negsuc 0 *ℤ y +ℤ pos 0)) +ℤ pos 1) ≤ℤ pos 0
 worth_below x y h =
@@ -66,8 +66,8 @@ worth_below x y h =
     let f = minus_times y in
     omega (arith, ints, h, e, f)
 
-pub below_true : (db : List Row) (F : List ℤ) (x y : ℕ) → var F x <ℤ var F y → rel_true db F (below x y) ≡ true
-below_true db F x y h = int_le_true _ _ (worth_below (var F x) (var F y) h)
+pub is_less_true : (db : List Row) (F : List ℤ) (x y : ℕ) → var F x <ℤ var F y → rel_true db F (is_less x y) ≡ true
+is_less_true db F x y h = int_le_true _ _ (worth_below (var F x) (var F y) h)
 
 -- a prefix and one variable behind it
 alone_value : (v : ℤ) → (pos 1 *ℤ v +ℤ pos 0) +ℤ pos 0 ≡ v
@@ -89,13 +89,13 @@ module _ (pick : ℤ → ℤ → ℤ) (one_of : (x y : ℤ) → (pick x y ≡ x)
   extreme_is : (db : List Row) (t : ℕ) (p : List ℤ) → AllByRecursion (HasPart t p) db → IsExtreme Beyond db t p (best pick (parts t p db))
   extreme_is db t p h =
       let v = best pick (parts t p db) in
-      let below = passing_is (is_under t p) db in
+      let passing = passing_is (is_under t p) db in
       let long = rows_below t p db h in
       record {
         some =
             λ g. let here = passing_is (is_under t (p ++ v ∷ [])) db in let at = rows_with t p v db in
-            let b = best_counts pick one_of (parts t p db) (omega (arith, ints, g, below, long)) in omega (arith, ints, here, at, b);
-        none = λ g. none_best pick (parts t p db) (omega (arith, ints, g, below, long));
+            let b = best_counts pick one_of (parts t p db) (omega (arith, ints, g, passing, long)) in omega (arith, ints, here, at, b);
+        none = λ g. none_best pick (parts t p db) (omega (arith, ints, g, passing, long));
         beyond =
             λ k g w. let here = passing_is (is_under t (p ++ k ∷ [])) db in let at = rows_with t p k db in
             let b = beyond_best Beyond apart pick worst k (parts t p db) w in omega (arith, ints, here, at, b);

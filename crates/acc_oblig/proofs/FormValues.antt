@@ -20,7 +20,8 @@ use Rattle.acc_preconditions.proofs.PartValues.{one_times, minus_times}
 use Rattle.acc_base.proofs.Products.{sum_times}
 use Rattle.acc_oblig.specs.declared.naming.Naming.{Naming}
 use Rattle.acc_oblig.specs.Naming.{named_lin}
-use Rattle.acc_oblig.specs.Relations.{coefficient_term, lin_form, negated_term, negated, plus_number, at_most, at_least, is_number}
+use Rattle.acc_oblig.specs.Relations.{coefficient_term, lin_form, negated_term, negated, plus_number, is_at_most_bound}
+use Rattle.acc_oblig.specs.Relations.{is_at_least_minus_bound, is_number}
 use Rattle.acc_oblig.specs.Relations.{is_nothing, is_value, is_lin, guard_rel, denied, not_all_none}
 use Rattle.acc_oblig.proofs.Names.{Agrees, lin_named}
 
@@ -82,11 +83,11 @@ module _ (db : List Row) (E : List ℤ) where
   number_first : (x : ℕ) (v : ℤ) → v ≡ pos x → 1 ≤ x → ((negsuc 0 *ℤ v +ℤ pos 0) +ℤ pos 1) ≤ℤ pos 0
   number_first x v h g = let e = minus_times v in omega (arith, ints)
 
-  pub at_most_true : (x : ℕ) → IsSmall (var E x) → rel_true db E (at_most x) ≡ true
-  at_most_true x h = int_le_true _ _ (small_above (var E x) h)
+  pub is_at_most_bound_true : (x : ℕ) → IsSmall (var E x) → rel_true db E (is_at_most_bound x) ≡ true
+  is_at_most_bound_true x h = int_le_true _ _ (small_above (var E x) h)
 
-  pub at_least_true : (x : ℕ) → IsSmall (var E x) → rel_true db E (at_least x) ≡ true
-  at_least_true x h = int_le_true _ _ (small_below (var E x) h)
+  pub is_at_least_minus_bound_true : (x : ℕ) → IsSmall (var E x) → rel_true db E (is_at_least_minus_bound x) ≡ true
+  is_at_least_minus_bound_true x h = int_le_true _ _ (small_below (var E x) h)
 
   pub is_number_true : (x t : ℕ) → var E x ≡ pos t → 1 ≤ t → rel_true db E (is_number x) ≡ true
   is_number_true x t h g = int_le_true _ _ (number_first t (var E x) h g)

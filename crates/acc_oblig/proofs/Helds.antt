@@ -5,7 +5,7 @@ use Rattle.std.proofs.Math.Seq.{get_or-append_seam}
 use Rattle.std.proofs.lemmas.List.{get_or-append-add, get_or_append_left}
 use Rattle.acc_base.specs.declared.machines.Frame.{Frame}
 use Rattle.acc_base.specs.Linear.{var, variables}
-use Rattle.acc_oblig.specs.Naming.{counted}
+use Rattle.acc_base.specs.Items.{numbers_from}
 use Rattle.acc_oblig.proofs.Carries.{in_between, carried, carried_long, carried_more}
 
 module _ (f : Frame) (ws : List ℤ) (g : Frame) (own : List ℤ) (base : ℕ) (long : length f.locals + 1 + length ws ≡ base) where
@@ -22,19 +22,19 @@ module _ (f : Frame) (ws : List ℤ) (g : Frame) (own : List ℤ) (base : ℕ) (
   whole = carried_more f ws [] (variables g.t g.locals ++ own)
 
   -- the held variables are worth the held locals and number
-  pub held_worth : map (var F) (counted base (length g.locals + 1)) ≡ variables g.t g.locals
+  pub held_worth : map (var F) (numbers_from base (length g.locals + 1)) ≡ variables g.t g.locals
   held_worth =
-      subst (λ n. map (var F) (counted n (length g.locals + 1)) ≡ variables g.t g.locals) front
-      (subst (λ n. map (var F) (counted (length (carried f ws [])) n) ≡ variables g.t g.locals) held_long
-      (subst (λ z. map (var z) (counted (length (carried f ws [])) (length (variables g.t g.locals))) ≡ variables g.t g.locals) whole
+      subst (λ n. map (var F) (numbers_from n (length g.locals + 1)) ≡ variables g.t g.locals) front
+      (subst (λ n. map (var F) (numbers_from (length (carried f ws [])) n) ≡ variables g.t g.locals) held_long
+      (subst (λ z. map (var z) (numbers_from (length (carried f ws [])) (length (variables g.t g.locals))) ≡ variables g.t g.locals) whole
       (in_between (carried f ws []) (variables g.t g.locals) own)))
 
-  pub held_locals : map (var F) (counted base (length g.locals)) ≡ g.locals
+  pub held_locals : map (var F) (numbers_from base (length g.locals)) ≡ g.locals
   held_locals =
       let same : carried f ws [] ++ (g.locals ++ (pos g.t ∷ own)) ≡ F =
       ap (λ z. carried f ws [] ++ z) (sym (append_assoc g.locals (pos g.t ∷ []) own)) ∙ whole in
-      subst (λ n. map (var F) (counted n (length g.locals)) ≡ g.locals) front
-      (subst (λ z. map (var z) (counted (length (carried f ws [])) (length g.locals)) ≡ g.locals) same
+      subst (λ n. map (var F) (numbers_from n (length g.locals)) ≡ g.locals) front
+      (subst (λ z. map (var z) (numbers_from (length (carried f ws [])) (length g.locals)) ≡ g.locals) same
       (in_between (carried f ws []) g.locals (pos g.t ∷ own)))
 
   behind_step : (i : ℕ) → var F (base + i) ≡ var (variables g.t g.locals ++ own) i

@@ -13,6 +13,7 @@ use Rattle.acc_base.specs.declared.forms.Clause.{Clause}
 use Rattle.acc_base.specs.declared.steps.Action.{Action}
 use Rattle.acc_base.specs.declared.designs.Design.{Design}
 use Rattle.acc_base.specs.declared.sequents.Origin.{Origin}
+use Rattle.acc_base.specs.declared.sequents.Rule.TheVariants.{Begins, Empty}
 use Rattle.acc_base.specs.Sums.{Term}
 use Rattle.acc_base.specs.Linear.{meets}
 use Rattle.acc_base.specs.Truth.{form_value, rel_true, ClauseTrue}
@@ -21,13 +22,13 @@ use Rattle.acc_preconditions.specs.Preconditions.{wp_of}
 use Rattle.acc_base.specs.RowsAfter.{rows_after, AreThere}
 use Rattle.acc_base.proofs.SumLaws.{form_sum-value}
 use Rattle.acc_preconditions.proofs.PartValues.{minus_times}
-use Rattle.acc_oblig.specs.Relations.{form}
 use Rattle.acc_preconditions.proofs.LawTurns.{wp_is_weakest}
 use Rattle.acc_base.specs.Fits.{RowsFit}
 use Rattle.acc_oblig.specs.declared.naming.Naming.{Naming}
 use Rattle.acc_oblig.specs.Naming.{own_naming, named_rel}
-use Rattle.acc_oblig.specs.Drafts.{turned, is_clause_wide, Draft, goals_of, goal_drafts, clause_drafts}
+use Rattle.acc_oblig.specs.Drafts.{opposite, is_clause_wide, Draft, goals_of, goal_drafts, clause_drafts}
 use Rattle.acc_base.specs.TrueSequents.{NoneOwned, SequentTrue}
+use Rattle.acc_base.specs.Forms.{form}
 use Rattle.acc_oblig.proofs.Names.{Agrees, rel_named}
 use Rattle.acc_oblig.proofs.FormValues.{zero_meets, int_le_holds}
 use Rattle.acc_oblig.proofs.Shapes.{terms_fit}
@@ -54,8 +55,8 @@ passes_append test (x ∷ xs) ys h g = by (test x) h (λ k. passes_append test x
 module _ (d : Design) (db : List Row) (E : List ℤ) (fit : RowsFit d db) where
   -- what an origin asks of the rows besides
   pub record OriginAsks (o : Origin) : Type 0 where
-    pub empty : o.rule ≡ 8 → db ≡ []
-    pub fresh : o.rule ≡ 0 → NoneOwned d db E o.at
+    pub empty : o.rule ≡ Empty → db ≡ []
+    pub fresh : o.rule ≡ Begins → NoneOwned d db E o.at
 
   -- ---- goals
 
@@ -80,8 +81,8 @@ module _ (d : Design) (db : List Row) (E : List ℤ) (fit : RowsFit d db) where
       let b = int_le_holds y (pos 0) g in
       omega (arith, ints, a, b, e)
 
-  turned_value : (f : Form) → form_value db E (turned f) ≡ neg_ℤ (form_value db E f)
-  turned_value f =
+  opposite_value : (f : Form) → form_value db E (opposite f) ≡ neg_ℤ (form_value db E f)
+  opposite_value f =
       let h = form_sum-value db E (form [] (pos 0)) (negsuc 0) f in
       let m = minus_times (form_value db E f) in
       omega (arith, ints, h, m)
@@ -91,10 +92,11 @@ module _ (d : Design) (db : List Row) (E : List ℤ) (fit : RowsFit d db) where
   goals_give r h = by r.equal h
     where
       by :
-          (b : Bool) → AllByRecursion GoalTrue (if b then r.form ∷ turned r.form ∷ [] else (r.form ∷ []))
+          (b : Bool) → AllByRecursion GoalTrue (if b then r.form ∷ opposite r.form ∷ [] else (r.form ∷ []))
           → meets b (form_value db E r.form) ≡ true
       by true g =
-          zero_meets (form_value db E r.form) (both_sides (form_value db E r.form) (form_value db E (turned r.form)) (turned_value r.form)
+          zero_meets (form_value db E r.form) (both_sides (form_value db E r.form) (form_value db E (opposite r.form))
+          (opposite_value r.form)
           g.0 g.1.0)
       by false g = g.0
 

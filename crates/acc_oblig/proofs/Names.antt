@@ -23,8 +23,9 @@ use Rattle.acc_base.specs.Actions.{after_action}
 use Rattle.acc_base.specs.Truth.{atom_value, is_lin_zero, unknown_value, product_value, form_value, rel_true, ClauseTrue}
 use Rattle.acc_base.specs.Sums.{Term}
 use Rattle.acc_base.specs.RowsAfter.{rows_after}
+use Rattle.acc_base.specs.Items.{numbers_from}
 use Rattle.acc_oblig.specs.declared.naming.Naming.{Naming}
-use Rattle.acc_oblig.specs.Naming.{counted, own_naming, own_clause, named, named_lin, named_lins, named_atom, named_unknown, named_form}
+use Rattle.acc_oblig.specs.Naming.{own_naming, own_clause, named, named_lin, named_lins, named_atom, named_unknown, named_form}
 use Rattle.acc_oblig.specs.Naming.{named_rel, named_action}
 
 -- each variable is worth under its name what it is worth
@@ -49,7 +50,7 @@ agrees_at names past E e h none v =
         ap (var E) (get_or_past names v past l) ∙ (none ∙ sym (get_or_past (map (var E) names) v (pos 0) w))
 
 -- variables that stand one after the other
-own_listed : (own : ℕ) (E o : List ℤ) → ((j : ℕ) → var E (own + j) ≡ var o j) → map (var E) (counted own (length o)) ≡ o
+own_listed : (own : ℕ) (E o : List ℤ) → ((j : ℕ) → var E (own + j) ≡ var o j) → map (var E) (numbers_from own (length o)) ≡ o
 own_listed own E [] g = refl
 own_listed own E (x ∷ xs) g =
     let first : own + zero ≡ own = omega arith in
@@ -63,8 +64,8 @@ pub agrees_by :
     (names : List ℕ) (own : ℕ) (E first o : List ℤ) → map (var E) names ≡ first → ((j : ℕ) → var E (own + j) ≡ var o j)
     → Agrees (own_naming names own (length o)) E (first ++ o)
 agrees_by names own E first o h g =
-    agrees_at (names ++ counted own (length o)) (own + length o) E (first ++ o)
-    (map-append (var E) names (counted own (length o)) ∙ (λ i. h i ++ own_listed own E o g i))
+    agrees_at (names ++ numbers_from own (length o)) (own + length o) E (first ++ o)
+    (map-append (var E) names (numbers_from own (length o)) ∙ (λ i. h i ++ own_listed own E o g i))
     (g (length o) ∙ get_or_past o (length o) (pos 0) (omega arith))
 
 module _ (n : Naming) (E e : List ℤ) (h : Agrees n E e) where

@@ -10,6 +10,8 @@ use Rattle.acc_base.specs.declared.steps.Step.{Step}
 use Rattle.acc_base.specs.declared.designs.Point.{Point}
 use Rattle.acc_base.specs.declared.designs.Design.{Design}
 use Rattle.acc_base.specs.declared.machines.Frame.{Frame}
+use Rattle.acc_base.specs.declared.sequents.Rule.{Rule}
+use Rattle.acc_base.specs.declared.sequents.Rule.TheVariants.{Begins, Empty}
 use Rattle.acc_base.specs.Linear.{var, variables}
 use Rattle.acc_base.specs.Reads.{Reading, unread}
 use Rattle.acc_base.specs.Truth.{ClauseTrue}
@@ -50,7 +52,8 @@ module _ (d : Design) (db : List Row) (fit : RowsFit d db) (f : Frame) (p : Poin
 
   module _ (acts : List Action) (acts_fit : AllByRecursion (ActionFits d.tables) acts)
       (there : AreThere (variables f.t last.locals) acts db) (after : List Row)
-      (leaves : rows_after (variables f.t last.locals) acts db ≡ after) (rule k : ℕ) (not_8 : rule ≢ 8) (not_0 : rule ≢ 0) (w : Place) where
+      (leaves : rows_after (variables f.t last.locals) acts db ≡ after) (rule : Rule) (k : ℕ)
+      (not_empty : rule ≢ Empty) (not_begins : rule ≢ Begins) (w : Place) where
     stands :
         (names : List ℕ) (first own : List ℤ) → map (var (carried f ws own)) names ≡ first
         → Stands d db fit (path_origin rule None k w) (step_hyps (acting acts)) (path_rels (acting acts)) (path_actions (acting acts)) names
@@ -61,7 +64,7 @@ module _ (d : Design) (db : List Row) (fit : RowsFit d db) (f : Frame) (p : Poin
         let agree = after_agrees d db f p step last j path on own in
         record {
           long = refl;
-          asks = λ case. record { empty = λ h. absurd (not_8 h); fresh = λ h. absurd (not_0 h) };
+          asks = λ case. record { empty = λ h. absurd (not_empty h); fresh = λ h. absurd (not_begins h) };
           hyps_true = hyps_true d db f p step last j path on own;
           rels_true = rels_true d db f p step last j path on own;
           acts_fit = actions_fit d.tables n acts acts_fit;

@@ -20,6 +20,8 @@ use Rattle.acc_base.specs.declared.designs.Design.{Design}
 use Rattle.acc_base.specs.declared.designs.Side.{Side}
 use Rattle.acc_base.specs.declared.designs.Side.TheVariants.{Next, Undo}
 use Rattle.acc_base.specs.declared.machines.Frame.{Frame}
+use Rattle.acc_base.specs.declared.sequents.Rule.{Rule}
+use Rattle.acc_base.specs.declared.sequents.Rule.TheVariants as rule
 use Rattle.acc_base.specs.Linear.{variables}
 use Rattle.acc_base.specs.Reads.{Reading}
 use Rattle.acc_base.specs.Truth.{ClauseTrue}
@@ -85,9 +87,10 @@ module _ (d : Design) (wf : IsWellFormed d) (db : List Row) (f : Frame) (ready :
 
   there_drafts_at :
       (n : ℕ) → length o.x.locals ≡ n → (k : ℕ) (r : ℕ × List Lin)
-      → AllByRecursion (DraftTrue d) (path_drafts 4 (record (setting_of d o.x o.p step j o.path) { actions = take k o.path.actions }) k
+      → AllByRecursion (DraftTrue d) (path_drafts rule.There
+      (record (setting_of d o.x o.p step j o.path) { actions = take k o.path.actions }) k
       place (names_of (length o.x.locals)) (row_there r))
-      → AllByRecursion (DraftTrue d) (path_drafts 4
+      → AllByRecursion (DraftTrue d) (path_drafts rule.There
       (record {
         always = d.always;
         clauses = o.p.clauses;
@@ -99,7 +102,7 @@ module _ (d : Design) (wf : IsWellFormed d) (db : List Row) (f : Frame) (ready :
       }) k place (names_of n) (row_there r))
   there_drafts_at n e k r h =
       subst
-      (λ m. AllByRecursion (DraftTrue d) (path_drafts 4
+      (λ m. AllByRecursion (DraftTrue d) (path_drafts rule.There
       (record {
         always = d.always;
         clauses = o.p.clauses;
@@ -133,14 +136,14 @@ module _ (d : Design) (wf : IsWellFormed d) (db : List Row) (f : Frame) (ready :
           (let l = within o.path.actions k a e in let m = o.few in omega (arith, l, m)) h in
           let mine = path_at (DraftTrue d) d (there_at d k) walk f.ty f.point o.x o.p side j o.path o.is_type o.is_point o.is_path in
           let action = some_at (DraftTrue d) (λ b. of_some
-          (λ q. path_drafts 4 (record (setting_of d o.x o.p step j o.path) { actions = take k o.path.actions }) k place
+          (λ q. path_drafts rule.There (record (setting_of d o.x o.p step j o.path) { actions = take k o.path.actions }) k place
           (names_of (length o.x.locals)) (row_there q)) (changed_row b)) (slice_get o.path.actions k) a e mine in
-          let row = some_at (DraftTrue d) (λ q. path_drafts 4
+          let row = some_at (DraftTrue d) (λ q. path_drafts rule.There
           (record (setting_of d o.x o.p step j o.path) { actions = take k o.path.actions }) k place (names_of (length o.x.locals))
           (row_there q)) (changed_row a) r g action in
           path_clause d db ready.rows f o.p step last j o.path o.on (take k o.path.actions)
-          (few_taken (ActionFits d.tables) k o.path.actions o.acts_fit) there (rows_after env (take k o.path.actions) db) refl 4 k
-          (λ q. omega arith) (λ q. omega arith) place (names_of (length f.locals)) env
+          (few_taken (ActionFits d.tables) k o.path.actions o.acts_fit) there (rows_after env (take k o.path.actions) db) refl rule.There k
+          (λ q. cc) (λ q. cc) place (names_of (length f.locals)) env
           (λ own. names_worth d db f o.p step last j o.path o.on own) (row_there r)
           (row_fits a r g (at_some (ActionFits d.tables) o.path.actions k a o.acts_fit e))
           (there_drafts_at (length f.locals) (sym o.each) k r row))
@@ -172,9 +175,9 @@ module _ (d : Design) (wf : IsWellFormed d) (db : List Row) (f : Frame) (ready :
   promise (Refuse n) k c e = absurd (none-some c e)
 
   drafts_at :
-      (rule : ℕ) (names : ℕ → List ℕ) (n : ℕ) → length o.x.locals ≡ n → (k : ℕ) (c : Clause)
-      → AllByRecursion (DraftTrue d) (path_drafts rule (setting_of d o.x o.p step j o.path) k place (names (length o.x.locals)) c)
-      → AllByRecursion (DraftTrue d) (path_drafts rule
+      (r : Rule) (names : ℕ → List ℕ) (n : ℕ) → length o.x.locals ≡ n → (k : ℕ) (c : Clause)
+      → AllByRecursion (DraftTrue d) (path_drafts r (setting_of d o.x o.p step j o.path) k place (names (length o.x.locals)) c)
+      → AllByRecursion (DraftTrue d) (path_drafts r
       (record {
         always = d.always;
         clauses = o.p.clauses;
@@ -184,9 +187,9 @@ module _ (d : Design) (wf : IsWellFormed d) (db : List Row) (f : Frame) (ready :
         guard = o.path.guard;
         actions = o.path.actions;
       }) k place (names n) c)
-  drafts_at rule names n e k c h =
+  drafts_at r names n e k c h =
       subst
-      (λ m. AllByRecursion (DraftTrue d) (path_drafts rule
+      (λ m. AllByRecursion (DraftTrue d) (path_drafts r
       (record {
         always = d.always;
         clauses = o.p.clauses;
@@ -213,11 +216,12 @@ module _ (d : Design) (wf : IsWellFormed d) (db : List Row) (f : Frame) (ready :
             let mine = promise o.path.target k c e in
             let walk = number_at (DraftTrue d) (λ n. each_path d (promise_at d n)) 64 k mine.few h in
             let made = path_at (DraftTrue d) d (promise_at d k) walk f.ty f.point o.x o.p side j o.path o.is_type o.is_point o.is_path in
-            let drafts = some_at (DraftTrue d) (path_drafts 1 (setting_of d o.x o.p step j o.path) k place (names_of (length o.x.locals)))
+            let drafts = some_at (DraftTrue d) (path_drafts rule.Promises (setting_of d o.x o.p step j o.path) k place
+            (names_of (length o.x.locals)))
             (slice_get (promised o.x o.path.target) k) c e made in
-            path_clause d db ready.rows f o.p step last j o.path o.on o.path.actions o.acts_fit there after left 1 k (λ q. omega arith)
-            (λ q. omega arith) place (names_of (length f.locals)) env (λ own. names_worth d db f o.p step last j o.path o.on own) c
-            mine.fits (drafts_at 1 names_of (length f.locals) (sym o.each) k c drafts)
+            path_clause d db ready.rows f o.p step last j o.path o.on o.path.actions o.acts_fit there after left rule.Promises k (λ q. cc)
+            (λ q. cc) place (names_of (length f.locals)) env (λ own. names_worth d db f o.p step last j o.path o.on own) c
+            mine.fits (drafts_at rule.Promises names_of (length f.locals) (sym o.each) k c drafts)
 
     -- what holds always
     pub always_after : AllByRecursion (DraftTrue d) (always_drafts d) → Always d after
@@ -234,11 +238,11 @@ module _ (d : Design) (wf : IsWellFormed d) (db : List Row) (f : Frame) (ready :
 
             by :
                 (b : Bool) → clause_names o.path.actions c ≡ b
-                → AllByRecursion (DraftTrue d) (if b then path_drafts 2 (setting_of d o.x o.p step j o.path) k place [] c else [])
+                → AllByRecursion (DraftTrue d) (if b then path_drafts rule.Always (setting_of d o.x o.p step j o.path) k place [] c else [])
                 → ClauseTrue after [] c
             by true n m =
-                path_clause d db ready.rows f o.p step last j o.path o.on o.path.actions o.acts_fit there after left 2 k (λ q. omega arith)
-                (λ q. omega arith) place [] [] (λ own. refl) c fits (drafts_at 2 (λ z. []) (length f.locals) (sym o.each) k c m)
+                path_clause d db ready.rows f o.p step last j o.path o.on o.path.actions o.acts_fit there after left rule.Always k (λ q. cc)
+                (λ q. cc) place [] [] (λ own. refl) c fits (drafts_at rule.Always (λ z. []) (length f.locals) (sym o.each) k c m)
             by false n m =
                 subst (λ rows. ClauseTrue rows [] c) left
                 (clause_same d.tables env o.path.actions db o.acts_fit (recursion_from_All (RowFits d.tables) db ready.rows.shapes)

@@ -29,12 +29,12 @@ use Rattle.acc_formed.proofs.Open.{some_path_taken}
 use Rattle.acc_base.specs.Fits.{IsReady}
 use Rattle.acc_base.specs.Soundness.{IsShared, AreShared, actions_of, actions_of_path}
 use Rattle.acc_oblig.specs.Settings.{Setting, step_vars}
-use Rattle.acc_oblig.specs.Naming.{counted}
 use Rattle.acc_oblig.specs.Drafts.{Place, each, of_some, setting_of}
 use Rattle.acc_oblig.specs.PointRules.{each_point}
 use Rattle.acc_oblig.specs.Ranges.{ReadNumber, ActionNumber, one_action_numbers, numbers_of, setting_numbers, read_range_in}
 use Rattle.acc_oblig.specs.Ranges.{action_range_in, action_range_at, range_at, range_drafts}
 use Rattle.acc_base.proofs.EffectParts.{parts}
+use Rattle.acc_base.specs.Items.{numbers_from}
 use Rattle.acc_oblig.proofs.Guards.{taken_is}
 use Rattle.acc_oblig.proofs.Judged.{DraftTrue}
 use Rattle.acc_oblig.proofs.Taken.{IsOn}
@@ -106,7 +106,7 @@ module _ (d : Design) (wf : IsWellFormed d) (db : List Row) (f : Frame) (ready :
 
   read_count : (n vars : ℕ) → length (setting_numbers (rs n) vars) ≤ 224
   read_count n vars =
-      let a = few_numbers n vars (counted 0 n) (n + 1) 0 step.reads few_reads in
+      let a = few_numbers n vars (numbers_from 0 n) (n + 1) 0 step.reads few_reads in
       let b = fs.formed.few_reads in
       omega (arith, a, b)
 

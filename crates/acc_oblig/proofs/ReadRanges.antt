@@ -1,5 +1,6 @@
 -- Where the obligations on the numbers of reads are true, the reads of an undo step stay in range.
-use Rattle.std.proofs.Common.{◌≡◌, ℕ, ◌+◌, ◌^◌, ◌≤◌, Bool, true, false, if◌then◌else◌, List, [], ◌∷◌, ◌++◌, map, length, set, refl, ap, sym}
+use Rattle.std.proofs.Common.{◌≡◌, ◌≢◌, ℕ, ◌+◌, ◌^◌, ◌≤◌, Bool, true, false, if◌then◌else◌, List, [], ◌∷◌, ◌++◌, map, length, set, refl, ap}
+use Rattle.std.proofs.Common.{sym}
 use Rattle.std.proofs.Common.{◌∙◌, subst, arith, Some, None, ℤ, pos, neg_ℤ, ◌+ℤ◌, ◌*ℤ◌, ◌≤ℤ◌}
 use Rattle.std.specs.Prelude.{unsigned_abs, ◌&&◌, option_and_then}
 use Rattle.std.specs.List.{list_all, AllByRecursion}
@@ -14,21 +15,23 @@ use Rattle.acc_base.specs.declared.steps.Read.{Read}
 use Rattle.acc_base.specs.declared.designs.At.{At}
 use Rattle.acc_base.specs.declared.designs.Design.{Design}
 use Rattle.acc_base.specs.declared.machines.Frame.{Frame}
+use Rattle.acc_base.specs.declared.sequents.Rule.TheVariants.{Begins, Ranges, Empty}
 use Rattle.acc_base.specs.Numbers.{is_small, IsSmall}
 use Rattle.acc_base.specs.Linear.{var, variables, lin_value, lin_values}
 use Rattle.acc_base.specs.Reads.{Reading, unread, assigned, read_key, read_value, after_read, after_reads}
 use Rattle.acc_base.specs.Truth.{form_value, rel_true, ClauseTrue}
 use Rattle.acc_preconditions.proofs.Alls.{all-append}
 use Rattle.acc_base.specs.Fits.{RowsFit}
+use Rattle.acc_base.specs.Items.{numbers_from}
 use Rattle.acc_oblig.specs.declared.naming.Naming.{Naming}
-use Rattle.acc_oblig.specs.Naming.{counted, named_lin}
+use Rattle.acc_oblig.specs.Naming.{named_lin}
 use Rattle.acc_oblig.specs.Relations.{negated, plus_number}
 use Rattle.acc_oblig.specs.Settings.{Setting, with_self, first_now, step_vars, step_bounds, step_rels, step_hyps, all_read_rels}
 use Rattle.acc_oblig.specs.Drafts.{goal_drafts}
 use Rattle.acc_oblig.specs.Ranges.{within, ReadNumber, value_asked, key_number, value_number, read_numbers, read_origin, read_range_in}
 use Rattle.acc_oblig.specs.Ranges.{setting_numbers}
 use Rattle.acc_oblig.proofs.Names.{Agrees, AgreesBehind, lin_named}
-use Rattle.acc_oblig.proofs.FormValues.{int_le_holds, lin_form_value, negated_value, plus_value, at_most_true, is_number_true}
+use Rattle.acc_oblig.proofs.FormValues.{int_le_holds, lin_form_value, negated_value, plus_value, is_at_most_bound_true, is_number_true}
 use Rattle.acc_oblig.proofs.Reading.{read_on, read_values}
 use Rattle.acc_oblig.proofs.ReadRels.{HasDivisor}
 use Rattle.acc_oblig.proofs.Carries.{Carries, carried, carried_long, carries, carries_near, carries_more, with_number}
@@ -37,7 +40,7 @@ use Rattle.acc_oblig.proofs.Judged.{DraftTrue, goals_true, passes, passes_append
 use Rattle.acc_oblig.proofs.Taken.{all_named, behind_all}
 use Rattle.acc_oblig.proofs.Listed.{all_front, all_back}
 use Rattle.acc_oblig.proofs.RowNumbers.{given_small}
-use Rattle.acc_oblig.proofs.Counting.{counted_more}
+use Rattle.acc_oblig.proofs.Counting.{numbers_more}
 use Rattle.acc_preconditions.proofs.PartValues.{one_times}
 
 -- a value within bounds
@@ -73,8 +76,8 @@ module _ (d : Design) (db : List Row) (fit : RowsFit d db) (f : Frame) (clauses 
   here : Carries f vs E (length E + 1)
   here = carries f vs [] (length E + 1) (omega arith)
 
-  values : (F : List ℤ) (past : ℕ) → Carries f vs F past → map (var F) (counted (length f.locals + 1) (length all_reads)) ≡ vs
-  values F past c = subst (λ m. map (var F) (counted (length f.locals + 1) m) ≡ vs) (values_long db f all_reads (unread f)) c.values
+  values : (F : List ℤ) (past : ℕ) → Carries f vs F past → map (var F) (numbers_from (length f.locals + 1) (length all_reads)) ≡ vs
+  values F past c = subst (λ m. map (var F) (numbers_from (length f.locals + 1) m) ≡ vs) (values_long db f all_reads (unread f)) c.values
 
   own_worth : (m : ℤ) → var (E ++ m ∷ []) (length E) ≡ m
   own_worth m = get_or-append_seam E m [] (pos 0)
@@ -103,23 +106,25 @@ module _ (d : Design) (db : List Row) (fit : RowsFit d db) (f : Frame) (clauses 
   me_small = subst IsSmall (sym here.me) can.number
 
   bounds :
-      (i : ℕ) → AllByRecursion IsSmall (map (var E) (counted (length f.locals + 1) i)) → AllByRecursion (TrueRel db E) (step_bounds s i)
+      (i : ℕ) → AllByRecursion IsSmall (map (var E) (numbers_from (length f.locals + 1) i)) → AllByRecursion (TrueRel db E)
+      (step_bounds s i)
   bounds i h =
       all-append (TrueRel db E) _ _ (all-append (TrueRel db E) _ _
       (bounds_true db E (first_now s) (subst (AllByRecursion IsSmall) (sym here.locals) can.small))
-      (at_most_true db E (length f.locals) me_small, (is_number_true db E (length f.locals) f.t here.me can.first, tt)))
-      (bounds_true db E (counted (length f.locals + 1) i) h)
+      (is_at_most_bound_true db E (length f.locals) me_small, (is_number_true db E (length f.locals) f.t here.me can.first, tt)))
+      (bounds_true db E (numbers_from (length f.locals + 1) i) h)
 
-  not_8 : ◌≡◌ {A = ℕ} 5 8 → ⊥
-  not_8 h = omega arith
+  not_empty : Ranges ≢ Empty
+  not_empty h = cc
 
-  not_0 : ◌≡◌ {A = ℕ} 5 0 → ⊥
-  not_0 h = omega arith
+  not_begins : Ranges ≢ Begins
+  not_begins h = cc
 
   -- a number whose obligation is true is within the range, where the reads before it are
   abbrev pub NumberTrue : ReadNumber → Type 0
   NumberTrue m =
-      m.asked ≡ true → AllByRecursion IsSmall (map (var E) (counted (length f.locals + 1) m.bounded)) → IsSmall (form_value db E m.value)
+      m.asked ≡ true → AllByRecursion IsSmall (map (var E) (numbers_from (length f.locals + 1) m.bounded)) → IsSmall
+      (form_value db E m.value)
 
   pub number_true : (k : ℕ) (at : At) (m : ReadNumber) → AllByRecursion (DraftTrue d) (read_range_in k at s (length E) m) → NumberTrue m
   number_true k at m h asked before =
@@ -130,7 +135,8 @@ module _ (d : Design) (db : List Row) (fit : RowsFit d db) (f : Frame) (clauses 
       (passes (rel_true db E) _ (bounds m.bounded before))
       (passes_append (rel_true db E) (all_read_rels (length f.locals) (length E) (first_now s) (length f.locals + 1) all_reads) []
       (passes (rel_true db E) _ along.rels) refl) in
-      let goals = goals_true d db E fit (read_origin k at) (λ q. record { empty = λ z. absurd (not_8 z); fresh = λ z. absurd (not_0 z) })
+      let goals = goals_true d db E fit (read_origin k at)
+      (λ q. record { empty = λ z. absurd (not_empty z); fresh = λ z. absurd (not_begins z) })
       (length E) refl (step_hyps s (length E)) hyps_true (step_bounds s m.bounded ++ step_rels s (length E)) rels false 1
       (within m.value (2 ^ 45)) drafts in
       let up = int_le_holds (form_value db E (plus_number m.value (neg_ℤ (pos (2 ^ 45))))) (pos 0) goals.0 in
@@ -142,7 +148,7 @@ module _ (d : Design) (db : List Row) (fit : RowsFit d db) (f : Frame) (clauses 
   -- ---- along the reads
 
   keys_small :
-      (n : Naming) (e : List ℤ) → Agrees n E e → (i : ℕ) → AllByRecursion IsSmall (map (var E) (counted (length f.locals + 1) i))
+      (n : Naming) (e : List ℤ) → Agrees n E e → (i : ℕ) → AllByRecursion IsSmall (map (var E) (numbers_from (length f.locals + 1) i))
       → (ls : List Lin) → AllByRecursion NumberTrue (map (key_number n i) ls) → list_all is_small (lin_values e ls) ≡ true
   keys_small n e agree i before [] h = refl
   keys_small n e agree i before (l ∷ ls) h =
@@ -154,7 +160,7 @@ module _ (d : Design) (db : List Row) (fit : RowsFit d db) (f : Frame) (clauses 
 
   value_small :
       (x i : ℕ) (z : Reading) (r : Read) → var E x ≡ read_value db f.tape z.at (variables f.t z.locals) r
-      → AllByRecursion IsSmall (map (var E) (counted (length f.locals + 1) i)) → NumberTrue (value_number x i r)
+      → AllByRecursion IsSmall (map (var E) (numbers_from (length f.locals + 1) i)) → NumberTrue (value_number x i r)
       → IsSmall (read_value db f.tape z.at (variables f.t z.locals) r)
   value_small x i z r worth before h = by (value_asked r) refl
     where
@@ -177,8 +183,8 @@ module _ (d : Design) (db : List Row) (fit : RowsFit d db) (f : Frame) (clauses 
 
   pub reads_stay :
       (now : List ℕ) (x i : ℕ) (rs : List Read) (z : Reading) → ((own : List ℤ) → length own ≤ 1 → map (var (E ++ own)) now ≡ z.locals)
-      → ((own : List ℤ) → length own ≤ 1 → map (var (E ++ own)) (counted x (length rs)) ≡ read_values db f z rs)
-      → x ≡ length f.locals + 1 + i → AllByRecursion IsSmall (map (var E) (counted (length f.locals + 1) i))
+      → ((own : List ℤ) → length own ≤ 1 → map (var (E ++ own)) (numbers_from x (length rs)) ≡ read_values db f z rs)
+      → x ≡ length f.locals + 1 + i → AllByRecursion IsSmall (map (var E) (numbers_from (length f.locals + 1) i))
       → AllByRecursion NumberTrue (read_numbers (length f.locals) (length E) now x i rs)
       → (last : Reading) × (after_reads db f rs z ≡ Some last)
   reads_stay now x i [] z h g place before numbers = (z, refl)
@@ -196,10 +202,10 @@ module _ (d : Design) (db : List Row) (fit : RowsFit d db) (f : Frame) (clauses 
       let small : list_all is_small (read_value db f.tape z.at (variables f.t z.locals) r ∷ lin_values (variables f.t z.locals)
       (read_key r)) ≡ true = (λ j. small_test (read_value db f.tape z.at (variables f.t z.locals) r) value j && keys j) in
       let step : after_read db f z r ≡ Some (read_on db f z r) = ap (λ b. if b then Some (read_on db f z r) else None) small in
-      let more : AllByRecursion IsSmall (map (var E) (counted (length f.locals + 1) (i + 1))) =
+      let more : AllByRecursion IsSmall (map (var E) (numbers_from (length f.locals + 1) (i + 1))) =
       subst (AllByRecursion IsSmall)
-      (sym (ap (map (var E)) (counted_more (length f.locals + 1) i)
-      ∙ map-append (var E) (counted (length f.locals + 1) i) ((length f.locals + 1 + i) ∷ [])))
+      (sym (ap (map (var E)) (numbers_more (length f.locals + 1) i)
+      ∙ map-append (var E) (numbers_from (length f.locals + 1) i) ((length f.locals + 1 + i) ∷ [])))
       (all-append IsSmall _ _ before (subst (λ m. IsSmall (var E m)) place (subst IsSmall (sym at_x) value), tt)) in
       let rest = reads_stay (set now (assigned r) x) (x + 1) (i + 1) rs (read_on db f z r)
       (λ own few. set_worth (E ++ own) now x r z (h own few) (here_x own few)) (λ own few. ap tail (g own few)) (omega (arith, place)) more

@@ -10,8 +10,8 @@ use Rattle.acc_base.specs.declared.machines.Frame.{Frame}
 use Rattle.acc_base.specs.Numbers.{is_small}
 use Rattle.acc_base.specs.Linear.{var, variables, lin_values}
 use Rattle.acc_base.specs.Reads.{Reading, assigned, read_key, read_value, at_after, after_read, after_reads}
+use Rattle.acc_base.specs.Items.{numbers_from}
 use Rattle.acc_oblig.specs.Settings.{now_after}
-use Rattle.acc_oblig.specs.Naming.{counted}
 
 -- the reading after a read that is in range
 abbrev pub read_on : List Row → Frame → Reading → Read → Reading
@@ -51,7 +51,7 @@ reads_on db f s last r rs e = by (after_read db f s r) refl e
 -- after the reads each local is worth, under its name, what it is
 pub now_worth :
     (db : List Row) (f : Frame) (E : List ℤ) (now : List ℕ) (x : ℕ) (rs : List Read) (s last : Reading) → after_reads db f rs s ≡ Some last
-    → map (var E) now ≡ s.locals → map (var E) (counted x (length rs)) ≡ read_values db f s rs
+    → map (var E) now ≡ s.locals → map (var E) (numbers_from x (length rs)) ≡ read_values db f s rs
     → map (var E) (now_after now x rs) ≡ last.locals
 now_worth db f E now x [] s last e h g = h ∙ ap (λ z. z.locals) (same_Some s last e)
 now_worth db f E now x (r ∷ rs) s last e h g =

@@ -18,6 +18,7 @@ use Rattle.acc_base.specs.declared.designs.Point.{Point}
 use Rattle.acc_base.specs.declared.designs.Design.{Design}
 use Rattle.acc_base.specs.declared.machines.Frame.{Frame}
 use Rattle.acc_base.specs.declared.sequents.Origin.{Origin}
+use Rattle.acc_base.specs.declared.sequents.Rule.TheVariants.{Begins, Spares, Empty}
 use Rattle.acc_base.specs.Numbers.{IsSmall}
 use Rattle.acc_base.specs.Linear.{var, variables}
 use Rattle.acc_base.specs.Reads.{Reading}
@@ -27,14 +28,15 @@ use Rattle.acc_preconditions.specs.Preconditions.{wp_of}
 use Rattle.acc_base.specs.RowsAfter.{rows_after, AreThere}
 use Rattle.acc_preconditions.proofs.Alls.{all-append}
 use Rattle.acc_base.specs.Fits.{RowsFit}
-use Rattle.acc_oblig.specs.Naming.{own_naming, own_clauses, counted, named_rel}
-use Rattle.acc_oblig.specs.Relations.{below}
+use Rattle.acc_base.specs.Items.{numbers_from}
+use Rattle.acc_oblig.specs.Naming.{own_naming, own_clauses, named_rel}
+use Rattle.acc_oblig.specs.Relations.{is_less}
 use Rattle.acc_oblig.specs.Settings.{Setting, step_vars, after_naming, frame_bounds, step_bounds, step_rels, step_hyps, path_actions}
 use Rattle.acc_oblig.specs.Drafts.{is_clause_wide, Place, goals_of, path_origin}
 use Rattle.acc_oblig.specs.Spares.{held_names, ordered_drafts, spare_in, spare_drafts}
 use Rattle.acc_oblig.proofs.Names.{Agrees, AgreesBehind, agrees_by, actions_named}
-use Rattle.acc_oblig.proofs.FormValues.{at_most_true, is_number_true}
-use Rattle.acc_oblig.proofs.Extremes.{below_true}
+use Rattle.acc_oblig.proofs.FormValues.{is_at_most_bound_true, is_number_true}
+use Rattle.acc_oblig.proofs.Extremes.{is_less_true}
 use Rattle.acc_oblig.proofs.Carries.{carried, carried_more}
 use Rattle.acc_oblig.proofs.Walks.{TrueRel, bounds_true}
 use Rattle.acc_oblig.proofs.Shapes.{actions_fit}
@@ -118,9 +120,9 @@ module _ (d : Design) (db : List Row) (fit : RowsFit d db) (f : Frame) (p : Poin
 
       held_bounds : AllByRecursion (TrueRel db F') (frame_bounds (step_vars s) m (step_vars s + m))
       held_bounds =
-          all-append (TrueRel db F') _ _ (bounds_true db F' (counted (step_vars s) m)
+          all-append (TrueRel db F') _ _ (bounds_true db F' (numbers_from (step_vars s) m)
           (subst (AllByRecursion IsSmall) (sym (held_locals f vals g own (step_vars s) base_long)) small)) (
-            at_most_true db F' (step_vars s + m) (subst IsSmall (sym me_is) number),
+            is_at_most_bound_true db F' (step_vars s + m) (subst IsSmall (sym me_is) number),
             (is_number_true db F' (step_vars s + m) g.t me_is one, tt),
           )
 
@@ -137,8 +139,8 @@ module _ (d : Design) (db : List Row) (fit : RowsFit d db) (f : Frame) (p : Poin
 
       order_true :
           (rest : List Rel) → list_all (rel_true db F') rest ≡ true
-          → (list_all (rel_true db F') (first_rels ++ below (step_vars s + m) s.locals ∷ rest) ≡ true)
-          ⊎ (list_all (rel_true db F') (first_rels ++ below s.locals (step_vars s + m) ∷ rest) ≡ true)
+          → (list_all (rel_true db F') (first_rels ++ is_less (step_vars s + m) s.locals ∷ rest) ≡ true)
+          ⊎ (list_all (rel_true db F') (first_rels ++ is_less s.locals (step_vars s + m) ∷ rest) ≡ true)
       order_true rest h = by (apart g.t f.t other)
         where
           apart : (x y : ℕ) → x ≢ y → (x < y) ⊎ (y < x)
@@ -152,20 +154,20 @@ module _ (d : Design) (db : List Row) (fit : RowsFit d db) (f : Frame) (p : Poin
           lower x y v w a b l = omega (arith, ints, a, b, l)
 
           by :
-              (g.t < f.t) ⊎ (f.t < g.t) → (list_all (rel_true db F') (first_rels ++ below (step_vars s + m) s.locals ∷ rest) ≡ true)
-              ⊎ (list_all (rel_true db F') (first_rels ++ below s.locals (step_vars s + m) ∷ rest) ≡ true)
+              (g.t < f.t) ⊎ (f.t < g.t) → (list_all (rel_true db F') (first_rels ++ is_less (step_vars s + m) s.locals ∷ rest) ≡ true)
+              ⊎ (list_all (rel_true db F') (first_rels ++ is_less s.locals (step_vars s + m) ∷ rest) ≡ true)
           by (inl l) =
-              inl (passes_append (rel_true db F') first_rels (below (step_vars s + m) s.locals ∷ rest) first_true
-              (λ i. below_true db F' (step_vars s + m) s.locals (lower g.t f.t _ _ me_is step_me_is l) i && h i))
+              inl (passes_append (rel_true db F') first_rels (is_less (step_vars s + m) s.locals ∷ rest) first_true
+              (λ i. is_less_true db F' (step_vars s + m) s.locals (lower g.t f.t _ _ me_is step_me_is l) i && h i))
           by (inr l) =
-              inr (passes_append (rel_true db F') first_rels (below s.locals (step_vars s + m) ∷ rest) first_true
-              (λ i. below_true db F' s.locals (step_vars s + m) (lower f.t g.t _ _ step_me_is me_is l) i && h i))
+              inr (passes_append (rel_true db F') first_rels (is_less s.locals (step_vars s + m) ∷ rest) first_true
+              (λ i. is_less_true db F' s.locals (step_vars s + m) (lower f.t g.t _ _ step_me_is me_is l) i && h i))
 
     -- a clause of the held point is true after the path, where the relations on the entry's pairs are true
     pub spare_clause :
         (held : Option At) (k : ℕ) (w : Place) (pairs : List Rel) → ((own : List ℤ) → list_all (rel_true db (F' own)) pairs ≡ true)
         → (c : Clause) → ClauseFits d.tables c → AllByRecursion (DraftTrue d)
-        (spare_drafts (path_origin 3 held k w) s clauses (length g.locals) pairs c) → ClauseTrue after (variables g.t g.locals) c
+        (spare_drafts (path_origin Spares held k w) s clauses (length g.locals) pairs c) → ClauseTrue after (variables g.t g.locals) c
     spare_clause held k w pairs pairs_true c fits drafts own own_long guards =
         let n = own_naming (held_names s (length g.locals)) (step_vars s + (length g.locals + 1)) (length c.vars) in
         let acts = path_actions s (length (F' own)) in
@@ -183,25 +185,26 @@ module _ (d : Design) (db : List Row) (fit : RowsFit d db) (f : Frame) (p : Poin
         c.guards fits.guards in
         let rest = passes_append (rel_true db (F' own)) pairs (map (wp_of acts) (map (named_rel n) c.guards)) (pairs_true own)
         (after_guards ∙ guards) in
-        let goals = ordered_true d db (F' own) fit (path_origin 3 held k w)
-        (λ q. record { empty = λ h. absurd (not_8 h); fresh = λ h. absurd (not_0 h) }) (length (F' own)) refl _ (spare_hyps own)
-        (first_rels own) (below (step_vars s + length g.locals) s.locals) (below s.locals (step_vars s + length g.locals))
+        let goals = ordered_true d db (F' own) fit (path_origin Spares held k w)
+        (λ q. record { empty = λ h. absurd (not_empty h); fresh = λ h. absurd (not_begins h) }) (length (F' own)) refl _ (spare_hyps own)
+        (first_rels own) (is_less (step_vars s + length g.locals) s.locals) (is_less s.locals (step_vars s + length g.locals))
         (pairs ++ map (wp_of acts) (map (named_rel n) c.guards)) (is_clause_wide acts (map (named_rel n) c.guards) (named_rel n c.rel))
         (order_true own (pairs ++ map (wp_of acts) (map (named_rel n) c.guards)) rest) 1 (goals_of (wp_of acts (named_rel n c.rel)))
         here_drafts in
         sym (rel_after d db fit (F' own) acts acts_here there_here n (variables g.t g.locals ++ own) agree after leaves_here c.rel fits.rel)
         ∙ goals_give d db (F' own) fit (wp_of acts (named_rel n c.rel)) goals
       where
-        not_8 : ◌≡◌ {A = ℕ} 3 8 → ⊥
-        not_8 h = omega arith
+        not_empty : Spares ≢ Empty
+        not_empty h = cc
 
-        not_0 : ◌≡◌ {A = ℕ} 3 0 → ⊥
-        not_0 h = omega arith
+        not_begins : Spares ≢ Begins
+        not_begins h = cc
 
         vars_are : step_vars s + (length g.locals + 1) + length c.vars ≡ length (F' own)
         vars_are = let l = whole_long f vals g own (step_vars s) base_long in omega (arith, l, own_long)
 
-        here_drafts : AllByRecursion (DraftTrue d) (spare_in (path_origin 3 held k w) s clauses (length g.locals) pairs c (length (F' own)))
+        here_drafts : AllByRecursion (DraftTrue d)
+            (spare_in (path_origin Spares held k w) s clauses (length g.locals) pairs c (length (F' own)))
         here_drafts =
-            subst (λ vars. AllByRecursion (DraftTrue d) (spare_in (path_origin 3 held k w) s clauses (length g.locals) pairs c vars))
+            subst (λ vars. AllByRecursion (DraftTrue d) (spare_in (path_origin Spares held k w) s clauses (length g.locals) pairs c vars))
             vars_are drafts

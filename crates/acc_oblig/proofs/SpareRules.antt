@@ -17,6 +17,7 @@ use Rattle.acc_base.specs.declared.designs.TxType.{TxType}
 use Rattle.acc_base.specs.declared.designs.Design.{Design}
 use Rattle.acc_base.specs.declared.designs.Side.{Side}
 use Rattle.acc_base.specs.declared.machines.Frame.{Frame}
+use Rattle.acc_base.specs.declared.sequents.Rule.TheVariants.{Spares}
 use Rattle.acc_base.specs.Numbers.{IsSmall}
 use Rattle.acc_base.specs.Linear.{var, variables}
 use Rattle.acc_base.specs.Reads.{Reading}
@@ -97,16 +98,16 @@ module _ (d : Design) (wf : IsWellFormed d) (db : List Row) (f : Frame) (ready :
     -- obligations that count the types' locals count the frames'
     counts :
         (pairs : Setting → List Rel) (k : ℕ) (c : Clause)
-        → AllByRecursion (DraftTrue d) (spare_drafts (path_origin 3 (Some held) k place) (with_locals (length o.x.locals)) at.h.clauses
+        → AllByRecursion (DraftTrue d) (spare_drafts (path_origin Spares (Some held) k place) (with_locals (length o.x.locals)) at.h.clauses
         (length at.x.locals) (pairs (with_locals (length o.x.locals))) c)
-        → AllByRecursion (DraftTrue d) (spare_drafts (path_origin 3 (Some held) k place) (with_locals (length f.locals)) at.h.clauses
+        → AllByRecursion (DraftTrue d) (spare_drafts (path_origin Spares (Some held) k place) (with_locals (length f.locals)) at.h.clauses
         (length g.locals) (pairs (with_locals (length f.locals))) c)
     counts pairs k c h =
         subst (λ n. AllByRecursion (DraftTrue d)
-        (spare_drafts (path_origin 3 (Some held) k place) (with_locals (length f.locals)) at.h.clauses n
+        (spare_drafts (path_origin Spares (Some held) k place) (with_locals (length f.locals)) at.h.clauses n
         (pairs (with_locals (length f.locals))) c)) (sym at.frame.each)
         (subst (λ n. AllByRecursion (DraftTrue d)
-        (spare_drafts (path_origin 3 (Some held) k place) (with_locals n) at.h.clauses (length at.x.locals) (pairs (with_locals n)) c))
+        (spare_drafts (path_origin Spares (Some held) k place) (with_locals n) at.h.clauses (length at.x.locals) (pairs (with_locals n)) c))
         (sym o.each) h)
 
     clause_kept : (k : ℕ) (c : Clause) → slice_get at.h.clauses k ≡ Some c → ClauseTrue after (variables g.t g.locals) c
@@ -130,7 +131,8 @@ module _ (d : Design) (wf : IsWellFormed d) (db : List Row) (f : Frame) (ready :
             (pairs : List Rel) → ((own : List ℤ) → list_all
             (rel_true db (F f (ws d db ready.rows f o.p step last j o.path o.on) g own (step_vars (with_locals (length f.locals)))
             (base_long d db ready.rows f o.p step last j o.path o.on o.acts_fit there after left))) pairs ≡ true)
-            → AllByRecursion (DraftTrue d) (spare_drafts (path_origin 3 (Some held) k place) (with_locals (length f.locals)) at.h.clauses
+            → AllByRecursion (DraftTrue d) (spare_drafts (path_origin Spares (Some held) k place)
+            (with_locals (length f.locals)) at.h.clauses
             (length g.locals) pairs c) → ClauseTrue after (variables g.t g.locals) c
         use_it pairs pairs_true drafts =
             spare_clause d db ready.rows f o.p step last j o.path o.on o.acts_fit there after left g at.h.clauses clauses_hold small
@@ -175,7 +177,8 @@ module _ (d : Design) (wf : IsWellFormed d) (db : List Row) (f : Frame) (ready :
 
         by_entry_kept :
             (z : Option Entry) → entry_for d.entries held (at_of f) side ≡ z
-            → AllByRecursion (DraftTrue d) (by_entry (path_origin 3 (Some held) k place) (with_locals (length o.x.locals)) side at.h.clauses
+            → AllByRecursion (DraftTrue d) (by_entry (path_origin Spares (Some held) k place)
+            (with_locals (length o.x.locals)) side at.h.clauses
             (length at.x.locals) c z) → ClauseTrue after (variables g.t g.locals) c
         by_entry_kept None n m = use_it [] (λ own. refl) (counts (λ z. []) k c m)
         by_entry_kept (Some en) n m = split (list_any (λ p. true) en.pairs) refl m
@@ -185,7 +188,8 @@ module _ (d : Design) (wf : IsWellFormed d) (db : List Row) (f : Frame) (ready :
 
             split :
                 (b : Bool) → list_any (λ p. true) en.pairs ≡ b
-                → AllByRecursion (DraftTrue d) (if b then spare_drafts (path_origin 3 (Some held) k place) (with_locals (length o.x.locals))
+                → AllByRecursion (DraftTrue d) (if b then spare_drafts (path_origin Spares (Some held) k place)
+                (with_locals (length o.x.locals))
                 at.h.clauses (length at.x.locals) (pairs_differ (with_locals (length o.x.locals)) side en.pairs ∷ []) c else [])
                 → ClauseTrue after (variables g.t g.locals) c
             split true q r =
@@ -198,7 +202,8 @@ module _ (d : Design) (wf : IsWellFormed d) (db : List Row) (f : Frame) (ready :
 
         by :
             (b : Bool) → clause_names o.path.actions c ≡ b
-            → AllByRecursion (DraftTrue d) (if b then by_entry (path_origin 3 (Some held) k place) (setting_of d o.x o.p step j o.path) side
+            → AllByRecursion (DraftTrue d) (if b then by_entry (path_origin Spares (Some held) k place)
+            (setting_of d o.x o.p step j o.path) side
             at.h.clauses (length at.x.locals) c (entry_for d.entries held (at_of f) side) else [])
             → ClauseTrue after (variables g.t g.locals) c
         by true n m = by_entry_kept (entry_for d.entries held (at_of f) side) refl m

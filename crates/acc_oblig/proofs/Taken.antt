@@ -21,16 +21,17 @@ use Rattle.acc_base.specs.Reads.{Reading, unread, after_reads}
 use Rattle.acc_base.specs.Actions.{after_action}
 use Rattle.acc_base.specs.Truth.{rel_true, ClauseTrue}
 use Rattle.acc_base.specs.RowsAfter.{IsThere, AreThere}
+use Rattle.acc_base.specs.Items.{numbers_from}
 use Rattle.acc_preconditions.proofs.Alls.{all-append}
 use Rattle.acc_oblig.specs.declared.naming.Naming.{Naming}
-use Rattle.acc_oblig.specs.Naming.{own_naming, own_clauses, counted, named_action}
+use Rattle.acc_oblig.specs.Naming.{own_naming, own_clauses, named_action}
 use Rattle.acc_oblig.specs.Relations.{guard_rel}
 use Rattle.acc_oblig.specs.Settings.{Setting, first_now, last_now, after_naming, all_read_rels, step_bounds, step_rels, step_hyps}
 use Rattle.acc_oblig.specs.Drafts.{path_rels}
 use Rattle.acc_oblig.proofs.Names.{Agrees, AgreesNear, AgreesBehind, agrees_by, clause_named, lins_named, action_named}
 use Rattle.acc_oblig.proofs.Reading.{read_values, now_worth}
 use Rattle.acc_oblig.proofs.ReadRels.{HasDivisor}
-use Rattle.acc_oblig.proofs.FormValues.{guards_true, at_most_true, is_number_true}
+use Rattle.acc_oblig.proofs.FormValues.{guards_true, is_at_most_bound_true, is_number_true}
 use Rattle.acc_oblig.proofs.Guards.{IsTaken, all_untaken_true}
 use Rattle.acc_oblig.proofs.Carries.{Carries, carried, carries, carries_near, carries_more, with_number}
 use Rattle.acc_oblig.proofs.Walks.{LooksBelow, TrueRel, bounds_true, ReadsTrue, near_agrees, here_agrees, reads_true, values_small}
@@ -111,8 +112,8 @@ module _ (d : Design) (db : List Row) (f : Frame) (p : Point) (step : Step) (las
     pub here : Carries f vs E (length E + 1)
     here = carries f vs more (length E + 1) (omega arith)
 
-    values : (F : List ℤ) (past : ℕ) → Carries f vs F past → map (var F) (counted (length f.locals + 1) (length step.reads)) ≡ vs
-    values F past c = subst (λ m. map (var F) (counted (length f.locals + 1) m) ≡ vs) (values_long db f step.reads (unread f)) c.values
+    values : (F : List ℤ) (past : ℕ) → Carries f vs F past → map (var F) (numbers_from (length f.locals + 1) (length step.reads)) ≡ vs
+    values F past c = subst (λ m. map (var F) (numbers_from (length f.locals + 1) m) ≡ vs) (values_long db f step.reads (unread f)) c.values
 
     pub last_worth : (F : List ℤ) (past : ℕ) → Carries f vs F past → map (var F) (last_now setting) ≡ last.locals
     last_worth F past c =
@@ -161,8 +162,8 @@ module _ (d : Design) (db : List Row) (f : Frame) (p : Point) (step : Step) (las
     bounds =
         all-append (TrueRel db E) _ _ (all-append (TrueRel db E) _ _
         (bounds_true db E (first_now setting) (subst (AllByRecursion IsSmall) (sym here.locals) on.small))
-        (at_most_true db E (length f.locals) me_small, (is_number_true db E (length f.locals) f.t here.me on.first, tt)))
-        (bounds_true db E (counted (length f.locals + 1) (length step.reads))
+        (is_at_most_bound_true db E (length f.locals) me_small, (is_number_true db E (length f.locals) f.t here.me on.first, tt)))
+        (bounds_true db E (numbers_from (length f.locals + 1) (length step.reads))
         (subst (AllByRecursion IsSmall) (sym (values E (length E + 1) here)) (values_small db f step.reads (unread f) last on.reads)))
 
     pub rels_true : list_all (rel_true db E) (path_rels setting (length E)) ≡ true

@@ -1,5 +1,6 @@
 -- Where the obligations on variants are true, a variant lies from 0 to 65,536, and an undo path to a point makes it fall.
-use Rattle.std.proofs.Common.{◌≡◌, ℕ, ◌+◌, ◌^◌, ◌≤◌, true, false, List, [], ◌∷◌, take, length, refl, ap, sym, ◌∙◌, subst, arith, Some, None}
+use Rattle.std.proofs.Common.{◌≡◌, ◌≢◌, ℕ, ◌+◌, ◌^◌, ◌≤◌, true, false, List, [], ◌∷◌, take, length, refl, ap, sym, ◌∙◌, subst, arith, Some}
+use Rattle.std.proofs.Common.{None}
 use Rattle.std.proofs.Common.{ℤ, pos, negsuc, neg_ℤ, ◌+ℤ◌, ◌*ℤ◌, ◌<ℤ◌, ◌≤ℤ◌}
 use Rattle.std.specs.Prelude.{slice_get, option_and_then}
 use Rattle.std.specs.List.{AllByRecursion}
@@ -18,6 +19,7 @@ use Rattle.acc_base.specs.declared.designs.TxType.{TxType}
 use Rattle.acc_base.specs.declared.designs.Design.{Design}
 use Rattle.acc_base.specs.declared.designs.Side.TheVariants.{Undo}
 use Rattle.acc_base.specs.declared.machines.Frame.{Frame}
+use Rattle.acc_base.specs.declared.sequents.Rule.TheVariants as rule
 use Rattle.acc_base.specs.Numbers.{IsSmall}
 use Rattle.acc_base.specs.Linear.{variables, lin_value}
 use Rattle.acc_base.specs.Reads.{Reading, unread}
@@ -82,11 +84,11 @@ pub rest_long :
     (E d db f p rest_step (unread f) 0 rest_path (rest_on d db f p r) [])
 rest_long d db f p r = let l = carried_long f [] [] in omega (arith, l)
 
-not_8 : ◌≡◌ {A = ℕ} 6 8 → ⊥
-not_8 h = omega arith
+not_empty : rule.Variants ≢ rule.Empty
+not_empty h = cc
 
-not_0 : ◌≡◌ {A = ℕ} 6 0 → ⊥
-not_0 h = omega arith
+not_begins : rule.Variants ≢ rule.Begins
+not_begins h = cc
 
 module _ (d : Design) (db : List Row) (fit : RowsFit d db) (f : Frame) (p : Point) (r : Rests d db f p) where
   on : IsOn d db f p rest_step (unread f) 0 rest_path
@@ -102,7 +104,8 @@ module _ (d : Design) (db : List Row) (fit : RowsFit d db) (f : Frame) (p : Poin
       (clause ty i : ℕ) (goal : Form → Form) → AllByRecursion (DraftTrue d) (rest_in clause ty i s p.variant goal (step_vars s))
       → GoalTrue d db E' fit (goal (variant_form s (first_now s) (length E') p.variant))
   rest_goal clause ty i goal h =
-      (goals_true d db E' fit (rest_origin clause ty i) (λ k. record { empty = λ z. absurd (not_8 z); fresh = λ z. absurd (not_0 z) })
+      (goals_true d db E' fit (rest_origin clause ty i)
+      (λ k. record { empty = λ z. absurd (not_empty z); fresh = λ z. absurd (not_begins z) })
       (length E') refl (step_hyps s (length E')) (hyps_true d db f p rest_step (unread f) 0 rest_path on []) (path_rels s (length E'))
       (rels_true d db f p rest_step (unread f) 0 rest_path on []) false 1 (goal (variant_form s (first_now s) (length E') p.variant) ∷ [])
       (subst (λ vars. AllByRecursion (DraftTrue d) (rest_in clause ty i s p.variant goal vars)) (rest_long d db f p r) h)).0
@@ -217,8 +220,8 @@ module _ (d : Design) (db : List Row) (f : Frame) (ready : IsReady d db f) (afte
   fall w behind h =
       let first = variant_form z (first_now z) (length F) o.p.variant in
       let second = variant_form z (last_now z) (length F) behind in
-      let goal = goals_true d db F ready.rows (path_origin 6 None 2 w)
-      (λ k. record { empty = λ q. absurd (not_8 q); fresh = λ q. absurd (not_0 q) }) (length F) refl (step_hyps z (length F))
+      let goal = goals_true d db F ready.rows (path_origin rule.Variants None 2 w)
+      (λ k. record { empty = λ q. absurd (not_empty q); fresh = λ q. absurd (not_begins q) }) (length F) refl (step_hyps z (length F))
       (hyps_true d db f o.p step last j o.path o.on []) (path_rels z (length F)) (rels_true d db f o.p step last j o.path o.on [])
       (is_sum_wide second (negsuc 0) first) 1 (plus_number (form_sum second (negsuc 0) first) (pos 1) ∷ [])
       (subst (λ vars. AllByRecursion (DraftTrue d) (fall_in z w o.p.variant behind vars)) long h) in

@@ -15,17 +15,17 @@ use Rattle.acc_base.specs.Linear.{var, variables, lin_value, lin_values}
 use Rattle.acc_base.specs.Reads.{Reading, assigned, read_value, after_reads}
 use Rattle.acc_base.specs.Truth.{rel_true, ClauseTrue}
 use Rattle.acc_base.proofs.Smalls.{small_is}
+use Rattle.acc_base.specs.Items.{numbers_from}
 use Rattle.acc_preconditions.proofs.Alls.{all-append}
 use Rattle.acc_oblig.specs.declared.naming.Naming.{Naming}
-use Rattle.acc_oblig.specs.Naming.{counted}
-use Rattle.acc_oblig.specs.Relations.{read_rels, read_hyps, below}
+use Rattle.acc_oblig.specs.Relations.{read_rels, read_hyps, is_less}
 use Rattle.acc_oblig.specs.Settings.{with_self, all_read_rels, all_read_hyps, all_bounds}
 use Rattle.acc_oblig.proofs.Names.{Agrees, AgreesNear}
 use Rattle.acc_oblig.proofs.Reading.{read_on, read_values, reads_on}
-use Rattle.acc_oblig.proofs.FormValues.{at_most_true, at_least_true}
+use Rattle.acc_oblig.proofs.FormValues.{is_at_most_bound_true, is_at_least_minus_bound_true}
 use Rattle.acc_oblig.proofs.ReadRels.{HasDivisor, read_true}
 use Rattle.acc_oblig.proofs.Parts.{HasPart}
-use Rattle.acc_oblig.proofs.Extremes.{true_below, least_is, greatest_is, extreme_true}
+use Rattle.acc_oblig.proofs.Extremes.{true_is_less, least_is, greatest_is, extreme_true}
 use Rattle.acc_oblig.proofs.Carries.{Carries, self_agrees}
 
 -- the rows below a prefix that is looked below have a component behind it
@@ -49,7 +49,7 @@ module _ (db : List Row) (E : List ℤ) where
 
   pub bounds_true : (xs : List ℕ) → AllByRecursion IsSmall (map (var E) xs) → AllByRecursion TrueRel (all_bounds xs)
   bounds_true [] h = tt
-  bounds_true (x ∷ xs) h = (at_most_true db E x h.0, (at_least_true db E x h.0, bounds_true xs h.1))
+  bounds_true (x ∷ xs) h = (is_at_most_bound_true db E x h.0, (is_at_least_minus_bound_true db E x h.0, bounds_true xs h.1))
 
   -- ---- one read
 
@@ -65,15 +65,15 @@ module _ (db : List Row) (E : List ℤ) where
     hyps_true (Sum y t p c) g h = tt
     hyps_true (Least y t p) g h =
         extreme_true db E n e agree x k (least_of db t (lin_values e p)) h own_worth t p _
-        (least_is db t (lin_values e p) (g (lin_values e p) (length-map p (lin_value e)))) (below k x)
-        (λ m w. far m (true_below db (E ++ m ∷ []) k x w))
+        (least_is db t (lin_values e p) (g (lin_values e p) (length-map p (lin_value e)))) (is_less k x)
+        (λ m w. far m (true_is_less db (E ++ m ∷ []) k x w))
       where
         far : (m : ℤ) → var (E ++ m ∷ []) k <ℤ var (E ++ m ∷ []) x → m <ℤ least_of db t (lin_values e p)
         far m w = subst (λ z. m <ℤ z) (h (m ∷ []) (omega arith)) (subst (λ z. z <ℤ var (E ++ m ∷ []) x) (own_worth m) w)
     hyps_true (Greatest y t p) g h =
         extreme_true db E n e agree x k (greatest_of db t (lin_values e p)) h own_worth t p _
-        (greatest_is db t (lin_values e p) (g (lin_values e p) (length-map p (lin_value e)))) (below x k)
-        (λ m w. far m (true_below db (E ++ m ∷ []) x k w))
+        (greatest_is db t (lin_values e p) (g (lin_values e p) (length-map p (lin_value e)))) (is_less x k)
+        (λ m w. far m (true_is_less db (E ++ m ∷ []) x k w))
       where
         far : (m : ℤ) → var (E ++ m ∷ []) x <ℤ var (E ++ m ∷ []) k → greatest_of db t (lin_values e p) <ℤ m
         far m w = subst (λ z. z <ℤ m) (h (m ∷ []) (omega arith)) (subst (λ z. var (E ++ m ∷ []) x <ℤ z) (own_worth m) w)
@@ -112,7 +112,7 @@ module _ (db : List Row) (f : Frame) (vs E : List ℤ) (near : (own : List ℤ) 
 
   pub reads_true :
       (now : List ℕ) (x : ℕ) (rs : List Read) (s : Reading) → ((own : List ℤ) → length own ≤ 1 → map (var (E ++ own)) now ≡ s.locals)
-      → ((own : List ℤ) → length own ≤ 1 → map (var (E ++ own)) (counted x (length rs)) ≡ read_values db f s rs)
+      → ((own : List ℤ) → length own ≤ 1 → map (var (E ++ own)) (numbers_from x (length rs)) ≡ read_values db f s rs)
       → AllByRecursion HasDivisor rs → AllByRecursion (LooksBelow db) rs → ReadsTrue db E (length f.locals) (length E) now x rs
   reads_true now x [] s h g d l = record { rels = tt; hyps = tt }
   reads_true now x (r ∷ rs) s h g d l =

@@ -16,11 +16,12 @@ use Rattle.acc_base.specs.declared.designs.TxType.{TxType}
 use Rattle.acc_base.specs.declared.designs.Design.{Design}
 use Rattle.acc_base.specs.declared.sequents.Origin.{Origin}
 use Rattle.acc_base.specs.declared.sequents.Sequent.{Sequent}
+use Rattle.acc_base.specs.declared.sequents.Rule.{Rule}
 use Rattle.acc_base.specs.Effects.{step_at}
 use Rattle.acc_base.specs.Sums.{form_sum, is_sum_wide}
+use Rattle.acc_base.specs.Forms.{form}
 use Rattle.acc_preconditions.specs.Preconditions.{wp_of, is_wp_wide}
 use Rattle.acc_oblig.specs.Naming.{own_naming, named_rel}
-use Rattle.acc_oblig.specs.Relations.{form}
 use Rattle.acc_oblig.specs.Settings.{Setting, step_vars, step_bounds, step_rels, step_hyps, path_actions}
 
 -- an obligation as it is made, and whether a number of it is too large
@@ -46,12 +47,12 @@ of_some make (Some x) = make x
 -- ---- goals
 
 -- a form times -1
-abbrev pub turned : Form → Form
-turned f = form_sum (form [] (pos 0)) (negsuc 0) f
+abbrev pub opposite : Form → Form
+opposite f = form_sum (form [] (pos 0)) (negsuc 0) f
 
 -- a relation as forms that are at most 0
 abbrev pub goals_of : Rel → List Form
-goals_of r = if r.equal then r.form ∷ turned r.form ∷ [] else (r.form ∷ [])
+goals_of r = if r.equal then r.form ∷ opposite r.form ∷ [] else (r.form ∷ [])
 
 -- whether a number of them is too large
 abbrev pub are_goals_wide : Rel → Bool
@@ -122,7 +123,7 @@ each_number i zero make = []
 each_number i (suc n) make = make i ++ each_number (i + 1) n make
 
 -- where the obligation of a path comes from: its rule, the held point if there is one, its clause's place, the path, and its case
-abbrev pub path_origin : ℕ → Option At → ℕ → Place → ℕ → Origin
+abbrev pub path_origin : Rule → Option At → ℕ → Place → ℕ → Origin
 path_origin rule held clause w case =
     record { rule = rule; held = held; clause = clause + 1; at = Some w.at; side = w.side; path = w.path + 1; case = case }
 
@@ -131,6 +132,6 @@ abbrev pub path_rels : Setting → ℕ → List Rel
 path_rels s vars = step_bounds s (length s.reads) ++ step_rels s vars
 
 -- a clause after a path, whose first variables have these names
-abbrev pub path_drafts : ℕ → Setting → ℕ → Place → List ℕ → Clause → List Draft
+abbrev pub path_drafts : Rule → Setting → ℕ → Place → List ℕ → Clause → List Draft
 path_drafts rule s k w names c =
     clause_drafts (path_origin rule None k w) (step_hyps s) (path_rels s) (path_actions s) names (step_vars s) c

@@ -12,7 +12,7 @@ use Rattle.acc_oblig.specs.PointRules.{begin_drafts, variant_drafts, clear_draft
 use Rattle.acc_oblig.specs.Ranges.{range_drafts}
 use Rattle.acc_base.specs.TrueSequents.{SequentTrue}
 
--- rule by rule, from 0 to 8
+-- rule by rule, in the order of their numbers
 abbrev pub drafts_of : Design → List Draft
 drafts_of d =
     begin_drafts

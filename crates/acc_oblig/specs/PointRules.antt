@@ -12,16 +12,20 @@ use Rattle.acc_base.specs.declared.steps.Target.{Target}
 use Rattle.acc_base.specs.declared.steps.Target.TheVariants as target
 use Rattle.acc_base.specs.declared.steps.Path.{Path}
 use Rattle.acc_base.specs.declared.steps.Step.{Step}
+use Rattle.acc_base.specs.declared.designs.At.{At}
 use Rattle.acc_base.specs.declared.designs.Side.{Side}
 use Rattle.acc_base.specs.declared.designs.Side.TheVariants.{Next, Undo}
 use Rattle.acc_base.specs.declared.designs.Point.{Point}
 use Rattle.acc_base.specs.declared.designs.TxType.{TxType}
 use Rattle.acc_base.specs.declared.designs.Design.{Design}
 use Rattle.acc_base.specs.declared.sequents.Origin.{Origin}
+use Rattle.acc_base.specs.declared.sequents.Rule.TheVariants.{Begins, Variants, Clears}
 use Rattle.acc_base.specs.Sums.{form_sum, is_sum_wide}
 use Rattle.acc_base.specs.PrivateRows.{type_puts}
-use Rattle.acc_oblig.specs.Naming.{counted, named_lin}
-use Rattle.acc_oblig.specs.Relations.{lin_form, negated, plus_number, is_nothing, is_none, form, times, alone}
+use Rattle.acc_base.specs.Items.{numbers_from}
+use Rattle.acc_base.specs.Forms.{form, is_zero}
+use Rattle.acc_oblig.specs.Naming.{named_lin}
+use Rattle.acc_oblig.specs.Relations.{lin_form, negated, plus_number, is_nothing, times, alone}
 use Rattle.acc_oblig.specs.Settings.{Setting, first_now, last_now, step_naming, step_vars, step_bounds, step_hyps}
 use Rattle.acc_oblig.specs.Drafts.{Draft, Place, each, each_number, each_path, of_some, goal_drafts, clause_drafts, path_origin}
 use Rattle.acc_oblig.specs.Drafts.{path_drafts, path_rels, setting_of}
@@ -33,7 +37,7 @@ abbrev pub resting : Design → TxType → List Clause → Setting
 resting d x clauses =
     record { always = d.always; clauses = clauses; locals = length x.locals; reads = []; earlier = []; guard = []; actions = [] }
 
--- ---- rule 0: a transaction that begins has its start point's assertion
+-- ---- begins: a transaction that begins has its start point's assertion
 
 abbrev pub zeros : List ℕ → List Rel
 zeros [] = []
@@ -41,11 +45,11 @@ zeros (x ∷ xs) = is_nothing x ∷ zeros xs
 
 -- the locals behind the parameters are 0
 abbrev pub begin_rels : TxType → Setting → ℕ → List Rel
-begin_rels x s vars = step_bounds s 0 ++ zeros (counted x.params (length x.locals - x.params))
+begin_rels x s vars = step_bounds s 0 ++ zeros (numbers_from x.params (length x.locals - x.params))
 
 abbrev pub begin_origin : ℕ → ℕ → ℕ → Origin
 begin_origin k ty case =
-    record { rule = 0; held = None; clause = k + 1; at = Some (record { ty = ty; point = 0 }); side = Next; path = 0; case = case }
+    record { rule = Begins; held = None; clause = k + 1; at = Some (record { ty = ty; point = 0 }); side = Next; path = 0; case = case }
 
 abbrev pub begin_at : Design → ℕ → ℕ → TxType → List Draft
 begin_at d k ty x =
@@ -57,11 +61,12 @@ begin_at d k ty x =
 abbrev pub begin_drafts : Design → List Draft
 begin_drafts d = each_number 0 MOST_CLAUSES (λ k. each (begin_at d k) d.types)
 
--- ---- rule 6: the variant lies from 0 to 65,536, and an undo path to a point makes it fall
+-- ---- variants: the variant lies from 0 to 65,536, and an undo path to a point makes it fall
 
 abbrev pub rest_origin : ℕ → ℕ → ℕ → ℕ → Origin
 rest_origin clause ty point case =
-    record { rule = 6; held = None; clause = clause; at = Some (record { ty = ty; point = point }); side = Next; path = 0; case = case }
+    let at : At = record { ty = ty; point = point } in
+    record { rule = Variants; held = None; clause = clause; at = Some at; side = Next; path = 0; case = case }
 
 -- a variant, where the locals have these variables
 abbrev pub variant_form : Setting → List ℕ → ℕ → Lin → Form
@@ -85,7 +90,7 @@ abbrev pub fall_in : Setting → Place → Lin → Lin → ℕ → List Draft
 fall_in s w before behind vars =
     let first = variant_form s (first_now s) vars before in
     let last = variant_form s (last_now s) vars behind in
-    goal_drafts (path_origin 6 None 2 w) vars (step_hyps s vars) (path_rels s vars) (is_sum_wide last (negsuc 0) first) 1
+    goal_drafts (path_origin Variants None 2 w) vars (step_hyps s vars) (path_rels s vars) (is_sum_wide last (negsuc 0) first) 1
     (plus_number (form_sum last (negsuc 0) first) (pos 1) ∷ [])
 
 abbrev pub fall_drafts : Setting → Place → Point → Point → List Draft
@@ -110,7 +115,7 @@ variant_drafts d =
     each_point d (λ ty x i p. rest_drafts 1 d ty x i p negated)
     ++ (each_point d (λ ty x i p. rest_drafts 2 d ty x i p (λ f. plus_number f (neg_ℤ (pos LARGEST_VARIANT)))) ++ each_path d (fall_at d))
 
--- ---- rule 7: what has ended leaves no private row that its type puts
+-- ---- clears: what has ended leaves no private row that its type puts
 
 abbrev pub is_end : Target → Bool
 is_end (target.Point q) = false
@@ -124,14 +129,14 @@ none_of me t width =
     record {
       vars = replicate (width - 1) (codes "k");
       guards = [];
-      rel = is_none (form (times (pos 1) (atom.Has t (map alone (counted (me + 1) (width - 1)) ++ alone me ∷ [])) ∷ []) (pos 0));
+      rel = is_zero (form (times (pos 1) (atom.Has t (map alone (numbers_from (me + 1) (width - 1)) ++ alone me ∷ [])) ∷ []) (pos 0));
     }
 
 abbrev pub clear_at : Design → ℕ → Table → Place → TxType → Point → Step → Path → List Draft
 clear_at d t table w x p step path =
     let s : Setting = setting_of d x p step w.path path in
     let names = last_now s ++ length x.locals ∷ [] in
-    if table.own && type_puts t (Some x) && is_end path.target then path_drafts 7 s t w names (none_of (length x.locals) t table.width)
+    if table.own && type_puts t (Some x) && is_end path.target then path_drafts Clears s t w names (none_of (length x.locals) t table.width)
     else []
 
 abbrev pub clear_drafts : Design → List Draft

@@ -15,11 +15,13 @@ use Rattle.acc_base.specs.declared.designs.Point.{Point}
 use Rattle.acc_base.specs.declared.designs.TxType.{TxType}
 use Rattle.acc_base.specs.declared.designs.Design.{Design}
 use Rattle.acc_base.specs.declared.sequents.Origin.{Origin}
+use Rattle.acc_base.specs.declared.sequents.Rule.TheVariants.{Ranges}
 use Rattle.acc_base.specs.Reads.{assigned, read_key}
 use Rattle.acc_base.specs.Soundness.{adds_to}
+use Rattle.acc_base.specs.Forms.{form}
 use Rattle.acc_oblig.specs.declared.naming.Naming.{Naming}
 use Rattle.acc_oblig.specs.Naming.{named_lin}
-use Rattle.acc_oblig.specs.Relations.{form, variable, lin_form, negated, plus_number}
+use Rattle.acc_oblig.specs.Relations.{variable, lin_form, negated, plus_number}
 use Rattle.acc_oblig.specs.Settings.{Setting, with_self, first_now, after_naming, step_vars, step_bounds, step_rels, step_hyps}
 use Rattle.acc_oblig.specs.Drafts.{Draft, Place, each, each_number, of_some, goal_drafts, path_origin, path_rels, setting_of}
 use Rattle.acc_oblig.specs.PointRules.{each_point}
@@ -83,11 +85,11 @@ abbrev pub numbers_of : List Action → List Action → List ActionNumber
 numbers_of all [] = []
 numbers_of all (a ∷ rest) = one_action_numbers all a ++ numbers_of all rest
 
--- ---- rule 5
+-- ---- ranges
 
 abbrev pub read_origin : ℕ → At → ℕ → Origin
 read_origin k at case =
-    record { rule = 5; held = None; clause = k + 1; at = Some at; side = Undo; path = 0; case = case }
+    record { rule = Ranges; held = None; clause = k + 1; at = Some at; side = Undo; path = 0; case = case }
 
 -- the reads of an undo step, without a path
 abbrev pub reads_setting : Design → TxType → Point → Setting
@@ -113,7 +115,7 @@ read_range_in k at s vars m =
 abbrev pub action_range_in : ℕ → Place → Setting → ℕ → ActionNumber → List Draft
 action_range_in k w s vars m =
     let value = lin_form (named_lin (after_naming s vars) m.value) in
-    goal_drafts (path_origin 5 None k w) vars (step_hyps s vars) (path_rels s vars) false 1 (within value m.most)
+    goal_drafts (path_origin Ranges None k w) vars (step_hyps s vars) (path_rels s vars) false 1 (within value m.most)
 
 abbrev pub action_range_at : ℕ → ℕ → Place → Setting → List Draft
 action_range_at k first w s =

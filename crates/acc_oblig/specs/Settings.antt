@@ -7,8 +7,9 @@ use Rattle.acc_base.specs.declared.steps.Read.{Read}
 use Rattle.acc_base.specs.declared.steps.Action.{Action}
 use Rattle.acc_base.specs.declared.steps.Path.{Path}
 use Rattle.acc_base.specs.Reads.{assigned}
+use Rattle.acc_base.specs.Items.{numbers_from}
 use Rattle.acc_oblig.specs.declared.naming.Naming.{Naming}
-use Rattle.acc_oblig.specs.Naming.{counted, own_clauses, named_action}
+use Rattle.acc_oblig.specs.Naming.{own_clauses, named_action}
 use Rattle.acc_oblig.specs.Relations.{value_bounds, number_bounds, read_rels, read_hyps, guard_rel, untaken}
 
 -- a step of a transaction with so many locals: what holds always and at its point, its reads, the guards of the paths before the
@@ -35,7 +36,7 @@ now_after now x (r ∷ rs) = now_after (slice_set now (assigned r) x) (x + 1) rs
 
 -- the locals' variables before and after the reads of a step
 abbrev pub first_now : Setting → List ℕ
-first_now s = counted 0 s.locals
+first_now s = numbers_from 0 s.locals
 
 abbrev pub last_now : Setting → List ℕ
 last_now s = now_after (first_now s) (s.locals + 1) s.reads
@@ -79,11 +80,11 @@ all_untaken n (p ∷ ps) = untaken n p.guard ∷ all_untaken n ps
 
 -- so many locals of a transaction, from variable x on, and its number, which is the variable `me`, lie within the range
 abbrev pub frame_bounds : ℕ → ℕ → ℕ → List Rel
-frame_bounds x n me = all_bounds (counted x n) ++ number_bounds me
+frame_bounds x n me = all_bounds (numbers_from x n) ++ number_bounds me
 
 -- the step's own bounds, with those of the first `bounded` of its reads
 abbrev pub step_bounds : Setting → ℕ → List Rel
-step_bounds s bounded = frame_bounds 0 s.locals s.locals ++ all_bounds (counted (s.locals + 1) bounded)
+step_bounds s bounded = frame_bounds 0 s.locals s.locals ++ all_bounds (numbers_from (s.locals + 1) bounded)
 
 -- what the reads and the guard of the path make true
 abbrev pub step_rels : Setting → ℕ → List Rel

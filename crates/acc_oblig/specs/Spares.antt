@@ -16,10 +16,12 @@ use Rattle.acc_base.specs.declared.designs.Point.{Point}
 use Rattle.acc_base.specs.declared.designs.TxType.{TxType}
 use Rattle.acc_base.specs.declared.designs.Design.{Design}
 use Rattle.acc_base.specs.declared.sequents.Origin.{Origin}
+use Rattle.acc_base.specs.declared.sequents.Rule.TheVariants.{Spares}
+use Rattle.acc_base.specs.Items.{numbers_from}
 use Rattle.acc_preconditions.specs.Preconditions.{wp_of}
 use Rattle.acc_formed.specs.Entries.{same_point, same_side}
-use Rattle.acc_oblig.specs.Naming.{own_naming, own_clauses, counted, named_rel}
-use Rattle.acc_oblig.specs.Relations.{below, not_all_none}
+use Rattle.acc_oblig.specs.Naming.{own_naming, own_clauses, named_rel}
+use Rattle.acc_oblig.specs.Relations.{is_less, not_all_none}
 use Rattle.acc_oblig.specs.Settings.{Setting, last_now, step_vars, frame_bounds, step_bounds, step_rels, step_hyps, path_actions}
 use Rattle.acc_oblig.specs.Drafts.{is_clause_wide, Draft, Place, each, goals_of, each_path, path_origin, setting_of}
 use Rattle.acc_oblig.specs.PathPromises.{clause_names}
@@ -65,7 +67,7 @@ ordered_drafts origin vars hyps first lower higher rest wide case (g ∷ gs) =
 
 -- the variables of the held locals and number, which stand behind those of the step
 abbrev pub held_names : Setting → ℕ → List ℕ
-held_names s held = counted (step_vars s) (held + 1)
+held_names s held = numbers_from (step_vars s) (held + 1)
 
 -- the held type has so many locals; in obligations of so many variables
 abbrev pub spare_in : (ℕ → Origin) → Setting → List Clause → ℕ → List Rel → Clause → ℕ → List Draft
@@ -76,8 +78,8 @@ spare_in origin s clauses held pairs c vars =
     let r = named_rel n c.rel in
     let hyps = step_hyps s vars ++ own_clauses (held_names s held) vars clauses in
     let bounds = step_bounds s (length s.reads) ++ frame_bounds (step_vars s) held (step_vars s + held) in
-    let lower = below (step_vars s + held) s.locals in
-    let higher = below s.locals (step_vars s + held) in
+    let lower = is_less (step_vars s + held) s.locals in
+    let higher = is_less s.locals (step_vars s + held) in
     let rest = pairs ++ map (wp_of actions) guards in
     let wide = is_clause_wide actions guards r in
     ordered_drafts origin vars hyps (bounds ++ step_rels s vars) lower higher rest wide 1 (goals_of (wp_of actions r))
@@ -86,7 +88,7 @@ abbrev pub spare_drafts : (ℕ → Origin) → Setting → List Clause → ℕ �
 spare_drafts origin s clauses held pairs c =
     spare_in origin s clauses held pairs c (step_vars s + (held + 1) + length c.vars)
 
--- ---- rule 3
+-- ---- spares: what others assert
 
 -- a step that a held point doesn't forbid, or forbids where all pairs of the entry are equal; where it has no pairs it always does
 abbrev pub by_entry : (ℕ → Origin) → Setting → Side → List Clause → ℕ → Clause → Option Entry → List Draft
@@ -99,7 +101,7 @@ abbrev pub spare_at : Design → At → TxType → Point → ℕ → Clause → 
 spare_at d held x h k c w y p step path =
     let s : Setting = setting_of d y p step w.path path in
     let entry = entry_for d.entries held w.at w.side in
-    if clause_names path.actions c then by_entry (path_origin 3 (Some held) k w) s w.side h.clauses (length x.locals) c entry
+    if clause_names path.actions c then by_entry (path_origin Spares (Some held) k w) s w.side h.clauses (length x.locals) c entry
     else []
 
 -- the obligations on the clauses of one held point

@@ -9,7 +9,8 @@ use Rattle.acc_base.specs.declared.designs.TxType.{TxType}
 use Rattle.acc_base.specs.declared.designs.Design.{Design}
 use Rattle.acc_base.specs.declared.sequents.Origin.{Origin}
 use Rattle.acc_base.specs.Cells.{var_plus, make, bump_start, bump_mid, bump, cells}
-use Rattle.acc_oblig.specs.Relations.{form, times, variable, plain, is_none, never}
+use Rattle.acc_base.specs.Forms.{form, is_zero}
+use Rattle.acc_oblig.specs.Relations.{times, variable, plain, never}
 use Rattle.acc_oblig.specs.Drafts.{Draft}
 
 abbrev pub origins_of : List Draft → List Origin
@@ -21,10 +22,10 @@ never_design = record { tables = []; always = plain [] never ∷ []; types = [];
 
 -- the cell is there, and holds v
 abbrev pub cell_there : Clause
-cell_there = plain [] (is_none (form (times (pos 1) (atom.Has 0 (var_plus 0 (pos 0) ∷ [])) ∷ []) (negsuc 0)))
+cell_there = plain [] (is_zero (form (times (pos 1) (atom.Has 0 (var_plus 0 (pos 0) ∷ [])) ∷ []) (negsuc 0)))
 
 abbrev pub cell_is : Clause
-cell_is = plain [] (is_none (form (times (pos 1) (atom.Col 0 (var_plus 0 (pos 0) ∷ []) 0) ∷ variable (negsuc 0) 2 ∷ []) (pos 0)))
+cell_is = plain [] (is_zero (form (times (pos 1) (atom.Col 0 (var_plus 0 (pos 0) ∷ []) 0) ∷ variable (negsuc 0) 2 ∷ []) (pos 0)))
 
 abbrev pub held_bump : TxType
 held_bump = record bump { points = bump_start ∷ record bump_mid { clauses = cell_there ∷ cell_is ∷ [] } ∷ []; posts = cell_there ∷ [] }

@@ -3,3 +3,6 @@
 
 pub mod laws;
 pub mod naming;
+
+pub use laws::{obligations_are_counted, true_obligations_give_soundness};
+pub use naming::Naming;

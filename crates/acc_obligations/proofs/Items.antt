@@ -11,8 +11,8 @@ use Rattle.acc_goals.specs.declared.errors.ObligError.{ObligError}
 use Rattle.acc_goals.specs.declared.errors.ObligError.TheVariants.{Wide, Memory}
 use Rattle.acc_goals.specs.Causes.{Adds}
 use Rattle.acc_places.specs.declared.places.PointPlace.{PointPlace}
-use Rattle.acc_places.specs.SeenPlaces.{rest}
-use Rattle.acc_places.specs.Stops.{joined, at_rest, rests_of}
+use Rattle.acc_places.specs.SeenPlaces.{point_place}
+use Rattle.acc_places.specs.DesignPlaces.{joined, at_point_place, point_places}
 use Rattle.acc_places.proofs.EachPath.{each_point_is}
 use Rattle.acc_obligations.proofs.Going.{Going}
 
@@ -39,16 +39,16 @@ number_all make n = let e : n ≡ n - 0 = omega arith in ap (λ k. each_number 0
 -- what is added point by point along the list of points is what is made of each
 pub points_added :
     (r : Result (Unit {0}) ObligError) (old new : List Sequent) (d : Design) (make : ℕ → TxType → ℕ → Point → List Draft)
-    (ps : List PointPlace) → map rest ps ≡ rests_of d → Adds r old new (joined (at_rest make) (map rest ps)) →
+    (ps : List PointPlace) → map point_place ps ≡ point_places d → Adds r old new (joined (at_point_place make) (map point_place ps)) →
     Adds r old new (each_point d make)
-points_added r old new d make ps e a = subst (Adds r old new) (ap (joined (at_rest make)) e ∙ each_point_is d make) a
+points_added r old new d make ps e a = subst (Adds r old new) (ap (joined (at_point_place make)) e ∙ each_point_is d make) a
 
 pub both_points_added :
     (r : Result (Unit {0}) ObligError) (old new : List Sequent) (d : Design) (first last : ℕ → TxType → ℕ → Point → List Draft)
-    (ps : List PointPlace) → map rest ps ≡ rests_of d
-    → Adds r old new (joined (at_rest first) (map rest ps) ++ joined (at_rest last) (map rest ps))
+    (ps : List PointPlace) → map point_place ps ≡ point_places d
+    → Adds r old new (joined (at_point_place first) (map point_place ps) ++ joined (at_point_place last) (map point_place ps))
     → Adds r old new (each_point d first ++ each_point d last)
 both_points_added r old new d first last ps e a =
-    let one = ap (joined (at_rest first)) e ∙ each_point_is d first in
-    let other = ap (joined (at_rest last)) e ∙ each_point_is d last in
+    let one = ap (joined (at_point_place first)) e ∙ each_point_is d first in
+    let other = ap (joined (at_point_place last)) e ∙ each_point_is d last in
     subst (Adds r old new) (λ i. one i ++ other i) a

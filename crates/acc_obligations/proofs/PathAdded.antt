@@ -10,17 +10,18 @@ use Rattle.acc_base.specs.declared.designs.TxType.{TxType}
 use Rattle.acc_base.specs.declared.designs.Design.{Design}
 use Rattle.acc_base.specs.declared.sequents.Origin.{Origin}
 use Rattle.acc_base.specs.declared.sequents.Sequent.{Sequent}
+use Rattle.acc_base.specs.declared.sequents.Rule.{Rule}
 use Rattle.acc_oblig.specs.Settings.{Setting, step_vars, step_hyps, path_actions}
 use Rattle.acc_oblig.specs.Drafts.{Draft, Place, clause_drafts, each_path, path_origin, path_rels}
 use Rattle.acc_goals.specs.declared.errors.ObligError.{ObligError}
 use Rattle.acc_goals.specs.Causes.{Adds}
 use Rattle.acc_places.specs.declared.places.PathPlace.{PathPlace}
 use Rattle.acc_obligations.specs.PathClauses.{path_clause_drafts}
-use Rattle.acc_places.specs.SeenPlaces.{stop}
-use Rattle.acc_places.specs.Stops.{joined, at_stop, stops_of}
+use Rattle.acc_places.specs.SeenPlaces.{path_place}
+use Rattle.acc_places.specs.DesignPlaces.{joined, at_path_place, path_places}
 use Rattle.acc_places.proofs.EachPath.{each_path_is}
 
-module _ (r : Result (Unit {0}) ObligError) (old new : List Sequent) (rule : ℕ) (held : Option At) (k : ℕ) (w : Place) (s : Setting)
+module _ (r : Result (Unit {0}) ObligError) (old new : List Sequent) (rule : Rule) (held : Option At) (k : ℕ) (w : Place) (s : Setting)
     (names : List ℕ) (c : Clause) where
   pub path_added :
       (o : Origin) (t : Setting) (ns : List ℕ) (b : Clause) → o ≡ path_origin rule held k w 1 → t ≡ s → ns ≡ names → b ≡ c
@@ -30,6 +31,6 @@ module _ (r : Result (Unit {0}) ObligError) (old new : List Sequent) (rule : ℕ
 
 pub paths_added :
     (r : Result (Unit {0}) ObligError) (old new : List Sequent) (d : Design) (make : Place → TxType → Point → Step → Path → List Draft)
-    (ps : List PathPlace) → map stop ps ≡ stops_of d → Adds r old new (joined (at_stop make) (map stop ps)) →
+    (ps : List PathPlace) → map path_place ps ≡ path_places d → Adds r old new (joined (at_path_place make) (map path_place ps)) →
     Adds r old new (each_path d make)
-paths_added r old new d make ps e a = subst (Adds r old new) (ap (joined (at_stop make)) e ∙ each_path_is d make) a
+paths_added r old new d make ps e a = subst (Adds r old new) (ap (joined (at_path_place make)) e ∙ each_path_is d make) a

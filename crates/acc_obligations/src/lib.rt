@@ -2,3 +2,5 @@
 #![tactic(auto)]
 
 pub mod paths;
+
+pub use paths::{Cause, add_path_clause, path_origin, path_setting};

@@ -2,16 +2,16 @@
 ghost use Rattle.std.specs.Prelude.{◌≡◌, ◌+◌, ◌<◌, ◌^◌, take};
 ghost use Rattle.acc_oblig.specs.Drafts.{path_origin, setting_of};
 ghost use Rattle.acc_goals.specs.Causes.{Adds};
-ghost use Rattle.acc_places.specs.Rooms.{HasFewVars, IsSmallDesign, IsSmallStop};
+ghost use Rattle.acc_places.specs.Rooms.{HasFewVars, IsSmallDesign, IsSmallPathPlace};
 ghost use Rattle.acc_obligations.specs.PathClauses.{path_clause_drafts};
 ghost use Rattle.acc_assumptions.specs.Seen.{seen, HasRoom};
-ghost use Rattle.acc_places.specs.SeenPlaces.{stop};
+ghost use Rattle.acc_places.specs.SeenPlaces.{path_place};
 
 use acc_assumptions::settings::{Setting, path_actions, path_rels, step_hyps, step_vars};
 use acc_base::designs::{At, Design};
 use acc_base::forms::Clause;
 use acc_base::sequences::Seq;
-use acc_base::sequents::{Origin, Sequent};
+use acc_base::sequents::{Origin, Rule, Sequent};
 use acc_base::steps::Path;
 use acc_goals::errors::ObligError;
 use acc_goals::sequents::{Shared, add_clause};
@@ -30,7 +30,7 @@ fn earlier(paths: &[Path], number: u32) -> &[Path]
 /// The setting of a path.
 pub fn path_setting<'a>(d: &'a Design, q: &PathPlace<'a>) -> Setting<'a>
     requires design { IsSmallDesign d.now }
-    requires small { IsSmallStop (stop q.now) }
+    requires small { IsSmallPathPlace (path_place q.now) }
     ensures seen { seen result ≡ setting_of d.now q.now.ty.now q.now.point.now q.now.step.now q.now.number q.now.path.now }
     ensures room { HasRoom result }
 {
@@ -48,7 +48,7 @@ pub fn path_setting<'a>(d: &'a Design, q: &PathPlace<'a>) -> Setting<'a>
 /// Which clause or number of a rule an obligation is on, from 0, and of which held point if there is one.
 #[derive(Clone, Copy)]
 pub struct Cause {
-    pub rule: u32,
+    pub rule: Rule,
     pub held: Option<At>,
     pub clause: u32,
 }
@@ -56,8 +56,8 @@ pub struct Cause {
 /// Where the obligation with case 1 of a path comes from.
 pub fn path_origin(cause: Cause, q: &PathPlace<'_>) -> Origin
     requires clause { cause.clause + 1 < 2 ^ 32 }
-    requires small { IsSmallStop (stop q.now) }
-    ensures { result ≡ path_origin cause.rule cause.held cause.clause (stop q.now).w 1 }
+    requires small { IsSmallPathPlace (path_place q.now) }
+    ensures { result ≡ path_origin cause.rule cause.held cause.clause (path_place q.now).w 1 }
 {
     Origin {
         rule: cause.rule,

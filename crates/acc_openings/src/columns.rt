@@ -12,11 +12,11 @@ struct Column {
 }
 
 fn is_of(column: Column, atom: &Atom) -> bool {
-    match atom {
-        Atom::Col(table, _, place) | Atom::Sum(table, _, place) => {
-            *table as usize == column.table && *place as usize == column.place
+    match (atom.table(), atom.column()) {
+        (Some(table), Some(place)) => {
+            table as usize == column.table && place as usize == column.place
         }
-        Atom::One | Atom::Var(_) | Atom::Has(_, _) | Atom::Count(_, _) => false,
+        _ => false,
     }
 }
 

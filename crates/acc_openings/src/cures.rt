@@ -1,13 +1,13 @@
 //! What helps with an open obligation, where more can be said than for all of its rule.
 use crate::entries::{Clash, push_entry};
-use crate::keys::action_key;
+use crate::keys::{action_key, variable_in};
 use crate::known::is_told;
 use crate::names::{locals_of, path_of, type_at};
-use crate::promises::{push_none, push_only, push_there, push_where};
+use crate::promises::{push_holds, push_none, push_only, push_there, push_where};
 use crate::rows::{is_steady, is_unsure, own_table};
 use acc_base::designs::{At, Design};
-use acc_base::forms::{Atom, Lin, Rel, Unknown};
-use acc_base::sequents::Origin;
+use acc_base::forms::{Lin, Rel, Unknown};
+use acc_base::sequents::{Origin, Rule};
 use acc_base::steps::Action;
 use acc_page::Page;
 use acc_readings::readings::unknowns_of;
@@ -38,23 +38,25 @@ fn begun<'a>(
     unknown: &Unknown,
     value: (i128, i128),
 ) -> Option<&'a [u8]> {
-    let Atom::Var(x) = unknown.atom else {
-        return None;
-    };
+    let x = variable_in(&unknown.atom)?;
     if x < type_at(d, at)?.params || value.0 == 0 || !is_told(d, origin, leaf, unknown, value) {
         return None;
     }
     Some(locals_of(d, at).get(x as usize)?.as_slice())
 }
 
-/// Writes the locals that begin as 0 where this isn't known, as assertions of the first point.
+/// Writes the locals that begin as 0 where this isn't known, as assertions of the first point; nothing of another point, and nothing
+/// where something is written.
 fn push_begun(out: &mut Page, d: &Design, origin: &Origin, at: At, branch: &Branch) {
+    if at.point != 0 || !out.is_empty() {
+        return;
+    }
     let mut before: &[u8] =
         b"a local that is no parameter begins as 0, which isn't known unless it is held: ";
     for (unknown, value) in branch.unknowns.iter().zip(branch.point.iter()) {
         if let Some(name) = begun(d, origin, at, branch.leaf, unknown, *value) {
             out.push(before);
-            out.push(b"`holds ");
+            push_holds(out);
             out.push(name);
             out.push(b" = 0`");
             before = b", ";
@@ -65,19 +67,27 @@ fn push_begun(out: &mut Page, d: &Design, origin: &Origin, at: At, branch: &Bran
     }
 }
 
+/// Writes that an own row is there that an action changes, where its key is the same before the reads of the step.
+fn push_found(out: &mut Page, d: &Design, origin: &Origin, at: At, table: u32, key: &[Lin]) {
+    if is_steady(d, at, origin.side, key) {
+        out.push(b"it isn't known that the transaction has such a row: ");
+        push_there(out, d, at, table, key)
+    }
+}
+
 /// Writes that an action finds no row yet that it puts, or finds the one that it changes.
 fn push_sure(out: &mut Page, d: &Design, origin: &Origin, at: At, action: &Action) {
-    let key = action_key(action);
-    match (action, own_table(d, action.table())) {
-        (Action::Put(_, _, _), Some(table)) => {
+    let Some(table) = own_table(d, action.table()) else {
+        return;
+    };
+    match action {
+        Action::Put(_, _, _) => {
             out.push(b"it isn't known that the transaction has no such row yet: ");
             push_none(out, d, at, table)
         }
-        _ if is_steady(d, at, origin.side, key) => {
-            out.push(b"it isn't known that the transaction has such a row: ");
-            push_there(out, d, at, action.table(), key)
+        Action::Del(_, key) | Action::Set(_, key, _, _) | Action::Add(_, key, _, _) => {
+            push_found(out, d, origin, at, action.table(), key.as_slice())
         }
-        _ => {}
     }
 }
 
@@ -120,7 +130,9 @@ fn change_of(actions: &[Action], table: u32) -> Change<'_> {
         if action.table() == table {
             change = match (action, change) {
                 (Action::Del(_, key), Change::Nothing) => Change::Drop(key.as_slice()),
-                _ => return Change::Other,
+                (Action::Del(_, _), Change::Drop(_) | Change::Other) => return Change::Other,
+                (Action::Put(_, _, _) | Action::Set(_, _, _, _), _) => return Change::Other,
+                (Action::Add(_, _, _, _), _) => return Change::Other,
             };
         }
     }
@@ -149,6 +161,25 @@ fn push_left(out: &mut Page, d: &Design, origin: &Origin, at: At) {
     }
 }
 
+/// Writes the entry that keeps the step of an obligation apart from what is held.
+fn push_apart(
+    alloc: Global,
+    out: &mut Page,
+    d: &Design,
+    origin: &Origin,
+    at: At,
+) -> Result<(), AllocError> {
+    let Some(held) = origin.held else {
+        return Ok(());
+    };
+    let clash = Clash {
+        held,
+        step: at,
+        side: origin.side,
+    };
+    push_entry(alloc, out, d, clash)
+}
+
 /// Writes what helps with an obligation on a step of a point, by its rule.
 fn push_for(
     alloc: Global,
@@ -158,22 +189,16 @@ fn push_for(
     at: At,
     branch: &Branch,
 ) -> Result<(), AllocError> {
-    match (origin.rule, origin.held) {
-        (3, Some(held)) => {
-            let clash = Clash {
-                held,
-                step: at,
-                side: origin.side,
-            };
-            return push_entry(alloc, out, d, clash);
+    match origin.rule {
+        Rule::Promises => push_begun(out, d, origin, at, branch),
+        Rule::Always => {
+            push_own(out, d, origin, at, branch);
+            push_begun(out, d, origin, at, branch)
         }
-        (2, _) => push_own(out, d, origin, at, branch),
-        (4, _) => push_row_of(out, d, origin, at),
-        (7, _) => push_left(out, d, origin, at),
-        _ => {}
-    }
-    if out.is_empty() && at.point == 0 && (origin.rule == 1 || origin.rule == 2) {
-        push_begun(out, d, origin, at, branch);
+        Rule::Spares => return push_apart(alloc, out, d, origin, at),
+        Rule::There => push_row_of(out, d, origin, at),
+        Rule::Clears => push_left(out, d, origin, at),
+        Rule::Begins | Rule::Ranges | Rule::Variants | Rule::Empty => {}
     }
     Ok(())
 }

@@ -1,7 +1,9 @@
 //! The entry that keeps a step apart from an assertion that it may break.
 use crate::meetings::{Question, tally_of};
-use crate::names::{assigns, locals_of, point_at, step_at, type_at};
+use crate::names::{assigns, locals_of, type_at};
+use crate::values::push_word;
 use acc_base::designs::{At, Design, Entry, Side};
+use acc_lex::language;
 use acc_page::{Page, push_at};
 use std::alloc::{AllocError, Global};
 
@@ -42,8 +44,7 @@ fn is_kept(d: &Design, at: At, local: usize) -> bool {
 
 /// Whether a row of both is one at which these two locals are equal, wherever the step may meet what is held, and there is such a row.
 fn parts(d: &Design, clash: Clash, pair: (usize, usize)) -> bool {
-    let (Some(held), Some(step)) = (point_at(d, clash.held), step_at(d, clash.step, clash.side))
-    else {
+    let (Some(held), Some(step)) = (d.point(clash.held), d.step(clash.step, clash.side)) else {
         return false;
     };
     let question = Question {
@@ -119,13 +120,15 @@ fn push_local(out: &mut Page, d: &Design, at: At, local: usize) {
 
 /// Writes an entry as it stands in a design.
 fn push_line(out: &mut Page, d: &Design, clash: Clash, pairs: &[(usize, usize)]) {
-    out.push(b"entry ");
+    push_word(out, language::ENTRY);
     push_at(out, d, clash.held);
-    out.push(b" by ");
+    out.push(b" ");
+    push_word(out, language::BY);
     push_at(out, d, clash.step);
+    out.push(b" ");
     out.push(match clash.side {
-        Side::Next => b" next",
-        Side::Undo => b" undo",
+        Side::Next => language::NEXT,
+        Side::Undo => language::UNDO,
     });
     let mut before: &[u8] = b" : ";
     for (left, right) in pairs {

@@ -1,8 +1,9 @@
 //! Which values of a point are told: those of which something is known.
+use crate::keys::variable_in;
 use crate::names::is_number;
 use acc_base::bounds::LARGEST_NUMBER;
 use acc_base::designs::Design;
-use acc_base::forms::{Atom, Rel, Unknown};
+use acc_base::forms::{Rel, Unknown};
 use acc_base::sequents::Origin;
 
 /// How far a number may go.
@@ -10,14 +11,14 @@ const MOST: i128 = LARGEST_NUMBER as i128;
 
 /// The lowest that an unknown may be: 1 for the number of a transaction, else the end of the range.
 fn least_of(d: &Design, origin: &Origin, unknown: &Unknown) -> i128 {
-    match unknown.atom {
-        Atom::Var(x) if is_number(d, origin, x) => 1,
-        _ => -MOST,
+    match variable_in(&unknown.atom) {
+        Some(x) if is_number(d, origin, x) => 1,
+        Some(_) | None => -MOST,
     }
 }
 
 fn is_variable(unknown: &Unknown) -> bool {
-    matches!(unknown.atom, Atom::Var(_))
+    variable_in(&unknown.atom).is_some()
 }
 
 /// Whether a relation of one unknown, times a number, and a constant is an end of the range that begins at `least`.

@@ -19,23 +19,13 @@ pub struct Tally {
     pub without: u64,
 }
 
-/// The table and the key, or its front, of what an atom counts.
-fn key_of(atom: &Atom) -> Option<(u32, &[Lin])> {
-    match atom {
-        Atom::One | Atom::Var(_) => None,
-        Atom::Has(table, key) | Atom::Count(table, key) => Some((*table, key.as_slice())),
-        Atom::Col(table, key, _) | Atom::Sum(table, key, _) => Some((*table, key.as_slice())),
-    }
-}
-
 /// Whether an action on a row of an atom may change its value.
 fn changes(action: &Action, atom: &Atom) -> bool {
-    let (Action::Set(_, _, changed, _) | Action::Add(_, _, changed, _)) = action else {
-        return true;
-    };
-    match atom {
-        Atom::Col(_, _, column) | Atom::Sum(_, _, column) => column == changed,
-        Atom::One | Atom::Var(_) | Atom::Has(_, _) | Atom::Count(_, _) => false,
+    match action {
+        Action::Put(_, _, _) | Action::Del(_, _) => true,
+        Action::Set(_, _, column, _) | Action::Add(_, _, column, _) => {
+            atom.column() == Some(*column)
+        }
     }
 }
 
@@ -63,11 +53,8 @@ fn add_meeting(tally: &mut Tally, question: &Question, held: &[Lin], step: &[Lin
 }
 
 fn add_action(tally: &mut Tally, question: &Question, atom: &Atom, action: &Action) {
-    let Some((table, key)) = key_of(atom) else {
-        return;
-    };
-    if table == action.table() && changes(action, atom) {
-        add_meeting(tally, question, key, action_key(action));
+    if atom.table() == Some(action.table()) && changes(action, atom) {
+        add_meeting(tally, question, atom.key(), action_key(action));
     }
 }
 

@@ -1,9 +1,10 @@
 //! What the variables of an obligation are called.
-use acc_base::designs::{At, Design, Point, Side, TxType};
+use acc_base::designs::{At, Design, Side, TxType};
 use acc_base::forms::Clause;
 use acc_base::sequences::Text;
-use acc_base::sequents::Origin;
-use acc_base::steps::{Path, Read, Step, Target};
+use acc_base::sequents::{Origin, Rule};
+use acc_base::steps::{Path, Read, Target};
+use acc_lex::language;
 use acc_page::Page;
 
 /// What a variable of an obligation is.
@@ -34,27 +35,11 @@ pub fn type_at(d: &Design, at: At) -> Option<&TxType> {
     d.types.as_slice().get(at.ty as usize)
 }
 
-/// A point.
-pub fn point_at(d: &Design, at: At) -> Option<&Point> {
-    type_at(d, at)?.points.as_slice().get(at.point as usize)
-}
-
-/// A step of a point.
-pub fn step_at(d: &Design, at: At, side: Side) -> Option<&Step> {
-    let point = point_at(d, at)?;
-    match side {
-        Side::Next => Some(&point.next),
-        Side::Undo => Some(&point.undo),
-    }
-}
-
 /// The path of an obligation, if it has one.
 pub fn path_of<'a>(d: &'a Design, origin: &Origin) -> Option<&'a Path> {
     let number = origin.path.checked_sub(1)?;
-    step_at(d, origin.at?, origin.side)?
-        .paths
-        .as_slice()
-        .get(number as usize)
+    let step = d.step(origin.at?, origin.side)?;
+    step.paths.as_slice().get(number as usize)
 }
 
 /// The locals of a point's type.
@@ -65,12 +50,22 @@ pub fn locals_of(d: &Design, at: At) -> &[Text] {
     }
 }
 
+/// Whether an obligation is about a transaction that takes no step: one that begins, or rests.
+fn is_at_rest(origin: &Origin) -> bool {
+    match origin.rule {
+        Rule::Begins => true,
+        Rule::Variants => origin.clause < 3,
+        Rule::Promises | Rule::Always | Rule::Spares | Rule::There => false,
+        Rule::Ranges | Rule::Clears | Rule::Empty => false,
+    }
+}
+
 /// The reads that have a variable in an obligation: those of its step; none where a transaction begins or rests.
 fn reads_of<'a>(d: &'a Design, at: At, origin: &Origin) -> &'a [Read] {
-    if origin.rule == 0 || (origin.rule == 6 && origin.clause < 3) {
+    if is_at_rest(origin) {
         return &[];
     }
-    match step_at(d, at, origin.side) {
+    match d.step(at, origin.side) {
         Some(step) => step.reads.as_slice(),
         None => &[],
     }
@@ -80,7 +75,7 @@ fn reads_of<'a>(d: &'a Design, at: At, origin: &Origin) -> &'a [Read] {
 fn promised<'a>(d: &'a Design, at: At, origin: &Origin) -> Option<&'a [Clause]> {
     let ty = type_at(d, at)?;
     match path_of(d, origin)?.target {
-        Target::Point(point) => Some(point_at(d, At { ty: at.ty, point })?.clauses.as_slice()),
+        Target::Point(point) => Some(d.point(At { ty: at.ty, point })?.clauses.as_slice()),
         Target::Commit => Some(ty.posts.as_slice()),
         Target::Undone => Some(ty.repairs.as_slice()),
         Target::Refuse(_) => None,
@@ -90,11 +85,11 @@ fn promised<'a>(d: &'a Design, at: At, origin: &Origin) -> Option<&'a [Clause]> 
 /// The clauses among which the assertion of an obligation stands.
 fn clauses_of<'a>(d: &'a Design, origin: &Origin) -> Option<&'a [Clause]> {
     match origin.rule {
-        0 => Some(point_at(d, origin.at?)?.clauses.as_slice()),
-        1 => promised(d, origin.at?, origin),
-        3 => Some(point_at(d, origin.held?)?.clauses.as_slice()),
-        2 | 8 => Some(d.always.as_slice()),
-        _ => None,
+        Rule::Begins => Some(d.point(origin.at?)?.clauses.as_slice()),
+        Rule::Promises => promised(d, origin.at?, origin),
+        Rule::Always | Rule::Empty => Some(d.always.as_slice()),
+        Rule::Spares => Some(d.point(origin.held?)?.clauses.as_slice()),
+        Rule::There | Rule::Ranges | Rule::Variants | Rule::Clears => None,
     }
 }
 
@@ -194,16 +189,18 @@ fn variable_of<'a>(d: &'a Design, origin: &Origin, place: usize) -> Variable<'a>
 
 /// Whether a variable of an obligation is the number of a transaction.
 pub fn is_number(d: &Design, origin: &Origin, variable: u32) -> bool {
-    matches!(
-        variable_of(d, origin, variable as usize),
-        Variable::Own | Variable::HeldOwn
-    )
+    match variable_of(d, origin, variable as usize) {
+        Variable::Own | Variable::HeldOwn => true,
+        Variable::Local(_) | Variable::Before(_) | Variable::Behind(_, _) => false,
+        Variable::Held(_) | Variable::Named(_) | Variable::Shared(_) => false,
+        Variable::Component(_) => false,
+    }
 }
 
 /// An origin whose variables are the locals of a point's type and `self`, as the design has them.
 pub fn resting_at(at: At) -> Origin {
     Origin {
-        rule: 0,
+        rule: Rule::Begins,
         held: None,
         clause: 0,
         at: Some(at),
@@ -230,12 +227,15 @@ pub fn push_variable(out: &mut Page, d: &Design, origin: &Origin, variable: u32)
             out.push(name);
             out.push(b" of the assertion")
         }
-        Variable::Own => out.push(b"self"),
+        Variable::Own => out.push(language::ONESELF),
         Variable::Held(name) => {
             out.push(b"held ");
             out.push(name)
         }
-        Variable::HeldOwn => out.push(b"held self"),
+        Variable::HeldOwn => {
+            out.push(b"held ");
+            out.push(language::ONESELF)
+        }
         Variable::Component(number) => {
             out.push(b"key ");
             out.push_number(number)

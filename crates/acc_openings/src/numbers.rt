@@ -1,11 +1,11 @@
 //! The number of an undo step that an obligation on ranges is about.
 use crate::keys::action_key;
-use crate::names::{locals_of, path_of, resting_at, step_at};
+use crate::names::{locals_of, path_of, resting_at};
 use crate::values::push_lin;
 use acc_base::designs::{At, Design};
 use acc_base::forms::Lin;
 use acc_base::sequences::Text;
-use acc_base::sequents::Origin;
+use acc_base::sequents::{Origin, Rule};
 use acc_base::steps::{Action, Read};
 use acc_page::Page;
 
@@ -92,7 +92,7 @@ fn among_actions(actions: &[Action], place: usize) -> Option<Number<'_>> {
 /// The number that an obligation on ranges is about.
 fn number_of<'a>(d: &'a Design, at: At, origin: &Origin) -> Option<Number<'a>> {
     let place = origin.clause.checked_sub(1)? as usize;
-    let reads = step_at(d, at, origin.side)?.reads.as_slice();
+    let reads = d.step(at, origin.side)?.reads.as_slice();
     match path_of(d, origin) {
         Some(path) => {
             let behind = place.checked_sub(count_of(reads))?;
@@ -109,17 +109,23 @@ fn push_local(out: &mut Page, locals: &[Text], local: u32) {
     }
 }
 
-/// Writes the number that an obligation on ranges is about, as the design spells it; nothing for an obligation of another rule.
-pub fn push_number(out: &mut Page, d: &Design, origin: &Origin) {
+/// Writes the number that an obligation on ranges is about, as the design spells it.
+fn push_ranged(out: &mut Page, d: &Design, origin: &Origin) {
     let Some(at) = origin.at else {
         return;
     };
-    if origin.rule != 5 {
-        return;
-    }
     match number_of(d, at, origin) {
         Some(Number::Value(value)) => push_lin(out, d, &resting_at(at), value),
         Some(Number::Assigned(local)) => push_local(out, locals_of(d, at), local),
         None => {}
+    }
+}
+
+/// Writes the number that an obligation on ranges is about, as the design spells it; nothing for an obligation of another rule.
+pub fn push_number(out: &mut Page, d: &Design, origin: &Origin) {
+    match origin.rule {
+        Rule::Ranges => push_ranged(out, d, origin),
+        Rule::Begins | Rule::Promises | Rule::Always | Rule::Spares => {}
+        Rule::There | Rule::Variants | Rule::Clears | Rule::Empty => {}
     }
 }

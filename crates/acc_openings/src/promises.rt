@@ -1,10 +1,11 @@
 //! Assertions to be held at a point, as a design spells them.
 use crate::names::{locals_of, resting_at};
-use crate::values::{push_lin, push_row};
+use crate::values::{push_lin, push_row, push_word};
 use acc_base::designs::{At, Design};
 use acc_base::forms::Lin;
 use acc_base::sequences::Text;
 use acc_base::tables::Table;
+use acc_lex::language;
 use acc_page::{Page, push_at};
 
 /// The letters that stand behind a `forall`, those that come first to mind first.
@@ -43,7 +44,7 @@ fn push_forall(out: &mut Page, locals: &[Text], table: &Table) {
     if fronts(table) == 0 {
         return;
     }
-    out.push(b"forall ");
+    push_word(out, language::FORALL);
     for i in 0..fronts(table) {
         push_letter(out, locals, i);
         out.push(b" ");
@@ -51,18 +52,25 @@ fn push_forall(out: &mut Page, locals: &[Text], table: &Table) {
     out.push(b": ")
 }
 
+/// Begins an assertion of a point.
+pub fn push_holds(out: &mut Page) {
+    out.push(b"`");
+    push_word(out, language::HOLDS)
+}
+
 /// Writes that any row of an own table that is the transaction's is there, or isn't, up to the number.
 fn push_any(out: &mut Page, locals: &[Text], table: &Table) {
-    out.push(b"`holds ");
+    push_holds(out);
     push_forall(out, locals, table);
-    out.push(b"has ");
+    push_word(out, language::HAS);
     out.push(table.name.as_slice());
     out.push(b"[");
     for i in 0..fronts(table) {
         push_letter(out, locals, i);
         out.push(b", ");
     }
-    out.push(b"self] = ")
+    out.push(language::ONESELF);
+    out.push(b"] = ")
 }
 
 /// Writes at which point something is to be held.
@@ -98,7 +106,8 @@ pub fn push_only(out: &mut Page, d: &Design, at: At, table: &Table, key: &[Lin])
 
 /// Writes that a row is there at a point.
 pub fn push_there(out: &mut Page, d: &Design, at: At, table: u32, key: &[Lin]) {
-    out.push(b"`holds has ");
+    push_holds(out);
+    push_word(out, language::HAS);
     push_row(out, d, &resting_at(at), table, key);
     out.push(b" = 1`");
     push_where(out, d, at)

@@ -1,6 +1,6 @@
 //! Rows of a transaction's own tables, of which it isn't known whether they are there.
 use crate::keys::is_alone;
-use crate::names::{assigns, locals_of, step_at};
+use crate::names::{assigns, locals_of};
 use acc_base::designs::{At, Design, Side};
 use acc_base::forms::{Atom, Lin, Unknown};
 use acc_base::steps::{Action, Read};
@@ -22,15 +22,23 @@ fn is_own(d: &Design, at: At, key: &[Lin]) -> bool {
     }
 }
 
+fn is_put(action: &Action) -> bool {
+    match action {
+        Action::Put(_, _, _) => true,
+        Action::Del(_, _) | Action::Set(_, _, _, _) | Action::Add(_, _, _, _) => false,
+    }
+}
+
 /// Whether an unknown has a value at which an action finds a row that it is to put, or finds none that it is to change.
 fn is_against(d: &Design, at: At, action: &Action, unknown: &Unknown, value: i128) -> bool {
-    let is_put = matches!(action, Action::Put(_, _, _));
-    let (table, key, is_met) = match &unknown.atom {
-        Atom::Has(table, key) => (*table, key.as_slice(), is_put == (value != 0)),
-        Atom::Col(table, key, _) => (*table, key.as_slice(), is_put && value != 0),
-        Atom::One | Atom::Var(_) | Atom::Count(_, _) | Atom::Sum(_, _, _) => return false,
+    let atom = &unknown.atom;
+    let is_met = match atom {
+        Atom::Has(_, _) => is_put(action) == (value != 0),
+        Atom::Col(_, _, _) => is_put(action) && value != 0,
+        Atom::One | Atom::Var(_) | Atom::Count(_, _) | Atom::Sum(_, _, _) => false,
     };
-    is_met && table == action.table() && unknown.under.is_empty() && is_own(d, at, key)
+    let is_of_row = atom.table() == Some(action.table()) && is_own(d, at, atom.key());
+    is_met && is_of_row && unknown.under.is_empty()
 }
 
 /// Whether an action on an own table finds a row that it is to put, or finds none that it is to change, at a point's values.
@@ -63,7 +71,7 @@ fn is_free_of(value: &Lin, reads: &[Read]) -> bool {
 
 /// Whether a key is the same before the reads of a step as behind them.
 pub fn is_steady(d: &Design, at: At, side: Side, key: &[Lin]) -> bool {
-    let Some(step) = step_at(d, at, side) else {
+    let Some(step) = d.step(at, side) else {
         return false;
     };
     for part in key {

@@ -3,7 +3,14 @@ use crate::names::push_variable;
 use acc_base::designs::Design;
 use acc_base::forms::{Atom, Lin};
 use acc_base::sequents::Origin;
+use acc_lex::language;
 use acc_page::Page;
+
+/// Writes a word of the language, and a space behind it.
+pub fn push_word(out: &mut Page, word: &[u8]) {
+    out.push(word);
+    out.push(b" ")
+}
 
 /// Writes a term: its sign, where it isn't the first or is below 0, its number, if it isn't 1, and its variable.
 fn push_term(out: &mut Page, d: &Design, origin: &Origin, term: &(u32, i64), is_first: bool) {
@@ -70,7 +77,7 @@ pub fn push_atom(out: &mut Page, d: &Design, origin: &Origin, atom: &Atom) {
         Atom::One => out.push(b"1"),
         Atom::Var(x) => push_variable(out, d, origin, *x),
         Atom::Has(table, key) => {
-            out.push(b"has ");
+            push_word(out, language::HAS);
             push_row(out, d, origin, *table, key.as_slice())
         }
         Atom::Col(table, key, column) => {
@@ -78,11 +85,11 @@ pub fn push_atom(out: &mut Page, d: &Design, origin: &Origin, atom: &Atom) {
             push_column(out, d, *table, *column)
         }
         Atom::Count(table, key) => {
-            out.push(b"count ");
+            push_word(out, language::COUNT);
             push_row(out, d, origin, *table, key.as_slice())
         }
         Atom::Sum(table, key, column) => {
-            out.push(b"sum ");
+            push_word(out, language::SUM);
             push_row(out, d, origin, *table, key.as_slice());
             push_column(out, d, *table, *column)
         }

@@ -6,11 +6,12 @@ use Rattle.acc_base.specs.declared.designs.At.{At}
 use Rattle.acc_base.specs.declared.designs.Design.{Design}
 use Rattle.acc_base.specs.declared.sequents.Origin.{Origin}
 use Rattle.acc_base.specs.Lines.{at_text}
+use Rattle.acc_base.specs.Numbering.{rule_number}
 use Rattle.acc_print.specs.Designs.{side_text}
 
 -- a space and a number
-abbrev pub counted : ℕ → List ℕ
-counted n = codes " " ++ decimal n
+abbrev pub spaced_number : ℕ → List ℕ
+spaced_number n = codes " " ++ decimal n
 
 -- a space and a point, or - where there is none
 abbrev pub place_text : Design → Option At → List ℕ
@@ -19,11 +20,11 @@ place_text d (Some at) = codes " " ++ at_text d at
 
 -- RULE HELD CLAUSE: which clause of which rule, and of which held point
 abbrev pub clause_text : Design → Origin → List ℕ
-clause_text d o = codes "S" ++ (decimal o.rule ++ (place_text d o.held ++ counted o.clause))
+clause_text d o = codes "S" ++ (decimal (rule_number o.rule) ++ (place_text d o.held ++ spaced_number o.clause))
 
 -- AT SIDE PATH CASE: which path of which step, and which of its cases
 abbrev pub step_text : Design → Origin → List ℕ
-step_text d o = place_text d o.at ++ (side_text o.side ++ (counted o.path ++ counted o.case))
+step_text d o = place_text d o.at ++ (side_text o.side ++ (spaced_number o.path ++ spaced_number o.case))
 
 abbrev pub origin_text : Design → Origin → List ℕ
 origin_text d o = clause_text d o ++ step_text d o

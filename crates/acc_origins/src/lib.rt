@@ -2,3 +2,5 @@
 #![tactic(auto)]
 
 pub mod origins;
+
+pub use origins::{push_origin, push_path};

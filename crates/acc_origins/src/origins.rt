@@ -3,15 +3,15 @@ ghost use Rattle.std.specs.Prelude.{◌≡◌};
 ghost use Rattle.std.specs.List.{flat_map};
 ghost use Rattle.acc_print.specs.Designs.{side_text};
 ghost use Rattle.acc_page.specs.Written.{Adds};
-ghost use Rattle.acc_origins.specs.Origins.{dotted, counted, place_text, clause_text, step_text, origin_text, path_text};
+ghost use Rattle.acc_origins.specs.Origins.{dotted, spaced_number, place_text, clause_text, step_text, origin_text, path_text};
 
 use acc_base::designs::{At, Design, Side};
 use acc_base::sequents::Origin;
 use acc_page::{Page, push_at};
 
 /// A space, and a number.
-fn push_count(out: &mut Page, number: u32)
-    ensures { Adds out.old out.new (counted number) }
+fn push_spaced_number(out: &mut Page, number: u32)
+    ensures { Adds out.old out.new (spaced_number number) }
 {
     out.push(b" ");
     out.push_number(number)
@@ -44,9 +44,9 @@ fn push_clause(out: &mut Page, d: &Design, origin: &Origin)
     ensures { Adds out.old out.new (clause_text d.now origin.now) }
 {
     out.push(b"S");
-    out.push_number(origin.rule);
+    out.push_number(origin.rule.number());
     push_place(out, d, origin.held);
-    push_count(out, origin.clause)
+    push_spaced_number(out, origin.clause)
 }
 
 /// Which path of which step, and which of its cases.
@@ -55,8 +55,8 @@ fn push_step(out: &mut Page, d: &Design, origin: &Origin)
 {
     push_place(out, d, origin.at);
     out.push(side_text(origin.side));
-    push_count(out, origin.path);
-    push_count(out, origin.case)
+    push_spaced_number(out, origin.path);
+    push_spaced_number(out, origin.case)
 }
 
 /// Writes where an obligation comes from, as `RULE HELD CLAUSE AT SIDE PATH CASE`.

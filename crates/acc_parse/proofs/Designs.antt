@@ -29,7 +29,7 @@ only_one text tree (Ok found) same made refused d t = made.1 ∙ ap design_of (s
 only_one text tree (Err (errors.Syntax line)) same made refused d t = absurd (refused.none t.of)
 only_one text tree (Err (errors.Name line)) same made refused d t =
     let first = sym refused.first ∙ ap first_fault_of (sym (same refused.of) ∙ same t.of) ∙ t.allowed.names in absurd (cc first)
-only_one text tree (Err (errors.Limit line which)) same made refused d t =
+only_one text tree (Err (errors.Limit line limit)) same made refused d t =
     let none : past_limits refused.of.tree ≡ [] = ap past_limits (sym (same refused.of) ∙ same t.of) ∙ t.allowed.limits in
-    absurd (nothing_in (past_limits refused.of.tree) (refused.passed.statement, refused.passed.limit) none refused.passed.there)
+    absurd (nothing_in (past_limits refused.of.tree) (refused.passed.statement, limit) none refused.passed.there)
 only_one text tree (Err errors.Memory) same made refused d t = refl

@@ -7,9 +7,10 @@ use Rattle.std.proofs.lemmas.Bool.Decides.{nat_tests}
 use Rattle.acc_syntax.specs.declared.trees.DesignTree.{DesignTree}
 use Rattle.acc_statements.specs.Lines.{IsLineOf}
 use Rattle.acc_statements.proofs.OneLine.{no_earlier}
-use Rattle.acc_limits.specs.declared.limits.Limit.{Limit}
-use Rattle.acc_limits.specs.declared.limits.Limit.TheVariants as limit
-use Rattle.acc_limits.specs.Numbers.{number_of, is_lower, is_before}
+use Rattle.acc_base.specs.declared.limits.Limit.{Limit}
+use Rattle.acc_base.specs.declared.limits.Limit.TheVariants as limit
+use Rattle.acc_base.specs.Numbering.{limit_number}
+use Rattle.acc_limits.specs.Numbers.{is_lower, is_before}
 use Rattle.acc_limits.specs.Faults.{limits_on, limit_faults}
 use Rattle.acc_base.specs.Leasts.{IsLeast}
 use Rattle.acc_meaning.specs.Sizes.{size_faults}
@@ -89,7 +90,7 @@ one_passes from to (f ∷ fs) k h = one_step from to (on from to f) f fs k refl 
 
 -- ---- numbers of limits
 
-pub most : (l : Limit) → number_of l ≤ 16
+pub most : (l : Limit) → limit_number l ≤ 16
 most limit.Tables = omega arith
 most limit.KeyWidth = omega arith
 most limit.Columns = omega arith
@@ -107,7 +108,7 @@ most limit.EntriesAndHints = omega arith
 most limit.NameLength = omega arith
 most limit.NumberSize = omega arith
 
-not_lower : (k l : Limit) → ¬ IsTrue (is_lower k l) → number_of l ≤ number_of k
+not_lower : (k l : Limit) → ¬ IsTrue (is_lower k l) → limit_number l ≤ limit_number k
 unfolding is_lower
 not_lower k l h = grind (arith, nat_tests)
 
@@ -129,8 +130,8 @@ later_or_here text tree line first n at k is p there q =
     ]
 
 number_here : (tree : DesignTree) (from to n which : ℕ) (k : Limit) → from ≤ n → n < to → which ≤ 16 →
-    ((l : Limit) → Contains (limits_on from to (limit_faults tree)) l → which ≤ number_of l) → Contains (past_limits tree) (n, k) →
-    which ≤ number_of k
+    ((l : Limit) → Contains (limits_on from to (limit_faults tree)) l → which ≤ limit_number l) → Contains (past_limits tree) (n, k) →
+    which ≤ limit_number k
 number_here tree from to n which k lo hi few written there =
     elim (Contains-append_cases (limit_faults tree) (size_faults tree) (n, k) there) [
       | inl c ↦ written k (passed_on from to (limit_faults tree) n k c lo hi)
@@ -138,34 +139,32 @@ number_here tree from to n which k lo hi few written there =
           let is : k ≡ limit.NumberSize = All-contains (λ (f : ℕ × Limit). f.1 ≡ limit.NumberSize) (size_faults tree) (n, k)
           (sizes_alone tree)
           c in
-          subst (λ (l : Limit). which ≤ number_of l) (sym is) few)
+          subst (λ (l : Limit). which ≤ limit_number l) (sym is) few)
     ]
 
 -- a limit on the line of the first statement that passes one, with a number that none of the limits passed there is below
 passes_here : (text : List ℕ) (tree : DesignTree) (line from to first : ℕ) (n : ℕ) (l : Limit) → IsFirstIn (past_limits tree) first →
     IsLineOf text first line → AreOn text line from to → Contains (past_limits tree) (n, l) → from ≤ n → n < to →
-    ((k : Limit) → Contains (limits_on from to (limit_faults tree)) k → number_of l ≤ number_of k) →
-    PassesAt text tree line (number_of l)
+    ((k : Limit) → Contains (limits_on from to (limit_faults tree)) k → limit_number l ≤ limit_number k) →
+    PassesAt text tree line l
 passes_here text tree line from to first n l is p are there lo hi written = record {
   statement = n;
-  limit = l;
   there = there;
   on_line = (are n).1 (lo, hi);
-  number = refl;
   first = λ m k at c q. elim (later_or_here text tree line first m at k is p c q) [
     | inl less ↦ inl less
     | inr e ↦ (
         let range = (are m).0 (subst (λ (z : ℕ). IsLineOf text m z) (sym e) q) in
-        inr (e, number_here tree from to m (number_of l) k range.0 range.1 (most l) written c))
+        inr (e, number_here tree from to m (limit_number l) k range.0 range.1 (most l) written c))
   ];
 }
 
 pub passes_lowest : (text : List ℕ) (tree : DesignTree) (line from to first : ℕ) (l : Limit) → IsFirstIn (past_limits tree) first →
     IsLineOf text first line → AreOn text line from to → IsLeast is_lower (limits_on from to (limit_faults tree)) l →
-    PassesAt text tree line (number_of l)
+    PassesAt text tree line l
 passes_lowest text tree line from to first l is p are least =
     let one = one_passes from to (limit_faults tree) l least.there in
-    let written : (k : Limit) → Contains (limits_on from to (limit_faults tree)) k → number_of l ≤ number_of k =
+    let written : (k : Limit) → Contains (limits_on from to (limit_faults tree)) k → limit_number l ≤ limit_number k =
     λ k c. not_lower k l (All-contains (λ (y : Limit). ¬ IsTrue (is_lower y l)) (limits_on from to (limit_faults tree)) k least.least
     c)
     in
@@ -177,7 +176,8 @@ no_item : {X : Type 0} (x : X) → Contains [] x → ⊥
 no_item x h = omega (arith, h.1)
 
 pub passes_collected : (text : List ℕ) (tree : DesignTree) (line from to first : ℕ) → IsFirstIn (past_limits tree) first →
-    IsLineOf text first line → AreOn text line from to → limits_on from to (limit_faults tree) ≡ [] → PassesAt text tree line 16
+    IsLineOf text first line → AreOn text line from to → limits_on from to (limit_faults tree) ≡ [] →
+    PassesAt text tree line limit.NumberSize
 passes_collected text tree line from to first is p are none =
     let range = (are first).0 p in
     let nothing : (k : Limit) → Contains (limits_on from to (limit_faults tree)) k → ⊥ =

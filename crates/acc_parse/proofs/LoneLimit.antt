@@ -27,8 +27,8 @@ use Rattle.acc_syntax.specs.declared.trees.StepTree.{StepTree}
 use Rattle.acc_syntax.specs.declared.trees.PointTree.{PointTree}
 use Rattle.acc_syntax.specs.declared.trees.TypeTree.{TypeTree}
 use Rattle.acc_syntax.specs.declared.trees.DesignTree.{DesignTree}
-use Rattle.acc_limits.specs.declared.limits.Limit.{Limit}
-use Rattle.acc_limits.specs.declared.limits.Limit.TheVariants as limit
+use Rattle.acc_base.specs.declared.limits.Limit.{Limit}
+use Rattle.acc_base.specs.declared.limits.Limit.TheVariants as limit
 use Rattle.acc_limits.specs.Marks.{Mark, Past, End, ending, past}
 use Rattle.acc_limits.specs.Faults.{placed}
 use Rattle.acc_clauses.specs.Scopes.{Variables, Scope}

@@ -6,7 +6,7 @@ use Rattle.acc_statements.specs.Ends.{ends}
 use Rattle.acc_statements.specs.Counts.{statements_of}
 use Rattle.acc_statements.specs.Lines.{HasStatement}
 use Rattle.acc_statements.proofs.Counted.{spelled_ends}
-use Rattle.acc_limits.specs.declared.limits.Limit.{Limit}
+use Rattle.acc_base.specs.declared.limits.Limit.{Limit}
 use Rattle.acc_limits.specs.Faults.{limit_faults}
 use Rattle.acc_limits.proofs.Ended.{faults_within as written_within}
 use Rattle.acc_meaning.specs.Sizes.{size_faults}

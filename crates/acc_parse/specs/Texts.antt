@@ -6,7 +6,7 @@ use Rattle.acc_lex.specs.Texts.{IsLexed}
 use Rattle.acc_syntax.specs.declared.trees.DesignTree.{DesignTree}
 use Rattle.acc_designs.specs.Texts.{IsSpelling}
 use Rattle.acc_names.specs.Faults.{first_fault_of}
-use Rattle.acc_limits.specs.declared.limits.Limit.{Limit}
+use Rattle.acc_base.specs.declared.limits.Limit.{Limit}
 use Rattle.acc_limits.specs.Faults.{limit_faults}
 use Rattle.acc_meaning.specs.Sizes.{size_faults}
 use Rattle.acc_meaning.specs.Designs.{design_of}

@@ -2,6 +2,7 @@
 ghost use Rattle.std.specs.Prelude.{◌≡◌};
 ghost use Rattle.acc_parse.specs.declared.errors.ParseError.TheVariants as parse_error;
 
+use acc_limits::Limit;
 use std::alloc::AllocError;
 
 /// Why a text is no design. Lines are counted from 1.
@@ -12,9 +13,9 @@ pub enum ParseError {
     Syntax(u64),
     /// The text is of the grammar: the first line with a name that is defined a second time, or used and not defined.
     Name(u64),
-    /// The text is of the grammar and its names are right: the first line that passes a limit, and the lowest number, 1 to 16, of
-    /// a limit that is passed there.
-    Limit(u64, u32),
+    /// The text is of the grammar and its names are right: the first line that passes a limit, and the lowest limit that is passed
+    /// there.
+    Limit(u64, Limit),
     /// Want of memory.
     Memory,
 }

@@ -28,11 +28,11 @@ pub fn first_passed(tree: &DesignTree, collected: Option<(u64, Limit)>) -> Optio
     }
 }
 
-/// A line of a text, and the number of a limit that is passed there.
+/// A line of a text, and a limit that is passed there.
 #[derive(Clone, Copy)]
 pub struct PassedLimit {
     pub line: u64,
-    pub which: u32,
+    pub which: Limit,
 }
 
 /// The line of the first statement that passes a limit, and the lowest limit that is passed there. The collected numbers pass the
@@ -55,6 +55,6 @@ pub fn limit_at(
     };
     Ok(PassedLimit {
         line: line.number,
-        which: limit.number(),
+        which: limit,
     })
 }

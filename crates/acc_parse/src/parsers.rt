@@ -138,7 +138,7 @@ fn design_of_tree(alloc: Global, text: &[u8], tree: &DesignTree) -> Result<Desig
 pub fn parse(alloc: Global, text: &[u8]) -> Result<Design, ParseError>
     ensures ok { IfOk result (IsDesignText text.now) }
     // What is refused isn't of the grammar and goes wrong on the line that is answered; or it has its first fault of names there; or,
-    // without such a fault, it passes a limit there first, the lowest by the number that is answered.
+    // without such a fault, it passes a limit there first, the lowest of those the one that is answered.
     ensures refused { IfErr result (Refuses text.now) }
     // A text goes wrong on one line at most.
     ensures line { (a b : ℕ) → IsWrongAt text.now a → IsWrongAt text.now b → a ≡ b }

@@ -12,12 +12,12 @@ use Rattle.acc_oblig.specs.Settings.{Setting, step_vars, path_actions}
 use Rattle.acc_oblig.specs.Spares.{held_names, spare_drafts}
 use Rattle.acc_goals.specs.declared.errors.ObligError.{ObligError}
 use Rattle.acc_goals.specs.Causes.{Adds, at_case}
-use Rattle.acc_places.specs.Stops.{Rest}
+use Rattle.acc_places.specs.DesignPlaces.{PointPlace}
 use Rattle.acc_path_rules.specs.declared.orders.Ordered.{Ordered}
 use Rattle.acc_path_rules.specs.Orders.{after_ordered}
 use Rattle.acc_path_rules.specs.Helds.{ordered_of}
 
-module _ (r : Result (Unit {0}) ObligError) (old new : List Sequent) (origin : Origin) (s : Setting) (q : Rest) (pairs : List Rel)
+module _ (r : Result (Unit {0}) ObligError) (old new : List Sequent) (origin : Origin) (s : Setting) (q : PointPlace) (pairs : List Rel)
     (c : Clause) where
   pub spare_added :
       (own vars : ℕ) (o : Ordered) (acts : List Action) (n : Naming)

@@ -10,6 +10,7 @@ use Rattle.acc_base.specs.declared.designs.Point.{Point}
 use Rattle.acc_base.specs.declared.designs.TxType.{TxType}
 use Rattle.acc_base.specs.declared.designs.Design.{Design}
 use Rattle.acc_base.specs.declared.sequents.Sequent.{Sequent}
+use Rattle.acc_base.specs.declared.sequents.Rule.TheVariants.{Promises}
 use Rattle.acc_oblig.specs.Settings.{last_now}
 use Rattle.acc_oblig.specs.Drafts.{of_some, path_drafts}
 use Rattle.acc_oblig.specs.PathPromises.{point_clauses, promised, promise_at}
@@ -17,7 +18,7 @@ use Rattle.acc_oblig.proofs.OnPath.{all_at}
 use Rattle.acc_goals.specs.declared.errors.ObligError.{ObligError}
 use Rattle.acc_goals.specs.Causes.{Adds}
 use Rattle.acc_places.specs.Rooms.{HasFewVars, IsSmallPoint, IsSmallType}
-use Rattle.acc_places.specs.Stops.{Stop, at_stop}
+use Rattle.acc_places.specs.DesignPlaces.{PathPlace, at_path_place}
 use Rattle.acc_path_rules.proofs.Kept.{setting_at}
 
 all_small : (x : TxType) → IsSmallType x → (t : Target) → All HasFewVars (promised x t)
@@ -35,12 +36,13 @@ pub promise_small :
 promise_small x t k c s e = all_at HasFewVars (promised x t) k c (all_small x s t) e
 
 pub promise_added :
-    (r : Result (Unit {0}) ObligError) (old new : List Sequent) (d : Design) (k : ℕ) (q : Stop) (o : Option Clause)
+    (r : Result (Unit {0}) ObligError) (old new : List Sequent) (d : Design) (k : ℕ) (q : PathPlace) (o : Option Clause)
     → o ≡ slice_get (promised q.x q.path.target) k
-    → Adds r old new (of_some (path_drafts 1 (setting_at d q) k q.w (last_now (setting_at d q) ++ (setting_at d q).locals ∷ [])) o)
-    → Adds r old new (at_stop (promise_at d k) q)
+    → Adds r old new (of_some (path_drafts Promises (setting_at d q) k q.w (last_now (setting_at d q) ++ (setting_at d q).locals ∷ [])) o)
+    → Adds r old new (at_path_place (promise_at d k) q)
 promise_added r old new d k q o e a =
-    subst (λ o. Adds r old new (of_some (path_drafts 1 (setting_at d q) k q.w (last_now (setting_at d q) ++ (setting_at d q).locals ∷ []))
+    subst (λ o. Adds r old new (of_some (path_drafts Promises (setting_at d q) k q.w
+    (last_now (setting_at d q) ++ (setting_at d q).locals ∷ []))
     o)) e a
 
 pub got_at :

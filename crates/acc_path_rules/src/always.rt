@@ -3,15 +3,15 @@ ghost use Rattle.std.specs.Prelude.{◌≡◌, ◌+◌, ◌<◌, ◌^◌, map, A
 ghost use Rattle.acc_formed.specs.WellFormed.{IsWellFormed};
 ghost use Rattle.acc_oblig.specs.PathPromises.{always_at, always_drafts};
 ghost use Rattle.acc_goals.specs.Causes.{Adds};
-ghost use Rattle.acc_places.specs.Rooms.{HasFewVars, IsSmallDesign, IsSmallStop};
-ghost use Rattle.acc_places.specs.SeenPlaces.{stop};
-ghost use Rattle.acc_places.specs.Stops.{joined, at_stop};
+ghost use Rattle.acc_places.specs.Rooms.{HasFewVars, IsSmallDesign, IsSmallPathPlace};
+ghost use Rattle.acc_places.specs.SeenPlaces.{path_place};
+ghost use Rattle.acc_places.specs.DesignPlaces.{joined, at_path_place};
 
 use crate::tables::clause_names;
 use acc_base::designs::Design;
 use acc_base::forms::Clause;
 use acc_base::sequences::Seq;
-use acc_base::sequents::Sequent;
+use acc_base::sequents::{Rule, Sequent};
 use acc_goals::errors::ObligError;
 use acc_obligations::paths::{Cause, add_path_clause, path_origin, path_setting};
 use acc_places::places::{PathPlace, all_paths};
@@ -27,17 +27,17 @@ fn add_path_always(
     c: &Clause,
 ) -> Result<(), ObligError>
     requires design { IsSmallDesign d.now }
-    requires small { IsSmallStop (stop q.now) }
+    requires small { IsSmallPathPlace (path_place q.now) }
     requires number { k + 1 < 2 ^ 32 }
     requires few { HasFewVars c.now }
-    ensures { Adds result out.old out.new (at_stop (always_at d.now k c.now) (stop q.now)) }
+    ensures { Adds result out.old out.new (at_path_place (always_at d.now k c.now) (path_place q.now)) }
 {
     if !clause_names(q.path.actions.as_slice(), c) {
         return Ok(());
     }
     let s = path_setting(d, q);
     let cause = Cause {
-        rule: 2,
+        rule: Rule::Always,
         held: None,
         clause: k,
     };
@@ -54,10 +54,10 @@ fn add_clause_always(
     c: &Clause,
 ) -> Result<(), ObligError>
     requires design { IsSmallDesign d.now }
-    requires small { All (λ q. IsSmallStop (stop q)) paths.now }
+    requires small { All (λ q. IsSmallPathPlace (path_place q)) paths.now }
     requires number { k + 1 < 2 ^ 32 }
     requires few { HasFewVars c.now }
-    ensures { Adds result out.old out.new (joined (at_stop (always_at d.now k c.now)) (map stop paths.now)) }
+    ensures { Adds result out.old out.new (joined (at_path_place (always_at d.now k c.now)) (map path_place paths.now)) }
 {
     for q in paths {
         add_path_always(alloc, out, d, q, k, c)?;

@@ -9,3 +9,8 @@ pub mod promises;
 pub mod spares;
 mod tables;
 pub mod there;
+
+pub use always::add_always;
+pub use promises::add_promises;
+pub use spares::add_spares;
+pub use there::add_there;

@@ -4,16 +4,16 @@ ghost use Rattle.acc_base.specs.declared.bounds.TheConstants.{MOST_CLAUSES};
 ghost use Rattle.acc_formed.specs.WellFormed.{IsWellFormed};
 ghost use Rattle.acc_oblig.specs.PathPromises.{point_clauses, promised, promise_at, promise_drafts};
 ghost use Rattle.acc_goals.specs.Causes.{Adds};
-ghost use Rattle.acc_places.specs.Rooms.{HasFewVars, IsSmallDesign, IsSmallStop, IsSmallType};
-ghost use Rattle.acc_places.specs.SeenPlaces.{stop};
-ghost use Rattle.acc_places.specs.Stops.{joined, at_stop};
+ghost use Rattle.acc_places.specs.Rooms.{HasFewVars, IsSmallDesign, IsSmallPathPlace, IsSmallType};
+ghost use Rattle.acc_places.specs.SeenPlaces.{path_place};
+ghost use Rattle.acc_places.specs.DesignPlaces.{joined, at_path_place};
 
 use crate::names::names_after;
 use acc_base::bounds::MOST_CLAUSES;
 use acc_base::designs::{Design, TxType};
 use acc_base::forms::Clause;
 use acc_base::sequences::Seq;
-use acc_base::sequents::Sequent;
+use acc_base::sequents::{Rule, Sequent};
 use acc_base::steps::Target;
 use acc_goals::errors::ObligError;
 use acc_obligations::paths::{Cause, add_path_clause, path_origin, path_setting};
@@ -51,9 +51,9 @@ fn add_path_promise(
     k: usize,
 ) -> Result<(), ObligError>
     requires design { IsSmallDesign d.now }
-    requires small { IsSmallStop (stop q.now) }
+    requires small { IsSmallPathPlace (path_place q.now) }
     requires number { k < MOST_CLAUSES }
-    ensures { Adds result out.old out.new (at_stop (promise_at d.now k) (stop q.now)) }
+    ensures { Adds result out.old out.new (at_path_place (promise_at d.now k) (path_place q.now)) }
 {
     match promised(q.ty, q.path.target).get(k) {
         None => Ok(()),
@@ -61,7 +61,7 @@ fn add_path_promise(
             let s = path_setting(d, q);
             let names = names_after(alloc, &s)?;
             let cause = Cause {
-                rule: 1,
+                rule: Rule::Promises,
                 held: None,
                 clause: k as u32,
             };
@@ -79,9 +79,9 @@ fn add_number_promises(
     k: usize,
 ) -> Result<(), ObligError>
     requires design { IsSmallDesign d.now }
-    requires small { All (λ q. IsSmallStop (stop q)) paths.now }
+    requires small { All (λ q. IsSmallPathPlace (path_place q)) paths.now }
     requires number { k < MOST_CLAUSES }
-    ensures { Adds result out.old out.new (joined (at_stop (promise_at d.now k)) (map stop paths.now)) }
+    ensures { Adds result out.old out.new (joined (at_path_place (promise_at d.now k)) (map path_place paths.now)) }
 {
     for q in paths {
         add_path_promise(alloc, out, d, q, k)?;

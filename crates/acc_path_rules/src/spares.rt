@@ -6,25 +6,25 @@ ghost use Rattle.acc_oblig.specs.Naming.{own_clauses};
 ghost use Rattle.acc_oblig.specs.Settings.{step_vars, step_hyps, step_rels, step_bounds, frame_bounds};
 ghost use Rattle.acc_oblig.specs.Spares.{held_names, spare_drafts, spare_at, held_drafts, all_spare_drafts};
 ghost use Rattle.acc_goals.specs.Causes.{Adds, at_case};
-ghost use Rattle.acc_places.specs.Rooms.{HasFewVars, IsSmallDesign, IsSmallStop, IsSmallRest};
+ghost use Rattle.acc_places.specs.Rooms.{HasFewVars, IsSmallDesign, IsSmallPathPlace, IsSmallPointPlace};
 ghost use Rattle.acc_assumptions.specs.Seen.{seen, HasRoom};
-ghost use Rattle.acc_places.specs.SeenPlaces.{rest, stop};
-ghost use Rattle.acc_places.specs.Stops.{joined, at_stop, at_rest, stops_of};
+ghost use Rattle.acc_places.specs.SeenPlaces.{point_place, path_place};
+ghost use Rattle.acc_places.specs.DesignPlaces.{joined, at_path_place, at_point_place, path_places};
 ghost use Rattle.acc_path_rules.specs.Helds.{ordered_of};
 
 use crate::entries::open_by;
 use crate::orders::{Ordered, add_clause};
 use crate::tables::clause_names;
 use acc_assumptions::settings::{
-    Setting, add_frame_bounds, add_own_clauses, add_step_rels, counted, path_actions, step_bounds,
-    step_hyps, step_vars,
+    Setting, add_frame_bounds, add_own_clauses, add_step_rels, numbers_from, path_actions,
+    step_bounds, step_hyps, step_vars,
 };
 use acc_base::designs::Design;
 use acc_base::forms::{Clause, Rel};
 use acc_base::sequences::Seq;
-use acc_base::sequents::{Origin, Sequent};
+use acc_base::sequents::{Origin, Rule, Sequent};
 use acc_goals::errors::ObligError;
-use acc_named::forms::below;
+use acc_named::forms::is_less;
 use acc_named::naming::own_naming;
 use acc_obligations::paths::{Cause, path_origin, path_setting};
 use acc_places::places::{PathPlace, PointPlace, all_paths, points_of};
@@ -36,7 +36,7 @@ fn held_names(alloc: Global, s: &Setting<'_>, held: u32) -> Result<Seq<u32>, All
     requires few { held ≤ MOST_LOCALS }
     ensures { IfOk result (λ xs. xs ≡ held_names (seen s.now) held) }
 {
-    counted(alloc, step_vars(s), held + 1)
+    numbers_from(alloc, step_vars(s), held + 1)
 }
 
 /// The hypotheses of a step, and what holds at the held point.
@@ -47,7 +47,7 @@ fn held_hyps(
     vars: u32,
 ) -> Result<Seq<Clause>, AllocError>
     requires room { HasRoom s.now }
-    requires small { IsSmallRest (rest held.now) }
+    requires small { IsSmallPointPlace (point_place held.now) }
     requires few { vars + MOST_VARIABLES < 2 ^ 32 }
     ensures { IfOk result (λ cs. cs ≡ step_hyps (seen s.now) vars
         ++ own_clauses (held_names (seen s.now) (length held.now.ty.now.locals)) vars held.now.point.now.clauses) }
@@ -89,9 +89,9 @@ fn ordered_of(
     pairs: Seq<Rel>,
 ) -> Result<Ordered, AllocError>
     requires room { HasRoom s.now }
-    requires small { IsSmallRest (rest held.now) }
+    requires small { IsSmallPointPlace (point_place held.now) }
     requires few { vars + MOST_VARIABLES < 2 ^ 32 }
-    ensures { IfOk result (λ o. o ≡ ordered_of origin (seen s.now) (rest held.now) vars pairs) }
+    ensures { IfOk result (λ o. o ≡ ordered_of origin (seen s.now) (point_place held.now) vars pairs) }
 {
     let locals = held.ty.locals.len() as u32;
     let me = step_vars(s) + locals;
@@ -100,8 +100,8 @@ fn ordered_of(
         vars,
         hyps: held_hyps(alloc, s, held, vars)?,
         first: held_rels(alloc, s, locals, vars)?,
-        lower: below(alloc, me, s.locals)?,
-        higher: below(alloc, s.locals, me)?,
+        lower: is_less(alloc, me, s.locals)?,
+        higher: is_less(alloc, s.locals, me)?,
         rest: pairs,
     })
 }
@@ -118,7 +118,7 @@ fn add_spare(
 ) -> Result<(), ObligError>
     requires first { origin.case ≡ 1 }
     requires room { HasRoom s.now }
-    requires small { IsSmallRest (rest held.now) }
+    requires small { IsSmallPointPlace (point_place held.now) }
     requires few { HasFewVars c.now }
     ensures { Adds result out.old out.new (spare_drafts (at_case origin) (seen s.now) held.now.point.now.clauses
         (length held.now.ty.now.locals) pairs c.now) }
@@ -144,12 +144,12 @@ fn add_path_spare(
     c: &Clause,
 ) -> Result<(), ObligError>
     requires design { IsSmallDesign d.now }
-    requires small { IsSmallStop (stop q.now) }
-    requires held { IsSmallRest (rest held.now) }
+    requires small { IsSmallPathPlace (path_place q.now) }
+    requires held { IsSmallPointPlace (point_place held.now) }
     requires number { k + 1 < 2 ^ 32 }
     requires few { HasFewVars c.now }
     ensures { Adds result out.old out.new
-        (at_stop (spare_at d.now held.now.at held.now.ty.now held.now.point.now k c.now) (stop q.now)) }
+        (at_path_place (spare_at d.now held.now.at held.now.ty.now held.now.point.now k c.now) (path_place q.now)) }
 {
     if !clause_names(q.path.actions.as_slice(), c) {
         return Ok(());
@@ -159,7 +159,7 @@ fn add_path_spare(
         None => Ok(()),
         Some(pairs) => {
             let cause = Cause {
-                rule: 3,
+                rule: Rule::Spares,
                 held: Some(held.at),
                 clause: k,
             };
@@ -179,12 +179,12 @@ fn add_clause_spares(
     c: &Clause,
 ) -> Result<(), ObligError>
     requires design { IsSmallDesign d.now }
-    requires small { All (λ q. IsSmallStop (stop q)) paths.now }
-    requires held { IsSmallRest (rest held.now) }
+    requires small { All (λ q. IsSmallPathPlace (path_place q)) paths.now }
+    requires held { IsSmallPointPlace (point_place held.now) }
     requires number { k + 1 < 2 ^ 32 }
     requires few { HasFewVars c.now }
     ensures { Adds result out.old out.new
-        (joined (at_stop (spare_at d.now held.now.at held.now.ty.now held.now.point.now k c.now)) (map stop paths.now)) }
+        (joined (at_path_place (spare_at d.now held.now.at held.now.ty.now held.now.point.now k c.now)) (map path_place paths.now)) }
 {
     for q in paths {
         add_path_spare(alloc, out, d, q, held, k, c)?;
@@ -201,10 +201,10 @@ fn add_point_spares(
     held: &PointPlace<'_>,
 ) -> Result<(), ObligError>
     requires design { IsSmallDesign d.now }
-    requires small { All (λ q. IsSmallStop (stop q)) paths.now }
-    requires all { map stop paths.now ≡ stops_of d.now }
-    requires held { IsSmallRest (rest held.now) }
-    ensures { Adds result out.old out.new (at_rest (held_drafts d.now) (rest held.now)) }
+    requires small { All (λ q. IsSmallPathPlace (path_place q)) paths.now }
+    requires all { map path_place paths.now ≡ path_places d.now }
+    requires held { IsSmallPointPlace (point_place held.now) }
+    ensures { Adds result out.old out.new (at_point_place (held_drafts d.now) (point_place held.now)) }
 {
     let clauses = held.point.clauses.as_slice();
     for (k, c) in clauses.iter().enumerate() {

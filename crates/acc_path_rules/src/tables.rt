@@ -14,13 +14,13 @@ fn changes(actions: &[Action], t: u32) -> bool
     actions.iter().any(|a| a.table() == t)
 }
 
+/// Whether an atom speaks of a table that one of the actions changes.
 fn atom_names(actions: &[Action], a: &Atom) -> bool
     ensures { result ≡ atom_names actions.now a.now }
 {
-    match a {
-        Atom::One | Atom::Var(_) => false,
-        Atom::Has(t, _) | Atom::Count(t, _) => changes(actions, *t),
-        Atom::Col(t, _, _) | Atom::Sum(t, _, _) => changes(actions, *t),
+    match a.table() {
+        Some(t) => changes(actions, t),
+        None => false,
     }
 }
 

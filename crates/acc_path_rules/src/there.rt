@@ -5,10 +5,10 @@ ghost use Rattle.acc_formed.specs.WellFormed.{IsWellFormed};
 ghost use Rattle.acc_oblig.specs.Drafts.{setting_of};
 ghost use Rattle.acc_oblig.specs.PathPromises.{row_there, there_at, there_drafts};
 ghost use Rattle.acc_goals.specs.Causes.{Adds};
-ghost use Rattle.acc_places.specs.Rooms.{IsSmallDesign, IsSmallStop};
+ghost use Rattle.acc_places.specs.Rooms.{IsSmallDesign, IsSmallPathPlace};
 ghost use Rattle.acc_assumptions.specs.Seen.{seen, HasRoom};
-ghost use Rattle.acc_places.specs.SeenPlaces.{stop};
-ghost use Rattle.acc_places.specs.Stops.{joined, at_stop};
+ghost use Rattle.acc_places.specs.SeenPlaces.{path_place};
+ghost use Rattle.acc_places.specs.DesignPlaces.{joined, at_path_place};
 ghost use Rattle.acc_path_rules.specs.Rows.{needed_row, needed_at};
 
 use crate::names::names_after;
@@ -17,10 +17,10 @@ use acc_base::bounds::MOST_ACTIONS;
 use acc_base::designs::Design;
 use acc_base::forms::{Atom, Clause, Lin};
 use acc_base::sequences::{Seq, copied};
-use acc_base::sequents::Sequent;
+use acc_base::sequents::{Rule, Sequent};
 use acc_base::steps::Action;
 use acc_goals::errors::ObligError;
-use acc_named::forms::{is_none, one_term, times};
+use acc_named::forms::{is_zero, one_term, times};
 use acc_obligations::paths::{Cause, add_path_clause, path_origin, path_setting};
 use acc_places::places::{PathPlace, all_paths};
 use std::alloc::{AllocError, Global};
@@ -33,7 +33,7 @@ fn row_there(alloc: Global, t: u32, k: &Seq<Lin>) -> Result<Clause, AllocError>
     Ok(Clause {
         vars: Seq::new(alloc),
         guards: Seq::new(alloc),
-        rel: is_none(one_term(alloc, has, -1)?),
+        rel: is_zero(one_term(alloc, has, -1)?),
     })
 }
 
@@ -68,7 +68,7 @@ fn actions_before(actions: &[Action], number: usize) -> &[Action]
 /// The setting of a path before its action with number k.
 fn setting_before<'a>(d: &'a Design, q: &PathPlace<'a>, k: usize) -> Setting<'a>
     requires design { IsSmallDesign d.now }
-    requires small { IsSmallStop (stop q.now) }
+    requires small { IsSmallPathPlace (path_place q.now) }
     ensures seen { seen result ≡ record (setting_of d.now q.now.ty.now q.now.point.now q.now.step.now q.now.number q.now.path.now) {
       actions = take k q.now.path.now.actions;
     } }
@@ -88,9 +88,9 @@ fn add_path_row(
     k: usize,
 ) -> Result<(), ObligError>
     requires design { IsSmallDesign d.now }
-    requires small { IsSmallStop (stop q.now) }
+    requires small { IsSmallPathPlace (path_place q.now) }
     requires number { k < MOST_ACTIONS }
-    ensures { Adds result out.old out.new (at_stop (there_at d.now k) (stop q.now)) }
+    ensures { Adds result out.old out.new (at_path_place (there_at d.now k) (path_place q.now)) }
 {
     match needed_at(alloc, q.path.actions.as_slice(), k)? {
         None => Ok(()),
@@ -98,7 +98,7 @@ fn add_path_row(
             let s = setting_before(d, q, k);
             let names = names_after(alloc, &s)?;
             let cause = Cause {
-                rule: 4,
+                rule: Rule::There,
                 held: None,
                 clause: k as u32,
             };
@@ -116,9 +116,9 @@ fn add_rows(
     k: usize,
 ) -> Result<(), ObligError>
     requires design { IsSmallDesign d.now }
-    requires small { All (λ q. IsSmallStop (stop q)) paths.now }
+    requires small { All (λ q. IsSmallPathPlace (path_place q)) paths.now }
     requires number { k < MOST_ACTIONS }
-    ensures { Adds result out.old out.new (joined (at_stop (there_at d.now k)) (map stop paths.now)) }
+    ensures { Adds result out.old out.new (joined (at_path_place (there_at d.now k)) (map path_place paths.now)) }
 {
     for q in paths {
         add_path_row(alloc, out, d, q, k)?;

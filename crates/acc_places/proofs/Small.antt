@@ -23,8 +23,8 @@ use Rattle.acc_formed.proofs.Runs.{table_is_small}
 use Rattle.acc_oblig.specs.Drafts.{each_from, each, step_paths}
 use Rattle.acc_oblig.proofs.OnPath.{numbered_at}
 use Rattle.acc_places.specs.Rooms.{HasFewVars, IsSmallEntry, IsSmallStep, IsSmallTable, IsSmallDesign, IsSmallPoint, IsSmallType}
-use Rattle.acc_places.specs.Rooms.{IsSmallAt, IsSmallRest, IsSmallStop}
-use Rattle.acc_places.specs.Stops.{Rest, joined, rest_alone, stop_alone, rest_stops, rests_of}
+use Rattle.acc_places.specs.Rooms.{IsSmallAt, IsSmallPointPlace, IsSmallPathPlace}
+use Rattle.acc_places.specs.DesignPlaces.{PointPlace, joined, point_place_alone, path_place_alone, places_of_point, point_places}
 
 -- ---- what holds of each item holds of all that is joined
 
@@ -89,26 +89,26 @@ small_type tables types i x f =
 
 small_steps :
     (at : At) (side : Side) (x : TxType) (p : Point) (step : Step) → IsSmallAt at → IsSmallType x → IsSmallPoint p → IsSmallStep step
-    → AllByRecursion IsSmallStop (step_paths stop_alone at side x p step)
+    → AllByRecursion IsSmallPathPlace (step_paths path_place_alone at side x p step)
 small_steps at side x p step a t q s =
-    all_from IsSmallStop (λ j path. stop_alone (record { at = at; side = side; path = j }) x p step path) 0 step.paths
+    all_from IsSmallPathPlace (λ j path. path_place_alone (record { at = at; side = side; path = j }) x p step path) 0 step.paths
     (λ j path l. (record { at = a; number = (let few = s.paths in omega arith); x = t; p = q; step = s }, tt))
 
-pub small_stops : (q : Rest) → IsSmallRest q → AllByRecursion IsSmallStop (rest_stops q)
-small_stops q s =
-    all_join IsSmallStop (step_paths stop_alone q.at Next q.x q.p (step_at Next q.p))
-    (step_paths stop_alone q.at Undo q.x q.p (step_at Undo q.p))
+pub small_path_places : (q : PointPlace) → IsSmallPointPlace q → AllByRecursion IsSmallPathPlace (places_of_point q)
+small_path_places q s =
+    all_join IsSmallPathPlace (step_paths path_place_alone q.at Next q.x q.p (step_at Next q.p))
+    (step_paths path_place_alone q.at Undo q.x q.p (step_at Undo q.p))
     (small_steps q.at Next q.x q.p q.p.next s.at s.x s.p s.p.next) (small_steps q.at Undo q.x q.p q.p.undo s.at s.x s.p s.p.undo)
 
 module _ (d : Design) (wf : IsWellFormed d) where
-  pub rests_small : AllByRecursion IsSmallRest (rests_of d)
-  rests_small =
-      all_from IsSmallRest (λ ty x. each (λ i p. rest_alone ty x i p) x.points) 0 d.types
+  pub small_point_places : AllByRecursion IsSmallPointPlace (point_places d)
+  small_point_places =
+      all_from IsSmallPointPlace (λ ty x. each (λ i p. point_place_alone ty x i p) x.points) 0 d.types
       (λ k x l. let y : TxType = slice_index_or d.types k x in
       let f : IsTypeFormed d.tables d.types k y = wf.types k x l in
       let few_types = wf.few_types in
       let few_points = f.few_points in
-      all_from IsSmallRest (λ i p. rest_alone (0 + k) y i p) 0 y.points
+      all_from IsSmallPointPlace (λ i p. point_place_alone (0 + k) y i p) 0 y.points
       (λ i p m. (
         record {
           at = record { ty = omega arith; point = omega arith };

@@ -8,10 +8,10 @@ use Rattle.acc_base.specs.declared.designs.Design.{Design}
 use Rattle.acc_formed.specs.WellFormed.{IsWellFormed}
 use Rattle.acc_places.specs.declared.places.PointPlace.{PointPlace}
 use Rattle.acc_places.specs.declared.places.PathPlace.{PathPlace}
-use Rattle.acc_places.specs.Rooms.{IsSmallRest, IsSmallStop}
-use Rattle.acc_places.specs.SeenPlaces.{rest, stop}
-use Rattle.acc_places.specs.Stops.{joined, rest_stops, rests_of}
-use Rattle.acc_places.proofs.Small.{all_joined, small_stops, rests_small}
+use Rattle.acc_places.specs.Rooms.{IsSmallPointPlace, IsSmallPathPlace}
+use Rattle.acc_places.specs.SeenPlaces.{point_place, path_place}
+use Rattle.acc_places.specs.DesignPlaces.{joined, places_of_point, point_places}
+use Rattle.acc_places.proofs.Small.{all_joined, small_path_places, small_point_places}
 
 module _ {S T : Type 0} (f : T → S) (P : S → Type 0) where
   all_back : (xs : List T) → AllByRecursion P (map f xs) → AllByRecursion (λ x. P (f x)) xs
@@ -23,19 +23,22 @@ module _ {S T : Type 0} (f : T → S) (P : S → Type 0) where
   all_over (x ∷ xs) h = (h.0, all_over xs h.1)
 
 pub points_small :
-    (d : Design) → IsWellFormed d → (ps : List PointPlace) → map rest ps ≡ rests_of d → All (λ (q : PointPlace). IsSmallRest (rest q)) ps
+    (d : Design) → IsWellFormed d → (ps : List PointPlace) → map point_place ps ≡ point_places d → All
+    (λ (q : PointPlace). IsSmallPointPlace (point_place q)) ps
 points_small d wf ps e =
-    All-from_recursion (λ (q : PointPlace). IsSmallRest (rest q)) ps
-    (all_back rest IsSmallRest ps (subst (AllByRecursion IsSmallRest) (sym e) (rests_small d wf)))
+    All-from_recursion (λ (q : PointPlace). IsSmallPointPlace (point_place q)) ps
+    (all_back point_place IsSmallPointPlace ps (subst (AllByRecursion IsSmallPointPlace) (sym e) (small_point_places d wf)))
 
 pub paths_small :
-    (ps : List PointPlace) (qs : List PathPlace) → All (λ (q : PointPlace). IsSmallRest (rest q)) ps
-    → map stop qs ≡ joined rest_stops (map rest ps) → All (λ (q : PathPlace). IsSmallStop (stop q)) qs
+    (ps : List PointPlace) (qs : List PathPlace) → All (λ (q : PointPlace). IsSmallPointPlace (point_place q)) ps
+    → map path_place qs ≡ joined places_of_point (map point_place ps) → All (λ (q : PathPlace). IsSmallPathPlace (path_place q)) qs
 paths_small ps qs h e =
-    let rests = all_over rest IsSmallRest ps (recursion_from_All (λ (q : PointPlace). IsSmallRest (rest q)) ps h) in
-    All-from_recursion (λ (q : PathPlace). IsSmallStop (stop q)) qs
-    (all_back stop IsSmallStop qs
-    (subst (AllByRecursion IsSmallStop) (sym e) (all_joined IsSmallStop IsSmallRest rest_stops (map rest ps) small_stops rests)))
+    let small = all_over point_place IsSmallPointPlace ps
+    (recursion_from_All (λ (q : PointPlace). IsSmallPointPlace (point_place q)) ps h) in
+    All-from_recursion (λ (q : PathPlace). IsSmallPathPlace (path_place q)) qs
+    (all_back path_place IsSmallPathPlace qs
+    (subst (AllByRecursion IsSmallPathPlace) (sym e)
+    (all_joined IsSmallPathPlace IsSmallPointPlace places_of_point (map point_place ps) small_path_places small)))
 
 pub few_points :
     (d : Design) → IsWellFormed d → (xs : List TxType) → xs ≡ d.types → (i : ℕ) → i < length xs → (x : TxType) → x ≡ get_or xs i x

@@ -1,3 +1,3 @@
 pub mod Rooms
 pub mod SeenPlaces
-pub mod Stops
+pub mod DesignPlaces

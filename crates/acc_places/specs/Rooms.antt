@@ -10,7 +10,7 @@ use Rattle.acc_base.specs.declared.designs.Point.{Point}
 use Rattle.acc_base.specs.declared.designs.TxType.{TxType}
 use Rattle.acc_base.specs.declared.designs.Design.{Design}
 use Rattle.acc_base.specs.declared.tables.Table.{Table}
-use Rattle.acc_places.specs.Stops.{Rest, Stop}
+use Rattle.acc_places.specs.DesignPlaces.{PointPlace, PathPlace}
 
 abbrev pub HasFewVars : Clause → Type 0
 HasFewVars c = length c.vars ≤ MOST_VARIABLES
@@ -36,12 +36,12 @@ pub record IsSmallAt (at : At) : Type 0 where
   pub ty : at.ty < MOST_TYPES
   pub point : at.point < MOST_POINTS
 
-pub record IsSmallRest (q : Rest) : Type 0 where
+pub record IsSmallPointPlace (q : PointPlace) : Type 0 where
   pub at : IsSmallAt q.at
   pub x : IsSmallType q.x
   pub p : IsSmallPoint q.p
 
-pub record IsSmallStop (q : Stop) : Type 0 where
+pub record IsSmallPathPlace (q : PathPlace) : Type 0 where
   pub at : IsSmallAt q.w.at
   pub number : q.w.path < MOST_PATHS
   pub x : IsSmallType q.x

@@ -2,3 +2,5 @@
 #![tactic(auto)]
 
 pub mod places;
+
+pub use places::{PathPlace, PointPlace, all_paths, paths_of, points_of};

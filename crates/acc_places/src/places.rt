@@ -3,9 +3,9 @@ ghost use Rattle.std.specs.Prelude.{◌≡◌, ◌++◌, ◌≤◌, length, map,
 ghost use Rattle.acc_base.specs.declared.bounds.TheConstants.{MOST_TYPES, MOST_POINTS, MOST_PATHS};
 ghost use Rattle.acc_formed.specs.WellFormed.{IsWellFormed};
 ghost use Rattle.acc_oblig.specs.Drafts.{each, step_paths};
-ghost use Rattle.acc_places.specs.Rooms.{IsSmallStop, IsSmallRest};
-ghost use Rattle.acc_places.specs.SeenPlaces.{rest, stop};
-ghost use Rattle.acc_places.specs.Stops.{rests_of, stops_of, rest_alone, stop_alone, joined, rest_stops};
+ghost use Rattle.acc_places.specs.Rooms.{IsSmallPathPlace, IsSmallPointPlace};
+ghost use Rattle.acc_places.specs.SeenPlaces.{point_place, path_place};
+ghost use Rattle.acc_places.specs.DesignPlaces.{point_places, path_places, point_place_alone, path_place_alone, joined, places_of_point};
 
 use acc_base::designs::{At, Design, Point, Side, TxType};
 use acc_base::steps::{Path, Step};
@@ -39,7 +39,8 @@ fn add_points<'a>(
 ) -> Result<(), AllocError>
     requires type_fits { number ≤ MOST_TYPES }
     requires few { length ty.now.points ≤ MOST_POINTS }
-    ensures { OnOk result (map rest out.new.items ≡ map rest out.old.items ++ each (rest_alone number ty.now) ty.now.points) }
+    ensures { OnOk result (map point_place out.new.items
+        ≡ map point_place out.old.items ++ each (point_place_alone number ty.now) ty.now.points) }
 {
     let points = ty.points.as_slice();
     for (i, point) in points.iter().enumerate() {
@@ -55,8 +56,8 @@ fn add_points<'a>(
 /// The points of a design, type by type.
 pub fn points_of<'a>(alloc: Global, d: &'a Design) -> Result<Vec<PointPlace<'a>>, AllocError>
     requires { IsWellFormed d.now }
-    ensures value { IfOk result (λ v. map rest v.items ≡ rests_of d.now) }
-    ensures small { IfOk result (λ v. All (λ q. IsSmallRest (rest q)) v.items) }
+    ensures value { IfOk result (λ v. map point_place v.items ≡ point_places d.now) }
+    ensures small { IfOk result (λ v. All (λ q. IsSmallPointPlace (point_place q)) v.items) }
 {
     let points = listed_points(alloc, d)?;
     Ok(points)
@@ -64,7 +65,7 @@ pub fn points_of<'a>(alloc: Global, d: &'a Design) -> Result<Vec<PointPlace<'a>>
 
 fn listed_points<'a>(alloc: Global, d: &'a Design) -> Result<Vec<PointPlace<'a>>, AllocError>
     requires { IsWellFormed d.now }
-    ensures { IfOk result (λ v. map rest v.items ≡ rests_of d.now) }
+    ensures { IfOk result (λ v. map point_place v.items ≡ point_places d.now) }
 {
     let mut out = Vec::new(alloc);
     let types = d.types.as_slice();
@@ -82,8 +83,8 @@ fn add_paths<'a>(
     step: &'a Step,
 ) -> Result<(), AllocError>
     requires { length step.now.paths ≤ MOST_PATHS }
-    ensures { OnOk result (map stop out.new.items ≡ map stop out.old.items
-        ++ step_paths stop_alone q.now.at side q.now.ty.now q.now.point.now step.now) }
+    ensures { OnOk result (map path_place out.new.items ≡ map path_place out.old.items
+        ++ step_paths path_place_alone q.now.at side q.now.ty.now q.now.point.now step.now) }
 {
     let paths = step.paths.as_slice();
     for (i, path) in paths.iter().enumerate() {
@@ -102,8 +103,8 @@ fn add_paths<'a>(
 
 /// Adds the paths of a point, those forward first.
 fn add_point_paths<'a>(out: &mut Vec<PathPlace<'a>>, q: &PointPlace<'a>) -> Result<(), AllocError>
-    requires { IsSmallRest (rest q.now) }
-    ensures { OnOk result (map stop out.new.items ≡ map stop out.old.items ++ rest_stops (rest q.now)) }
+    requires { IsSmallPointPlace (point_place q.now) }
+    ensures { OnOk result (map path_place out.new.items ≡ map path_place out.old.items ++ places_of_point (point_place q.now)) }
 {
     add_paths(out, q, Side::Next, &q.point.next)?;
     add_paths(out, q, Side::Undo, &q.point.undo)
@@ -114,9 +115,9 @@ pub fn paths_of<'a>(
     alloc: Global,
     points: &[PointPlace<'a>],
 ) -> Result<Vec<PathPlace<'a>>, AllocError>
-    requires { All (λ q. IsSmallRest (rest q)) points.now }
-    ensures value { IfOk result (λ v. map stop v.items ≡ joined rest_stops (map rest points.now)) }
-    ensures small { IfOk result (λ v. All (λ q. IsSmallStop (stop q)) v.items) }
+    requires { All (λ q. IsSmallPointPlace (point_place q)) points.now }
+    ensures value { IfOk result (λ v. map path_place v.items ≡ joined places_of_point (map point_place points.now)) }
+    ensures small { IfOk result (λ v. All (λ q. IsSmallPathPlace (path_place q)) v.items) }
 {
     let paths = listed_paths(alloc, points)?;
     Ok(paths)
@@ -126,8 +127,8 @@ fn listed_paths<'a>(
     alloc: Global,
     points: &[PointPlace<'a>],
 ) -> Result<Vec<PathPlace<'a>>, AllocError>
-    requires { All (λ q. IsSmallRest (rest q)) points.now }
-    ensures { IfOk result (λ v. map stop v.items ≡ joined rest_stops (map rest points.now)) }
+    requires { All (λ q. IsSmallPointPlace (point_place q)) points.now }
+    ensures { IfOk result (λ v. map path_place v.items ≡ joined places_of_point (map point_place points.now)) }
 {
     let mut out = Vec::new(alloc);
     for q in points {
@@ -139,8 +140,8 @@ fn listed_paths<'a>(
 /// The paths of a design, type by type and point by point.
 pub fn all_paths<'a>(alloc: Global, d: &'a Design) -> Result<Vec<PathPlace<'a>>, AllocError>
     requires { IsWellFormed d.now }
-    ensures value { IfOk result (λ v. map stop v.items ≡ stops_of d.now) }
-    ensures small { IfOk result (λ v. All (λ q. IsSmallStop (stop q)) v.items) }
+    ensures value { IfOk result (λ v. map path_place v.items ≡ path_places d.now) }
+    ensures small { IfOk result (λ v. All (λ q. IsSmallPathPlace (path_place q)) v.items) }
 {
     let points = points_of(alloc, d)?;
     let paths = paths_of(alloc, points.as_slice())?;

@@ -299,10 +299,14 @@ module _ (ps : List Progress) (fs : List Frame) (t : ℕ) (kept : AreKept ps fs)
   pub ends_kept : (at : ℕ) (reply : Reply) (fs2 : List Frame) (x : Transaction) → IsAt fs t at → fs2 ≡ remove fs at → x ≡ o.x →
       KeepsThem (set ps (t - 1) (progress.Ended reply)) fs2 (set (joined ps fs) (t - 1) (left_by (Ends reply) x))
   ends_kept at reply fs2 x h removed is =
-      after (set ps (t - 1) (progress.Ended reply)) fs2 (left_by (Ends reply) x)
-      (progress_set (left_by (Ends reply) x) (progress.Ended reply) refl)
-      (removed ∙ ap (remove fs) (place_is at h) ∙ o.ends (left_by (Ends reply) x) refl)
-      tt
+      subst (λ (z : Transaction). KeepsThem (set ps (t - 1) (progress.Ended reply)) fs2 (set (joined ps fs) (t - 1) z)) (sym (left_over x))
+      (after (set ps (t - 1) (progress.Ended reply)) fs2 (Ended reply) (progress_set (Ended reply) (progress.Ended reply) refl)
+      (removed ∙ ap (remove fs) (place_is at h) ∙ o.ends (Ended reply) refl) tt)
+    where
+      left_over : (z : Transaction) → left_by (Ends reply) z ≡ Ended reply
+      left_over (Forward f) = refl
+      left_over (Undoing f c) = refl
+      left_over (Ended before) = refl
 
 -- what is read of an unfinished transaction
 pub frame_read : (ps : List Progress) (fs : List Frame) (t : ℕ) (kept : AreKept ps fs) (o : IsOpen ps fs t) (at : ℕ) (f : Frame) →

@@ -29,7 +29,7 @@ use Rattle.acc_store.specs.Rows.{SumsFit}
 use Rattle.acc_base.proofs.RowOrder.{order_to}
 use Rattle.acc_store.proofs.Withins.{sums_fit}
 use Rattle.acc_step.proofs.Bounds.{within_weaker}
-use Rattle.acc_step.proofs.Leaves.{Leaves, goes_leaves}
+use Rattle.acc_step.proofs.StepLeaves.{StepLeaves, goes_leaves}
 use Rattle.acc_plain.specs.Reached.{IsReached}
 use Rattle.acc_plain.proofs.Fitting.{IsOwn, Fits, AreFit, fit_push, fit_set, fit_get, fits_frame, begun_fits}
 use Rattle.acc_plain.proofs.Turning.{at_place}
@@ -83,7 +83,7 @@ steady_left n t rows transactions x s from left =
 
 -- ---- the frame after a step
 
-stands : (n t : ℕ) (f : Frame) (after : List Row) (s : Reading) (side : Side) (p m : ℕ) → IsOwn t f → Leaves m n f after s →
+stands : (n t : ℕ) (f : Frame) (after : List Row) (s : Reading) (side : Side) (p m : ℕ) → IsOwn t f → StepLeaves m n f after s →
     IsOwn t (moved side f s p)
 stands n t f after s Next p m own l =
     let few = own.fitting.few in
@@ -103,14 +103,14 @@ stands n t f after s UndoSide p m own l =
 module _ (d : Design) (n t : ℕ) (rows : List Row) (f : Frame) (can : IsRunnable d) (order : IsInOrder rows) (few : length rows ≤ n * 16)
     (within : AreWithin (reach n) rows) (own : IsOwn t f) (small : t ≤ 2 ^ 45) where
   leaves : (side : Side) (after : List Row) (s : Reading) (i : ℕ) (to : Target) → effect_of d rows f side ≡ Goes after s i to →
-      Leaves (n * 16) (reach n) f after s
+      StepLeaves (n * 16) (reach n) f after s
   leaves side after s i to e = goes_leaves d rows f side after s i to (n * 16) (reach n) e can (fits_frame t f own small) order few within
       (omega arith)
 
-  ended : (after : List Row) (s : Reading) (x : Transaction) → Leaves (n * 16) (reach n) f after s → Fits t x → Left n t (after, x)
+  ended : (after : List Row) (s : Reading) (x : Transaction) → StepLeaves (n * 16) (reach n) f after s → Fits t x → Left n t (after, x)
   ended after s x l k = record { order = l.order; few = l.few; within = l.within; fits = k }
 
-  forward_left : (after : List Row) (s : Reading) (to : Target) (x : List Row × Transaction) → Leaves (n * 16) (reach n) f after s →
+  forward_left : (after : List Row) (s : Reading) (to : Target) (x : List Row × Transaction) → StepLeaves (n * 16) (reach n) f after s →
       with_rows after (forward_to d f s to) ≡ Some x → Left n t x
   forward_left after s (ToPoint p) x l e =
       let is : (after, Forward (moved Next f s p)) ≡ x = cc in
@@ -122,7 +122,7 @@ module _ (d : Design) (n t : ℕ) (rows : List Row) (f : Frame) (can : IsRunnabl
   forward_left after s (Refuse m) x l e = absurd cc
 
   back_left : (c : Cause) (after : List Row) (s : Reading) (to : Target) (x : List Row × Transaction) →
-      Leaves (n * 16) (reach n) f after s → with_rows after (back_to f c s to) ≡ Some x → Left n t x
+      StepLeaves (n * 16) (reach n) f after s → with_rows after (back_to f c s to) ≡ Some x → Left n t x
   back_left c after s (ToPoint p) x l e =
       let is : (after, Undoing (moved UndoSide f s p) c) ≡ x = cc in
       subst (Left n t) is (ended after s (Undoing (moved UndoSide f s p) c) l (stands (reach n) t f after s UndoSide p (n * 16) own l))

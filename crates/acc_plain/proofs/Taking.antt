@@ -1,11 +1,10 @@
 -- An event that the machine is given: what it changes, by what the next turn would change.
-use Rattle.std.proofs.Common.{◌≡◌, ℕ, List, Bool, true, false, Option, Some, None, refl, sym, ap, subst, ◌∙◌, arith}
+use Rattle.std.proofs.Common.{◌≡◌, ◌⊎◌, inl, inr, ℕ, List, Bool, true, false, Option, Some, None, refl, sym, ap, subst, ◌∙◌}
 use Rattle.std.specs.Prelude.{if◌then◌else◌, MatchOption}
-use Rattle.std.proofs.lemmas.Bool.Decides.{nat_tests}
 use Rattle.acc_base.specs.declared.tables.Row.{Row}
 use Rattle.acc_base.specs.declared.designs.Design.{Design}
 use Rattle.acc_base.specs.declared.machines.Cause.{Cause}
-use Rattle.acc_base.specs.declared.machines.Cause.TheVariants.{Refused, Range, Limit, Asked, Victim, Crash}
+use Rattle.acc_base.specs.declared.machines.Cause.TheVariants.{Refused, Range, Limit, Asked}
 use Rattle.acc_base.specs.declared.machines.Event.{Event}
 use Rattle.acc_base.specs.declared.machines.Event.TheVariants.{Step, Abort, Undo}
 use Rattle.acc_base.specs.declared.machines.Frame.{Frame}
@@ -13,6 +12,7 @@ use Rattle.acc_base.specs.declared.machines.Transaction.{Transaction}
 use Rattle.acc_base.specs.declared.machines.Transaction.TheVariants.{Forward, Undoing}
 use Rattle.acc_base.specs.declared.designs.Side.TheVariants.{Undo as UndoSide}
 use Rattle.acc_base.specs.Effects.{Effect, Goes, Refuses, OutOfRange, effect_of}
+use Rattle.acc_base.specs.RunEquality.{cause_decides}
 use Rattle.acc_base.specs.Machine.{stop_of, is_cause, may_turn, step_by, back_by, changed}
 use Rattle.acc_base.specs.Turns.{forward_event, undo_event, next_event}
 use Rattle.acc_store.specs.Rows.{written}
@@ -51,55 +51,22 @@ step_only d db f c next =
 -- ---- an abort
 
 same_cause : (c b : Cause) → is_cause c (Some b) ≡ true → c ≡ b
-same_cause (Refused n) (Refused m) h = let e : n ≡ m = grind (arith, nat_tests) in ap Refused e
-same_cause (Refused n) Range h = absurd cc
-same_cause (Refused n) Limit h = absurd cc
-same_cause (Refused n) Asked h = absurd cc
-same_cause (Refused n) Victim h = absurd cc
-same_cause (Refused n) Crash h = absurd cc
-same_cause Range (Refused m) h = absurd cc
-same_cause Range Range h = refl
-same_cause Range Limit h = absurd cc
-same_cause Range Asked h = absurd cc
-same_cause Range Victim h = absurd cc
-same_cause Range Crash h = absurd cc
-same_cause Limit (Refused m) h = absurd cc
-same_cause Limit Range h = absurd cc
-same_cause Limit Limit h = refl
-same_cause Limit Asked h = absurd cc
-same_cause Limit Victim h = absurd cc
-same_cause Limit Crash h = absurd cc
-same_cause Asked (Refused m) h = absurd cc
-same_cause Asked Range h = absurd cc
-same_cause Asked Limit h = absurd cc
-same_cause Asked Asked h = refl
-same_cause Asked Victim h = absurd cc
-same_cause Asked Crash h = absurd cc
-same_cause Victim (Refused m) h = absurd cc
-same_cause Victim Range h = absurd cc
-same_cause Victim Limit h = absurd cc
-same_cause Victim Asked h = absurd cc
-same_cause Victim Victim h = refl
-same_cause Victim Crash h = absurd cc
-same_cause Crash (Refused m) h = absurd cc
-same_cause Crash Range h = absurd cc
-same_cause Crash Limit h = absurd cc
-same_cause Crash Asked h = absurd cc
-same_cause Crash Victim h = absurd cc
-same_cause Crash Crash h = refl
+same_cause c b = (cause_decides c b).0
 
 -- a cause that only what stops the frame can be
 abbrev pub IsStop : Design → List Row → Frame → Cause → Type 0
 IsStop d db f cause = may_turn d db f cause ≡ is_cause cause (stop_of d db f)
 
--- any cause but a victim's and a crash is one
-pub stop_free : (d : Design) (db : List Row) (f : Frame) (cause : Cause) → (cause ≡ Victim → ⊥) → (cause ≡ Crash → ⊥) → IsStop d db f cause
-stop_free d db f (Refused n) v k = refl
-stop_free d db f Range v k = refl
-stop_free d db f Limit v k = refl
-stop_free d db f Asked v k = refl
-stop_free d db f Victim v k = absurd (v refl)
-stop_free d db f Crash v k = absurd (k refl)
+-- the cause is another than a victim's and a crash
+abbrev pub IsOfStep : Cause → Type 0
+IsOfStep cause = ((n : ℕ) × (cause ≡ Refused n)) ⊎ (cause ≡ Range) ⊎ (cause ≡ Limit) ⊎ (cause ≡ Asked)
+
+-- and each such is one
+pub stop_free : (d : Design) (db : List Row) (f : Frame) (cause : Cause) → IsOfStep cause → IsStop d db f cause
+stop_free d db f cause (inl (n, e)) = subst (IsStop d db f) (sym e) refl
+stop_free d db f cause (inr (inl e)) = subst (IsStop d db f) (sym e) refl
+stop_free d db f cause (inr (inr (inl e))) = subst (IsStop d db f) (sym e) refl
+stop_free d db f cause (inr (inr (inr e))) = subst (IsStop d db f) (sym e) refl
 
 refused_abort : (d : Design) (db : List Row) (f : Frame) (cause : Cause) → may_turn d db f cause ≡ false →
     changed d db (Abort f.t cause) (Some (Forward f)) ≡ None

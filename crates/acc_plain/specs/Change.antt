@@ -34,7 +34,9 @@ left_by (Turns c) (Ended reply) = Ended reply
 left_by (Stands s) (Forward f) = Forward (standing_at s f)
 left_by (Stands s) (Undoing f c) = Undoing (standing_at s f) c
 left_by (Stands s) (Ended reply) = Ended reply
-left_by (Ends reply) x = Ended reply
+left_by (Ends reply) (Forward f) = Ended reply
+left_by (Ends reply) (Undoing f c) = Ended reply
+left_by (Ends reply) (Ended before) = Ended reply
 
 -- the change is that of the transaction's next turn
 pub record IsNextChange (d : Design) (db : List Row) (x : Transaction) (c : Change) : Type 0 where

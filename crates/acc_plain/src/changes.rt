@@ -11,6 +11,7 @@ ghost use Rattle.acc_store.specs.Bounds.{AreWithin};
 ghost use Rattle.acc_plain.specs.Ahead.{reading_of, ahead_of, IsAhead};
 ghost use Rattle.acc_plain.specs.Change.{IsStepChange, IsBackChange, IsNextChange};
 
+use acc_base::bounds::LARGEST_SUM;
 use acc_base::designs::{Design, Side};
 use acc_base::machines::{Cause, Event, Frame, Outcome, Reply, Transaction};
 use acc_base::sequences::Seq;
@@ -101,7 +102,7 @@ fn unless_refused(e: StepEffect) -> Ahead
 {
     match e.target {
         Target::Refuse(n) => Ahead::Stops(Cause::Refused(n)),
-        _ => Ahead::Goes(e),
+        Target::Point(_) | Target::Commit | Target::Undone => Ahead::Goes(e),
     }
 }
 
@@ -110,7 +111,7 @@ fn step_ahead<S: Store>(alloc: Global, d: &Design, f: &Frame, s: &S) -> Result<A
     requires runnable { IsRunnable d.now }
     requires fits { IsSmallFrame f.now }
     requires order { IsInOrder (S.rows s.now) }
-    requires within { AreWithin (2 ^ 120) (S.rows s.now) }
+    requires within { AreWithin LARGEST_SUM (S.rows s.now) }
     requires unasked { is_asked f.now.ask f.now.steps ≡ false }
     requires left { f.now.steps < limit_of (slice_get d.now.types f.now.ty) }
     requires room { f.now.steps + 1 < 2 ^ 32 }
@@ -128,7 +129,7 @@ fn look_ahead<S: Store>(alloc: Global, d: &Design, f: &Frame, s: &S) -> Result<A
     requires runnable { IsRunnable d.now }
     requires fits { IsSmallFrame f.now }
     requires order { IsInOrder (S.rows s.now) }
-    requires within { AreWithin (2 ^ 120) (S.rows s.now) }
+    requires within { AreWithin LARGEST_SUM (S.rows s.now) }
     ensures { IfOk result (IsAhead d.now (S.rows s.now) f.now) }
 {
     if is_asked(f) {
@@ -221,7 +222,7 @@ pub fn forward_change<S: Store>(
     requires runnable { IsRunnable d.now }
     requires fits { IsSmallFrame f.now }
     requires order { IsInOrder (S.rows s.now) }
-    requires within { AreWithin (2 ^ 120) (S.rows s.now) }
+    requires within { AreWithin LARGEST_SUM (S.rows s.now) }
     ensures { IfOk result (IsNextChange d.now (S.rows s.now) (Forward f.now)) }
 {
     match look_ahead(alloc, d, f, s)? {
@@ -277,7 +278,7 @@ pub fn undo_change<S: Store>(
     requires runnable { IsRunnable d.now }
     requires fits { IsSmallFrame f.now }
     requires order { IsInOrder (S.rows s.now) }
-    requires within { AreWithin (2 ^ 120) (S.rows s.now) }
+    requires within { AreWithin LARGEST_SUM (S.rows s.now) }
     ensures { IfOk result (λ c. MatchOption c (next_event d.now (S.rows s.now) (Some (Undoing f.now cause)) ≡ None)
         (IsNextChange d.now (S.rows s.now) (Undoing f.now cause))) }
 {

@@ -22,6 +22,7 @@ use crate::changes::{Change, PlainError, forward_change, undo_change};
 use crate::fittings::call_fits;
 use crate::takes::change_by;
 use crate::transactions::{TransactionRef, Transactions};
+use acc_base::bounds::LARGEST_SUM;
 use acc_base::designs::{Design, Side};
 use acc_base::machines::{Call, Cause, Event, Frame, Reply, Turn};
 use acc_base::sequences::{Boxed, Seq, copied};
@@ -99,7 +100,7 @@ fn cause_in(event: &Event) -> Option<Cause>
 {
     match event {
         Event::Abort(_, cause) => Some(*cause),
-        _ => None,
+        Event::Begin(_) | Event::Step(_) | Event::Undo(_) => None,
     }
 }
 
@@ -128,7 +129,7 @@ fn next_change<S: Store>(
     requires runnable { IsRunnable d.now }
     requires fits { IfSome (frame_in (transaction_of x)) IsSmallFrame }
     requires order { IsInOrder (S.rows s.now) }
-    requires within { AreWithin (2 ^ 120) (S.rows s.now) }
+    requires within { AreWithin LARGEST_SUM (S.rows s.now) }
     ensures { IfOk result (λ c. MatchOption c (next_event d.now (S.rows s.now) (Some (transaction_of x.entry)) ≡ None)
         (IsNextChange d.now (S.rows s.now) (transaction_of x.entry))) }
 {
@@ -364,7 +365,7 @@ impl<'a, S: Store> Machine<'a, S> {
     {
         match self.transactions.get(t) {
             Some(TransactionRef::Ended(reply)) => Some(reply),
-            _ => None,
+            Some(TransactionRef::Forward(_) | TransactionRef::Undoing(_, _)) | None => None,
         }
     }
 
@@ -372,9 +373,9 @@ impl<'a, S: Store> Machine<'a, S> {
     pub fn is_unfinished(&self, t: u64) -> bool
         ensures { IsTrue result ↔ IsUnfinished t self.now.world }
     {
-        matches!(
-            self.transactions.get(t),
-            Some(TransactionRef::Forward(_) | TransactionRef::Undoing(_, _))
-        )
+        match self.transactions.get(t) {
+            Some(TransactionRef::Forward(_) | TransactionRef::Undoing(_, _)) => true,
+            Some(TransactionRef::Ended(_)) | None => false,
+        }
     }
 }

@@ -1,7 +1,7 @@
 //! What an event that the machine is given changes, if it is allowed.
 ghost use Rattle.std.specs.Prelude.{◌≡◌, ◌^◌, Some, None, IfOk, IfSome, MatchOption};
 ghost use Rattle.acc_base.specs.Tables.{IsInOrder};
-ghost use Rattle.acc_base.specs.Machine.{is_cause, frame_in, changed};
+ghost use Rattle.acc_base.specs.Machine.{frame_in, changed};
 ghost use Rattle.acc_base.specs.Runnable.{IsRunnable, IsSmallFrame};
 ghost use Rattle.acc_base.specs.declared.machines.Event.TheVariants.{Step, Abort};
 ghost use Rattle.acc_base.specs.declared.machines.Transaction.TheVariants.{Forward};
@@ -11,24 +11,12 @@ ghost use Rattle.acc_plain.specs.Taken.{IsOf, IsChangeBy, if_step, if_abort};
 
 use crate::changes::{Becomes, Change, PlainError, forward_change, undo_change};
 use crate::transactions::TransactionRef;
+use acc_base::bounds::LARGEST_SUM;
 use acc_base::designs::Design;
 use acc_base::machines::{Cause, Event, Frame};
 use acc_base::sequences::Seq;
 use acc_store::Store;
 use std::alloc::Global;
-
-/// Whether a cause is the one that stops a transaction.
-fn is_cause(cause: Cause, stop: Cause) -> bool
-    ensures { result ≡ is_cause cause (Some stop) }
-{
-    match (cause, stop) {
-        (Cause::Refused(n), Cause::Refused(m)) => n == m,
-        (Cause::Range, Cause::Range) => true,
-        (Cause::Limit, Cause::Limit) => true,
-        (Cause::Asked, Cause::Asked) => true,
-        _ => false,
-    }
-}
 
 /// A change, if it is that of a step.
 fn if_step(change: Change) -> Option<Change>
@@ -36,7 +24,7 @@ fn if_step(change: Change) -> Option<Change>
 {
     match change.event {
         Event::Step(_) => Some(change),
-        _ => None,
+        Event::Begin(_) | Event::Abort(_, _) | Event::Undo(_) => None,
     }
 }
 
@@ -45,8 +33,8 @@ fn if_abort(cause: Cause, change: Change) -> Option<Change>
     ensures { result ≡ if_abort cause change change.event }
 {
     match change.event {
-        Event::Abort(_, stop) if is_cause(cause, stop) => Some(change),
-        _ => None,
+        Event::Abort(_, stop) if cause == stop => Some(change),
+        Event::Begin(_) | Event::Step(_) | Event::Abort(_, _) | Event::Undo(_) => None,
     }
 }
 
@@ -60,7 +48,7 @@ fn change_by_step<S: Store>(
     requires runnable { IsRunnable d.now }
     requires fits { IsSmallFrame f.now }
     requires order { IsInOrder (S.rows s.now) }
-    requires within { AreWithin (2 ^ 120) (S.rows s.now) }
+    requires within { AreWithin LARGEST_SUM (S.rows s.now) }
     ensures { IfOk result (λ c. MatchOption c (changed d.now (S.rows s.now) (Step f.now.t) (Some (Forward f.now)) ≡ None)
         (IsChangeBy d.now (S.rows s.now) (Forward f.now) (Step f.now.t))) }
 {
@@ -78,7 +66,7 @@ fn change_by_abort<S: Store>(
     requires runnable { IsRunnable d.now }
     requires fits { IsSmallFrame f.now }
     requires order { IsInOrder (S.rows s.now) }
-    requires within { AreWithin (2 ^ 120) (S.rows s.now) }
+    requires within { AreWithin LARGEST_SUM (S.rows s.now) }
     ensures { IfOk result (λ c. MatchOption c (changed d.now (S.rows s.now) (Abort f.now.t cause) (Some (Forward f.now)) ≡ None)
         (IsChangeBy d.now (S.rows s.now) (Forward f.now) (Abort f.now.t cause))) }
 {
@@ -88,7 +76,9 @@ fn change_by_abort<S: Store>(
             writes: Seq::new(alloc),
             becomes: Becomes::Turns(cause),
         })),
-        _ => Ok(if_abort(cause, forward_change(alloc, d, f, s)?)),
+        Cause::Refused(_) | Cause::Range | Cause::Limit | Cause::Asked => {
+            Ok(if_abort(cause, forward_change(alloc, d, f, s)?))
+        }
     }
 }
 
@@ -104,7 +94,7 @@ pub fn change_by<S: Store>(
     requires of { IsOf (transaction_of x) event.now }
     requires fits { IfSome (frame_in (transaction_of x)) IsSmallFrame }
     requires order { IsInOrder (S.rows s.now) }
-    requires within { AreWithin (2 ^ 120) (S.rows s.now) }
+    requires within { AreWithin LARGEST_SUM (S.rows s.now) }
     ensures { IfOk result (λ c. MatchOption c (changed d.now (S.rows s.now) event.now (Some (transaction_of x.entry)) ≡ None)
         (IsChangeBy d.now (S.rows s.now) (transaction_of x.entry) event.now)) }
 {
@@ -114,6 +104,11 @@ pub fn change_by<S: Store>(
             change_by_abort(alloc, d, f, *cause, s)
         }
         (Event::Undo(_), TransactionRef::Undoing(f, cause)) => undo_change(alloc, d, f, cause, s),
-        _ => Ok(None),
+        (Event::Begin(_), _)
+        | (
+            Event::Step(_) | Event::Abort(_, _),
+            TransactionRef::Undoing(_, _) | TransactionRef::Ended(_),
+        )
+        | (Event::Undo(_), TransactionRef::Forward(_) | TransactionRef::Ended(_)) => Ok(None),
     }
 }

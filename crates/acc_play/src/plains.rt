@@ -19,13 +19,13 @@ pub struct Plain<'a> {
 }
 
 impl<'a> Model for Plain<'a> {
-    ghost use Rattle.acc_player.specs.Playing.{Playing, AllFit};
+    ghost use Rattle.acc_player.specs.Playing.{Playing, playing, HasFit};
 
     ghost Value = { Playing };
 
-    ghost view = { λ p. record { design = p.machine.design; world = p.machine.world; calls = p.calls.now } };
+    ghost view = { λ p. playing p.machine p.calls.now };
 
-    ghost invariant = { λ p. AllFit p.machine.design p.calls.now };
+    ghost invariant = { λ p. HasFit (playing p.machine p.calls.now) };
 }
 
 fn as_stop(error: PlainError) -> Stop {

@@ -10,6 +10,7 @@ use Rattle.acc_base.specs.declared.forms.Rel.{Rel}
 use Rattle.acc_base.specs.declared.forms.Clause.{Clause}
 use Rattle.acc_base.specs.declared.sequents.Origin.{Origin}
 use Rattle.acc_base.specs.declared.sequents.Sequent.{Sequent}
+use Rattle.acc_base.specs.declared.sequents.Rule.TheVariants as rule
 use Rattle.acc_oblig.specs.Settings.{Setting, first_now, step_vars, step_hyps}
 use Rattle.acc_oblig.specs.Drafts.{Draft, Place, of_some, goal_drafts, path_origin, path_rels}
 use Rattle.acc_oblig.specs.PointRules.{rest_origin, variant_form, rest_in, fall_in}
@@ -50,26 +51,27 @@ module _ (r : Result (Unit {0}) ObligError) (old new : List Sequent) where
   -- a path makes the variant fall
   pub fall_added :
       (s t : Setting) (w : Place) (before behind : Lin) (o : Origin) (vars : ℕ) (hs : List Clause) (rs : List Rel) (g : Form)
-      → o ≡ path_origin 6 None 2 w 1 → s ≡ t → vars ≡ step_vars s → hs ≡ step_hyps s vars → rs ≡ path_rels s vars
+      → o ≡ path_origin rule.Variants None 2 w 1 → s ≡ t → vars ≡ step_vars s → hs ≡ step_hyps s vars → rs ≡ path_rels s vars
       → g ≡ fall_form s before behind → IsFalse (is_fall_wide s before behind)
       → Adds r old new (goal_drafts (at_case o) vars hs rs false 1 (g ∷ []))
       → Adds r old new (fall_in t w before behind (step_vars t))
   fall_added s t w before behind o vars hs rs g eo es ev eh er eg ew a =
       let small =
-      goals_added (path_origin 6 None 2 w) o vars (step_vars s) hs (step_hyps s (step_vars s)) rs (path_rels s (step_vars s))
+      goals_added (path_origin rule.Variants None 2 w) o vars (step_vars s) hs (step_hyps s (step_vars s)) rs (path_rels s (step_vars s))
       (g ∷ []) (fall_form s before behind ∷ []) eo ev (eh ∙ ap (step_hyps s) ev) (er ∙ ap (path_rels s) ev) (ap (λ f. f ∷ []) eg) refl a in
       subst (λ (z : Setting). Adds r old new (fall_in z w before behind (step_vars z))) es
       (subst
-      (λ b. Adds r old new (goal_drafts (path_origin 6 None 2 w) (step_vars s) (step_hyps s (step_vars s)) (path_rels s (step_vars s)) b 1
+      (λ b. Adds r old new (goal_drafts (path_origin rule.Variants None 2 w) (step_vars s) (step_hyps s (step_vars s))
+      (path_rels s (step_vars s)) b 1
       (fall_form s before behind ∷ []))) (sym ew) small)
 
 -- a number of that is too large
 pub fall_wide :
-    (s t : Setting) (w : Place) (before behind : Lin) (o : Origin) → s ≡ t → o ≡ path_origin 6 None 2 w 1
+    (s t : Setting) (w : Place) (before behind : Lin) (o : Origin) → s ≡ t → o ≡ path_origin rule.Variants None 2 w 1
     → IsTrue (is_fall_wide s before behind) → first_wide (fall_in t w before behind (step_vars t)) ≡ Some o
 fall_wide s t w before behind o es eo ew =
     subst (λ (z : Setting). first_wide (fall_in z w before behind (step_vars z)) ≡ Some o) es
-    (ap (λ (b : Bool). if b then Some (path_origin 6 None 2 w 1) else None) ew ∙ ap Some (sym eo))
+    (ap (λ (b : Bool). if b then Some (path_origin rule.Variants None 2 w 1) else None) ew ∙ ap Some (sym eo))
 
 -- a clause whose numbers are too large refuses what begins with it
 refused :

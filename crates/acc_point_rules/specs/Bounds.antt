@@ -11,7 +11,7 @@ use Rattle.acc_oblig.specs.Relations.{negated, plus_number}
 use Rattle.acc_oblig.specs.Settings.{Setting, first_now, last_now, step_vars}
 use Rattle.acc_oblig.specs.Drafts.{Draft, of_some, setting_of}
 use Rattle.acc_oblig.specs.PointRules.{variant_form, rest_drafts, fall_drafts, point_at}
-use Rattle.acc_places.specs.Stops.{Rest, Stop, joined, at_rest}
+use Rattle.acc_places.specs.DesignPlaces.{PointPlace, PathPlace, joined, at_point_place}
 use Rattle.acc_point_rules.specs.declared.variants.Bound.{Bound}
 use Rattle.acc_point_rules.specs.declared.variants.Bound.TheVariants.{Lowest, Highest}
 
@@ -29,8 +29,8 @@ abbrev pub bound_drafts : Design → Bound → ℕ → TxType → ℕ → Point 
 bound_drafts d b ty x i p = rest_drafts (bound_clause b) d ty x i p (bound_goal b)
 
 -- of all points the one and then the other
-abbrev pub both_bounds : Design → List Rest → List Draft
-both_bounds d qs = joined (at_rest (bound_drafts d Lowest)) qs ++ joined (at_rest (bound_drafts d Highest)) qs
+abbrev pub both_bounds : Design → List PointPlace → List Draft
+both_bounds d qs = joined (at_point_place (bound_drafts d Lowest)) qs ++ joined (at_point_place (bound_drafts d Highest)) qs
 
 -- ---- a path makes the variant fall
 
@@ -47,6 +47,6 @@ abbrev pub is_fall_wide : Setting → Lin → Lin → Bool
 is_fall_wide s before behind = is_sum_wide (last_variant s behind) (negsuc 0) (first_variant s before)
 
 -- if it leads to a point
-abbrev pub target_falls : Design → Stop → List Draft
+abbrev pub target_falls : Design → PathPlace → List Draft
 target_falls d q =
     of_some (fall_drafts (setting_of d q.x q.p q.step q.w.path q.path) q.w q.p) (point_at q.x q.path.target)

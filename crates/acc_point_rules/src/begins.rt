@@ -1,9 +1,9 @@
 //! The obligations that a transaction which begins has its start point's assertion.
 ghost use Rattle.std.specs.Prelude.{◌≡◌, ◌+◌, ◌-◌, ◌<◌, ◌^◌, [], ◌++◌, length, slice_get, IfOk, OnOk, All};
 ghost use Rattle.acc_base.specs.declared.bounds.TheConstants.{MOST_CLAUSES};
+ghost use Rattle.acc_base.specs.Items.{numbers_from};
 ghost use Rattle.acc_formed.specs.WellFormed.{IsWellFormed};
 ghost use Rattle.acc_oblig.specs.Drafts.{each, each_number};
-ghost use Rattle.acc_oblig.specs.Naming.{counted};
 ghost use Rattle.acc_oblig.specs.PathPromises.{point_clauses};
 ghost use Rattle.acc_oblig.specs.PointRules.{begin_at, begin_drafts, begin_origin, begin_rels, zeros};
 ghost use Rattle.acc_goals.specs.Causes.{Adds};
@@ -12,12 +12,12 @@ ghost use Rattle.acc_assumptions.specs.Seen.{seen, HasRoom};
 ghost use Rattle.acc_point_rules.specs.OneClause.{begin_clause_drafts};
 
 use crate::resting::resting;
-use acc_assumptions::settings::{Setting, behind, counted, step_bounds, step_hyps, step_vars};
+use acc_assumptions::settings::{Setting, behind, numbers_from, step_bounds, step_hyps, step_vars};
 use acc_base::bounds::MOST_CLAUSES;
 use acc_base::designs::{At, Design, Side, TxType};
 use acc_base::forms::{Clause, Rel};
 use acc_base::sequences::Seq;
-use acc_base::sequents::{Origin, Sequent};
+use acc_base::sequents::{Origin, Rule, Sequent};
 use acc_goals::errors::ObligError;
 use acc_goals::sequents::{Shared, add_clause};
 use acc_named::forms::is_nothing;
@@ -30,7 +30,7 @@ fn begin_origin(clause: u32, ty: u32) -> Origin
     ensures { result ≡ begin_origin clause ty 1 }
 {
     Origin {
-        rule: 0,
+        rule: Rule::Begins,
         held: None,
         clause: clause + 1,
         at: Some(At { ty, point: 0 }),
@@ -43,7 +43,7 @@ fn begin_origin(clause: u32, ty: u32) -> Origin
 /// Adds that so many variables, from one on, are 0.
 fn add_zeros(alloc: Global, out: &mut Seq<Rel>, from: u32, n: u32) -> Result<(), AllocError>
     requires { from + n < 2 ^ 32 }
-    ensures { OnOk result (out.new ≡ out.old ++ zeros (counted from n)) }
+    ensures { OnOk result (out.new ≡ out.old ++ zeros (numbers_from from n)) }
 {
     for i in 0..n {
         out.push(is_nothing(alloc, from + i)?)?;
@@ -84,7 +84,7 @@ fn add_begin_clause(
     ensures { Adds result out.old out.new (begin_clause_drafts origin d.now ty.now c.now) }
 {
     let s = resting(d, ty, &[]);
-    let names = behind(&counted(alloc, 0, s.locals)?, s.locals)?;
+    let names = behind(&numbers_from(alloc, 0, s.locals)?, s.locals)?;
     let own = step_vars(&s);
     let vars = own + c.vars.len() as u32;
     let n = own_naming(&names, own, c.vars.len() as u32)?;

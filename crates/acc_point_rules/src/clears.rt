@@ -3,14 +3,14 @@ ghost use Rattle.std.specs.Prelude.{◌≡◌, ◌&&◌, ◌+◌, ◌≤◌, ◌
 ghost use Rattle.std.specs.List.{list_any};
 ghost use Rattle.acc_base.specs.declared.bounds.TheConstants.{MOST_KEY_PARTS};
 ghost use Rattle.acc_base.specs.PrivateRows.{puts_into, step_puts, type_puts};
+ghost use Rattle.acc_base.specs.Items.{numbers_from};
 ghost use Rattle.acc_formed.specs.WellFormed.{IsWellFormed};
-ghost use Rattle.acc_oblig.specs.Naming.{counted};
 ghost use Rattle.acc_oblig.specs.Relations.{alone};
 ghost use Rattle.acc_oblig.specs.PointRules.{clear_at, clear_drafts, is_end, none_of};
 ghost use Rattle.acc_goals.specs.Causes.{Adds};
-ghost use Rattle.acc_places.specs.Rooms.{IsSmallDesign, IsSmallStop, IsSmallTable};
-ghost use Rattle.acc_places.specs.SeenPlaces.{stop};
-ghost use Rattle.acc_places.specs.Stops.{joined, at_stop};
+ghost use Rattle.acc_places.specs.Rooms.{IsSmallDesign, IsSmallPathPlace, IsSmallTable};
+ghost use Rattle.acc_places.specs.SeenPlaces.{path_place};
+ghost use Rattle.acc_places.specs.DesignPlaces.{joined, at_path_place};
 ghost use Rattle.acc_point_rules.specs.Clears.{path_clears};
 
 use acc_assumptions::extremes::own_name;
@@ -18,11 +18,11 @@ use acc_assumptions::settings::{behind, last_names};
 use acc_base::designs::{Design, TxType};
 use acc_base::forms::{Atom, Clause, Lin};
 use acc_base::sequences::{Seq, Text};
-use acc_base::sequents::Sequent;
+use acc_base::sequents::{Rule, Sequent};
 use acc_base::steps::{Action, Step, Target};
 use acc_base::tables::Table;
 use acc_goals::errors::ObligError;
-use acc_named::forms::{alone, is_none, one_term, times};
+use acc_named::forms::{alone, is_zero, one_term, times};
 use acc_obligations::paths::{Cause, add_path_clause, path_origin, path_setting};
 use acc_places::places::{PathPlace, all_paths};
 use std::alloc::{AllocError, Global};
@@ -90,7 +90,7 @@ fn add_own_names(alloc: Global, out: &mut Seq<Text>, n: u32) -> Result<(), Alloc
 /// Adds so many variables, from one on, as linear values.
 fn add_alone(alloc: Global, out: &mut Seq<Lin>, from: u32, n: u32) -> Result<(), AllocError>
     requires { from + n < 2 ^ 32 }
-    ensures { OnOk result (out.new ≡ out.old ++ map alone (counted from n)) }
+    ensures { OnOk result (out.new ≡ out.old ++ map alone (numbers_from from n)) }
 {
     for i in 0..n {
         out.push(alone(alloc, from + i)?)?;
@@ -114,7 +114,7 @@ fn none_of(alloc: Global, me: u32, t: u32, width: u32) -> Result<Clause, AllocEr
     Ok(Clause {
         vars,
         guards: Seq::new(alloc),
-        rel: is_none(one_term(alloc, has, 0)?),
+        rel: is_zero(one_term(alloc, has, 0)?),
     })
 }
 
@@ -130,14 +130,14 @@ fn add_clear(
     requires number { t + 1 < 2 ^ 32 }
     requires width { width ≤ MOST_KEY_PARTS }
     requires design { IsSmallDesign d.now }
-    requires small { IsSmallStop (stop q.now) }
-    ensures { Adds result out.old out.new (path_clears d.now t width (stop q.now)) }
+    requires small { IsSmallPathPlace (path_place q.now) }
+    ensures { Adds result out.old out.new (path_clears d.now t width (path_place q.now)) }
 {
     let s = path_setting(d, q);
     let names = behind(&last_names(alloc, &s)?, s.locals)?;
     let clear = none_of(alloc, s.locals, t, width)?;
     let cause = Cause {
-        rule: 7,
+        rule: Rule::Clears,
         held: None,
         clause: t,
     };
@@ -156,8 +156,8 @@ fn add_path_clear(
     requires number { t + 1 < 2 ^ 32 }
     requires table { IsSmallTable table.now }
     requires design { IsSmallDesign d.now }
-    requires small { IsSmallStop (stop q.now) }
-    ensures { Adds result out.old out.new (at_stop (clear_at d.now t table.now) (stop q.now)) }
+    requires small { IsSmallPathPlace (path_place q.now) }
+    ensures { Adds result out.old out.new (at_path_place (clear_at d.now t table.now) (path_place q.now)) }
 {
     if !is_cleared(t, table, q.ty, q.path.target) {
         return Ok(());
@@ -177,8 +177,8 @@ fn add_table_clears(
     requires number { t + 1 < 2 ^ 32 }
     requires table { IsSmallTable table.now }
     requires design { IsSmallDesign d.now }
-    requires small { All (λ q. IsSmallStop (stop q)) paths.now }
-    ensures { Adds result out.old out.new (joined (at_stop (clear_at d.now t table.now)) (map stop paths.now)) }
+    requires small { All (λ q. IsSmallPathPlace (path_place q)) paths.now }
+    ensures { Adds result out.old out.new (joined (at_path_place (clear_at d.now t table.now)) (map path_place paths.now)) }
 {
     for q in paths {
         add_path_clear(alloc, out, d, q, t, table)?;

@@ -9,7 +9,7 @@ ghost use Rattle.acc_point_rules.specs.OneClause.{empty_clause_drafts};
 use acc_base::designs::{Design, Side};
 use acc_base::forms::Clause;
 use acc_base::sequences::Seq;
-use acc_base::sequents::{Origin, Sequent};
+use acc_base::sequents::{Origin, Rule, Sequent};
 use acc_goals::errors::ObligError;
 use acc_goals::sequents::{Shared, add_clause};
 use acc_named::naming::own_naming;
@@ -21,7 +21,7 @@ fn empty_origin(clause: u32) -> Origin
     ensures { result ≡ empty_origin clause 1 }
 {
     Origin {
-        rule: 8,
+        rule: Rule::Empty,
         held: None,
         clause: clause + 1,
         at: None,

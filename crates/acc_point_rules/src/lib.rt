@@ -6,3 +6,8 @@ pub mod clears;
 pub mod empty;
 mod resting;
 pub mod variants;
+
+pub use begins::add_begins;
+pub use clears::add_clears;
+pub use empty::add_empty;
+pub use variants::add_variants;

@@ -9,21 +9,21 @@ ghost use Rattle.acc_oblig.specs.Relations.{lin_form, plus_number};
 ghost use Rattle.acc_oblig.specs.Drafts.{setting_of, goal_drafts};
 ghost use Rattle.acc_oblig.specs.PointRules.{rest_origin, fall_in, fall_drafts, fall_at, point_at, variant_drafts};
 ghost use Rattle.acc_goals.specs.Causes.{Adds, TellsClause, at_case};
-ghost use Rattle.acc_places.specs.Rooms.{IsSmallDesign, IsSmallRest, IsSmallStop};
+ghost use Rattle.acc_places.specs.Rooms.{IsSmallDesign, IsSmallPointPlace, IsSmallPathPlace};
 ghost use Rattle.acc_assumptions.specs.Seen.{seen, HasRoom};
-ghost use Rattle.acc_places.specs.SeenPlaces.{rest, stop};
-ghost use Rattle.acc_places.specs.Stops.{joined, at_rest, at_stop};
+ghost use Rattle.acc_places.specs.SeenPlaces.{point_place, path_place};
+ghost use Rattle.acc_places.specs.DesignPlaces.{joined, at_point_place, at_path_place};
 ghost use Rattle.acc_point_rules.specs.Bounds.{bound_clause, bound_goal, bound_drafts, fall_form, is_fall_wide, target_falls, both_bounds};
 
 use crate::resting::resting;
 use acc_assumptions::settings::{
-    Setting, counted, last_names, path_rels, step_hyps, step_vars, with_self,
+    Setting, last_names, numbers_from, path_rels, step_hyps, step_vars, with_self,
 };
 use acc_base::bounds::LARGEST_VARIANT;
 use acc_base::designs::{At, Design, Point, Side, TxType};
 use acc_base::forms::{Form, Lin};
 use acc_base::sequences::Seq;
-use acc_base::sequents::{Origin, Sequent};
+use acc_base::sequents::{Origin, Rule, Sequent};
 use acc_base::steps::Target;
 use acc_base::sums::FormSum;
 use acc_goals::errors::ObligError;
@@ -91,7 +91,7 @@ fn rest_origin(clause: u32, at: At) -> Origin
     ensures { result ≡ rest_origin clause at.ty at.point 1 }
 {
     Origin {
-        rule: 6,
+        rule: Rule::Variants,
         held: None,
         clause,
         at: Some(at),
@@ -110,12 +110,12 @@ fn add_point_bound(
     bound: Bound,
 ) -> Result<(), ObligError>
     requires design { IsSmallDesign d.now }
-    requires small { IsSmallRest (rest q.now) }
-    ensures { Adds result out.old out.new (at_rest (bound_drafts d.now bound) (rest q.now)) }
+    requires small { IsSmallPointPlace (point_place q.now) }
+    ensures { Adds result out.old out.new (at_point_place (bound_drafts d.now bound) (point_place q.now)) }
 {
     let s = resting(d, q.ty, q.point.clauses.as_slice());
     let vars = step_vars(&s);
-    let now = counted(alloc, 0, s.locals)?;
+    let now = numbers_from(alloc, 0, s.locals)?;
     let variant = named_variant(alloc, &s, &now, vars, &q.point.variant)?;
     let goal = bound_goal(alloc, bound, &variant)?;
     let shared = Shared {
@@ -136,8 +136,8 @@ fn add_bounds(
     bound: Bound,
 ) -> Result<(), ObligError>
     requires design { IsSmallDesign d.now }
-    requires small { All (λ q. IsSmallRest (rest q)) points.now }
-    ensures { Adds result out.old out.new (joined (at_rest (bound_drafts d.now bound)) (map rest points.now)) }
+    requires small { All (λ q. IsSmallPointPlace (point_place q)) points.now }
+    ensures { Adds result out.old out.new (joined (at_point_place (bound_drafts d.now bound)) (map point_place points.now)) }
 {
     for q in points {
         add_point_bound(alloc, out, d, q, bound)?;
@@ -197,7 +197,7 @@ fn path_fall(
     ensures wide { TellsClause result origin.now (is_fall_wide (seen s.now) before.now behind.now) }
 {
     let vars = step_vars(s);
-    let first = named_variant(alloc, s, &counted(alloc, 0, s.locals)?, vars, before)?;
+    let first = named_variant(alloc, s, &numbers_from(alloc, 0, s.locals)?, vars, before)?;
     let last = named_variant(alloc, s, &last_names(alloc, s)?, vars, behind)?;
     fall_goal(alloc, origin, &last, &first)
 }
@@ -211,13 +211,13 @@ fn add_fall(
     target: &Point,
 ) -> Result<(), ObligError>
     requires design { IsSmallDesign d.now }
-    requires small { IsSmallStop (stop q.now) }
+    requires small { IsSmallPathPlace (path_place q.now) }
     ensures { Adds result out.old out.new
-        (fall_drafts (setting_of d.now q.now.ty.now q.now.point.now q.now.step.now q.now.number q.now.path.now) (stop q.now).w
+        (fall_drafts (setting_of d.now q.now.ty.now q.now.point.now q.now.step.now q.now.number q.now.path.now) (path_place q.now).w
         q.now.point.now target.now) }
 {
     let cause = Cause {
-        rule: 6,
+        rule: Rule::Variants,
         held: None,
         clause: 2,
     };
@@ -252,8 +252,8 @@ fn add_target_fall(
     q: &PathPlace<'_>,
 ) -> Result<(), ObligError>
     requires design { IsSmallDesign d.now }
-    requires small { IsSmallStop (stop q.now) }
-    ensures { Adds result out.old out.new (target_falls d.now (stop q.now)) }
+    requires small { IsSmallPathPlace (path_place q.now) }
+    ensures { Adds result out.old out.new (target_falls d.now (path_place q.now)) }
 {
     match point_at(q.ty, q.path.target) {
         Some(target) => add_fall(alloc, out, d, q, target),
@@ -269,8 +269,8 @@ fn add_path_fall(
     q: &PathPlace<'_>,
 ) -> Result<(), ObligError>
     requires design { IsSmallDesign d.now }
-    requires small { IsSmallStop (stop q.now) }
-    ensures { Adds result out.old out.new (at_stop (fall_at d.now) (stop q.now)) }
+    requires small { IsSmallPathPlace (path_place q.now) }
+    ensures { Adds result out.old out.new (at_path_place (fall_at d.now) (path_place q.now)) }
 {
     match q.side {
         Side::Next => Ok(()),
@@ -286,8 +286,8 @@ fn add_falls(
     paths: &[PathPlace<'_>],
 ) -> Result<(), ObligError>
     requires design { IsSmallDesign d.now }
-    requires small { All (λ q. IsSmallStop (stop q)) paths.now }
-    ensures { Adds result out.old out.new (joined (at_stop (fall_at d.now)) (map stop paths.now)) }
+    requires small { All (λ q. IsSmallPathPlace (path_place q)) paths.now }
+    ensures { Adds result out.old out.new (joined (at_path_place (fall_at d.now)) (map path_place paths.now)) }
 {
     for q in paths {
         add_path_fall(alloc, out, d, q)?;
@@ -303,8 +303,8 @@ fn add_both_bounds(
     points: &[PointPlace<'_>],
 ) -> Result<(), ObligError>
     requires design { IsSmallDesign d.now }
-    requires small { All (λ q. IsSmallRest (rest q)) points.now }
-    ensures { Adds result out.old out.new (both_bounds d.now (map rest points.now)) }
+    requires small { All (λ q. IsSmallPointPlace (point_place q)) points.now }
+    ensures { Adds result out.old out.new (both_bounds d.now (map point_place points.now)) }
 {
     add_bounds(alloc, out, d, points, Bound::Lowest)?;
     add_bounds(alloc, out, d, points, Bound::Highest)

@@ -1,6 +1,7 @@
 -- Fractions in lowest terms, with a denominator above 0.
 use Rattle.std.specs.Prelude.{nat_lt, Bool, if◌then◌else◌, Ok, ℤ, pos, int_lt, unsigned_abs}
-use Rattle.acc_rows.specs.Answers.{Computation, chain}
+use Rattle.acc_base.specs.Computing.{chain}
+use Rattle.acc_rows.specs.Answers.{Computation}
 use Rattle.acc_rows.specs.Numbers.{product, sum, opposite}
 use Rattle.acc_rows.specs.Divisors.{divisor, quotient}
 

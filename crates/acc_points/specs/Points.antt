@@ -1,7 +1,8 @@
 -- The values of a system's unknowns, given backwards.
 use Rattle.std.specs.Prelude.{◌==◌, ℕ, Bool, if◌then◌else◌, List, [], ◌∷◌, replicate, reverse, slice_index_or, slice_set, Ok, ℤ, pos}
 use Rattle.acc_rows.specs.declared.rows.Row.{Row}
-use Rattle.acc_rows.specs.Answers.{Computation, chain, steps}
+use Rattle.acc_base.specs.Computing.{chain, steps}
+use Rattle.acc_rows.specs.Answers.{Computation}
 use Rattle.acc_rows.specs.Sparse.{at}
 use Rattle.acc_points.specs.Fractions.{Fraction, plus_times, solved, is_less}
 use Rattle.acc_systems.specs.declared.systems.Eliminated.{Eliminated}

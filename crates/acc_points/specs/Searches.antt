@@ -2,7 +2,8 @@
 use Rattle.std.specs.Prelude.{ℕ, List, length}
 use Rattle.acc_base.specs.declared.forms.Rel.{Rel}
 use Rattle.acc_rows.specs.declared.rows.Row.{Row}
-use Rattle.acc_rows.specs.Answers.{Computation, chain}
+use Rattle.acc_base.specs.Computing.{chain}
+use Rattle.acc_rows.specs.Answers.{Computation}
 use Rattle.acc_systems.specs.Systems.{eliminated}
 use Rattle.acc_points.specs.Points.{Point, point_of}
 use Rattle.acc_readings.specs.Readings.{unknowns_of, rows_from}

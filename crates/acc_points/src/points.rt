@@ -1,6 +1,7 @@
 //! The values of a system's unknowns, given backwards.
 ghost use Rattle.std.specs.Prelude.{◌≡◌, reverse, slice_set};
-ghost use Rattle.acc_rows.specs.Answers.{Answers, Leaves, steps};
+ghost use Rattle.acc_base.specs.Computing.{Answers, Leaves, steps};
+ghost use Rattle.acc_rows.specs.Answers.{tells};
 ghost use Rattle.acc_points.specs.Points.{value, summed, root, tighter, tightest, bounded_value, placed, placed_by};
 
 use crate::fractions::{is_less, plus_times, solved};
@@ -25,7 +26,7 @@ fn summed(
     so_far: (i128, i128),
     term: (u32, i128),
 ) -> Result<(i128, i128), Stop>
-    ensures { Answers result (summed unknown point.now so_far term) }
+    ensures { Answers tells result (summed unknown point.now so_far term) }
 {
     if term.0 == unknown {
         return Ok(so_far);
@@ -40,7 +41,7 @@ fn summed_all(
     first: (i128, i128),
     terms: &[(u32, i128)],
 ) -> Result<(i128, i128), Stop>
-    ensures { Answers result (steps (summed unknown point.now) first terms.now) }
+    ensures { Answers tells result (steps (summed unknown point.now) first terms.now) }
 {
     let mut sum = first;
     for term in terms {
@@ -51,7 +52,7 @@ fn summed_all(
 
 /// The value of the unknown at which the relation's form is 0. The cost is that of going over its terms.
 fn root(unknown: u32, point: &[(i128, i128)], row: &Row) -> Result<(i128, i128), Stop>
-    ensures { Answers result (root unknown point.now row.now) }
+    ensures { Answers tells result (root unknown point.now row.now) }
 {
     let sum = summed_all(unknown, point, (row.constant, 1), row.terms.as_slice())?;
     solved(sum, row.coefficient(unknown))
@@ -59,7 +60,7 @@ fn root(unknown: u32, point: &[(i128, i128)], row: &Row) -> Result<(i128, i128),
 
 /// The greater of two lower bounds, or the lesser of two upper ones.
 fn tighter(lower: bool, x: (i128, i128), y: (i128, i128)) -> Result<(i128, i128), Stop>
-    ensures { Answers result (tighter lower x y) }
+    ensures { Answers tells result (tighter lower x y) }
 {
     let is_tighter = if lower {
         is_less(x, y)?
@@ -76,7 +77,7 @@ fn tightest(
     so_far: (i128, i128),
     row: &Row,
 ) -> Result<(i128, i128), Stop>
-    ensures { Answers result (tightest unknown point.now so_far row.now) }
+    ensures { Answers tells result (tightest unknown point.now so_far row.now) }
 {
     let bound = root(unknown, point, row)?;
     let lower = row.coefficient(unknown) < 0;
@@ -90,7 +91,7 @@ fn tightest_of(
     first: (i128, i128),
     rows: &[Row],
 ) -> Result<(i128, i128), Stop>
-    ensures { Answers result (steps (tightest unknown point.now) first rows.now) }
+    ensures { Answers tells result (steps (tightest unknown point.now) first rows.now) }
 {
     let mut bound = first;
     for row in rows {
@@ -101,7 +102,7 @@ fn tightest_of(
 
 /// The value of an unknown by its bounds, and 0 where it has none.
 fn bounded_value(unknown: u32, point: &[(i128, i128)], rows: &[Row]) -> Result<(i128, i128), Stop>
-    ensures { Answers result (bounded_value unknown point.now rows.now) }
+    ensures { Answers tells result (bounded_value unknown point.now rows.now) }
 {
     match rows {
         [] => Ok((0, 1)),
@@ -123,7 +124,7 @@ fn set(point: &mut Vec<(i128, i128)>, unknown: u32, x: (i128, i128))
 
 /// A value for the unknown, by its bounds.
 fn place(point: &mut Vec<(i128, i128)>, bound: &(u32, Seq<Row>)) -> Result<(), Stop>
-    ensures { Leaves result point.new.items (placed point.old.items bound.now) }
+    ensures { Leaves tells result point.new.items (placed point.old.items bound.now) }
 {
     let x = bounded_value(bound.0, point.as_slice(), bound.1.as_slice())?;
     set(point, bound.0, x);
@@ -132,7 +133,7 @@ fn place(point: &mut Vec<(i128, i128)>, bound: &(u32, Seq<Row>)) -> Result<(), S
 
 /// A value for the unknown, by the equation that was set aside for it.
 pub fn place_by(point: &mut Vec<(i128, i128)>, equation: &(u32, Row)) -> Result<(), Stop>
-    ensures { Leaves result point.new.items (placed_by point.old.items equation.now) }
+    ensures { Leaves tells result point.new.items (placed_by point.old.items equation.now) }
 {
     let x = root(equation.0, point.as_slice(), &equation.1)?;
     set(point, equation.0, x);
@@ -144,7 +145,7 @@ pub fn place_all(
     mut point: Vec<(i128, i128)>,
     bounds: &[(u32, Seq<Row>)],
 ) -> Result<Seq<(i128, i128)>, Stop>
-    ensures { Answers result (steps placed point.items (reverse bounds.now)) }
+    ensures { Answers tells result (steps placed point.items (reverse bounds.now)) }
 {
     let mut left = bounds.len();
     while left > 0 {
@@ -159,7 +160,7 @@ pub fn place_all_by(
     mut point: Vec<(i128, i128)>,
     aside: &[(u32, Row)],
 ) -> Result<Seq<(i128, i128)>, Stop>
-    ensures { Answers result (steps placed_by point.items (reverse aside.now)) }
+    ensures { Answers tells result (steps placed_by point.items (reverse aside.now)) }
 {
     let mut left = aside.len();
     while left > 0 {

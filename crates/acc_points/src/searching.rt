@@ -1,6 +1,7 @@
 //! The search for a point at which relations between unknowns hold.
 ghost use Rattle.std.specs.Prelude.{◌≡◌, IfOk};
-ghost use Rattle.acc_rows.specs.Answers.{Answers};
+ghost use Rattle.acc_base.specs.Computing.{Answers};
+ghost use Rattle.acc_rows.specs.Answers.{tells};
 ghost use Rattle.acc_points.specs.Points.{zeros, point_of};
 ghost use Rattle.acc_points.specs.Searches.{found_by, searched};
 
@@ -22,7 +23,7 @@ pub fn zeros(alloc: Global, unknowns: u32) -> Result<Vec<(i128, i128)>, AllocErr
 
 /// The point that an elimination leaves.
 fn point_of(alloc: Global, unknowns: u32, left: Eliminated) -> Result<Seq<(i128, i128)>, Stop>
-    ensures { Answers result (point_of unknowns left) }
+    ensures { Answers tells result (point_of unknowns left) }
 {
     let zeros = zeros(alloc, unknowns)?;
     let point = place_all(zeros, left.bounds.as_slice())?;
@@ -31,7 +32,7 @@ fn point_of(alloc: Global, unknowns: u32, left: Eliminated) -> Result<Seq<(i128,
 
 /// The point that the elimination of this many unknowns from these rows leaves, or what stops it.
 pub fn found_by(alloc: Global, unknowns: u32, rows: Vec<Row>) -> Result<Seq<(i128, i128)>, Stop>
-    ensures { Answers result (found_by unknowns rows.items) }
+    ensures { Answers tells result (found_by unknowns rows.items) }
 {
     let left = eliminate_all(alloc, unknowns, rows)?;
     point_of(alloc, unknowns, left)
@@ -45,7 +46,7 @@ pub fn found_by(alloc: Global, unknowns: u32, rows: Vec<Row>) -> Result<Seq<(i12
 /// Each term's unknown is compared with the unknowns that were found before it, and each relation of a system with those before it.
 /// The elimination may square the number of bounds with each unknown.
 pub fn searched(alloc: Global, rels: &[Rel]) -> Result<Seq<(i128, i128)>, Stop>
-    ensures { Answers result (searched rels.now) }
+    ensures { Answers tells result (searched rels.now) }
 {
     let names = unknowns_of(alloc, rels)?;
     if names.len() > u32::MAX as usize || rels.len() > u32::MAX as usize {

@@ -15,6 +15,7 @@ use Rattle.acc_base.specs.declared.forms.Atom.{Atom}
 use Rattle.acc_base.specs.declared.forms.Atom.TheVariants.{One, Var, Has, Col, Count, Sum}
 use Rattle.acc_base.specs.declared.steps.Action.{Action}
 use Rattle.acc_base.specs.declared.steps.Action.TheVariants as action
+use Rattle.acc_base.specs.Atoms.{key_of as atom_key}
 use Rattle.acc_base.specs.Equality.{ints_decide}
 use Rattle.acc_base.specs.Tables.{Place, place_of, place_cmp, IsInOrder, is_at, is_under, cell, cell_of, has_row, column_of}
 use Rattle.acc_base.specs.Linear.{lin_value, lin_values}
@@ -24,7 +25,7 @@ use Rattle.acc_base.proofs.Places.{one_place}
 use Rattle.acc_base.proofs.Lookups.{found_at, any_none, any_some}
 use Rattle.acc_preconditions.specs.Unders.{differences}
 use Rattle.acc_instanced.specs.Summands.{Part}
-use Rattle.acc_preconditions.specs.Changes.{key_of, place_of as atom_place, presence_change, column_change, change}
+use Rattle.acc_preconditions.specs.Changes.{key_of, presence_change, column_change, change}
 use Rattle.acc_instanced.proofs.RowSums.{given, row_sum, where_passes, one, count_is, total_is}
 use Rattle.acc_preconditions.proofs.RowTurns.{put_row, becomes, stands, action_place, with_set, with_added, find_after, row_sum_after}
 use Rattle.acc_instanced.proofs.PartValues.{parts_value}
@@ -124,7 +125,7 @@ module _ (env : List ℤ) (a : Action) (db : List Row) (order : IsInOrder db) wh
 
   -- the action's key is that of an atom, or begins with its prefix
   abbrev pub meets : Atom → Bool
-  meets A = list_all (is_lin_zero env) (differences (atom_place A) (key_of a))
+  meets A = list_all (is_lin_zero env) (differences (atom_key A) (key_of a))
 
   abbrev pub gain : Atom → ℤ
   gain A = if meets A then parts_value db env (change a A) else pos 0

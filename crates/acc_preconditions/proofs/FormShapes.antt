@@ -12,13 +12,14 @@ use Rattle.acc_base.specs.declared.forms.Atom.TheVariants.{One, Var, Has, Col, C
 use Rattle.acc_base.specs.declared.forms.Form.{Form}
 use Rattle.acc_base.specs.declared.steps.Action.{Action}
 use Rattle.acc_base.specs.declared.steps.Action.TheVariants as action
+use Rattle.acc_base.specs.Atoms.{key_of as atom_key}
 use Rattle.acc_base.specs.Tables.{IsInOrder}
 use Rattle.acc_base.specs.UnknownEquality.{unknown_eq, is_bare_one}
 use Rattle.acc_base.specs.Sums.{Term, with_term, with_terms, multiple, is_left}
 use Rattle.acc_preconditions.specs.Unders.{differences, is_false, lengthened}
 use Rattle.acc_instanced.specs.Summands.{Part, variable_parts, lin_parts, part_summand, with_summand, with_summands}
 use Rattle.acc_base.specs.Actions.{acted_table}
-use Rattle.acc_preconditions.specs.Changes.{key_of, place_of, value_parts, minus, presence_change, column_change, presence_of, column_of, change}
+use Rattle.acc_preconditions.specs.Changes.{key_of, value_parts, minus, presence_change, column_change, presence_of, column_of, change}
 use Rattle.acc_preconditions.specs.Gains.{changed_summands, term_summands, summands, gained}
 use Rattle.acc_preconditions.specs.Preconditions.{before_action}
 use Rattle.acc_base.specs.Shapes.{IsFullKey, IsPrefix, IsColumn, AtomFits, ActionFits}
@@ -136,12 +137,12 @@ module _ (tables : List Table) where
 
     changed_fit : (t : Term) (ps : List Part) → AllByRecursion PartFits ps → AllByRecursion TermFits (changed_summands (key_of a) t ps)
     changed_fit t [] h = tt
-    changed_fit t (p ∷ ps) h = by (list_any is_false (lengthened t.0.under (differences (place_of t.0.atom) (key_of a))))
+    changed_fit t (p ∷ ps) h = by (list_any is_false (lengthened t.0.under (differences (atom_key t.0.atom) (key_of a))))
       where
         by : (b : Bool) → AllByRecursion TermFits (if b then [] else map
-            (part_summand (lengthened t.0.under (differences (place_of t.0.atom) (key_of a))) t.1) (p ∷ ps))
+            (part_summand (lengthened t.0.under (differences (atom_key t.0.atom) (key_of a))) t.1) (p ∷ ps))
         by true = tt
-        by false = parts_fit (lengthened t.0.under (differences (place_of t.0.atom) (key_of a))) t.1 (p ∷ ps) h
+        by false = parts_fit (lengthened t.0.under (differences (atom_key t.0.atom) (key_of a))) t.1 (p ∷ ps) h
 
     summands_fit : (ts : List Term) → AllByRecursion TermFits ts → AllByRecursion TermFits (summands a ts)
     summands_fit [] h = tt

@@ -9,6 +9,7 @@ use Rattle.acc_base.specs.declared.tables.Row.{Row}
 use Rattle.acc_base.specs.declared.forms.Unknown.{Unknown}
 use Rattle.acc_base.specs.declared.forms.Form.{Form}
 use Rattle.acc_base.specs.declared.steps.Action.{Action}
+use Rattle.acc_base.specs.Atoms.{key_of as atom_key}
 use Rattle.acc_base.specs.Tables.{IsInOrder}
 use Rattle.acc_base.specs.Actions.{after_action}
 use Rattle.acc_base.specs.Truth.{atom_value, unknown_value, form_value}
@@ -19,7 +20,7 @@ use Rattle.acc_preconditions.specs.Unders.{differences, is_false, lengthened}
 use Rattle.acc_instanced.specs.Summands.{Part, part_summand}
 use Rattle.acc_instanced.proofs.PartValues.{parts_value, one_times}
 use Rattle.acc_instanced.proofs.SummandValues.{all_zero, worth, worth-append, parts_worth, summands_value}
-use Rattle.acc_preconditions.specs.Changes.{key_of, place_of, change}
+use Rattle.acc_preconditions.specs.Changes.{key_of, change}
 use Rattle.acc_preconditions.specs.Gains.{changed_summands, term_summands, summands, gained}
 use Rattle.acc_preconditions.specs.Preconditions.{without_constant, before_action}
 use Rattle.acc_preconditions.proofs.Growths.{IsReady}
@@ -56,20 +57,20 @@ module _ (env : List ℤ) (a : Action) (db : List Row) (order : IsInOrder db) (r
       both true false x = sym (*ℤ-zero t.1)
       both false c x = sym (*ℤ-zero t.1)
 
-      fallen : (f : Bool) (ps : List Part) → list_any is_false (lengthened t.0.under (differences (place_of t.0.atom) (key_of a))) ≡ f →
-          worth db env (if f then [] else map (part_summand (lengthened t.0.under (differences (place_of t.0.atom) (key_of a))) t.1) ps) ≡
-          (if all_zero env (lengthened t.0.under (differences (place_of t.0.atom) (key_of a))) then t.1 *ℤ parts_value db env ps else pos 0)
+      fallen : (f : Bool) (ps : List Part) → list_any is_false (lengthened t.0.under (differences (atom_key t.0.atom) (key_of a))) ≡ f →
+          worth db env (if f then [] else map (part_summand (lengthened t.0.under (differences (atom_key t.0.atom) (key_of a))) t.1) ps) ≡
+          (if all_zero env (lengthened t.0.under (differences (atom_key t.0.atom) (key_of a))) then t.1 *ℤ parts_value db env ps else pos 0)
       fallen true ps e = ap (λ b. if b then t.1 *ℤ parts_value db env ps else pos 0)
-          (sym (never_zero env (lengthened t.0.under (differences (place_of t.0.atom) (key_of a))) e))
-      fallen false ps e = parts_worth db env (lengthened t.0.under (differences (place_of t.0.atom) (key_of a))) t.1 ps
+          (sym (never_zero env (lengthened t.0.under (differences (atom_key t.0.atom) (key_of a))) e))
+      fallen false ps e = parts_worth db env (lengthened t.0.under (differences (atom_key t.0.atom) (key_of a))) t.1 ps
 
       by : (ps : List Part) → worth db env (changed_summands (key_of a) t ps) ≡ t.1 *ℤ
           (if all_zero env t.0.under then (if meets env a db order t.0.atom then parts_value db env ps else pos 0) else pos 0)
       by [] = nothing (all_zero env t.0.under) (meets env a db order t.0.atom)
       by (p ∷ ps) =
-          fallen (list_any is_false (lengthened t.0.under (differences (place_of t.0.atom) (key_of a)))) (p ∷ ps) refl ∙
+          fallen (list_any is_false (lengthened t.0.under (differences (atom_key t.0.atom) (key_of a)))) (p ∷ ps) refl ∙
           (ap (λ b. if b then t.1 *ℤ parts_value db env (p ∷ ps) else pos 0)
-          (lengthened_zero env t.0.under (differences (place_of t.0.atom) (key_of a))) ∙ both (all_zero env t.0.under)
+          (lengthened_zero env t.0.under (differences (atom_key t.0.atom) (key_of a))) ∙ both (all_zero env t.0.under)
           (meets env a db order t.0.atom) (parts_value db env (p ∷ ps)))
 
   terms_turn : (ts : List Term) → AllByRecursion (λ t. IsLong env a db order t.0.atom) ts →

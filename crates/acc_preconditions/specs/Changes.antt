@@ -8,20 +8,12 @@ use Rattle.acc_base.specs.declared.steps.Action.TheVariants as action
 use Rattle.acc_base.specs.Actions.{acted_table}
 use Rattle.acc_instanced.specs.Summands.{Part, lin_parts}
 
+-- the key of an action
 abbrev pub key_of : Action → List Lin
 key_of (action.Put t k vs) = k
 key_of (action.Del t k) = k
 key_of (action.Set t k c v) = k
 key_of (action.Add t k c v) = k
-
--- the key or the prefix of an atom
-abbrev pub place_of : Atom → List Lin
-place_of One = []
-place_of (Var x) = []
-place_of (Has t q) = q
-place_of (Col t q c) = q
-place_of (Count t q) = q
-place_of (Sum t q c) = q
 
 -- a value that isn't given is 0
 abbrev pub value_parts : Option Lin → List Part

@@ -5,10 +5,11 @@ use Rattle.acc_base.specs.declared.forms.Lin.{Lin}
 use Rattle.acc_base.specs.declared.forms.Atom.{Atom}
 use Rattle.acc_base.specs.declared.forms.Form.{Form}
 use Rattle.acc_base.specs.declared.steps.Action.{Action}
+use Rattle.acc_base.specs.Atoms.{key_of as atom_key}
 use Rattle.acc_base.specs.Sums.{Term}
 use Rattle.acc_instanced.specs.Summands.{Part, part_summand, with_summands, are_summands_wide}
 use Rattle.acc_preconditions.specs.Unders.{differences, are_long, is_false, lengthened}
-use Rattle.acc_preconditions.specs.Changes.{key_of, place_of, change}
+use Rattle.acc_preconditions.specs.Changes.{key_of, change}
 
 -- ---- the summands of a term
 
@@ -20,7 +21,7 @@ under_summands under m parts = if list_any is_false under then [] else map (part
 abbrev pub changed_summands : List Lin → Term → List Part → List Term
 changed_summands key t [] = []
 changed_summands key t (p ∷ ps) =
-    under_summands (lengthened t.0.under (differences (place_of t.0.atom) key)) t.1 (p ∷ ps)
+    under_summands (lengthened t.0.under (differences (atom_key t.0.atom) key)) t.1 (p ∷ ps)
 
 -- what a term gains
 abbrev pub term_summands : Action → Term → List Term
@@ -42,7 +43,7 @@ gained a f = with_summands (summands a f.terms) (record { terms = []; constant =
 -- the differences of keys, which are computed where there is a change
 abbrev pub is_change_long : List Lin → Atom → List Part → Bool
 is_change_long key atom [] = false
-is_change_long key atom (p ∷ ps) = are_long (place_of atom) key
+is_change_long key atom (p ∷ ps) = are_long (atom_key atom) key
 
 abbrev pub is_term_long : Action → Term → Bool
 is_term_long a t = is_change_long (key_of a) t.0.atom (change a t.0.atom)

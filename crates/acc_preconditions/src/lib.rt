@@ -2,3 +2,5 @@
 #![tactic(auto)]
 
 pub mod laws;
+
+pub use laws::a_path_leaves_the_rows_after_its_actions;

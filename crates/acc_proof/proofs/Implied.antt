@@ -12,6 +12,7 @@ use Rattle.acc_base.specs.declared.forms.Rel.{Rel}
 use Rattle.acc_base.specs.declared.forms.Clause.{Clause}
 use Rattle.acc_base.specs.declared.designs.Design.{Design}
 use Rattle.acc_base.specs.declared.sequents.Sequent.{Sequent}
+use Rattle.acc_base.specs.Forms.{is_zero}
 use Rattle.acc_base.specs.TrueSequents.{IsAskedOf}
 use Rattle.acc_base.specs.Linear.{lin_value, lin_values}
 use Rattle.acc_base.specs.Truth.{unknown_value, form_value, rel_true, ClauseTrue}
@@ -21,9 +22,9 @@ use Rattle.acc_farkas.specs.declared.refuting.Mults.{Mults}
 use Rattle.acc_axioms.specs.declared.nodes.Node.{Node}
 use Rattle.acc_axioms.specs.declared.nodes.Node.TheVariants.{Split, Inst, Axiom, Leaf}
 use Rattle.acc_proof.specs.Checked.{Checked, Gives, and_then}
-use Rattle.acc_proof.specs.Facts.{one, below, is_below_wide, above, is_above_wide, refuted, all_shown, used_up}
+use Rattle.acc_proof.specs.Facts.{one, below_zero, is_below_wide, above_zero, is_above_wide, refuted, all_shown, used_up}
 use Rattle.acc_instanced.specs.Instances.{fact_at}
-use Rattle.acc_axioms.specs.Axioms.{is_zero, axiom_of}
+use Rattle.acc_axioms.specs.Axioms.{axiom_of}
 use Rattle.acc_proof.specs.Proofs.{Branches, only, instance_of, sure, node_of, Proved, WideAt}
 use Rattle.acc_proof.specs.Proofs.{walked, known_first, verdict}
 use Rattle.acc_proof.specs.Laws.{ProofsImply}
@@ -58,17 +59,17 @@ module _ (d : Design) (q : Sequent) (db : List Row) (env : List ℤ) (asked : Is
   split_sound : (known : List Rel) (e : Form) (bs : Branches) → node_of d q known (Split e) ≡ Gives bs
       → AreOff d q db env (map (λ b. known ++ b) bs) → all_true db env known ≡ true → ⊥
   split_sound known e bs h off holds =
-      let g = not_wide (is_below_wide e || is_above_wide e) (Gives ((below e ∷ []) ∷ (is_zero e ∷ []) ∷ (above e ∷ []) ∷ [])) bs h in
-      let s : bs ≡ (below e ∷ []) ∷ (is_zero e ∷ []) ∷ (above e ∷ []) ∷ [] = cc in
+      let g = not_wide (is_below_wide e || is_above_wide e) (Gives ((below_zero e ∷ []) ∷ (is_zero e ∷ []) ∷ (above_zero e ∷ []) ∷ [])) bs h in
+      let s : bs ≡ (below_zero e ∷ []) ∷ (is_zero e ∷ []) ∷ (above_zero e ∷ []) ∷ [] = cc in
       let o = subst (λ (x : Branches). AreOff d q db env (map (λ b. known ++ b) x)) s off in
       let low = below_value db env e in
       let high = above_value db env e in
       let not_low = λ (k : form_value db env e ≤ℤ negsuc 0). o.0
-      (with_one known (below e) holds (le_yes (form_value db env (form_sum e (pos 1) one)) (pos 0) (omega (arith, ints, low, k)))) in
+      (with_one known (below_zero e) holds (le_yes (form_value db env (form_sum e (pos 1) one)) (pos 0) (omega (arith, ints, low, k)))) in
       let not_zero = λ (k : form_value db env e ≡ pos 0). o.1.0
       (with_one known (is_zero e) holds ((Decides-int_eq (form_value db env e) (pos 0)).1 k)) in
       let not_high = λ (k : pos 1 ≤ℤ form_value db env e). o.1.1.0
-      (with_one known (above e) holds
+      (with_one known (above_zero e) holds
       (le_yes (form_value db env (form_sum one (negsuc 0) e)) (pos 0) (omega (arith, ints, high, k)))) in
       by (form_value db env e) not_low not_zero not_high
     where
@@ -121,7 +122,7 @@ module _ (d : Design) (q : Sequent) (db : List Row) (env : List ℤ) (asked : Is
 
   goal_met : all_true db env q.rels ≡ true → IsOff d q db env (known_first q) → form_value db env q.goal ≤ℤ pos 0
   goal_met rels off =
-      not_above db env q.rels rels q.goal (off_true (rel_true db env (above q.goal)) (λ e. off (with_one q.rels (above q.goal) rels e)))
+      not_above db env q.rels rels q.goal (off_true (rel_true db env (above_zero q.goal)) (λ e. off (with_one q.rels (above_zero q.goal) rels e)))
 
   walked_all : (b : Bool) (nodes : List Node) → (if b then WideAt 0 else walked d q 0 nodes (known_first q ∷ [])) ≡ Proved
       → walked d q 0 nodes (known_first q ∷ []) ≡ Proved

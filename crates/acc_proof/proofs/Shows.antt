@@ -19,7 +19,7 @@ use Rattle.acc_farkas.proofs.Worths.{refuted as no_solution}
 use Rattle.acc_instanced.specs.Instances.{Fact}
 use Rattle.acc_instanced.proofs.PartValues.{one_times, minus_times}
 use Rattle.acc_proof.specs.Checked.{Gives, Fails, and_then}
-use Rattle.acc_proof.specs.Facts.{one, below, is_below_wide, above, is_above_wide, refuted, excluded, shown, fact_shown}
+use Rattle.acc_proof.specs.Facts.{one, below_zero, is_below_wide, above_zero, is_above_wide, refuted, excluded, shown, fact_shown}
 use Rattle.acc_proof.specs.Facts.{all_shown}
 use Rattle.acc_axioms.specs.Truths.{all_true}
 use Rattle.acc_axioms.proofs.Tests.{le_yes, both_true, off_true, all_both}
@@ -55,29 +55,29 @@ module _ (db : List Row) (env : List ℤ) where
         off_true (rel_true db env r) (λ e. are_refuted (known ++ r ∷ []) ms left (not_wide wide (refuted (known ++ r ∷ []) ms) left h)
         (unknown_value db env) refl (all_both (rel_true db env) known (r ∷ []) holds (both_true (rel_true db env r) true e refl)))
 
-    pub not_above : (f : Form) → rel_true db env (above f) ≡ false → value f ≤ℤ pos 0
+    pub not_above : (f : Form) → rel_true db env (above_zero f) ≡ false → value f ≤ℤ pos 0
     not_above f h =
         let over = le-false (value (form_sum one (negsuc 0) f)) (pos 0) h in
         let v = above_value f in
         omega (arith, ints, over, v)
 
-    not_below : (f : Form) → rel_true db env (below f) ≡ false → pos 0 ≤ℤ value f
+    not_below : (f : Form) → rel_true db env (below_zero f) ≡ false → pos 0 ≤ℤ value f
     not_below f h =
         let over = le-false (value (form_sum f (pos 1) one)) (pos 0) h in
         let v = below_value f in
         omega (arith, ints, over, v)
 
     shown_by : (e : Bool) (f : Form) (ms left : List Mults)
-        → (if e then and_then (excluded known (is_below_wide f) (below f))
-        (excluded known (is_above_wide f) (above f) ms) else excluded known (is_above_wide f) (above f) ms) ≡ Gives left → meets e (value f)
+        → (if e then and_then (excluded known (is_below_wide f) (below_zero f))
+        (excluded known (is_above_wide f) (above_zero f) ms) else excluded known (is_above_wide f) (above_zero f) ms) ≡ Gives left → meets e (value f)
         ≡ true
     shown_by true f ms left h =
-        let parts = goes_on (excluded known (is_below_wide f) (below f)) (excluded known (is_above_wide f) (above f) ms) left h in
-        let up = not_above f (is_excluded (is_above_wide f) (above f) ms parts.0 parts.1) in
-        let down = not_below f (is_excluded (is_below_wide f) (below f) parts.0 left parts.2) in
+        let parts = goes_on (excluded known (is_below_wide f) (below_zero f)) (excluded known (is_above_wide f) (above_zero f) ms) left h in
+        let up = not_above f (is_excluded (is_above_wide f) (above_zero f) ms parts.0 parts.1) in
+        let down = not_below f (is_excluded (is_below_wide f) (below_zero f) parts.0 left parts.2) in
         (Decides-int_eq (value f) (pos 0)).1 (omega (arith, ints, up, down))
     shown_by false f ms left h =
-        le_yes (value f) (pos 0) (not_above f (is_excluded (is_above_wide f) (above f) ms left h))
+        le_yes (value f) (pos 0) (not_above f (is_excluded (is_above_wide f) (above_zero f) ms left h))
 
     pub is_shown : (r : Rel) (ms left : List Mults) → shown known r ms ≡ Gives left → rel_true db env r ≡ true
     is_shown r ms left h = shown_by r.equal r.form ms left h

@@ -2,27 +2,27 @@
 use Rattle.std.specs.Prelude.{Bool, if◌then◌else◌, List, [], ◌∷◌, ◌++◌, pos, negsuc}
 use Rattle.acc_base.specs.declared.forms.Form.{Form}
 use Rattle.acc_base.specs.declared.forms.Rel.{Rel}
+use Rattle.acc_base.specs.Forms.{form, at_most}
 use Rattle.acc_base.specs.Sums.{form_sum, is_sum_wide}
 use Rattle.acc_farkas.specs.declared.refuting.Mults.{Mults}
 use Rattle.acc_instanced.specs.Instances.{Fact}
 use Rattle.acc_farkas.specs.Sums.{refutes_all, is_refuting_wide}
-use Rattle.acc_axioms.specs.Axioms.{at_most}
 use Rattle.acc_proof.specs.Checked.{Checked, Gives, Fails, TooWide, and_then}
 
 -- ---- forms and relations
 
 abbrev pub one : Form
-one = record { terms = []; constant = pos 1 }
+one = form [] (pos 1)
 
 -- f + 1 <= 0 and 1 - f <= 0, and whether a number of them is too large
-abbrev pub below : Form → Rel
-below f = at_most (form_sum f (pos 1) one)
+abbrev pub below_zero : Form → Rel
+below_zero f = at_most (form_sum f (pos 1) one)
 
 abbrev pub is_below_wide : Form → Bool
 is_below_wide f = is_sum_wide f (pos 1) one
 
-abbrev pub above : Form → Rel
-above f = at_most (form_sum one (negsuc 0) f)
+abbrev pub above_zero : Form → Rel
+above_zero f = at_most (form_sum one (negsuc 0) f)
 
 abbrev pub is_above_wide : Form → Bool
 is_above_wide f = is_sum_wide one (negsuc 0) f
@@ -41,10 +41,10 @@ excluded known wide r ms = if wide then TooWide else refuted (known ++ r ∷ [])
 
 -- a form is shown to be at most 0, and to be at least 0
 abbrev pub at_most_shown : List Rel → Form → List Mults → Checked (List Mults)
-at_most_shown known f ms = excluded known (is_above_wide f) (above f) ms
+at_most_shown known f ms = excluded known (is_above_wide f) (above_zero f) ms
 
 abbrev pub at_least_shown : List Rel → Form → List Mults → Checked (List Mults)
-at_least_shown known f ms = excluded known (is_below_wide f) (below f) ms
+at_least_shown known f ms = excluded known (is_below_wide f) (below_zero f) ms
 
 -- a relation is shown: an inequality by one multiplier list, an equation by two
 abbrev pub shown : List Rel → Rel → List Mults → Checked (List Mults)

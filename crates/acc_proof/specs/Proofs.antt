@@ -7,13 +7,14 @@ use Rattle.acc_base.specs.declared.forms.Rel.{Rel}
 use Rattle.acc_base.specs.declared.forms.Clause.{Clause}
 use Rattle.acc_base.specs.declared.designs.Design.{Design}
 use Rattle.acc_base.specs.declared.sequents.Sequent.{Sequent}
+use Rattle.acc_base.specs.Forms.{is_zero}
 use Rattle.acc_farkas.specs.declared.refuting.Mults.{Mults}
 use Rattle.acc_axioms.specs.declared.nodes.Node.{Node}
 use Rattle.acc_axioms.specs.declared.nodes.Node.TheVariants.{Split, Inst, Axiom, Leaf}
 use Rattle.acc_instanced.specs.Instances.{Fact, fact_at}
 use Rattle.acc_proof.specs.Checked.{Checked, Gives, Fails, TooWide, and_then}
-use Rattle.acc_proof.specs.Facts.{below, is_below_wide, above, is_above_wide, refuted, all_shown, used_up}
-use Rattle.acc_axioms.specs.Axioms.{is_zero, Demand, axiom_of}
+use Rattle.acc_proof.specs.Facts.{below_zero, is_below_wide, above_zero, is_above_wide, refuted, all_shown, used_up}
+use Rattle.acc_axioms.specs.Axioms.{Demand, axiom_of}
 
 -- what each branch behind a node adds to what is known
 abbrev pub Branches : Type 0
@@ -44,7 +45,7 @@ leaf_of known m = and_then (used_up (Gives [])) (refuted known (m ∷ []))
 
 abbrev pub split_of : Form → Checked Branches
 split_of e =
-    if is_below_wide e || is_above_wide e then TooWide else Gives ((below e ∷ []) ∷ (is_zero e ∷ []) ∷ (above e ∷ []) ∷ [])
+    if is_below_wide e || is_above_wide e then TooWide else Gives ((below_zero e ∷ []) ∷ (is_zero e ∷ []) ∷ (above_zero e ∷ []) ∷ [])
 
 abbrev pub node_of : Design → Sequent → List Rel → Node → Checked Branches
 node_of d q known (Split e) = split_of e
@@ -74,7 +75,7 @@ walked d q i (n ∷ ns) (known ∷ rest) =
 
 -- what is known at first: the relations, and that the goal isn't met
 abbrev pub known_first : Sequent → List Rel
-known_first q = q.rels ++ above q.goal ∷ []
+known_first q = q.rels ++ above_zero q.goal ∷ []
 
 abbrev pub verdict : Design → Sequent → List Node → Verdict
 verdict d q nodes = if is_above_wide q.goal then WideAt 0 else walked d q 0 nodes (known_first q ∷ [])

@@ -10,7 +10,7 @@ ghost use Rattle.acc_proof.specs.Causes.{TellsTooWide, at_node, TellsNode};
 ghost use Rattle.acc_base.specs.TrueSequents.{SequentTrue};
 
 use crate::errors::ProofError;
-use crate::facts::{above, below, shown};
+use crate::facts::{above_zero, below_zero, shown};
 use acc_axioms::axioms::need_of;
 use acc_axioms::nodes::{Node, Proof, Schema};
 use acc_axioms::terms::{is_zero, single};
@@ -88,8 +88,8 @@ fn split_of(alloc: Global, form: &Form) -> Result<Option<Seq<Seq<Rel>>>, FormSum
     ensures value { IfOk result (λ o. MatchOption o (split_of form.now ≡ Fails) (λ bs. split_of form.now ≡ Gives bs)) }
     ensures wide { TellsTooWide result (split_of form.now) }
 {
-    let low = below(alloc, form)?;
-    let high = above(alloc, form)?;
+    let low = below_zero(alloc, form)?;
+    let high = above_zero(alloc, form)?;
     let zero = is_zero(copied(form)?);
     Ok(Some(three_branches(alloc, low, zero, high)?))
 }
@@ -328,7 +328,7 @@ fn judged(
     ensures value { IfOk result (λ yes. verdict design.now sequent.now nodes.now ≡ (if yes then Proved else NotProved)) }
     ensures wide { TellsNode result (verdict design.now sequent.now nodes.now) }
 {
-    let goal = above(alloc, &sequent.goal).map_err(|e| at_node(e, 0))?;
+    let goal = above_zero(alloc, &sequent.goal).map_err(|e| at_node(e, 0))?;
     walk(alloc, design, sequent, goal, nodes)
 }
 

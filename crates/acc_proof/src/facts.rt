@@ -2,7 +2,7 @@
 ghost use Rattle.std.specs.Prelude.{◌≡◌, ◌++◌, ◌∷◌, [], MatchOption, IfOk, OnOk};
 ghost use Rattle.acc_base.specs.Sums.{TellsWide};
 ghost use Rattle.acc_proof.specs.Checked.{Gives, Fails};
-ghost use Rattle.acc_proof.specs.Facts.{below, is_below_wide, above, is_above_wide, refuted, excluded, shown};
+ghost use Rattle.acc_proof.specs.Facts.{below_zero, is_below_wide, above_zero, is_above_wide, refuted, excluded, shown};
 ghost use Rattle.acc_proof.specs.Causes.{TellsTooWide};
 
 use acc_base::forms::{Form, Rel};
@@ -22,8 +22,8 @@ fn one(alloc: Global) -> Form
 }
 
 /// That the form is below 0.
-pub fn below(alloc: Global, form: &Form) -> Result<Rel, FormSum>
-    ensures value { IfOk result (λ r. r ≡ below form.now) }
+pub fn below_zero(alloc: Global, form: &Form) -> Result<Rel, FormSum>
+    ensures value { IfOk result (λ r. r ≡ below_zero form.now) }
     ensures wide { TellsWide result (is_below_wide form.now) }
 {
     let form = form.plus(alloc, &one(alloc), 1)?;
@@ -31,8 +31,8 @@ pub fn below(alloc: Global, form: &Form) -> Result<Rel, FormSum>
 }
 
 /// That the form is above 0.
-pub fn above(alloc: Global, form: &Form) -> Result<Rel, FormSum>
-    ensures value { IfOk result (λ r. r ≡ above form.now) }
+pub fn above_zero(alloc: Global, form: &Form) -> Result<Rel, FormSum>
+    ensures value { IfOk result (λ r. r ≡ above_zero form.now) }
     ensures wide { TellsWide result (is_above_wide form.now) }
 {
     let form = one(alloc).plus(alloc, form, -1)?;
@@ -94,13 +94,13 @@ pub fn shown<'a>(
     ensures wide { TellsTooWide result (shown (first.now ++ more.old.items) fact.now multipliers.now) }
     ensures same { OnOk result (more.new.items ≡ more.old.items) }
 {
-    let contrary = above(alloc, &fact.form)?;
+    let contrary = above_zero(alloc, &fact.form)?;
     let Some(rest) = excluded(alloc, first, more, contrary, multipliers)? else {
         return Ok(None);
     };
     if !fact.equal {
         return Ok(Some(rest));
     }
-    let contrary = below(alloc, &fact.form)?;
+    let contrary = below_zero(alloc, &fact.form)?;
     excluded(alloc, first, more, contrary, rest)
 }

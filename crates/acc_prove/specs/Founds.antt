@@ -48,7 +48,9 @@ GivesAll d (q ∷ qs) ps =
 abbrev pub AddsProofs : Design → List Sequent → List Proof → List Proof → Type 0
 AddsProofs d qs old new = (ps : List Proof) × (new ≡ old ++ ps) × GivesAll d qs ps
 
--- without lines the proofs are a certificate, which is written if its file can hold their numbers; and else the lines are told
+-- without lines the proofs are a certificate, which is written if its file can hold their numbers; and else the lines are told.
+-- For example, of the proofs p and q and no line comes Proved, with the certificate of p and q as its text; of p alone and the line
+-- `open S2 - 1 sell.chosen next 1 1 many` comes Open, with this line as its text. Wide never comes: it is told before any search
 abbrev pub Ends : List Proof → List ℕ → Proving → Type 0
 Ends ps lines (proving.Proved text) =
     let c : Cert = record { proofs = ps } in (lines ≡ []) × (IsTrue (is_cert_in_bounds c) → IsWritten c text.items)

@@ -19,6 +19,7 @@ use acc_base::designs::Design;
 use acc_base::sequences::Seq;
 use acc_base::sequents::{Origin, Sequent};
 use acc_cert::write;
+use acc_cert_read::errors::CertError;
 use acc_goals::ObligError;
 use acc_hints::hints::hints_of;
 use acc_origins::origins::push_origin;
@@ -138,7 +139,7 @@ fn certificate_line(alloc: Global, certificate: &Cert) -> Result<Vec<u8>, AllocE
 {
     match write(alloc, certificate) {
         Ok(text) => ended_line(text),
-        Err(_) => Err(AllocError),
+        Err(CertError::NotCert(_)) | Err(CertError::Memory) => Err(AllocError),
     }
 }
 

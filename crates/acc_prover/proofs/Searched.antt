@@ -7,7 +7,7 @@ use Rattle.acc_base.specs.declared.sequents.Sequent.{Sequent}
 use Rattle.acc_base.specs.TrueSequents.{SequentTrue}
 use Rattle.acc_axioms.specs.declared.nodes.Node.{Node}
 use Rattle.acc_proof.proofs.Implied.{proofs_imply}
-use Rattle.acc_branch.specs.Courses.{Course, Answers}
+use Rattle.acc_branch.specs.Courses.{Course, AnswersCourse}
 use Rattle.acc_course.specs.Searches.{course}
 use Rattle.acc_searched.specs.Courses.{IsProof}
 use Rattle.acc_searched.specs.OpenLeaves.{IsOpenLeaf}
@@ -20,17 +20,17 @@ use Rattle.acc_prover.specs.Tellings.{Closes, Tells, IfProved, IfUnproved, Keeps
 
 module _ (d : Design) (q : Sequent) where
   -- the kind is that of the search
-  pub kind_told : (r : Result Found SearchError) (end o : Course (List Node)) → Tells r end → Answers end o → Tells r o
+  pub kind_told : (r : Result Found SearchError) (end o : Course (List Node)) → Tells r end → AnswersCourse end o → Tells r o
   kind_told (Ok (Proved p)) (Ok nodes) o t h = subst Closes (sym h) tt
   kind_told (Ok (Proved p)) (Err e) o t h = absurd t
-  kind_told (Ok (Unproved leaf point)) end o t h = subst (λ (e : Course (List Node)). Answers e o) t h
-  kind_told (Err found.Crowded) end o t h = subst (λ (e : Course (List Node)). Answers e o) t h
-  kind_told (Err found.Wide) end o t h = subst (λ (e : Course (List Node)). Answers e o) t h
-  kind_told (Err found.Many) end o t h = subst (λ (e : Course (List Node)). Answers e o) t h
+  kind_told (Ok (Unproved leaf point)) end o t h = subst (λ (e : Course (List Node)). AnswersCourse e o) t h
+  kind_told (Err found.Crowded) end o t h = subst (λ (e : Course (List Node)). AnswersCourse e o) t h
+  kind_told (Err found.Wide) end o t h = subst (λ (e : Course (List Node)). AnswersCourse e o) t h
+  kind_told (Err found.Many) end o t h = subst (λ (e : Course (List Node)). AnswersCourse e o) t h
   kind_told (Err found.Memory) end o t h = tt
 
   pub proof_told : (hints : List Lin) (r : Result Found SearchError) (end : Course (List Node)) → Tells r end → KeepsProof d q end r
-      → Answers end (course d q hints) → IfProved r (IsProof d q)
+      → AnswersCourse end (course d q hints) → IfProved r (IsProof d q)
   proof_told hints r (Ok nodes) t k h = k (ended_proof d q hints nodes h)
   proof_told hints (Ok (Proved p)) (Err e) t k h = absurd t
   proof_told hints (Ok (Unproved leaf point)) (Err e) t k h = tt

@@ -3,3 +3,6 @@
 
 pub mod found;
 pub mod searching;
+
+pub use found::{Found, SearchError};
+pub use searching::search;

@@ -3,3 +3,5 @@
 
 pub mod pruning;
 mod renumbering;
+
+pub use pruning::pruned;

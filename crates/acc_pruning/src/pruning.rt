@@ -3,7 +3,8 @@
 //! No clause says that what is left is a proof: the search asks that of the checker. The cost is that of the proof's length times the
 //! relations that are known.
 use crate::renumbering::renumbered;
-use acc_axioms::nodes::{Node, Schema};
+use acc_axioms::kinds::AxiomKind;
+use acc_axioms::nodes::Node;
 use acc_base::sequences::Seq;
 use acc_farkas::refuting::Mults;
 use std::alloc::{AllocError, Global};
@@ -17,12 +18,21 @@ pub(crate) fn branches_of(node: &Node) -> usize {
     }
 }
 
+/// How many relations an axiom of a kind adds.
+fn added_by_axiom(kind: AxiomKind) -> usize {
+    match kind {
+        AxiomKind::Has => 2,
+        AxiomKind::Count | AxiomKind::Front | AxiomKind::Same => 1,
+        AxiomKind::NoCol | AxiomKind::NoSum | AxiomKind::OneCount | AxiomKind::OneSum => 1,
+        AxiomKind::Opened | AxiomKind::Shut | AxiomKind::Empty | AxiomKind::Fresh => 1,
+    }
+}
+
 /// How many relations each of them adds.
 pub(crate) fn added_by(node: &Node) -> usize {
     match node {
         Node::Split(_) | Node::Inst(_, _, _) => 1,
-        Node::Axiom(Schema::Has(_, _), _) => 2,
-        Node::Axiom(_, _) => 1,
+        Node::Axiom(schema, _) => added_by_axiom(schema.kind()),
         Node::Leaf(_) => 0,
     }
 }

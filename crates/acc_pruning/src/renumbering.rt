@@ -2,7 +2,6 @@
 use crate::pruning::{added_by, branches_of};
 use acc_axioms::nodes::Node;
 use acc_base::sequences::{Seq, copied};
-use acc_candidates::copies::copied_schema;
 use acc_farkas::refuting::Mults;
 use std::alloc::{AllocError, Global};
 
@@ -74,7 +73,7 @@ fn moved_node(alloc: Global, places: &Places, node: &Node) -> Result<Node, Alloc
         }
         Node::Axiom(schema, lists) => {
             let lists = moved_lists(alloc, places, lists.as_slice())?;
-            Ok(Node::Axiom(copied_schema(schema)?, lists))
+            Ok(Node::Axiom(copied(schema)?, lists))
         }
         Node::Leaf(multipliers) => Ok(Node::Leaf(moved(alloc, places, multipliers)?)),
     }

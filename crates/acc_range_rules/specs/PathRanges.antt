@@ -13,7 +13,7 @@ use Rattle.acc_oblig.specs.Settings.{Setting, after_naming, step_vars, step_hyps
 use Rattle.acc_oblig.specs.Drafts.{Draft, Place, of_some, step_paths, goal_drafts, path_rels, setting_of}
 use Rattle.acc_oblig.specs.Ranges.{ActionNumber, within, action_range_in, numbers_of}
 use Rattle.acc_goals.specs.Causes.{at_case}
-use Rattle.acc_places.specs.Stops.{Rest}
+use Rattle.acc_places.specs.DesignPlaces.{PointPlace}
 
 -- of a number, from the first one's place
 abbrev pub action_range : Origin → Setting → ℕ → ActionNumber → List Draft
@@ -28,5 +28,5 @@ path_range d k place w x p step path =
     of_some (action_range_in k w s (step_vars s)) (slice_get (numbers_of s.actions s.actions) place)
 
 -- of those of each undo path of a point
-abbrev pub undo_ranges : Design → ℕ → ℕ → Rest → List Draft
+abbrev pub undo_ranges : Design → ℕ → ℕ → PointPlace → List Draft
 undo_ranges d k place q = step_paths (path_range d k place) q.at Undo q.x q.p q.p.undo

@@ -5,3 +5,5 @@ mod action_numbers;
 mod found;
 pub mod ranges;
 mod read_numbers;
+
+pub use ranges::add_ranges;

@@ -8,10 +8,10 @@ ghost use Rattle.acc_oblig.specs.Drafts.{each_number};
 ghost use Rattle.acc_oblig.specs.PointRules.{each_point};
 ghost use Rattle.acc_oblig.specs.Ranges.{within, read_origin, reads_setting, read_range_in, range_at, range_drafts};
 ghost use Rattle.acc_goals.specs.Causes.{Adds};
-ghost use Rattle.acc_places.specs.Rooms.{IsSmallDesign, IsSmallRest, IsSmallStop};
+ghost use Rattle.acc_places.specs.Rooms.{IsSmallDesign, IsSmallPointPlace, IsSmallPathPlace};
 ghost use Rattle.acc_assumptions.specs.Seen.{seen, HasRoom};
-ghost use Rattle.acc_places.specs.SeenPlaces.{rest, stop};
-ghost use Rattle.acc_places.specs.Stops.{joined, at_rest, at_stop};
+ghost use Rattle.acc_places.specs.SeenPlaces.{point_place, path_place};
+ghost use Rattle.acc_places.specs.DesignPlaces.{joined, at_point_place, at_path_place};
 ghost use Rattle.acc_range_rules.specs.Numbers.{seen_read, seen_action};
 ghost use Rattle.acc_range_rules.specs.PathRanges.{action_range, path_range, undo_ranges};
 
@@ -25,7 +25,7 @@ use acc_base::bounds::{LARGEST_NUMBER, MOST_ACTIONS, MOST_COLUMNS, MOST_KEY_PART
 use acc_base::designs::{At, Design, Side};
 use acc_base::forms::{Form, Lin};
 use acc_base::sequences::Seq;
-use acc_base::sequents::{Origin, Sequent};
+use acc_base::sequents::{Origin, Rule, Sequent};
 use acc_goals::errors::ObligError;
 use acc_goals::sequents::Shared;
 use acc_goals::small_goals::add_small_goals;
@@ -75,7 +75,7 @@ fn read_origin(k: u32, at: At) -> Origin
     ensures { result ≡ read_origin k at 1 }
 {
     Origin {
-        rule: 5,
+        rule: Rule::Ranges,
         held: None,
         clause: k + 1,
         at: Some(at),
@@ -88,7 +88,7 @@ fn read_origin(k: u32, at: At) -> Origin
 /// The reads of a point's undo step, without a path.
 fn reads_setting<'a>(d: &'a Design, q: &PointPlace<'a>) -> Setting<'a>
     requires design { IsSmallDesign d.now }
-    requires small { IsSmallRest (rest q.now) }
+    requires small { IsSmallPointPlace (point_place q.now) }
     ensures seen { seen result ≡ reads_setting d.now q.now.ty.now q.now.point.now }
     ensures room { HasRoom result }
 {
@@ -168,13 +168,13 @@ fn add_path_range(
 ) -> Result<(), ObligError>
     requires clause { k + 1 < 2 ^ 32 }
     requires design { IsSmallDesign d.now }
-    requires small { IsSmallStop (stop q.now) }
-    ensures { Adds result out.old out.new (at_stop (path_range d.now k place) (stop q.now)) }
+    requires small { IsSmallPathPlace (path_place q.now) }
+    ensures { Adds result out.old out.new (at_path_place (path_range d.now k place) (path_place q.now)) }
 {
     match action_number(q.path.actions.as_slice(), place) {
         Some(m) => {
             let cause = Cause {
-                rule: 5,
+                rule: Rule::Ranges,
                 held: None,
                 clause: k,
             };
@@ -195,8 +195,8 @@ fn add_path_ranges(
 ) -> Result<(), ObligError>
     requires clause { k + 1 < 2 ^ 32 }
     requires design { IsSmallDesign d.now }
-    requires small { IsSmallRest (rest q.now) }
-    ensures { Adds result out.old out.new (undo_ranges d.now k place (rest q.now)) }
+    requires small { IsSmallPointPlace (point_place q.now) }
+    ensures { Adds result out.old out.new (undo_ranges d.now k place (point_place q.now)) }
 {
     let step = &q.point.undo;
     let paths = step.paths.as_slice();
@@ -225,8 +225,8 @@ fn add_point_range(
 ) -> Result<(), ObligError>
     requires clause { k + 1 < 2 ^ 32 }
     requires design { IsSmallDesign d.now }
-    requires small { IsSmallRest (rest q.now) }
-    ensures { Adds result out.old out.new (at_rest (range_at d.now k) (rest q.now)) }
+    requires small { IsSmallPointPlace (point_place q.now) }
+    ensures { Adds result out.old out.new (at_point_place (range_at d.now k) (point_place q.now)) }
 {
     let s = reads_setting(d, q);
     match among_reads(alloc, &s, k as usize)? {
@@ -245,8 +245,8 @@ fn add_number_ranges(
 ) -> Result<(), ObligError>
     requires clause { k + 1 < 2 ^ 32 }
     requires design { IsSmallDesign d.now }
-    requires small { All (λ q. IsSmallRest (rest q)) points.now }
-    ensures { Adds result out.old out.new (joined (at_rest (range_at d.now k)) (map rest points.now)) }
+    requires small { All (λ q. IsSmallPointPlace (point_place q)) points.now }
+    ensures { Adds result out.old out.new (joined (at_point_place (range_at d.now k)) (map point_place points.now)) }
 {
     for q in points {
         add_point_range(alloc, out, d, q, k)?;

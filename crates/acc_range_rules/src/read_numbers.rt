@@ -8,8 +8,7 @@ ghost use Rattle.acc_assumptions.specs.Seen.{seen, HasRoom};
 ghost use Rattle.acc_range_rules.specs.Numbers.{one_read_numbers, seen_read, StandsAt, IsFewBounded};
 
 use crate::found::Found;
-use acc_assumptions::reads::assigned;
-use acc_assumptions::settings::{Setting, counted, step_vars, with_name, with_self};
+use acc_assumptions::settings::{Setting, numbers_from, step_vars, with_name, with_self};
 use acc_base::forms::Lin;
 use acc_base::steps::Read;
 use acc_named::forms::alone;
@@ -88,7 +87,7 @@ pub fn among_reads(
     ensures few { IfOk result IsFewBounded }
 {
     let vars = step_vars(s);
-    let mut now = counted(alloc, 0, s.locals)?;
+    let mut now = numbers_from(alloc, 0, s.locals)?;
     let mut x = s.locals + 1;
     let mut left = place;
     for (i, r) in s.reads.iter().enumerate() {
@@ -98,7 +97,7 @@ pub fn among_reads(
             return Ok(Found::Number(read_number(alloc, &n, x, i as u32, r, left)?));
         }
         left -= parts + 1;
-        now = with_name(now, assigned(r), x);
+        now = with_name(now, r.assigned(), x);
         x += 1;
     }
     Ok(Found::Behind(left))

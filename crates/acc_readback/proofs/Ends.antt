@@ -3,8 +3,8 @@ use Rattle.std.proofs.Common.{◌≡◌, ℕ, ◌+◌, ◌<◌, ◌≤◌, ◌==
 use Rattle.std.specs.List.{flat_map}
 use Rattle.std.proofs.lemmas.Bool.Decides.{nat_tests}
 use Rattle.acc_grammar.specs.Readers.{AllIn}
-use Rattle.acc_limits.specs.declared.limits.Limit.{Limit}
-use Rattle.acc_limits.specs.Marks.{Mark, past, counted_from}
+use Rattle.acc_base.specs.declared.limits.Limit.{Limit}
+use Rattle.acc_limits.specs.Marks.{Mark, past, limited_from}
 use Rattle.acc_readback.proofs.OnlyEnds.{AreEnds, ends_behind}
 
 -- ---- limits that aren't passed
@@ -29,7 +29,7 @@ ends_each marks [] h = tt
 ends_each marks (x ∷ xs) h = ends_behind (marks x) (flat_map marks xs) h.0 (ends_each marks xs h.1)
 
 ends_from : {X : Type 0} (i : ℕ) (l : Limit) (most : ℕ) (marks : X → List Mark) (xs : List X) → i + length xs ≤ most →
-    AllIn (λ x. AreEnds (marks x)) xs → AreEnds (counted_from i l most marks xs)
+    AllIn (λ x. AreEnds (marks x)) xs → AreEnds (limited_from i l most marks xs)
 ends_from i l most marks [] few h = tt
 ends_from i l most marks (x ∷ xs) few h =
     ends_behind (past l (i == most)) _ (not_past l (i == most) (not_at i most (omega arith)))
@@ -37,5 +37,5 @@ ends_from i l most marks (x ∷ xs) few h =
 
 -- a list that is short enough, each of whose items passes no limit
 pub ends_counted : {X : Type 0} (l : Limit) (most : ℕ) (marks : X → List Mark) (xs : List X) → length xs ≤ most →
-    AllIn (λ x. AreEnds (marks x)) xs → AreEnds (counted_from 0 l most marks xs)
+    AllIn (λ x. AreEnds (marks x)) xs → AreEnds (limited_from 0 l most marks xs)
 ends_counted l most marks xs few h = ends_from 0 l most marks xs (omega arith) h

@@ -4,6 +4,7 @@ use Rattle.std.specs.List.{flat_map}
 use Rattle.std.proofs.lemmas.List.{append-nil, length-append}
 use Rattle.std.proofs.lemmas.List.Concat.{flat_map-append}
 use Rattle.acc_base.specs.Lines.{line}
+use Rattle.acc_base.specs.declared.rules.FormRule.{FormRule}
 use Rattle.acc_base.specs.declared.designs.Design.{Design}
 use Rattle.acc_form.specs.Judged.{Judged, judged, IsBroken, IsJudgedOn}
 use Rattle.acc_form.proofs.StatementEnds.{ends_of}
@@ -94,7 +95,7 @@ lines_are d ks h js e =
 -- ---- a statement that breaks a rule
 
 -- it is one of the statements, and its line has the next number
-pub judged_number : (d : Design) → IsSaid d → (rule at : ℕ) (j : IsJudgedOn d rule at)
+pub judged_number : (d : Design) → IsSaid d → (rule : FormRule) (at : ℕ) (j : IsJudgedOn d rule at)
     → (j.number < statements_of (tree_of d)) × (at ≡ j.number + 1)
 judged_number d h rule at j =
     let b = j.broken in
@@ -108,7 +109,7 @@ judged_number d h rule at j =
     (less, j.on_line ∙ line_of_few j.number (omega (arith, less, few)))
 
 -- it is the line of print behind the statements before it
-line_behind : (d : Design) → IsSaid d → (rule n : ℕ) (b : IsBroken (judged d) rule n)
+line_behind : (d : Design) → IsSaid d → (rule : FormRule) (n : ℕ) (b : IsBroken (judged d) rule n)
     → first_lines (suc n) (printed d) ≡ first_lines n (printed d) ++ b.statement.text
 line_behind d h rule n b =
     let front = b.before ++ b.statement ∷ [] in
@@ -125,7 +126,7 @@ line_behind d h rule n b =
     ap (λ (k : ℕ). first_lines k (printed d)) (sym count) ∙ next ∙ parts
     ∙ ap (λ (bs : List ℕ). bs ++ b.statement.text) (sym first ∙ ap (λ (k : ℕ). first_lines k (printed d)) number)
 
-pub judged_line : (d : Design) → IsSaid d → (rule at : ℕ) (j : IsJudgedOn d rule at)
+pub judged_line : (d : Design) → IsSaid d → (rule : FormRule) (at : ℕ) (j : IsJudgedOn d rule at)
     → first_lines at (printed d) ≡ first_lines (at - 1) (printed d) ++ j.broken.statement.text
 judged_line d h rule at j =
     let is = (judged_number d h rule at j).1 in

@@ -15,7 +15,7 @@ use Rattle.acc_syntax.specs.declared.trees.FormTerm.TheVariants as form_terms
 use Rattle.acc_syntax.specs.declared.trees.SignedFormTerm.{SignedFormTerm}
 use Rattle.acc_syntax.specs.declared.trees.FormRelTree.{FormRelTree}
 use Rattle.acc_syntax.specs.declared.trees.ClauseTree.{ClauseTree}
-use Rattle.acc_limits.specs.declared.limits.Limit.TheVariants as limit
+use Rattle.acc_base.specs.declared.limits.Limit.TheVariants as limit
 use Rattle.acc_limits.specs.Words.{name_marks, number_marks, operand_marks, form_term_marks, signed_form_term_marks, form_marks}
 use Rattle.acc_limits.specs.Words.{form_rel_marks, binder_marks, premises_marks, clause_marks}
 use Rattle.acc_limits.specs.Marks.{ending}

@@ -16,8 +16,8 @@ use Rattle.acc_syntax.specs.declared.trees.TypeTree.{TypeTree}
 use Rattle.acc_syntax.specs.declared.trees.PairTree.{PairTree}
 use Rattle.acc_syntax.specs.declared.trees.EntryTree.{EntryTree}
 use Rattle.acc_syntax.specs.declared.trees.HintTree.{HintTree}
-use Rattle.acc_limits.specs.declared.limits.Limit.TheVariants as limit
-use Rattle.acc_limits.specs.Marks.{ending, counted}
+use Rattle.acc_base.specs.declared.limits.Limit.TheVariants as limit
+use Rattle.acc_limits.specs.Marks.{ending, limited}
 use Rattle.acc_limits.specs.Words.{name_marks, number_marks, variable_marks, sum_marks, point_name_marks, pair_marks, pairs_marks}
 use Rattle.acc_limits.specs.Statements.{table_marks, clause_statement_marks, type_marks, entry_marks, hint_marks, design_marks}
 use Rattle.acc_limits.specs.Faults.{limit_faults}
@@ -88,16 +88,16 @@ hint_ends d h said =
 design_ends : (d : Design) → IsSaid d → AreEnds (design_marks (tree_of d))
 design_ends d h =
     let clauses = map (clause_tree (outside d.tables)) d.always in
-    ends_behind (counted limit.Tables 64 table_marks (map table_tree d.tables)) _
+    ends_behind (limited limit.Tables 64 table_marks (map table_tree d.tables)) _
     (ends_counted limit.Tables 64 table_marks (map table_tree d.tables) (few_others table_tree 64 d.tables h.few_tables)
     (all_mapped IsTableSaid (λ (t : TableTree). AreEnds (table_marks t)) table_tree table_ends d.tables h.tables))
-    (ends_behind (counted limit.AlwaysClauses 128 clause_statement_marks clauses) _
+    (ends_behind (limited limit.AlwaysClauses 128 clause_statement_marks clauses) _
     (ends_counted limit.AlwaysClauses 128 clause_statement_marks clauses
     (few_others (clause_tree (outside d.tables)) 128 d.always h.few_always) (clauses_end (outside d.tables) d.always h.always))
-    (ends_behind (counted limit.Types 64 type_marks (map (type_tree d.tables) d.types)) _
+    (ends_behind (limited limit.Types 64 type_marks (map (type_tree d.tables) d.types)) _
     (ends_counted limit.Types 64 type_marks (map (type_tree d.tables) d.types) (few_others (type_tree d.tables) 64 d.types h.few_types)
     (all_mapped (IsTypeSaid d.tables) (λ (t : TypeTree). AreEnds (type_marks t)) (type_tree d.tables) (type_ends d.tables) d.types h.types))
-    (ends_behind (counted limit.EntriesAndHints 1024 entry_marks (map (entry_tree d) d.entries)) _
+    (ends_behind (limited limit.EntriesAndHints 1024 entry_marks (map (entry_tree d) d.entries)) _
     (ends_counted limit.EntriesAndHints 1024 entry_marks (map (entry_tree d) d.entries)
     (few_others (entry_tree d) 1024 d.entries h.few_entries)
     (all_mapped (IsEntrySaid d) (λ (t : EntryTree). AreEnds (entry_marks t)) (entry_tree d) (entry_ends d) d.entries h.entries))

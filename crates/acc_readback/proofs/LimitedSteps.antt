@@ -16,8 +16,8 @@ use Rattle.acc_base.specs.declared.designs.Point.{Point}
 use Rattle.acc_syntax.specs.declared.trees.ReadTree.{ReadTree}
 use Rattle.acc_syntax.specs.declared.trees.ActionTree.{ActionTree}
 use Rattle.acc_syntax.specs.declared.trees.PathTree.{PathTree}
-use Rattle.acc_limits.specs.declared.limits.Limit.TheVariants as limit
-use Rattle.acc_limits.specs.Marks.{ending, counted}
+use Rattle.acc_base.specs.declared.limits.Limit.TheVariants as limit
+use Rattle.acc_limits.specs.Marks.{ending, limited}
 use Rattle.acc_limits.specs.Words.{number_marks, small_number_marks, variable_marks, sum_marks, place_marks, cell_marks, guard_marks}
 use Rattle.acc_limits.specs.Statements.{read_words_marks, read_marks, values_marks, action_words_marks, action_marks, target_words_marks}
 use Rattle.acc_limits.specs.Statements.{target_marks, path_marks, step_marks}
@@ -108,7 +108,7 @@ path_ends : (s : Scope) (points : List Point) (p : Path) → IsPathSaid s points
 path_ends s points p h =
     ends_behind (guard_marks (guard_tree s.names p.guard)) _ (guard_ends s.names p.guard h.few_relations h.guard)
     (ends_behind ending _ one_end
-    (ends_behind (counted limit.Actions 16 action_marks (map (action_statement_tree s) p.actions))
+    (ends_behind (limited limit.Actions 16 action_marks (map (action_statement_tree s) p.actions))
     (target_marks (target_statement_tree points p.target))
     (ends_counted limit.Actions 16 action_marks (map (action_statement_tree s) p.actions)
     (few_others (action_statement_tree s) 16 p.actions h.few_actions)
@@ -117,7 +117,7 @@ path_ends s points p h =
     (target_ends points p.target h.target)))
 
 paths_end : (s : Scope) (points : List Point) (ps : List Path) → length ps ≤ 16 → ArePathsSaid s points ps →
-    AreEnds (path_marks (first_path s points ps) ++ counted limit.Paths 15 path_marks (map (path_tree s points) (drop 1 ps)))
+    AreEnds (path_marks (first_path s points ps) ++ limited limit.Paths 15 path_marks (map (path_tree s points) (drop 1 ps)))
 paths_end s points [] few h = absurd h
 paths_end s points (p ∷ ps) few h =
     ends_behind (path_marks (path_tree s points p)) _ (path_ends s points p h.0)
@@ -127,7 +127,7 @@ paths_end s points (p ∷ ps) few h =
 pub step_ends : (s : Scope) (points : List Point) (st : Step) → IsStepSaid s points st → AreEnds (step_marks (step_tree s points st))
 step_ends s points st h =
     ends_behind ending _ one_end
-    (ends_behind (counted limit.Reads 32 read_marks (map (read_statement_tree s) st.reads)) _
+    (ends_behind (limited limit.Reads 32 read_marks (map (read_statement_tree s) st.reads)) _
     (ends_counted limit.Reads 32 read_marks (map (read_statement_tree s) st.reads)
     (few_others (read_statement_tree s) 32 st.reads h.few_reads)
     (all_mapped (IsReadSaid s) (λ (t : ReadTree). AreEnds (read_marks t)) (read_statement_tree s) (read_ends s) st.reads h.reads))

@@ -11,8 +11,8 @@ use Rattle.acc_base.specs.declared.designs.Point.{Point}
 use Rattle.acc_base.specs.declared.designs.TxType.{TxType}
 use Rattle.acc_syntax.specs.declared.trees.Sum.{Sum}
 use Rattle.acc_syntax.specs.declared.trees.PointTree.{PointTree}
-use Rattle.acc_limits.specs.declared.limits.Limit.TheVariants as limit
-use Rattle.acc_limits.specs.Marks.{ending, counted}
+use Rattle.acc_base.specs.declared.limits.Limit.TheVariants as limit
+use Rattle.acc_limits.specs.Marks.{ending, limited}
 use Rattle.acc_limits.specs.Words.{name_marks, small_number_marks, sum_marks}
 use Rattle.acc_limits.specs.Statements.{clause_statement_marks, returns_marks, locals_marks, variant_marks, step_marks, point_marks}
 use Rattle.acc_limits.specs.Statements.{head_marks, type_marks}
@@ -43,14 +43,14 @@ point_ends s points p h =
     ends_behind (name_marks p.name) _ (name_ends p.name h.name)
     (ends_behind ending _ one_end
     (ends_behind (variant_marks (variant_tree s.names p.variant)) _ (variant_ends s.names p.variant h.variant)
-    (ends_behind (counted limit.Clauses 64 clause_statement_marks (map (clause_tree s) p.clauses)) _
+    (ends_behind (limited limit.Clauses 64 clause_statement_marks (map (clause_tree s) p.clauses)) _
     (ends_counted limit.Clauses 64 clause_statement_marks (map (clause_tree s) p.clauses)
     (few_others (clause_tree s) 64 p.clauses h.few_clauses) (clauses_end s p.clauses h.clauses))
     (ends_behind (step_marks (step_tree s points p.next)) (step_marks (step_tree s points p.undo)) (step_ends s points p.next h.next)
     (step_ends s points p.undo h.undo)))))
 
 points_end : (s : Scope) (points ps : List Point) → length ps ≤ 32 → ArePointsSaid s points ps →
-    AreEnds (point_marks (first_point s points ps) ++ counted limit.Points 31 point_marks (map (point_tree s points) (drop 1 ps)))
+    AreEnds (point_marks (first_point s points ps) ++ limited limit.Points 31 point_marks (map (point_tree s points) (drop 1 ps)))
 points_end s points [] few h = absurd h
 points_end s points (p ∷ ps) few h =
     ends_behind (point_marks (point_tree s points p)) _ (point_ends s points p h.0)
@@ -93,10 +93,10 @@ type_ends tables t h =
     (returns_end (map (name_at t.locals) t.returns) h.returns)
     (ends_behind (locals_marks (length (take t.params t.locals)) (names_tree later)) _
     (locals_end (length (take t.params t.locals)) later (omega (arith, parted t.params t.locals, h.few_locals)) h.locals)
-    (ends_behind (counted limit.Clauses 64 clause_statement_marks (map (clause_tree s) t.posts)) _
+    (ends_behind (limited limit.Clauses 64 clause_statement_marks (map (clause_tree s) t.posts)) _
     (ends_counted limit.Clauses 64 clause_statement_marks (map (clause_tree s) t.posts) (few_others (clause_tree s) 64 t.posts h.few_posts)
     (clauses_end s t.posts h.posts))
-    (ends_behind (counted limit.Clauses 64 clause_statement_marks (map (clause_tree s) t.repairs)) _
+    (ends_behind (limited limit.Clauses 64 clause_statement_marks (map (clause_tree s) t.repairs)) _
     (ends_counted limit.Clauses 64 clause_statement_marks (map (clause_tree s) t.repairs)
     (few_others (clause_tree s) 64 t.repairs h.few_repairs) (clauses_end s t.repairs h.repairs))
     (points_end s t.points t.points h.few_points h.points)))))

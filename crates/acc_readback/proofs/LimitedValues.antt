@@ -16,7 +16,7 @@ use Rattle.acc_syntax.specs.declared.trees.Term.TheVariants.{Plain, Product}
 use Rattle.acc_syntax.specs.declared.trees.SignedTerm.{SignedTerm}
 use Rattle.acc_syntax.specs.declared.trees.Sum.{Sum}
 use Rattle.acc_syntax.specs.declared.trees.LinRelTree.{LinRelTree}
-use Rattle.acc_limits.specs.declared.limits.Limit.TheVariants as limit
+use Rattle.acc_base.specs.declared.limits.Limit.TheVariants as limit
 use Rattle.acc_limits.specs.Words.{name_marks, number_marks, variable_marks, term_marks, signed_term_marks, sum_marks, sums_marks}
 use Rattle.acc_limits.specs.Words.{place_marks, cell_marks, lin_rel_marks, guard_marks}
 use Rattle.acc_print.specs.Names.{Scope, name_at, table_name, column_name}

@@ -1,7 +1,7 @@
 -- A printed design is read as itself.
 use Rattle.std.proofs.Common.{◌≡◌, ℕ, List, [], ◌++◌, sym, ap, ◌∙◌}
 use Rattle.acc_base.specs.declared.designs.Design.{Design}
-use Rattle.acc_limits.specs.declared.limits.Limit.{Limit}
+use Rattle.acc_base.specs.declared.limits.Limit.{Limit}
 use Rattle.acc_syntax.specs.Spelling.{spelled_design}
 use Rattle.acc_meaning.specs.Sizes.{size_faults}
 use Rattle.acc_print.specs.Designs.{printed}

@@ -1,6 +1,7 @@
 -- The line of a form rule that is broken is the line of the statement in print that breaks it.
 use Rattle.std.proofs.Common.{◌≡◌, ◌<◌, ℕ, suc, ◌+◌, ◌-◌, List, sym, subst, ◌∙◌, inl, inr, arith}
 use Rattle.std.proofs.lemmas.Bool.{false≢true}
+use Rattle.acc_base.specs.declared.rules.FormRule.{FormRule}
 use Rattle.acc_base.specs.declared.designs.Design.{Design}
 use Rattle.acc_form.specs.declared.rules.FormError.TheVariants.{Bad}
 use Rattle.acc_form.specs.Judged.{IsJudgedOn, IsFaultInPrint}
@@ -27,7 +28,7 @@ statement_line d n h less =
     (omega (arith, less, count)))
 
 -- the line of a broken rule is its line in print
-pub fault_line : (d : Design) → IsSaid d → (rule at : ℕ) → IsJudgedOn d rule at → IsLineOf (printed d) (at - 1) at
+pub fault_line : (d : Design) → IsSaid d → (rule : FormRule) (at : ℕ) → IsJudgedOn d rule at → IsLineOf (printed d) (at - 1) at
 fault_line d h rule at j =
     let k = judged_number d h rule at j in
     let is = k.1 in
@@ -36,7 +37,7 @@ fault_line d h rule at j =
     (subst (λ (n : ℕ). IsLineOf (printed d) n (j.number + 1)) before (statement_line d j.number h k.0))
 
 -- in a design that a text stands for every number is in range: its faults are statements in print
-pub text_fault : (source : List ℕ) (d : Design) → IsDesignText source d → (rule at : ℕ) → IsFaultInPrint d (Bad rule at)
+pub text_fault : (source : List ℕ) (d : Design) → IsDesignText source d → (rule : FormRule) (at : ℕ) → IsFaultInPrint d (Bad rule at)
     → IsJudgedOn d rule at
 text_fault source d is rule at fault = elim fault [
   | inl out ↦ absurd (false≢true (sym out.0 ∙ said_in_range d (parsed_is_said source d is)))

@@ -1,6 +1,7 @@
 -- The form rules are asked of the statements that are printed: the parts have as many by the marks as by the tree. First steps and points.
 use Rattle.std.proofs.Common.{ℕ, ◌+◌, Bool, false, List, [], ◌∷◌, length, map, take, drop, refl, sym, ◌∙◌, arith}
 use Rattle.std.specs.Prelude.{sum_by, ◌==◌, ◌&&◌, ◌||◌, nat_lt, not}
+use Rattle.acc_base.specs.declared.rules.FormRule.TheVariants as rule
 use Rattle.acc_base.specs.declared.forms.Lin.{Lin}
 use Rattle.acc_base.specs.declared.tables.Table.{Table}
 use Rattle.acc_base.specs.declared.steps.Path.{Path}
@@ -30,8 +31,8 @@ pub path_counts : (s : Scope) (points : List Point) (tables : List Table) (t : T
     → Counts (path_marks tables t side is_bare count i p) (path_statements (path_tree s points p))
 path_counts s points tables t side is_bare count i p =
     let actions = each_one (action_marks tables t is_bare) (action_statement_tree s) (action_counts tables t is_bare) 0 p.actions in
-    recounted (asks 4 (not (i == 16) && guard_small p.guard)
-    (asks 7 (nat_lt (i + 1) count || (length p.guard == 0)) (one_more (both actions (target_counts t side is_bare p))))) (omega arith)
+    recounted (asks rule.Limits (not (i == 16) && guard_small p.guard)
+    (asks rule.LastPaths (nat_lt (i + 1) count || (length p.guard == 0)) (one_more (both actions (target_counts t side is_bare p))))) (omega arith)
 
 paths_count : (s : Scope) (points : List Point) (tables : List Table) (t : TxType) (side : Side) (is_bare : Bool) (count : ℕ)
     (ps : List Path) → ArePathsSaid s points ps
@@ -55,7 +56,7 @@ step_counts s points tables t side is_bare st h =
 
 variant_counts : (names : List (List ℕ)) (l : Lin) → Counts (variant_marks l) (if_there (variant_tree names l))
 variant_counts names l = unless (is_zero l) (λ e. rw (sym (same_zero l) ∙ e) refl)
-    (λ e. rw (sym (same_zero l) ∙ e) (asks 4 (lin_small l) one_statement))
+    (λ e. rw (sym (same_zero l) ∙ e) (asks rule.Limits (lin_small l) one_statement))
 
 pub point_counts : (s : Scope) (points : List Point) (tables : List Table) (t : TxType) (i : ℕ) (p : Point) → IsPointSaid s points p
     → Counts (point_marks tables t i p) (point_statements (point_tree s points p))
@@ -63,8 +64,8 @@ point_counts s points tables t i p h =
     let holds = each_one (clause_marks tables t.locals 64) (clause_tree s) (clause_counts tables t.locals 64) 0 p.clauses in
     let next = step_counts s points tables t Next false p.next h.next in
     let undo = step_counts s points tables t Undo (i == 0) p.undo h.undo in
-    recounted (asks 4 (not (i == 32) && is_short p.name)
-    (asks 6 (not (names_point (take i t.points) p.name))
+    recounted (asks rule.Limits (not (i == 32) && is_short p.name)
+    (asks rule.Names (not (names_point (take i t.points) p.name))
     (one_more (both (variant_counts s.names p.variant) (both holds (both next undo)))))) (omega arith)
 
 pub points_count : (s : Scope) (points : List Point) (tables : List Table) (t : TxType) (ps : List Point) → ArePointsSaid s points ps

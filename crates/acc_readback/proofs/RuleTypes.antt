@@ -4,6 +4,7 @@ use Rattle.std.specs.Prelude.{◌==◌, ◌&&◌, nat_le, not}
 use Rattle.std.specs.List.{list_all}
 use Rattle.std.proofs.lemmas.Bool.{ne_eqb, leb-true, leb-false}
 use Rattle.std.proofs.lemmas.List.{drop_all, length-drop}
+use Rattle.acc_base.specs.declared.rules.FormRule.TheVariants as rule
 use Rattle.acc_base.specs.declared.tables.Table.{Table}
 use Rattle.acc_base.specs.declared.designs.TxType.{TxType}
 use Rattle.acc_base.specs.declared.designs.Design.{Design}
@@ -26,9 +27,9 @@ use Rattle.acc_readback.proofs.RuleStatements.{points_count}
 
 head_counts : (types : List TxType) (i : ℕ) (t : TxType) → Counts (head_marks types i t) 2
 head_counts types i t =
-    asks 4 (not (i == 64) && is_short t.name && nat_le t.params 48 && list_all is_short (take t.params t.locals))
-    (asks 6 (not (names_type (take i types) t.name) && are_distinct (take t.params t.locals))
-    (one_more (asks 5 (is_limit t.limit) one_statement)))
+    asks rule.Limits (not (i == 64) && is_short t.name && nat_le t.params 48 && list_all is_short (take t.params t.locals))
+    (asks rule.Names (not (names_type (take i types) t.name) && are_distinct (take t.params t.locals))
+    (one_more (asks rule.Numbers (is_limit t.limit) one_statement)))
 
 -- names are said where there are some
 some_names : (xs : List (List ℕ)) → 1 ≤ length xs → if_there (names_tree xs) ≡ 1
@@ -41,7 +42,7 @@ returns_counts t = by_returns t.returns
     by_returns : (xs : List ℕ) → Counts (returns_marks (record t { returns = xs })) (if_there (names_tree (map (name_at t.locals) xs)))
     by_returns [] = no_statement
     by_returns (x ∷ xs) = rw (ne_eqb (length (x ∷ xs)) 0 (λ e. absurd (omega (arith, e))))
-        (asks 4 (returns_small t.locals (x ∷ xs)) one_statement)
+        (asks rule.Limits (returns_small t.locals (x ∷ xs)) one_statement)
 
 locals_counts : (t : TxType) → Counts (locals_marks t) (if_there (names_tree (drop t.params t.locals)))
 locals_counts t =
@@ -49,8 +50,8 @@ locals_counts t =
     (drop_all t.params t.locals (leb-true (length t.locals) t.params e))) (λ e.
     let some = leb-false (length t.locals) t.params e in
     let count = length-drop t.params t.locals in
-    recounted (asks 4 (nat_le (length t.locals) 48 && list_all is_short (drop t.params t.locals))
-    (asks 6 (are_new (take t.params t.locals) (drop t.params t.locals)) one_statement))
+    recounted (asks rule.Limits (nat_le (length t.locals) 48 && list_all is_short (drop t.params t.locals))
+    (asks rule.Names (are_new (take t.params t.locals) (drop t.params t.locals)) one_statement))
     (sym (some_names (drop t.params t.locals) (omega (arith, some, count)))))
 
 pub type_counts : (tables : List Table) (types : List TxType) (i : ℕ) (t : TxType) → IsTypeSaid tables t →

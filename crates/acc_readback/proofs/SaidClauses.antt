@@ -17,7 +17,7 @@ use Rattle.acc_syntax.specs.declared.trees.ClauseTree.{ClauseTree}
 use Rattle.acc_syntax.specs.Spelling.{just, name, names, further, form_rel, form_rels, binder, premises, clause, clause_statement}
 use Rattle.acc_names.specs.Names.{stands_in, defines_again, listed, listed_or_none}
 use Rattle.acc_names.specs.Faults.{form_rel_fault, premises_fault, clause_fault}
-use Rattle.acc_limits.specs.declared.limits.Limit.TheVariants as limit
+use Rattle.acc_base.specs.declared.limits.Limit.TheVariants as limit
 use Rattle.acc_limits.specs.Marks.{past, ending}
 use Rattle.acc_limits.specs.Words.{name_marks, names_marks, form_rel_marks, binder_marks, premises_marks, clause_marks}
 use Rattle.acc_limits.specs.Statements.{clause_statement_marks}

@@ -17,8 +17,8 @@ use Rattle.acc_syntax.specs.Spelling.{type_words}
 use Rattle.acc_names.specs.Names.{stands_in, defines_again}
 use Rattle.acc_names.specs.Faults.{clause_fault, tables_faults, type_faults, types_faults, entry_fault, hint_fault}
 use Rattle.acc_names.specs.Faults.{outside as known_outside, statement_faults}
-use Rattle.acc_limits.specs.declared.limits.Limit.TheVariants as limit
-use Rattle.acc_limits.specs.Marks.{counted}
+use Rattle.acc_base.specs.declared.limits.Limit.TheVariants as limit
+use Rattle.acc_limits.specs.Marks.{limited}
 use Rattle.acc_limits.specs.Statements.{table_marks, clause_statement_marks, type_marks, entry_marks, hint_marks, design_marks}
 use Rattle.acc_limits.specs.Faults.{limit_faults}
 use Rattle.acc_clauses.specs.Forms.{clause_of}
@@ -107,11 +107,11 @@ design_said d heard faults marks sizes =
     let n_always = all_parts IsFalse f_always (f_types ++ (f_entries ++ f_hints)) n_tables.1 in
     let n_types = all_parts IsFalse f_types (f_entries ++ f_hints) n_always.1 in
     let n_entries = all_parts IsFalse f_entries f_hints n_types.1 in
-    let m_tables = counted limit.Tables 64 table_marks trees in
-    let m_always = counted limit.AlwaysClauses 128 clause_statement_marks d.always in
-    let m_types = counted limit.Types 64 type_marks d.types in
-    let m_entries = counted limit.EntriesAndHints 1024 entry_marks d.entries in
-    let m_hints = counted limit.EntriesAndHints 1024 hint_marks d.hints in
+    let m_tables = limited limit.Tables 64 table_marks trees in
+    let m_always = limited limit.AlwaysClauses 128 clause_statement_marks d.always in
+    let m_types = limited limit.Types 64 type_marks d.types in
+    let m_entries = limited limit.EntriesAndHints 1024 entry_marks d.entries in
+    let m_hints = limited limit.EntriesAndHints 1024 hint_marks d.hints in
     let e_tables = all_parts IsEnd m_tables (m_always ++ (m_types ++ (m_entries ++ m_hints))) marks in
     let e_always = all_parts IsEnd m_always (m_types ++ (m_entries ++ m_hints)) e_tables.1 in
     let e_types = all_parts IsEnd m_types (m_entries ++ m_hints) e_always.1 in

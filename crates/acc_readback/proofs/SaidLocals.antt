@@ -15,7 +15,7 @@ use Rattle.acc_syntax.specs.Spelling.{just, names, names_statement}
 use Rattle.acc_names.specs.Names.{stands_in, defines_again, listed, listed_or_none}
 use Rattle.acc_names.specs.Scopes.{locals_of}
 use Rattle.acc_names.specs.Faults.{returns_faults, locals_faults}
-use Rattle.acc_limits.specs.declared.limits.Limit.TheVariants as limit
+use Rattle.acc_base.specs.declared.limits.Limit.TheVariants as limit
 use Rattle.acc_limits.specs.Marks.{past, ending}
 use Rattle.acc_limits.specs.Words.{name_marks, names_marks, small_number_marks}
 use Rattle.acc_limits.specs.Statements.{returns_marks, locals_marks, head_marks}

@@ -21,7 +21,7 @@ use Rattle.acc_names.specs.Names.{stands_in}
 use Rattle.acc_names.specs.Places.{place_of}
 use Rattle.acc_names.specs.Faults.{variable_fault}
 use Rattle.acc_names.proofs.Placed.{placed_stands}
-use Rattle.acc_limits.specs.declared.limits.Limit.TheVariants as limit
+use Rattle.acc_base.specs.declared.limits.Limit.TheVariants as limit
 use Rattle.acc_limits.specs.Words.{name_marks, variable_marks}
 use Rattle.acc_clauses.specs.Scopes.{Variables, fitted, first_own, named, variable_of}
 use Rattle.acc_print.specs.Names.{name_at, names_within}

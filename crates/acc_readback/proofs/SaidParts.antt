@@ -7,8 +7,8 @@ use Rattle.std.proofs.lemmas.Bool.Decides.{nat_tests}
 use Rattle.acc_grammar.specs.Readers.{AllIn, joined}
 use Rattle.acc_names.specs.Least.{marked_from}
 use Rattle.acc_names.proofs.Firsts.{least_is}
-use Rattle.acc_limits.specs.declared.limits.Limit.{Limit}
-use Rattle.acc_limits.specs.Marks.{Mark, Past, End, past, counted_from, counted}
+use Rattle.acc_base.specs.declared.limits.Limit.{Limit}
+use Rattle.acc_limits.specs.Marks.{Mark, Past, End, past, limited_from, limited}
 use Rattle.acc_limits.specs.Faults.{placed}
 use Rattle.acc_readback.proofs.OnlyEnds.{IsEnd, AreEnds}
 use Rattle.acc_readback.proofs.Faultless.{IsFalse}
@@ -83,24 +83,24 @@ not_past limit true h = absurd h.0
 not_past limit false h = refl
 
 module _ {T : Type 0} (limit : Limit) (most : ℕ) (marks : T → List Mark) where
-  counted_each : (i : ℕ) (ts : List T) → AreEnds (counted_from i limit most marks ts) → AllIn (λ t. AreEnds (marks t)) ts
+  counted_each : (i : ℕ) (ts : List T) → AreEnds (limited_from i limit most marks ts) → AllIn (λ t. AreEnds (marks t)) ts
   counted_each i [] h = tt
   counted_each i (t ∷ ts) h =
-      let behind = (all_parts IsEnd (past limit (i == most)) (marks t ++ counted_from (i + 1) limit most marks ts) h).1 in
-      let parts = all_parts IsEnd (marks t) (counted_from (i + 1) limit most marks ts) behind in
+      let behind = (all_parts IsEnd (past limit (i == most)) (marks t ++ limited_from (i + 1) limit most marks ts) h).1 in
+      let parts = all_parts IsEnd (marks t) (limited_from (i + 1) limit most marks ts) behind in
       (parts.0, counted_each (i + 1) ts parts.1)
 
-  few_counted : (i : ℕ) (ts : List T) → i ≤ most → AreEnds (counted_from i limit most marks ts) → i + length ts ≤ most
+  few_counted : (i : ℕ) (ts : List T) → i ≤ most → AreEnds (limited_from i limit most marks ts) → i + length ts ≤ most
   few_counted i [] le h = omega arith
   few_counted i (t ∷ ts) le h =
-      let parts = all_parts IsEnd (past limit (i == most)) (marks t ++ counted_from (i + 1) limit most marks ts) h in
-      let behind = (all_parts IsEnd (marks t) (counted_from (i + 1) limit most marks ts) parts.1).1 in
+      let parts = all_parts IsEnd (past limit (i == most)) (marks t ++ limited_from (i + 1) limit most marks ts) h in
+      let behind = (all_parts IsEnd (marks t) (limited_from (i + 1) limit most marks ts) parts.1).1 in
       let less : (i == most) ≡ false = not_past limit (i == most) parts.0 in
       let one_more : i + 1 ≤ most = grind (arith, nat_tests) in
       let rest = few_counted (i + 1) ts one_more behind in omega (arith, rest)
 
-  pub each_counted : (ts : List T) → AreEnds (counted limit most marks ts) → AllIn (λ t. AreEnds (marks t)) ts
+  pub each_counted : (ts : List T) → AreEnds (limited limit most marks ts) → AllIn (λ t. AreEnds (marks t)) ts
   each_counted ts h = counted_each 0 ts h
 
-  pub at_most_counted : (ts : List T) → AreEnds (counted limit most marks ts) → length ts ≤ most
+  pub at_most_counted : (ts : List T) → AreEnds (limited limit most marks ts) → length ts ≤ most
   at_most_counted ts h = let all = few_counted 0 ts (omega arith) h in omega (arith, all)

@@ -11,8 +11,8 @@ use Rattle.acc_syntax.specs.Spelling.{just, name, sum, side, variant_statement, 
 use Rattle.acc_names.specs.Names.{stands_in, defines_again}
 use Rattle.acc_names.specs.Scopes.{Scope as KnownScope}
 use Rattle.acc_names.specs.Faults.{clause_fault, variant_faults, step_faults, point_faults, points_faults}
-use Rattle.acc_limits.specs.declared.limits.Limit.TheVariants as limit
-use Rattle.acc_limits.specs.Marks.{ending, counted}
+use Rattle.acc_base.specs.declared.limits.Limit.TheVariants as limit
+use Rattle.acc_limits.specs.Marks.{ending, limited}
 use Rattle.acc_limits.specs.Words.{name_marks, sum_marks}
 use Rattle.acc_limits.specs.Statements.{clause_statement_marks, variant_marks, step_marks, point_marks}
 use Rattle.acc_clauses.specs.Scopes.{Scope as MeantScope}
@@ -87,11 +87,11 @@ module _ (a : Setting) (names : List (List ℕ)) (points : List Point) (n : AreN
       (step_faults (known a) names p.next ++ step_faults (known a) names p.undo) varied_none.1 in
       let sides_none = all_parts IsFalse (step_faults (known a) names p.next) (step_faults (known a) names p.undo) held_none.1 in
       let named_ends = all_parts IsEnd (name_marks p.name)
-      (ending ++ (variant_marks p.variant ++ (counted limit.Clauses 64 clause_statement_marks p.holds ++
+      (ending ++ (variant_marks p.variant ++ (limited limit.Clauses 64 clause_statement_marks p.holds ++
       (step_marks p.next ++ step_marks p.undo)))) marks in
       let varied_ends = all_parts IsEnd (variant_marks p.variant)
-      (counted limit.Clauses 64 clause_statement_marks p.holds ++ (step_marks p.next ++ step_marks p.undo)) named_ends.1.1 in
-      let held_ends = all_parts IsEnd (counted limit.Clauses 64 clause_statement_marks p.holds)
+      (limited limit.Clauses 64 clause_statement_marks p.holds ++ (step_marks p.next ++ step_marks p.undo)) named_ends.1.1 in
+      let held_ends = all_parts IsEnd (limited limit.Clauses 64 clause_statement_marks p.holds)
       (step_marks p.next ++ step_marks p.undo)
       varied_ends.1 in
       let sides_ends = all_parts IsEnd (step_marks p.next) (step_marks p.undo) held_ends.1 in

@@ -15,7 +15,7 @@ use Rattle.acc_syntax.specs.declared.trees.ActionTree.{ActionTree}
 use Rattle.acc_syntax.specs.declared.trees.ActionTree.TheVariants as action
 use Rattle.acc_syntax.specs.Spelling.{just, number, variable, sum, place, cell, values, read_statement, action_statement}
 use Rattle.acc_names.specs.Faults.{variable_fault, sum_fault, place_fault, cell_fault, values_fault, read_fault, action_fault}
-use Rattle.acc_limits.specs.declared.limits.Limit.TheVariants as limit
+use Rattle.acc_base.specs.declared.limits.Limit.TheVariants as limit
 use Rattle.acc_limits.specs.Words.{number_marks, variable_marks, sum_marks, place_marks, cell_marks}
 use Rattle.acc_limits.specs.Statements.{read_words_marks, values_marks, action_words_marks}
 use Rattle.acc_clauses.specs.Values.{kept, values_of}

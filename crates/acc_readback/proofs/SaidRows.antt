@@ -22,7 +22,7 @@ use Rattle.acc_syntax.specs.Spelling.{just, name, further, sum, sums, place, cel
 use Rattle.acc_names.specs.Scopes.{columns_of, Scope as KnownScope}
 use Rattle.acc_names.specs.Faults.{sum_fault, sums_fault, place_fault, column_fault, cell_fault, lin_rel_fault, guard_fault}
 use Rattle.acc_names.specs.Names.{stands_in}
-use Rattle.acc_limits.specs.declared.limits.Limit.TheVariants as limit
+use Rattle.acc_base.specs.declared.limits.Limit.TheVariants as limit
 use Rattle.acc_limits.specs.Marks.{past}
 use Rattle.acc_limits.specs.Words.{name_marks, sum_marks, sums_marks, place_marks, cell_marks, lin_rel_marks, guard_marks}
 use Rattle.acc_clauses.specs.Scopes.{Scope as MeantScope, table_names, table_in, column_in, number_of}

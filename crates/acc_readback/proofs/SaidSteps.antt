@@ -19,8 +19,8 @@ use Rattle.acc_syntax.specs.declared.trees.StepTree.{StepTree}
 use Rattle.acc_syntax.specs.Spelling.{just, name, guard, read_statement, action_statement, target_statement, path, step}
 use Rattle.acc_names.specs.Names.{stands_in}
 use Rattle.acc_names.specs.Faults.{read_fault, action_fault, target_fault, path_faults, step_faults}
-use Rattle.acc_limits.specs.declared.limits.Limit.TheVariants as limit
-use Rattle.acc_limits.specs.Marks.{ending, counted}
+use Rattle.acc_base.specs.declared.limits.Limit.TheVariants as limit
+use Rattle.acc_limits.specs.Marks.{ending, limited}
 use Rattle.acc_limits.specs.Words.{guard_marks}
 use Rattle.acc_limits.specs.Statements.{read_words_marks, read_marks, action_words_marks, action_marks, target_words_marks, target_marks}
 use Rattle.acc_limits.specs.Statements.{path_marks, step_marks}
@@ -91,8 +91,8 @@ module _ (a : Setting) (names : List (List ℕ)) (points : List Point) (n : AreN
       let behind = all_parts (IsHeard a.own) (joined action_statement p.actions) (target_statement p.target) words.1.1 in
       let none = all_parts IsFalse (map (action_fault (known a)) p.actions) (target_fault names p.target ∷ []) faults.1 in
       let ends = all_parts IsEnd (guard_marks p.guard)
-      (ending ++ (counted limit.Actions 16 action_marks p.actions ++ target_marks p.target)) marks in
-      let last = all_parts IsEnd (counted limit.Actions 16 action_marks p.actions) (target_marks p.target) ends.1.1 in
+      (ending ++ (limited limit.Actions 16 action_marks p.actions ++ target_marks p.target)) marks in
+      let last = all_parts IsEnd (limited limit.Actions 16 action_marks p.actions) (target_marks p.target) ends.1.1 in
       let small = all_parts IsEnd (guard_sizes (variables_of a) p.guard) (ending ++ (flat_map (action_sizes (meant a)) p.actions ++ ending))
       sizes in
       let smaller = all_parts IsEnd (flat_map (action_sizes (meant a)) p.actions) ending small.1.1 in
@@ -129,9 +129,9 @@ module _ (a : Setting) (names : List (List ℕ)) (points : List Point) (n : AreN
       let none = all_parts IsFalse (map (read_fault (known a)) st.reads)
       (path_faults (known a) names st.first ++ flat_map (path_faults (known a) names) st.others) faults.1 in
       let path_none = all_parts IsFalse (path_faults (known a) names st.first) (flat_map (path_faults (known a) names) st.others) none.1 in
-      let ends = all_parts IsEnd (counted limit.Reads 32 read_marks st.reads)
-      (path_marks st.first ++ counted limit.Paths 15 path_marks st.others) marks.1 in
-      let path_ends = all_parts IsEnd (path_marks st.first) (counted limit.Paths 15 path_marks st.others) ends.1 in
+      let ends = all_parts IsEnd (limited limit.Reads 32 read_marks st.reads)
+      (path_marks st.first ++ limited limit.Paths 15 path_marks st.others) marks.1 in
+      let path_ends = all_parts IsEnd (path_marks st.first) (limited limit.Paths 15 path_marks st.others) ends.1 in
       let small = all_parts IsEnd (flat_map (read_sizes (meant a)) st.reads) (flat_map (path_sizes (meant a)) (all_paths st)) sizes.1 in
       let path_small = all_flat IsEnd (path_sizes (meant a)) (all_paths st) small.1 in
       let reads_same = length-map st.reads (read_of (meant a)) in

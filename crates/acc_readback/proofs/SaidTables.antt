@@ -11,7 +11,7 @@ use Rattle.acc_syntax.specs.declared.trees.TableTree.{TableTree}
 use Rattle.acc_syntax.specs.Spelling.{just, name, number, table}
 use Rattle.acc_names.specs.Names.{stands_in, defines_again}
 use Rattle.acc_names.specs.Faults.{tables_faults}
-use Rattle.acc_limits.specs.declared.limits.Limit.TheVariants as limit
+use Rattle.acc_base.specs.declared.limits.Limit.TheVariants as limit
 use Rattle.acc_limits.specs.Marks.{past, ending}
 use Rattle.acc_limits.specs.Words.{name_marks, number_marks}
 use Rattle.acc_limits.specs.Statements.{table_marks}

@@ -15,8 +15,8 @@ use Rattle.acc_syntax.specs.Spelling.{just, name, limit as limit_words, names_st
 use Rattle.acc_names.specs.Names.{listed_or_none, defines_again}
 use Rattle.acc_names.specs.Scopes.{locals_of, points_in, point_names}
 use Rattle.acc_names.specs.Faults.{clause_fault, point_faults, points_faults, returns_faults, locals_faults, head_faults, type_faults}
-use Rattle.acc_limits.specs.declared.limits.Limit.TheVariants as limit
-use Rattle.acc_limits.specs.Marks.{past, ending, counted}
+use Rattle.acc_base.specs.declared.limits.Limit.TheVariants as limit
+use Rattle.acc_limits.specs.Marks.{past, ending, limited}
 use Rattle.acc_limits.specs.Words.{name_marks, small_number_marks}
 use Rattle.acc_limits.specs.Statements.{clause_statement_marks, returns_marks, locals_marks, point_marks, head_marks, type_marks}
 use Rattle.acc_clauses.specs.Forms.{clause_of}
@@ -43,23 +43,23 @@ pub record HasEnds (t : TypeTree) : Type 0 where
   pub head : AreEnds (head_marks t)
   pub returns : AreEnds (returns_marks t.returns)
   pub locals : AreEnds (locals_marks (length t.params) t.locals)
-  pub ensured : AreEnds (counted limit.Clauses 64 clause_statement_marks t.ensured)
-  pub repaired : AreEnds (counted limit.Clauses 64 clause_statement_marks t.repaired)
+  pub ensured : AreEnds (limited limit.Clauses 64 clause_statement_marks t.ensured)
+  pub repaired : AreEnds (limited limit.Clauses 64 clause_statement_marks t.repaired)
   pub first : AreEnds (point_marks t.first)
-  pub others : AreEnds (counted limit.Points 31 point_marks t.others)
+  pub others : AreEnds (limited limit.Points 31 point_marks t.others)
 
 pub type_ends : (t : TypeTree) → AreEnds (type_marks t) → HasEnds t
 type_ends t marks =
-    let points = point_marks t.first ++ counted limit.Points 31 point_marks t.others in
-    let repaired = counted limit.Clauses 64 clause_statement_marks t.repaired in
-    let ensured = counted limit.Clauses 64 clause_statement_marks t.ensured in
+    let points = point_marks t.first ++ limited limit.Points 31 point_marks t.others in
+    let repaired = limited limit.Clauses 64 clause_statement_marks t.repaired in
+    let ensured = limited limit.Clauses 64 clause_statement_marks t.ensured in
     let locals = locals_marks (length t.params) t.locals in
     let a = all_parts IsEnd (head_marks t) (returns_marks t.returns ++ (locals ++ (ensured ++ (repaired ++ points)))) marks in
     let b = all_parts IsEnd (returns_marks t.returns) (locals ++ (ensured ++ (repaired ++ points))) a.1 in
     let c = all_parts IsEnd locals (ensured ++ (repaired ++ points)) b.1 in
     let d = all_parts IsEnd ensured (repaired ++ points) c.1 in
     let e = all_parts IsEnd repaired points d.1 in
-    let f = all_parts IsEnd (point_marks t.first) (counted limit.Points 31 point_marks t.others) e.1 in
+    let f = all_parts IsEnd (point_marks t.first) (limited limit.Points 31 point_marks t.others) e.1 in
     record { head = a.0; returns = b.0; locals = c.0; ensured = d.0; repaired = e.0; first = f.0; others = f.1 }
 
 pub type_locals : (t : TypeTree) → HasEnds t → length (locals_of t) ≤ 48

@@ -17,7 +17,7 @@ use Rattle.acc_syntax.specs.declared.trees.Relation.{Relation}
 use Rattle.acc_syntax.specs.declared.trees.Relation.TheVariants.{AtMost, AtLeast, Equal}
 use Rattle.acc_syntax.specs.Spelling.{just, variable, term, signed_term, sum}
 use Rattle.acc_names.specs.Faults.{variable_fault, term_fault, sum_fault}
-use Rattle.acc_limits.specs.declared.limits.Limit.TheVariants as limit
+use Rattle.acc_base.specs.declared.limits.Limit.TheVariants as limit
 use Rattle.acc_limits.specs.Words.{number_marks, variable_marks, term_marks, signed_term_marks, sum_marks}
 use Rattle.acc_terms.specs.declared.parts.Part.{Part}
 use Rattle.acc_terms.specs.declared.collecting.Terms.{Terms}

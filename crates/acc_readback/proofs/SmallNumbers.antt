@@ -6,7 +6,7 @@ use Rattle.std.proofs.lemmas.Bool.Decides.{nat_tests}
 use Rattle.acc_grammar.specs.Readers.{AllIn}
 use Rattle.acc_base.specs.Numbers.{is_small, IsSmall}
 use Rattle.acc_limits.specs.Marks.{past}
-use Rattle.acc_limits.specs.declared.limits.Limit.TheVariants as limit
+use Rattle.acc_base.specs.declared.limits.Limit.TheVariants as limit
 use Rattle.acc_terms.specs.declared.collecting.Terms.{Terms}
 use Rattle.acc_clauses.specs.Sizes.{size_mark, term_sizes, terms_sizes}
 use Rattle.acc_readback.proofs.MeantTerms.{terms_and}

@@ -3,6 +3,7 @@
 -- Clause `read` of `print` speaks of this.
 use Rattle.std.specs.Prelude.{◌≡◌, ◌≤◌, ◌⊎◌, ◌==◌, ℕ, Bool, None, false, List, [], ◌∷◌, length, filter, slice_get, ℤ, codes}
 use Rattle.acc_grammar.specs.Readers.{AllIn}
+use Rattle.acc_base.specs.declared.bounds.TheConstants.{LONGEST_NAME, MOST_GUARDS, MOST_VARIABLES}
 use Rattle.acc_base.specs.Numbers.{IsSmall}
 use Rattle.acc_base.specs.declared.forms.Lin.{Lin}
 use Rattle.acc_base.specs.declared.forms.LinRel.{LinRel}
@@ -23,7 +24,7 @@ use Rattle.acc_print.specs.Names.{Scope, name_at, table_name, column_name, with_
 
 -- a name that can be spelled: a letter and then letters, digits and _, none of the words that the grammar fixes, and at most 32 bytes
 abbrev pub IsName : List ℕ → Type 0
-IsName x = IsRun is_letter is_inner x × (keyword_of x ≡ None) × (length x ≤ 32)
+IsName x = IsRun is_letter is_inner x × (keyword_of x ≡ None) × (length x ≤ LONGEST_NAME)
 
 -- a name, or `self`
 abbrev pub IsVariable : List ℕ → Type 0
@@ -87,8 +88,8 @@ pub record IsRelSaid (s : Scope) (r : Rel) : Type 0 where
 -- its variables are new, at most 8, and there are at most 16 guards
 pub record IsClauseSaid (s : Scope) (c : Clause) : Type 0 where
   pub variables : AllIn IsName c.vars
-  pub few_variables : length c.vars ≤ 8
+  pub few_variables : length c.vars ≤ MOST_VARIABLES
   pub new : AreNew s.names c.vars
-  pub few_guards : length c.guards ≤ 16
+  pub few_guards : length c.guards ≤ MOST_GUARDS
   pub guards : AllIn (IsRelSaid (with_own s c.vars)) c.guards
   pub relation : IsRelSaid (with_own s c.vars) c.rel

@@ -1,7 +1,10 @@
 -- Designs that some text stands for: steps, types and the whole.
 -- Clause `read` of `print` speaks of this.
-use Rattle.std.specs.Prelude.{◌≡◌, ◌≤◌, ◌<◌, ◌^◌, ℕ, false, List, [], ◌∷◌, length, map, take, drop, slice_get, ℤ}
+use Rattle.std.specs.Prelude.{◌≡◌, ◌≤◌, ◌<◌, ℕ, false, List, [], ◌∷◌, length, map, take, drop, slice_get, ℤ}
 use Rattle.acc_grammar.specs.Readers.{AllIn}
+use Rattle.acc_base.specs.declared.bounds.TheConstants.{MOST_ACTIONS, MOST_ALWAYS, MOST_CLAUSES, MOST_COLUMNS, MOST_ENTRIES, MOST_GUARDS}
+use Rattle.acc_base.specs.declared.bounds.TheConstants.{MOST_HINTS, MOST_KEY_PARTS, MOST_LOCALS, MOST_PATHS, MOST_POINTS, MOST_READS}
+use Rattle.acc_base.specs.declared.bounds.TheConstants.{MOST_TABLES, MOST_TYPES, PAST_SMALL_NUMBERS}
 use Rattle.acc_base.specs.Numbers.{IsSmall}
 use Rattle.acc_base.specs.Lines.{type_name, point_name}
 use Rattle.acc_base.specs.Effects.{point_of}
@@ -27,7 +30,7 @@ use Rattle.acc_readback.specs.Printable.{IsName, IsVariable, AreNew, IsLinSaid, 
 
 -- a type's limit, or the number of a refusal
 abbrev pub IsCount : ℕ → Type 0
-IsCount n = n < 2 ^ 32
+IsCount n = n < PAST_SMALL_NUMBERS
 
 -- ---- steps
 
@@ -58,8 +61,8 @@ IsTargetSaid points (target.Refuse n) = IsCount n
 
 -- at most 16 relations, and at most 16 actions
 pub record IsPathSaid (s : Scope) (points : List Point) (p : Path) : Type 0 where
-  pub few_relations : length p.guard ≤ 16
-  pub few_actions : length p.actions ≤ 16
+  pub few_relations : length p.guard ≤ MOST_GUARDS
+  pub few_actions : length p.actions ≤ MOST_ACTIONS
   pub guard : AllIn (IsLinRelSaid s.names) p.guard
   pub actions : AllIn (IsActionSaid s) p.actions
   pub target : IsTargetSaid points p.target
@@ -71,8 +74,8 @@ ArePathsSaid s points (p ∷ ps) = AllIn (IsPathSaid s points) (p ∷ ps)
 
 -- at most 32 reads, and at most 16 paths
 pub record IsStepSaid (s : Scope) (points : List Point) (st : Step) : Type 0 where
-  pub few_reads : length st.reads ≤ 32
-  pub few_paths : length st.paths ≤ 16
+  pub few_reads : length st.reads ≤ MOST_READS
+  pub few_paths : length st.paths ≤ MOST_PATHS
   pub reads : AllIn (IsReadSaid s) st.reads
   pub paths : ArePathsSaid s points st.paths
 
@@ -81,7 +84,7 @@ pub record IsStepSaid (s : Scope) (points : List Point) (st : Step) : Type 0 whe
 -- at most 64 clauses hold
 pub record IsPointSaid (s : Scope) (points : List Point) (p : Point) : Type 0 where
   pub name : IsName p.name
-  pub few_clauses : length p.clauses ≤ 64
+  pub few_clauses : length p.clauses ≤ MOST_CLAUSES
   pub variant : IsLinSaid s.names p.variant
   pub clauses : AllIn (IsClauseSaid s) p.clauses
   pub next : IsStepSaid s points p.next
@@ -96,15 +99,15 @@ ArePointsSaid s points (p ∷ ps) = AllIn (IsPointSaid s points) (p ∷ ps)
 pub record IsTypeSaid (tables : List Table) (t : TxType) : Type 0 where
   pub name : IsName t.name
   pub params : t.params ≤ length t.locals
-  pub few_locals : length t.locals ≤ 48
+  pub few_locals : length t.locals ≤ MOST_LOCALS
   pub new_locals : AreNew [] t.locals
   pub parameters : AllIn IsName (take t.params t.locals)
   pub locals : AllIn IsName (drop t.params t.locals)
   pub returns : AllIn IsName (map (name_at t.locals) t.returns)
   pub limit : IsCount t.limit
-  pub few_posts : length t.posts ≤ 64
-  pub few_repairs : length t.repairs ≤ 64
-  pub few_points : length t.points ≤ 32
+  pub few_posts : length t.posts ≤ MOST_CLAUSES
+  pub few_repairs : length t.repairs ≤ MOST_CLAUSES
+  pub few_points : length t.points ≤ MOST_POINTS
   pub new_points : AreNew [] (map (λ (p : Point). p.name) t.points)
   pub posts : AllIn (IsClauseSaid (within tables t)) t.posts
   pub repairs : AllIn (IsClauseSaid (within tables t)) t.repairs
@@ -116,9 +119,9 @@ pub record IsTypeSaid (tables : List Table) (t : TxType) : Type 0 where
 pub record IsTableSaid (t : Table) : Type 0 where
   pub name : IsName t.name
   pub some_width : 1 ≤ t.width
-  pub width : t.width ≤ 6
+  pub width : t.width ≤ MOST_KEY_PARTS
   pub columns : AllIn IsName t.cols
-  pub few_columns : length t.cols ≤ 12
+  pub few_columns : length t.cols ≤ MOST_COLUMNS
   pub new_columns : AreNew [] t.cols
 
 -- a point of a type
@@ -143,13 +146,13 @@ pub record IsHintSaid (d : Design) (h : Hint) : Type 0 where
 -- some text stands for the design
 pub record IsSaid (d : Design) : Type 0 where
   pub tables : AllIn IsTableSaid d.tables
-  pub few_tables : length d.tables ≤ 64
+  pub few_tables : length d.tables ≤ MOST_TABLES
   pub new_tables : AreNew [] (map (λ (t : Table). t.name) d.tables)
-  pub few_always : length d.always ≤ 128
-  pub few_types : length d.types ≤ 64
+  pub few_always : length d.always ≤ MOST_ALWAYS
+  pub few_types : length d.types ≤ MOST_TYPES
   pub new_types : AreNew [] (map (λ (t : TxType). t.name) d.types)
-  pub few_entries : length d.entries ≤ 1024
-  pub few_hints : length d.hints ≤ 1024
+  pub few_entries : length d.entries ≤ MOST_ENTRIES
+  pub few_hints : length d.hints ≤ MOST_HINTS
   pub always : AllIn (IsClauseSaid (outside d.tables)) d.always
   pub types : AllIn (IsTypeSaid d.tables) d.types
   pub entries : AllIn (IsEntrySaid d) d.entries

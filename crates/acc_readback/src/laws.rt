@@ -1,5 +1,6 @@
 //! What holds of the print of a design that some text stands for.
 ghost use Rattle.std.specs.Prelude.{◌≡◌, ◌+◌, ◌-◌, ◌*◌, ◌<◌, ◌≤◌, ◌++◌, ℕ, List, length};
+ghost use Rattle.acc_base.specs.declared.rules.FormRule.{FormRule};
 ghost use Rattle.acc_base.specs.declared.designs.Design.{Design};
 ghost use Rattle.acc_lex.specs.Texts.{IsLexed};
 ghost use Rattle.acc_syntax.specs.Spelling.{spelled_design};
@@ -39,7 +40,7 @@ pub fn statements_are_lines()
 
 /// A statement that breaks a form rule is the line of print that is told.
 pub fn faults_are_lines()
-    ensures statement { (d : Design) (rule at : ℕ) → IsSaid d → IsJudgedOn d rule at → IsLineOf (printed d) (at - 1) at }
-    ensures text { (d : Design) (rule at : ℕ) → IsSaid d → (j : IsJudgedOn d rule at) →
+    ensures statement { (d : Design) (rule : FormRule) (at : ℕ) → IsSaid d → IsJudgedOn d rule at → IsLineOf (printed d) (at - 1) at }
+    ensures text { (d : Design) (rule : FormRule) (at : ℕ) → IsSaid d → (j : IsJudgedOn d rule at) →
         first_lines at (printed d) ≡ first_lines (at - 1) (printed d) ++ j.broken.statement.text }
 {}

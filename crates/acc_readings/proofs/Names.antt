@@ -1,6 +1,6 @@
 -- The numbers of unknowns: each unknown of the relations has one, and different ones have different numbers.
 use Rattle.std.proofs.Common.{◌≡◌, ℕ, ◌<◌, ◌≤◌, Bool, true, false, cond, List, [], ◌∷◌, ◌++◌, length, get_or, Option, Some, None, refl, sym}
-use Rattle.std.proofs.Common.{ap, ◌∙◌, subst, arith, ℤ, if◌then◌else◌, nat_lt}
+use Rattle.std.proofs.Common.{ap, ◌∙◌, arith, ℤ, if◌then◌else◌, nat_lt}
 use Rattle.std.specs.Prelude.{All}
 use Rattle.std.specs.Option.{is_some, unwrap_or}
 use Rattle.std.specs.List.{fold, position_or_len}
@@ -14,7 +14,7 @@ use Rattle.std.proofs.lemmas.List.Elements.{All-nil, All-cons, All-head, All-tai
 use Rattle.acc_base.specs.declared.forms.Unknown.{Unknown}
 use Rattle.acc_base.specs.declared.forms.Rel.{Rel}
 use Rattle.acc_base.specs.UnknownEquality.{unknown_eq, unknown_decides, is_bare_one}
-use Rattle.acc_readings.specs.Readings.{place_of, with_name, with_term, with_rel, unknowns_of, number_of}
+use Rattle.acc_readings.specs.Readings.{place_of, with_name, with_term, with_rel, unknowns_of}
 
 -- an unknown stands among others
 abbrev pub Stands : Unknown → List Unknown → Type 0
@@ -47,14 +47,21 @@ pub placed : (us : List Unknown) (u : Unknown) → Stands u us → (k : ℕ) × 
 placed us u (i, l, h) =
     place_by us u i l ((unknown_decides (get_or us i u) u).1 (h u)) (nat_lt (position_or_len (λ v. unknown_eq v u) us) (length us)) refl
 
+-- the number of an unknown that stands among others
+abbrev pub number_in : List Unknown → Unknown → ℕ
+number_in us u = unwrap_or (place_of us u) 0
+
+pub numbered_place : (us : List Unknown) (u : Unknown) → Stands u us → place_of us u ≡ Some (number_in us u)
+numbered_place us u s = let p = placed us u s in p.1 ∙ ap (λ o. Some (unwrap_or o 0)) (sym p.1)
+
 -- at its number stands the unknown
-at_number : (us : List Unknown) (u d : Unknown) → Stands u us → get_or us (number_of us u) d ≡ u
+at_number : (us : List Unknown) (u d : Unknown) → Stands u us → get_or us (number_in us u) d ≡ u
 at_number us u d s =
     let p = placed us u s in
     let q = position-Some (λ v. unknown_eq v u) us p.0 d p.1 in
     ap (λ o. get_or us (unwrap_or o 0) d) p.1 ∙ (unknown_decides (get_or us p.0 d) u).0 q.1
 
-pub numbers_tell_apart : (us : List Unknown) (u w : Unknown) → Stands u us → Stands w us → number_of us u ≡ number_of us w → u ≡ w
+pub numbers_tell_apart : (us : List Unknown) (u w : Unknown) → Stands u us → Stands w us → number_in us u ≡ number_in us w → u ≡ w
 numbers_tell_apart us u w s t e = sym (at_number us u u s) ∙ (ap (λ n. get_or us n u) e ∙ at_number us w u t)
 
 -- ---- the unknowns of relations
@@ -121,12 +128,6 @@ rels_new (r ∷ rs) us =
 pub unknowns_stand : (rels : List Rel) → All (λ r. All (Named (unknowns_of rels)) r.form.terms) rels
 unknowns_stand rels = rels_new rels []
 
--- and its number is below their count
-number_below : (us : List Unknown) (u : Unknown) → Stands u us → number_of us u < length us
-number_below us u s =
-    let p = placed us u s in
-    let q = position-Some (λ v. unknown_eq v u) us p.0 u p.1 in
-    subst (λ o. unwrap_or o 0 < length us) (sym p.1) q.0
-
-pub named_below : (us : List Unknown) (t : Unknown × ℤ) → Named us t → is_bare_one t.0 ≡ false → number_of us t.0 < length us
-named_below us t n e = number_below us t.0 (n e)
+-- and each place is below their count
+pub place_below : (us : List Unknown) (u : Unknown) (k : ℕ) → place_of us u ≡ Some k → k < length us
+place_below us u k e = (position-Some (λ v. unknown_eq v u) us k u e).0

@@ -9,7 +9,8 @@ use Rattle.acc_base.specs.declared.forms.Rel.{Rel}
 use Rattle.acc_rows.specs.declared.stops.Stop.{Stop}
 use Rattle.acc_rows.specs.declared.stops.Stop.TheVariants.{Refuted, Wide, Many, Memory}
 use Rattle.acc_rows.specs.declared.rows.Row.{Row}
-use Rattle.acc_rows.specs.Answers.{Computation, chain, behind, StoppedBy}
+use Rattle.acc_base.specs.Computing.{chain}
+use Rattle.acc_rows.specs.Answers.{Computation, behind, StoppedBy}
 use Rattle.acc_readings.specs.Readings.{row_of, row_alone, rows_from}
 use Rattle.acc_rows.proofs.Chains.{drop_more, stopped_along}
 

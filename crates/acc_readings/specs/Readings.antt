@@ -1,14 +1,15 @@
 -- The relations of an elimination, read from relations between unknowns: the number 1 without condition is part of the constant, the
 -- unknowns are numbered from 0 in the order in which they first appear, and each relation was made once by itself.
 use Rattle.std.specs.Prelude.{ℕ, suc, ◌||◌, if◌then◌else◌, List, [], ◌∷◌, ◌++◌, length, position, Option, Ok, ℤ, pos}
-use Rattle.std.specs.Option.{is_some, unwrap_or}
+use Rattle.std.specs.Option.{is_some, option_map_or}
 use Rattle.std.specs.List.{fold}
 use Rattle.std.specs.Ordering.{int_eq}
 use Rattle.acc_base.specs.declared.forms.Unknown.{Unknown}
 use Rattle.acc_base.specs.declared.forms.Rel.{Rel}
 use Rattle.acc_base.specs.UnknownEquality.{unknown_eq, is_bare_one}
 use Rattle.acc_rows.specs.declared.rows.Row.{Row}
-use Rattle.acc_rows.specs.Answers.{Computation, chain, steps}
+use Rattle.acc_base.specs.Computing.{chain, steps}
+use Rattle.acc_rows.specs.Answers.{Computation}
 use Rattle.acc_rows.specs.Numbers.{kept, sum}
 use Rattle.acc_rows.specs.Sparse.{Sparse, mixed}
 
@@ -32,19 +33,21 @@ with_rel names r = fold with_term names r.form.terms
 abbrev pub unknowns_of : List Rel → List Unknown
 unknowns_of rels = fold with_rel [] rels
 
-abbrev pub number_of : List Unknown → Unknown → ℕ
-number_of names u = unwrap_or (place_of names u) 0
-
 -- ---- the relations
 
 -- what is added to the constant for a term
 abbrev pub read_number : ℤ → Unknown × ℤ → Computation ℤ
 read_number constant t = if is_bare_one t.0 then sum constant t.1 else Ok constant
 
--- one more term, beside those so far
+-- so many times the unknown with this number, beside the terms so far
+abbrev pub with_number : Sparse → ℤ → ℕ → Computation Sparse
+with_number terms n number = mixed (pos 1) (pos 1) terms ((number, n) ∷ [])
+
+-- one more term, beside those so far. An unknown that isn't among the names is worth 0
 abbrev pub read_term : List Unknown → Sparse → Unknown × ℤ → Computation Sparse
 read_term names terms t =
-    if is_bare_one t.0 || int_eq t.1 (pos 0) then Ok terms else mixed (pos 1) (pos 1) terms ((number_of names t.0, t.1) ∷ [])
+    if is_bare_one t.0 || int_eq t.1 (pos 0) then Ok terms
+    else option_map_or (with_number terms t.1) (place_of names t.0) (Ok terms)
 
 -- the list with 1 at a place
 abbrev pub once : ℕ → Sparse

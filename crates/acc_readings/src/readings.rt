@@ -1,9 +1,10 @@
 //! The relations of an elimination, read from relations between unknowns.
 ghost use Rattle.std.specs.Prelude.{◌≡◌, ◌<◌, ◌^◌, ◌∷◌, [], length, IfOk, IfSome, OnOk, MatchResult, Ok};
 ghost use Rattle.std.specs.List.{fold};
-ghost use Rattle.acc_rows.specs.Answers.{Answers, Leaves, StoppedBy, behind, chain, steps};
+ghost use Rattle.acc_base.specs.Computing.{Answers, Leaves, chain, steps};
+ghost use Rattle.acc_rows.specs.Answers.{tells, StoppedBy, behind};
 ghost use Rattle.acc_rows.specs.Numbers.{kept};
-ghost use Rattle.acc_readings.specs.Readings.{read_number, place_of, with_name, with_term, with_rel, unknowns_of, number_of, read_term};
+ghost use Rattle.acc_readings.specs.Readings.{read_number, place_of, with_name, with_term, with_rel, unknowns_of, read_term};
 ghost use Rattle.acc_readings.specs.Readings.{row_of, once, row_alone, rows_from};
 
 use acc_base::forms::{Form, Rel, Unknown};
@@ -67,20 +68,9 @@ pub fn unknowns_of(alloc: Global, rels: &[Rel]) -> Result<Seq<Unknown>, AllocErr
     Ok(Seq::from_vec(names))
 }
 
-/// The number of an unknown that is among these.
-fn number_of(names: &[Unknown], unknown: &Unknown) -> u32
-    requires { length names.now < 2 ^ 32 }
-    ensures { result ≡ number_of names.now unknown.now }
-{
-    match place_of(names, unknown) {
-        Some(place) => place as u32,
-        None => 0,
-    }
-}
-
 /// What is added to the constant for a term.
 fn read_number(constant: i128, term: &(Unknown, i128)) -> Result<i128, Stop>
-    ensures { Answers result (read_number constant term.now) }
+    ensures { Answers tells result (read_number constant term.now) }
 {
     if term.0.is_bare_one() {
         return sum_of(constant, term.1);
@@ -90,7 +80,7 @@ fn read_number(constant: i128, term: &(Unknown, i128)) -> Result<i128, Stop>
 
 /// What is added to the constant for terms.
 fn read_numbers(first: i128, terms: &[(Unknown, i128)]) -> Result<i128, Stop>
-    ensures { Answers result (steps read_number first terms.now) }
+    ensures { Answers tells result (steps read_number first terms.now) }
 {
     let mut constant = first;
     for term in terms {
@@ -101,13 +91,13 @@ fn read_numbers(first: i128, terms: &[(Unknown, i128)]) -> Result<i128, Stop>
 
 /// The constant of a form, with the number 1 among its terms.
 fn read_constant(form: &Form) -> Result<i128, Stop>
-    ensures { Answers result (chain (kept form.now.constant) (λ first. steps read_number first form.now.terms)) }
+    ensures { Answers tells result (chain (kept form.now.constant) (λ first. steps read_number first form.now.terms)) }
 {
     let first = kept(form.constant)?;
     read_numbers(first, form.terms.as_slice())
 }
 
-/// One more term.
+/// One more term. An unknown that isn't among the names is worth 0.
 fn read_term(
     alloc: Global,
     names: &[Unknown],
@@ -115,13 +105,15 @@ fn read_term(
     term: &(Unknown, i128),
 ) -> Result<Seq<(u32, i128)>, Stop>
     requires { length names.now < 2 ^ 32 }
-    ensures { Answers result (read_term names.now terms term.now) }
+    ensures { Answers tells result (read_term names.now terms term.now) }
 {
     if term.0.is_bare_one() || term.1 == 0 {
         return Ok(terms);
     }
-    let number = number_of(names, &term.0);
-    mixed(alloc, 1, 1, terms.as_slice(), &[(number, term.1)])
+    match place_of(names, &term.0) {
+        None => Ok(terms),
+        Some(place) => mixed(alloc, 1, 1, terms.as_slice(), &[(place as u32, term.1)]),
+    }
 }
 
 /// More terms, one after the other.
@@ -131,7 +123,7 @@ fn read_terms(
     terms: &[(Unknown, i128)],
 ) -> Result<Seq<(u32, i128)>, Stop>
     requires { length names.now < 2 ^ 32 }
-    ensures { Answers result (steps (read_term names.now) [] terms.now) }
+    ensures { Answers tells result (steps (read_term names.now) [] terms.now) }
 {
     let mut read = Seq::new(alloc);
     for term in terms {
@@ -152,7 +144,7 @@ fn once(alloc: Global, place: u32) -> Result<Seq<(u32, i128)>, AllocError>
 /// A relation, made once by itself.
 fn row_of(alloc: Global, names: &[Unknown], place: u32, rel: &Rel) -> Result<Row, Stop>
     requires { length names.now < 2 ^ 32 }
-    ensures { Answers result (row_of names.now place rel.now) }
+    ensures { Answers tells result (row_of names.now place rel.now) }
 {
     let constant = read_constant(&rel.form)?;
     let terms = read_terms(alloc, names, rel.form.terms.as_slice())?;
@@ -173,7 +165,7 @@ pub fn read_next(
     rel: &Rel,
 ) -> Result<Row, Stop>
     ensures names { OnOk result (names.new.items ≡ with_rel names.old.items rel.now) }
-    ensures row { Answers result (row_of (with_rel names.old.items rel.now) place rel.now) }
+    ensures row { Answers tells result (row_of (with_rel names.old.items rel.now) place rel.now) }
 {
     add_names(names, rel.form.terms.as_slice())?;
     if names.len() > u32::MAX as usize {
@@ -191,7 +183,7 @@ fn push_row(
     rel: &Rel,
 ) -> Result<(), Stop>
     requires { length names.now < 2 ^ 32 }
-    ensures { Leaves result rows.new.items (behind rows.old.items (row_alone names.now place rel.now)) }
+    ensures { Leaves tells result rows.new.items (behind rows.old.items (row_alone names.now place rel.now)) }
 {
     let row = row_of(alloc, names, place, rel)?;
     rows.push(row)?;

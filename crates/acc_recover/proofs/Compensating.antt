@@ -137,9 +137,9 @@ rest_over k y ys o = record { x = o.x; at = o.at; compensated = o.compensated }
 none_over : (k : ℕ) → OverAt k [] → ⊥
 none_over k o = none-some o.x o.at
 
-counted : (xs ys : List Transaction) → EndsEach xs ys → count_by is_both (zip xs ys) ≡ length (filter_map frame_in xs)
-counted [] ys each = refl
-counted (x ∷ xs) [] each = by (frame_in x) refl (counted xs [] (λ k z f a e. absurd (none_over (suc k) (each (suc k) z f a e))))
+all_counted : (xs ys : List Transaction) → EndsEach xs ys → count_by is_both (zip xs ys) ≡ length (filter_map frame_in xs)
+all_counted [] ys each = refl
+all_counted (x ∷ xs) [] each = by (frame_in x) refl (all_counted xs [] (λ k z f a e. absurd (none_over (suc k) (each (suc k) z f a e))))
   where
     nothing : (zs : List Transaction) → count_by is_both (zip zs []) ≡ 0
     nothing [] = refl
@@ -149,9 +149,9 @@ counted (x ∷ xs) [] each = by (frame_in x) refl (counted xs [] (λ k z f a e. 
         → 0 ≡ length (cons_option o (filter_map frame_in xs))
     by None e ih = sym (nothing xs) ∙ ih
     by (Some f) e ih = absurd (none_over 0 (each 0 x f refl e))
-counted (x ∷ xs) (y ∷ ys) each =
+all_counted (x ∷ xs) (y ∷ ys) each =
     sum_by-cons (λ p. cond (is_both p) 1 0) (x, y) (zip xs ys)
-    ∙ by (frame_in x) refl (counted xs ys (λ k z f a e. rest_over k y ys (each (suc k) z f a e)))
+    ∙ by (frame_in x) refl (all_counted xs ys (λ k z f a e. rest_over k y ys (each (suc k) z f a e)))
   where
     over : (o : OverAt 0 (y ∷ ys)) → is_compensated y ≡ true
     over o = ap is_compensated (same_Some y o.x o.at) ∙ o.compensated
@@ -173,7 +173,7 @@ counted (x ∷ xs) (y ∷ ys) each =
 
 pub all_compensated : (d : Design) (w : World) (events : List Event) (last : World) → Recovers d w events last
     → length (unfinished w) ≡ compensated_between w.transactions last.transactions
-all_compensated d w events last r = sym (counted w.transactions last.transactions each)
+all_compensated d w events last r = sym (all_counted w.transactions last.transactions each)
   where
     each : EndsEach w.transactions last.transactions
     each k x f at is =

@@ -7,7 +7,8 @@ use Rattle.acc_base.specs.Machine.{World, start}
 use Rattle.acc_print.specs.Designs.{printed}
 use Rattle.acc_wal.specs.Journals.{Counts, IsNoJournal, IsOtherVersion, IsDamaged}
 use Rattle.acc_wal.specs.declared.errors.WalError.{WalError}
-use Rattle.acc_wal.specs.declared.errors.WalError.TheVariants.{NotJournal, OtherVersion, Damaged, Disk as NoDisk, Memory as NoMemory}
+use Rattle.acc_wal.specs.declared.errors.WalError.TheVariants.{Exists, NotJournal, OtherVersion, Damaged, Disk as NoDisk}
+use Rattle.acc_wal.specs.declared.errors.WalError.TheVariants.{Spent, Memory as NoMemory}
 use Rattle.acc_machine.specs.Replays.{IsFirstUnlawful}
 use Rattle.acc_recover.specs.Recoveries.{AreRowsWithin, AreRowsOfRecovery}
 use Rattle.acc_recover.specs.declared.errors.RecoverError.{RecoverError}
@@ -18,7 +19,10 @@ abbrev pub RefusesJournal : WalError → Option (List ℕ) → Type 0
 RefusesJournal NotJournal told = IfSome told IsNoJournal
 RefusesJournal (OtherVersion version) told = IfSome told (λ file. IsOtherVersion file version)
 RefusesJournal (Damaged place) told = IfSome told (λ file. IsDamaged file place)
-RefusesJournal _ told = ⊥
+RefusesJournal Exists told = ⊥
+RefusesJournal NoDisk told = ⊥
+RefusesJournal Spent told = ⊥
+RefusesJournal NoMemory told = ⊥
 
 -- the file is a journal of another base text
 pub record IsOfOther (file text : List ℕ) : Type 0 where
@@ -44,13 +48,18 @@ RefusesRecovery d Memory told fault = ⊤
 -- the bytes aren't a journal's
 abbrev pub IsOfJournal : RecoverError → Type 0
 IsOfJournal (Journal error) = ⊤
-IsOfJournal _ = ⊥
+IsOfJournal OtherDesign = ⊥
+IsOfJournal (Unlawful at) = ⊥
+IsOfJournal Disk = ⊥
+IsOfJournal Memory = ⊥
 
 -- a refusal that the bytes give cause for
 abbrev pub IsOfBytes : RecoverError → Type 0
+IsOfBytes (Journal error) = ⊤
+IsOfBytes OtherDesign = ⊤
+IsOfBytes (Unlawful at) = ⊤
 IsOfBytes Disk = ⊥
 IsOfBytes Memory = ⊥
-IsOfBytes _ = ⊤
 
 -- where the one file is a journal, the other is one of the same base text and events
 abbrev pub CountsSame : Option (List ℕ) → Option (List ℕ) → Type 0
@@ -78,7 +87,9 @@ HandsBack Memory d told rows = (rows ≡ []) ⊎ AreRowsOnTheWay d told rows
 abbrev pub RefusesText : RecoverError → List ℕ → List ℕ → Type 0
 RefusesText OtherDesign base text = base ≢ text
 RefusesText Memory base text = ⊤
-RefusesText _ base text = ⊥
+RefusesText (Journal error) base text = ⊥
+RefusesText (Unlawful at) base text = ⊥
+RefusesText Disk base text = ⊥
 
 -- why a journal's events aren't done again, and which rows are handed back
 abbrev pub RefusesHistory : Design → List ℕ → List Event → RecoverError → List Row → Type 0
@@ -86,15 +97,22 @@ RefusesHistory d base events OtherDesign rows = (base ≢ printed d) × (rows �
 RefusesHistory d base events (Unlawful at) rows =
     (base ≡ printed d) × ((here : World) × IsFirstUnlawful d start events at here × (rows ≡ here.rows))
 RefusesHistory d base events Memory rows = (rows ≡ []) ⊎ ((base ≡ printed d) × AreRowsWithin d events rows)
-RefusesHistory d base events _ rows = ⊥
+RefusesHistory d base events (Journal error) rows = ⊥
+RefusesHistory d base events Disk rows = ⊥
 
 -- why ending and settling fails
 abbrev pub FailsToSettle : RecoverError → Type 0 → Type 0
 FailsToSettle Disk fault = fault
 FailsToSettle Memory fault = ⊤
-FailsToSettle _ fault = ⊥
+FailsToSettle (Journal error) fault = ⊥
+FailsToSettle OtherDesign fault = ⊥
+FailsToSettle (Unlawful at) fault = ⊥
 
 abbrev pub refusal_for : WalError → RecoverError
 refusal_for NoDisk = Disk
 refusal_for NoMemory = Memory
-refusal_for error = Journal error
+refusal_for Exists = Journal Exists
+refusal_for NotJournal = Journal NotJournal
+refusal_for (OtherVersion version) = Journal (OtherVersion version)
+refusal_for (Damaged place) = Journal (Damaged place)
+refusal_for Spent = Journal Spent

@@ -16,10 +16,7 @@ use acc_base::machines::{Cause, Event, Frame};
 use acc_disk::Disk;
 use acc_machine::{State, TakeError, TurnError};
 use acc_store::Store;
-use acc_wal::Wal;
-
-// The bytes that such an event has room for.
-const ENDING_ROOM: usize = 14;
+use acc_wal::{LONGEST_TURN, Wal};
 
 // The number of the first forward frame.
 fn first_forward(frames: &[Frame]) -> Option<u64>
@@ -64,9 +61,9 @@ fn take_ending<S: Store>(state: &mut State<S>, event: &Event) -> Result<(), Turn
 fn put<D: Disk>(wal: &mut Wal<D>, event: Event)
     requires unspent { wal.old.spent ≡ false }
     requires fits { Fits event }
-    requires brief { length (event_bytes event) ≤ 14 }
-    requires room { 14 ≤ wal.old.room }
-    requires short { length (body wal.old.tail) + 14 < 2 ^ 32 }
+    requires brief { length (event_bytes event) ≤ LONGEST_TURN }
+    requires room { LONGEST_TURN ≤ wal.old.room }
+    requires short { length (body wal.old.tail) + LONGEST_TURN < 2 ^ 32 }
     ensures { Pushes event wal.old wal.new }
 {
     match wal.push(event) {
@@ -90,7 +87,7 @@ fn end_next<S: Store, D: Disk>(
     ensures in_step { InStep state.new.world.events wal.new }
     ensures tail { TailOnly wal.old wal.new }
 {
-    if wal.reserve(ENDING_ROOM).is_err() {
+    if wal.reserve(LONGEST_TURN).is_err() {
         return Err(TurnError::Memory);
     }
     take_ending(state, &event)?;

@@ -21,7 +21,7 @@ use crate::tellings::found_in;
 use acc_base::designs::Design;
 use acc_disk::Disk;
 use acc_lift::Accepted;
-use acc_machine::{ReplayError, State, replay};
+use acc_machine::{ReplayError, State, TurnError, replay};
 use acc_print::{PrintError, print};
 use acc_progress::Progress;
 use acc_store::Store;
@@ -46,7 +46,11 @@ fn refusal_of(error: WalError) -> RecoverError
     match error {
         WalError::Disk => RecoverError::Disk,
         WalError::Memory => RecoverError::Memory,
-        _ => RecoverError::Journal(error),
+        WalError::Exists
+        | WalError::NotJournal
+        | WalError::OtherVersion(_)
+        | WalError::Damaged(_)
+        | WalError::Spent => RecoverError::Journal(error),
     }
 }
 
@@ -114,7 +118,7 @@ fn end_and_settle<S: Store, D: Disk>(
 {
     match end_all(state, wal) {
         Ok(()) => (),
-        Err(_) => return Err(RecoverError::Memory),
+        Err(TurnError::Memory) => return Err(RecoverError::Memory),
     }
     match wal.settle() {
         Ok(()) => Ok(()),

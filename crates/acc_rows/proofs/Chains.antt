@@ -7,7 +7,8 @@ use Rattle.std.proofs.lemmas.List.{drop_all}
 use Rattle.std.proofs.lemmas.Result.{err_from_is_err_and}
 use Rattle.acc_rows.specs.declared.stops.Stop.{Stop}
 use Rattle.acc_rows.specs.declared.stops.Stop.TheVariants.{Refuted, Wide, Many, Memory}
-use Rattle.acc_rows.specs.Answers.{Computation, chain, steps, StoppedBy, Answers, Leaves}
+use Rattle.acc_base.specs.Computing.{chain, steps, Answers, Leaves}
+use Rattle.acc_rows.specs.Answers.{tells, Computation, StoppedBy}
 
 -- what stops the first stops both
 pub stopped_chain : {A B : Type 0} (e : Stop) (r : Computation A) (next : A → Computation B) → StoppedBy e r → StoppedBy e (chain r next)
@@ -19,26 +20,26 @@ stopped_chain Memory r next h = tt
 pub stopped_along : {A : Type 0} (e : Stop) (r s : Computation A) → r ≡ s → StoppedBy e r → StoppedBy e s
 stopped_along e r s same h = subst (λ x. StoppedBy e x) same h
 
-pub answers_along : {T : Type 0} (r : Result T Stop) (o q : Computation T) → o ≡ q → Answers r o → Answers r q
-answers_along r o q same h = subst (λ x. Answers r x) same h
+pub answers_along : {T : Type 0} (r : Result T Stop) (o q : Computation T) → o ≡ q → Answers tells r o → Answers tells r q
+answers_along r o q same h = subst (λ x. Answers tells r x) same h
 
-pub leaves_along : {A T : Type 0} (r : Result T Stop) (x : A) (o q : Computation A) → o ≡ q → Leaves r x o → Leaves r x q
-leaves_along r x o q same h = subst (λ y. Leaves r x y) same h
+pub leaves_along : {A T : Type 0} (r : Result T Stop) (x : A) (o q : Computation A) → o ≡ q → Leaves tells r x o → Leaves tells r x q
+leaves_along r x o q same h = subst (λ y. Leaves tells r x y) same h
 
 -- a call that hands on what stopped a callee
 pub answers_handed : {T : Type 0} (r : Result T Stop) (e : Stop) (outcome : Computation T) → IsErrAnd r (λ y. y ≡ e) → StoppedBy e outcome
-    → Answers r outcome
+    → Answers tells r outcome
 answers_handed r e outcome h stopped =
     let p = err_from_is_err_and r h in
     let same : r ≡ Err e = p.1 ∙ ap Err p.2 in
-    subst (λ y. Answers y outcome) (sym same) stopped
+    subst (λ y. Answers tells y outcome) (sym same) stopped
 
 pub leaves_handed : {A T : Type 0} (r : Result T Stop) (e : Stop) (x : A) (outcome : Computation A) → IsErrAnd r (λ y. y ≡ e)
-    → StoppedBy e outcome → Leaves r x outcome
+    → StoppedBy e outcome → Leaves tells r x outcome
 leaves_handed r e x outcome h stopped =
     let p = err_from_is_err_and r h in
     let same : r ≡ Err e = p.1 ∙ ap Err p.2 in
-    subst (λ y. Leaves y x outcome) (sym same) stopped
+    subst (λ y. Leaves tells y x outcome) (sym same) stopped
 
 -- steps, and more of them
 pub steps_append : {S X : Type 0} (step : S → X → Computation S) (xs ys : List X) (s : S)

@@ -6,7 +6,8 @@ use Rattle.std.proofs.lemmas.Bool.Decides.{nat_tests}
 use Rattle.std.proofs.lemmas.List.{drop_all, take_all}
 use Rattle.acc_rows.specs.declared.stops.Stop.{Stop}
 use Rattle.acc_rows.specs.declared.stops.Stop.TheVariants.{Refuted, Wide, Many, Memory}
-use Rattle.acc_rows.specs.Answers.{Computation, chain, behind, StoppedBy}
+use Rattle.acc_base.specs.Computing.{chain}
+use Rattle.acc_rows.specs.Answers.{Computation, behind, StoppedBy}
 use Rattle.acc_rows.specs.Numbers.{product}
 use Rattle.acc_rows.specs.Sparse.{Sparse, put, put_left, scaled, mixture, mixed}
 use Rattle.acc_rows.proofs.Chains.{drop_more, stopped_along}

@@ -9,7 +9,8 @@ use Rattle.acc_base.specs.Bounded.{is_wide}
 use Rattle.acc_base.proofs.Products.{sum_times, times_sum, times_times}
 use Rattle.acc_rows.specs.declared.stops.Stop.{Stop}
 use Rattle.acc_rows.specs.declared.stops.Stop.TheVariants.{Refuted, Wide, Many, Memory}
-use Rattle.acc_rows.specs.Answers.{Computation, chain}
+use Rattle.acc_base.specs.Computing.{chain}
+use Rattle.acc_rows.specs.Answers.{Computation}
 use Rattle.acc_base.specs.Collecting.{worth}
 use Rattle.acc_rows.specs.Numbers.{kept, product, sum}
 use Rattle.acc_rows.specs.Sparse.{Sparse, put, put_left, scaled, mixture, mixed_after, mixed}

@@ -1,5 +1,6 @@
--- Computations that may stop before their end, one after the other, and what a call's answer tells of one.
-use Rattle.std.specs.Prelude.{◌≡◌, List, [], ◌∷◌, ◌++◌, Result, Ok, Err}
+-- Computations of an elimination, which may stop before their end, and what a call's answer tells of one.
+use Rattle.std.specs.Prelude.{Bool, true, false, List, ◌++◌, Result, Ok}
+use Rattle.acc_base.specs.Computing.{chain, StopsBy}
 use Rattle.acc_rows.specs.declared.stops.Stop.{Stop}
 use Rattle.acc_rows.specs.declared.stops.Stop.TheVariants.{Refuted, Wide, Many, Memory}
 
@@ -7,35 +8,17 @@ use Rattle.acc_rows.specs.declared.stops.Stop.TheVariants.{Refuted, Wide, Many, 
 abbrev pub Computation : Type 0 → Type 0
 Computation A = Result A Stop
 
--- one computation after the other: the first that stops ends both
-abbrev pub chain : {A B : Type 0} → Computation A → (A → Computation B) → Computation B
-chain (Ok x) next = next x
-chain (Err e) next = Err e
+-- whether a call that stopped tells how the computation stops: want of memory tells nothing
+abbrev pub tells : Stop → Bool
+tells (Refuted r) = true
+tells Wide = true
+tells Many = true
+tells Memory = false
 
--- a step for each item, from the first on
-abbrev pub steps : {S X : Type 0} → (S → X → Computation S) → S → List X → Computation S
-steps step s [] = Ok s
-steps step s (x ∷ xs) = chain (step s x) (λ t. steps step t xs)
+-- what a call that stopped so tells of the computation
+abbrev pub StoppedBy : {A : Type 0} → Stop → Computation A → Type 0
+StoppedBy e computed = StopsBy (tells e) e computed
 
 -- the items that a computation gives, behind others
 abbrev pub behind : {X : Type 0} → List X → Computation (List X) → Computation (List X)
 behind xs r = chain r (λ ys. Ok (xs ++ ys))
-
--- ---- what a call's answer tells of a computation
-
--- a call that stopped tells how the computation stops; want of memory tells nothing
-abbrev pub StoppedBy : {A : Type 0} → Stop → Computation A → Type 0
-StoppedBy (Refuted r) outcome = outcome ≡ Err (Refuted r)
-StoppedBy Wide outcome = outcome ≡ Err Wide
-StoppedBy Many outcome = outcome ≡ Err Many
-StoppedBy Memory outcome = Unit {0}
-
--- a call that answers a value tells that it is the computation's
-abbrev pub Answers : {A : Type 0} → Result A Stop → Computation A → Type 0
-Answers (Ok x) outcome = outcome ≡ Ok x
-Answers (Err e) outcome = StoppedBy e outcome
-
--- the same of a call that leaves the value in place of what was there
-abbrev pub Leaves : {A B : Type 0} → Result B Stop → A → Computation A → Type 0
-Leaves (Ok _) x outcome = outcome ≡ Ok x
-Leaves (Err e) x outcome = StoppedBy e outcome

@@ -2,7 +2,8 @@
 use Rattle.std.specs.Prelude.{ℕ, nat_lt, Bool, false, not, if◌then◌else◌, List, [], ◌∷◌, map, Ok, ℤ, pos, int_lt}
 use Rattle.std.specs.Ordering.{int_eq}
 use Rattle.acc_rows.specs.declared.rows.Row.{Row}
-use Rattle.acc_rows.specs.Answers.{Computation, chain}
+use Rattle.acc_base.specs.Computing.{chain}
+use Rattle.acc_rows.specs.Answers.{Computation}
 use Rattle.acc_rows.specs.Numbers.{opposite, size}
 use Rattle.acc_rows.specs.Sparse.{Sparse, at, mixture, mixed}
 use Rattle.acc_rows.specs.Divisors.{common, quotient}
@@ -38,14 +39,15 @@ made p r q e equal =
 abbrev pub has : ℕ → Row → Bool
 has u r = not (int_eq (at u r.terms) (pos 0))
 
--- the relation without the unknown, by an equation that has it with coefficient a: |a| times it, less s * b times the equation,
--- where s is the sign of a and b the relation's own coefficient. One that doesn't have it stays
-abbrev pub turned : ℤ → ℤ → Computation ℤ
-turned a b = if int_lt a (pos 0) then Ok b else opposite b
+-- the multiplier of an equation with coefficient a that takes an unknown away where it has coefficient b, besides |a| times the relation:
+-- less s * b, where s is the sign of a
+abbrev pub cancelling : ℤ → ℤ → Computation ℤ
+cancelling a b = if int_lt a (pos 0) then Ok b else opposite b
 
+-- the relation without the unknown, by an equation that has it. One that doesn't have it stays
 abbrev pub cleared_by : ℤ → Row → ℤ → Row → Computation Row
 cleared_by a e b r =
-    chain (size a) (λ p. chain (turned a b) (λ q. made p r q e r.equal))
+    chain (size a) (λ p. chain (cancelling a b) (λ q. made p r q e r.equal))
 
 abbrev pub cleared : ℕ → Row → Row → Computation Row
 cleared u e r = if has u r then cleared_by (at u e.terms) e (at u r.terms) r else Ok r

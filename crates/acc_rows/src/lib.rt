@@ -6,3 +6,6 @@ pub mod numbers;
 pub mod rows;
 pub mod sparse;
 pub mod stops;
+
+pub use rows::{Row, cleared, crossing};
+pub use stops::Stop;

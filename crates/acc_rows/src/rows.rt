@@ -1,8 +1,9 @@
 //! Relations of numbered unknowns, each with the multipliers that made it.
 ghost use Rattle.std.specs.Prelude.{◌≡◌, ◌<◌, IfOk, Ok};
-ghost use Rattle.acc_rows.specs.Answers.{Answers};
+ghost use Rattle.acc_base.specs.Computing.{Answers};
+ghost use Rattle.acc_rows.specs.Answers.{tells};
 ghost use Rattle.acc_rows.specs.Sparse.{at};
-ghost use Rattle.acc_rows.specs.Rows.{divisor_of, divided, lowest, made, has, turned, cleared_by, cleared, crossing};
+ghost use Rattle.acc_rows.specs.Rows.{divisor_of, divided, lowest, made, has, cancelling, cleared_by, cleared, crossing};
 
 use crate::divisors::{common, quotient, quotients};
 use crate::numbers::{opposite_of, size_of_number};
@@ -45,7 +46,7 @@ fn divided(alloc: Global, by: u128, row: &Row) -> Result<Row, AllocError>
 
 /// The relation and its multipliers, divided by the greatest number that divides them all.
 fn lowest(alloc: Global, row: Row) -> Result<Row, Stop>
-    ensures { Answers result (Ok (lowest row)) }
+    ensures { Answers tells result (Ok (lowest row)) }
 {
     let by = divisor_of(&row);
     if by <= 1 {
@@ -56,7 +57,7 @@ fn lowest(alloc: Global, row: Row) -> Result<Row, Stop>
 
 /// `p` times a relation and `q` times another, divided by what divides all its numbers and multipliers.
 fn made(alloc: Global, p: i128, row: &Row, q: i128, other: &Row, equal: bool) -> Result<Row, Stop>
-    ensures { Answers result (made p row.now q other.now equal) }
+    ensures { Answers tells result (made p row.now q other.now equal) }
 {
     let terms = mixed(alloc, p, q, row.terms.as_slice(), other.terms.as_slice())?;
     let constant = mixture_of(p, row.constant, q, other.constant)?;
@@ -90,26 +91,26 @@ impl Row {
 
 /// The multiplier of an equation with coefficient `a` that takes an unknown away where it has coefficient `b`, besides |a| times the
 /// relation.
-fn turned(a: i128, b: i128) -> Result<i128, Stop>
-    ensures { Answers result (turned a b) }
+fn cancelling(a: i128, b: i128) -> Result<i128, Stop>
+    ensures { Answers tells result (cancelling a b) }
 {
     if a < 0 { Ok(b) } else { opposite_of(b) }
 }
 
 /// The relation, which has the unknown, without it, by an equation that has it.
 fn cleared_by(alloc: Global, unknown: u32, equation: &Row, row: &Row) -> Result<Row, Stop>
-    ensures { Answers result (cleared_by (at unknown equation.now.terms) equation.now (at unknown row.now.terms) row.now) }
+    ensures { Answers tells result (cleared_by (at unknown equation.now.terms) equation.now (at unknown row.now.terms) row.now) }
 {
     let a = equation.coefficient(unknown);
     let b = row.coefficient(unknown);
     let p = size_of_number(a)?;
-    let q = turned(a, b)?;
+    let q = cancelling(a, b)?;
     made(alloc, p, row, q, equation, row.equal)
 }
 
 /// The relation without the unknown, by an equation that has it.
 pub fn cleared(alloc: Global, unknown: u32, equation: &Row, row: Row) -> Result<Row, Stop>
-    ensures { Answers result (cleared unknown equation.now row) }
+    ensures { Answers tells result (cleared unknown equation.now row) }
 {
     if !row.has(unknown) {
         return Ok(row);
@@ -119,7 +120,7 @@ pub fn cleared(alloc: Global, unknown: u32, equation: &Row, row: Row) -> Result<
 
 /// The relation without the unknown that an upper and a lower bound of it imply.
 pub fn crossing(alloc: Global, unknown: u32, up: &Row, low: &Row) -> Result<Row, Stop>
-    ensures { Answers result (crossing unknown up.now low.now) }
+    ensures { Answers tells result (crossing unknown up.now low.now) }
 {
     let a = up.coefficient(unknown);
     let b = low.coefficient(unknown);

@@ -1,6 +1,7 @@
 //! Lists of numbers, each at a place, in order of place.
 ghost use Rattle.std.specs.Prelude.{◌≡◌, ◌∷◌, [], Ok};
-ghost use Rattle.acc_rows.specs.Answers.{Answers, Leaves, behind};
+ghost use Rattle.acc_base.specs.Computing.{Answers, Leaves};
+ghost use Rattle.acc_rows.specs.Answers.{tells, behind};
 ghost use Rattle.acc_rows.specs.Sparse.{at, scaled, mixture, put_left, mixed};
 
 use crate::numbers::{product_of, sum_of};
@@ -10,7 +11,7 @@ use std::alloc::Global;
 
 /// Puts a multiple of a number behind the others.
 fn push_product(out: &mut Vec<(u32, i128)>, by: i128, term: &(u32, i128)) -> Result<(), Stop>
-    ensures { Leaves result out.new.items (behind out.old.items (scaled by (term.now ∷ []))) }
+    ensures { Leaves tells result out.new.items (behind out.old.items (scaled by (term.now ∷ []))) }
 {
     let (place, number) = *term;
     out.push((place, product_of(by, number)?))?;
@@ -19,7 +20,7 @@ fn push_product(out: &mut Vec<(u32, i128)>, by: i128, term: &(u32, i128)) -> Res
 
 /// Puts multiples of numbers behind the others.
 fn push_scaled(out: &mut Vec<(u32, i128)>, by: i128, numbers: &[(u32, i128)]) -> Result<(), Stop>
-    ensures { Leaves result out.new.items (behind out.old.items (scaled by numbers.now)) }
+    ensures { Leaves tells result out.new.items (behind out.old.items (scaled by numbers.now)) }
 {
     for term in numbers {
         push_product(out, by, term)?;
@@ -29,7 +30,7 @@ fn push_scaled(out: &mut Vec<(u32, i128)>, by: i128, numbers: &[(u32, i128)]) ->
 
 /// The sum of multiples of two numbers.
 pub fn mixture_of(p: i128, m: i128, q: i128, n: i128) -> Result<i128, Stop>
-    ensures { Answers result (mixture p m q n) }
+    ensures { Answers tells result (mixture p m q n) }
 {
     let a = product_of(p, m)?;
     let b = product_of(q, n)?;
@@ -38,7 +39,7 @@ pub fn mixture_of(p: i128, m: i128, q: i128, n: i128) -> Result<i128, Stop>
 
 /// Puts a number behind the others, unless it is 0.
 fn push_left(out: &mut Vec<(u32, i128)>, place: u32, number: i128) -> Result<(), Stop>
-    ensures { Leaves result out.new.items (behind out.old.items (put_left place (Ok number) (Ok []))) }
+    ensures { Leaves tells result out.new.items (behind out.old.items (put_left place (Ok number) (Ok []))) }
 {
     if number == 0 {
         return Ok(());
@@ -55,7 +56,7 @@ fn push_mixture(
     q: i128,
     y: &(u32, i128),
 ) -> Result<(), Stop>
-    ensures { Leaves result out.new.items (behind out.old.items (put_left x.now.0 (mixture p x.now.1 q y.now.1) (Ok []))) }
+    ensures { Leaves tells result out.new.items (behind out.old.items (put_left x.now.0 (mixture p x.now.1 q y.now.1) (Ok []))) }
 {
     let sum = mixture_of(p, x.1, q, y.1)?;
     push_left(out, x.0, sum)
@@ -69,7 +70,7 @@ fn push_mixed(
     xs: &[(u32, i128)],
     ys: &[(u32, i128)],
 ) -> Result<(), Stop>
-    ensures { Leaves result out.new.items (behind out.old.items (mixed p q xs.now ys.now)) }
+    ensures { Leaves tells result out.new.items (behind out.old.items (mixed p q xs.now ys.now)) }
 {
     let mut i = 0;
     let mut j = 0;
@@ -104,7 +105,7 @@ pub fn mixed(
     xs: &[(u32, i128)],
     ys: &[(u32, i128)],
 ) -> Result<Seq<(u32, i128)>, Stop>
-    ensures { Answers result (mixed p q xs.now ys.now) }
+    ensures { Answers tells result (mixed p q xs.now ys.now) }
 {
     let mut out = Vec::new(alloc);
     push_mixed(&mut out, p, q, xs, ys)?;

@@ -16,13 +16,13 @@ pub struct Locked<'a> {
 }
 
 impl<'a> Model for Locked<'a> {
-    ghost use Rattle.acc_player.specs.Playing.{Playing, AllFit};
+    ghost use Rattle.acc_player.specs.Playing.{Playing, playing, HasFit};
 
     ghost Value = { Playing };
 
-    ghost view = { λ p. record { design = p.state.design; world = p.state.world; calls = p.calls.now } };
+    ghost view = { λ p. playing p.state p.calls.now };
 
-    ghost invariant = { λ p. AllFit p.state.design p.calls.now };
+    ghost invariant = { λ p. HasFit (playing p.state p.calls.now) };
 }
 
 impl<'a> Player for Locked<'a> {

@@ -17,8 +17,8 @@ use Rattle.acc_base.specs.Sums.{Term, form_sum, is_sum_wide}
 use Rattle.acc_base.proofs.Products.{times_sum, sum_times}
 use Rattle.acc_base.proofs.SumLaws.{form_sum-worth}
 use Rattle.acc_instanced.proofs.PartValues.{one_times, minus_times}
-use Rattle.acc_axioms.specs.Axioms.{is_zero}
-use Rattle.acc_proof.specs.Facts.{one, below, above}
+use Rattle.acc_base.specs.Forms.{is_zero}
+use Rattle.acc_proof.specs.Facts.{one, below_zero, above_zero}
 use Rattle.acc_inst.specs.Lists.{no_terms, is_nothing, cancels}
 use Rattle.acc_solved.proofs.Ints.{below_times, cancel_below, cancel_zero, above_other}
 use Rattle.acc_searched.specs.OpenLeaves.{IsDecided}
@@ -118,16 +118,16 @@ module _ (R leaf other : List Rel) (in_leaf : (r : Rel) → Contains R r → Con
     (s : Solution leaf) (t : Solution other) where
   signed : (e : Form) → IsDecided R e → Signed s.D (worth_of s.D s.v e) t.D (worth_of t.D t.v e)
   signed e (inl h) =
-      let a = s.met (form_sum e (pos 1) one) (in_leaf (below e) h) in
-      let b = t.met (form_sum e (pos 1) one) (in_other (below e) h) in
+      let a = s.met (form_sum e (pos 1) one) (in_leaf (below_zero e) h) in
+      let b = t.met (form_sum e (pos 1) one) (in_other (below_zero e) h) in
       let p = worth_below s.D s.v e in
       let r = worth_below t.D t.v e in
       inl (omega (arith, ints, a, p), omega (arith, ints, b, r))
   signed e (inr (inl h)) =
       inr (inl (s.zero_met e (in_leaf (is_zero e) h), t.zero_met e (in_other (is_zero e) h)))
   signed e (inr (inr h)) =
-      let a = s.met (form_sum one (negsuc 0) e) (in_leaf (above e) h) in
-      let b = t.met (form_sum one (negsuc 0) e) (in_other (above e) h) in
+      let a = s.met (form_sum one (negsuc 0) e) (in_leaf (above_zero e) h) in
+      let b = t.met (form_sum one (negsuc 0) e) (in_other (above_zero e) h) in
       let p = worth_above s.D s.v e in
       let r = worth_above t.D t.v e in
       inr (inr (omega (arith, ints, a, p), omega (arith, ints, b, r)))
@@ -145,7 +145,7 @@ module _ (R leaf other : List Rel) (in_leaf : (r : Rel) → Contains R r → Con
 
   module _ (splits : List Form) (all : All (IsDecided R) splits) (g : Form) (among : IsAmong splits g) where
     -- what is at most 0 at one point isn't above 0 at another
-    pub not_above : worth_of s.D s.v g ≤ℤ pos 0 → Contains other (above g) → ⊥
+    pub not_above : worth_of s.D s.v g ≤ℤ pos 0 → Contains other (above_zero g) → ⊥
     not_above low there = by among
       where
         high : t.D ≤ℤ worth_of t.D t.v g
@@ -164,7 +164,7 @@ module _ (R leaf other : List Rel) (in_leaf : (r : Rel) → Contains R r → Con
             (like_signed g h.0 h.2 (signed h.0 (All-contains (IsDecided R) splits h.0 all h.1))) low high
 
     -- and what is 0 isn't below 0
-    pub not_below : worth_of s.D s.v g ≡ pos 0 → Contains other (below g) → ⊥
+    pub not_below : worth_of s.D s.v g ≡ pos 0 → Contains other (below_zero g) → ⊥
     not_below zero there = by among
       where
         low : (worth_of t.D t.v g +ℤ t.D) ≤ℤ pos 0

@@ -19,18 +19,21 @@ use Rattle.acc_decisions.specs.Decisions.{decision}
 use Rattle.acc_axioms.specs.declared.nodes.Node.{Node}
 use Rattle.acc_axioms.specs.declared.nodes.Node.TheVariants.{Split, Axiom, Inst, Leaf}
 use Rattle.acc_axioms.specs.declared.nodes.Schema.{Schema}
-use Rattle.acc_axioms.specs.Axioms.{axiom_of, is_zero}
+use Rattle.acc_base.specs.Forms.{is_zero}
+use Rattle.acc_axioms.specs.Axioms.{axiom_of}
 use Rattle.acc_proof.specs.Checked.{Gives, Fails, TooWide, and_then}
 use Rattle.acc_proof.specs.Facts as facts
 use Rattle.acc_proof.specs.Facts.{refuted, used_up, all_shown}
 use Rattle.acc_proof.specs.Proofs.{node_of, sure, after_facts}
 use Rattle.acc_inst.specs.declared.making.Instance.{Instance}
 use Rattle.acc_branch.specs.declared.halts.Halt.TheVariants.{Wide}
-use Rattle.acc_candidates.specs.declared.kinds.Kind.{Kind}
-use Rattle.acc_branch.specs.Courses.{Course, chain, steps}
+use Rattle.acc_axioms.specs.declared.kinds.AxiomKind.{AxiomKind}
+use Rattle.acc_base.specs.Computing.{chain, steps}
+use Rattle.acc_branch.specs.Courses.{Course}
 use Rattle.acc_branch.specs.Known.{State, verdict, shows_all}
-use Rattle.acc_candidates.specs.Candidates.{kinds, candidates}
-use Rattle.acc_candidates.specs.Schemas.{same_schema}
+use Rattle.acc_candidates.specs.Candidates.{candidates}
+use Rattle.acc_candidates.specs.Kinds.{kinds}
+use Rattle.acc_axioms.specs.SchemaEquality.{schema_eq}
 use Rattle.acc_branch.specs.AxiomPasses.{with_axiom, try_demand, try_axiom, try_kind, axioms_pass}
 use Rattle.acc_course.specs.Passes.{is_place, with_instance, try_instance, try_next, instances_pass, passes}
 use Rattle.acc_course.specs.Searches.{knowing, ended, leaf_end, split_end, three, tried, closing_by, closing, branch}
@@ -42,9 +45,9 @@ use Rattle.acc_searched.proofs.Instances.{IsListed, instance_gives}
 use Rattle.acc_searched.proofs.Trying.{last_there, Added, Tried, tried_more, all_tried_more}
 
 decided_on : (rels more : List Rel) (e : Form) → IsDecided rels e → IsDecided (rels ++ more) e
-decided_on rels more e (inl h) = inl (Contains-append_left rels more (facts.below e) h)
+decided_on rels more e (inl h) = inl (Contains-append_left rels more (facts.below_zero e) h)
 decided_on rels more e (inr (inl h)) = inr (inl (Contains-append_left rels more (is_zero e) h))
-decided_on rels more e (inr (inr h)) = inr (inr (Contains-append_left rels more (facts.above e) h))
+decided_on rels more e (inr (inr h)) = inr (inr (Contains-append_left rels more (facts.above_zero e) h))
 
 good_if : {A : Type 0} (Q : AtLeaf) (b : Bool) (x : A) (o : Course A) (P : A → Type 0) → P x → Good Q o P
     → Good Q (if b then Ok x else o) P
@@ -185,12 +188,12 @@ module _ (d : Design) (q : Sequent) (Q : AtLeaf) (Fine : Type 0) (open_ : List (
 
     axiom_good : (s : State) (a : Schema) → Holds d q Fine open_ K s → Good Q (try_axiom d q s a) (Holds d q Fine open_ K)
     axiom_good s a h =
-        good_if Q (list_any (same_schema a) s.0.axioms) s (try_demand s a (axiom_of d q a)) (Holds d q Fine open_ K) h
+        good_if Q (list_any (schema_eq a) s.0.axioms) s (try_demand s a (axiom_of d q a)) (Holds d q Fine open_ K) h
         (demand_good s a (axiom_of d q a).may refl h)
 
-    kind_good : (s : State) (sort : Kind) → Holds d q Fine open_ K s → Good Q (try_kind d q s sort) (Holds d q Fine open_ K)
-    kind_good s sort h =
-        good_steps Q (try_axiom d q) (Holds d q Fine open_ K) axiom_good (candidates (unknowns_of s.0.rels) sort) s h
+    kind_good : (s : State) (kind : AxiomKind) → Holds d q Fine open_ K s → Good Q (try_kind d q s kind) (Holds d q Fine open_ K)
+    kind_good s kind h =
+        good_steps Q (try_axiom d q) (Holds d q Fine open_ K) axiom_good (candidates (unknowns_of s.0.rels) kind) s h
 
     axioms_good : (s : State) → Holds d q Fine open_ K s → Good Q (axioms_pass d q s) (Holds d q Fine open_ K)
     axioms_good s h = good_steps Q (try_kind d q) (Holds d q Fine open_ K) kind_good kinds s h
@@ -265,17 +268,17 @@ module _ (d : Design) (q : Sequent) (made : List Instance) (all : All (IsListed 
   Deciding K e rels insts = K rels insts × IsDecided rels e
 
   split_gives : (known : List Rel) (e : Form) → facts.is_below_wide e ≡ false → facts.is_above_wide e ≡ false
-      → node_of d q known (Split e) ≡ Gives ((facts.below e ∷ []) ∷ (is_zero e ∷ []) ∷ (facts.above e ∷ []) ∷ [])
+      → node_of d q known (Split e) ≡ Gives ((facts.below_zero e ∷ []) ∷ (is_zero e ∷ []) ∷ (facts.above_zero e ∷ []) ∷ [])
   split_gives known e low high =
       let off : (facts.is_below_wide e || facts.is_above_wide e) ≡ false = cc in
-      ap (λ b. if b then TooWide else Gives ((facts.below e ∷ []) ∷ (is_zero e ∷ []) ∷ (facts.above e ∷ []) ∷ [])) off
+      ap (λ b. if b then TooWide else Gives ((facts.below_zero e ∷ []) ∷ (is_zero e ∷ []) ∷ (facts.above_zero e ∷ []) ∷ [])) off
 
   abbrev three_by : (State → Course (List Node)) → Form → Bool → Bool → State → Course (List Node)
   three_by go e low high s =
-      chain (chain (chain (if low then Err Wide else Ok (facts.below e)) (λ r. Ok (knowing s.0 r))) (λ below.
+      chain (chain (chain (if low then Err Wide else Ok (facts.below_zero e)) (λ r. Ok (knowing s.0 r))) (λ below.
       go (below, s.1 ++ Split e ∷ []))) (λ nodes.
       chain (go (knowing s.0 (is_zero e), nodes)) (λ more.
-      chain (chain (if high then Err Wide else Ok (facts.above e)) (λ r. Ok (knowing s.0 r))) (λ above. go (above, more))))
+      chain (chain (if high then Err Wide else Ok (facts.above_zero e)) (λ r. Ok (knowing s.0 r))) (λ above. go (above, more))))
 
   module _ (e : Form) (es : List Form) (rest : BranchGood es) (K : Keeping) (more : More K) (one : One made K) (adds : Adds K)
       (ends : Ends (e ∷ es) K) (Fine : Type 0) (open_ : List (List Rel)) (s : State) (known : K s.0.rels s.0.insts) where
@@ -288,39 +291,39 @@ module _ (d : Design) (q : Sequent) (made : List Instance) (all : All (IsListed 
         (λ rels insts h others. ends rels insts h.0 (All-cons (IsDecided rels) e es h.1 others)) F o (knowing s.0 r, nodes) walks
         (more s.0.rels (r ∷ []) s.0.insts known, decided)
 
-    is_low : IsDecided (s.0.rels ++ facts.below e ∷ []) e
-    is_low = inl (last_there s.0.rels (facts.below e))
+    is_low : IsDecided (s.0.rels ++ facts.below_zero e ∷ []) e
+    is_low = inl (last_there s.0.rels (facts.below_zero e))
 
     is_none : IsDecided (s.0.rels ++ is_zero e ∷ []) e
     is_none = inr (inl (last_there s.0.rels (is_zero e)))
 
-    is_high : IsDecided (s.0.rels ++ facts.above e ∷ []) e
-    is_high = inr (inr (last_there s.0.rels (facts.above e)))
+    is_high : IsDecided (s.0.rels ++ facts.above_zero e ∷ []) e
+    is_high = inr (inr (last_there s.0.rels (facts.above_zero e)))
 
     three_good : (low high : Bool) → facts.is_below_wide e ≡ low → facts.is_above_wide e ≡ high
         → (Fine → Walks d q s.1 (s.0.rels ∷ open_))
         → Good (Left q made splits) (three_by (branch d q made es) e low high s) (λ nodes. Fine → Walks d q nodes open_)
     three_good true high a b w = tt
     three_good false true a b w =
-        good_chain (Left q made splits) (branch d q made es (knowing s.0 (facts.below e), s.1 ++ Split e ∷ [])) _
+        good_chain (Left q made splits) (branch d q made es (knowing s.0 (facts.below_zero e), s.1 ++ Split e ∷ [])) _
         (λ nodes. ⊥ → Walks d q nodes []) (λ nodes. Fine → Walks d q nodes open_)
-        (go ⊥ [] (facts.below e) (s.1 ++ Split e ∷ []) is_low (λ f. absurd f)) (λ nodes k.
+        (go ⊥ [] (facts.below_zero e) (s.1 ++ Split e ∷ []) is_low (λ f. absurd f)) (λ nodes k.
         good_chain (Left q made splits) (branch d q made es (knowing s.0 (is_zero e), nodes)) _
         (λ more. ⊥ → Walks d q more []) (λ more. Fine → Walks d q more open_)
         (go ⊥ [] (is_zero e) nodes is_none (λ f. absurd f)) (λ more j. tt))
     three_good false false a b w =
-        let low = s.0.rels ++ facts.below e ∷ [] in
+        let low = s.0.rels ++ facts.below_zero e ∷ [] in
         let zero = s.0.rels ++ is_zero e ∷ [] in
-        let high = s.0.rels ++ facts.above e ∷ [] in
+        let high = s.0.rels ++ facts.above_zero e ∷ [] in
         let split = λ (f : Fine). walks_on d q s.1 (Split e) s.0.rels open_
-        ((facts.below e ∷ []) ∷ (is_zero e ∷ []) ∷ (facts.above e ∷ []) ∷ []) (w f) (split_gives s.0.rels e a b) in
-        good_chain (Left q made splits) (branch d q made es (knowing s.0 (facts.below e), s.1 ++ Split e ∷ [])) _
+        ((facts.below_zero e ∷ []) ∷ (is_zero e ∷ []) ∷ (facts.above_zero e ∷ []) ∷ []) (w f) (split_gives s.0.rels e a b) in
+        good_chain (Left q made splits) (branch d q made es (knowing s.0 (facts.below_zero e), s.1 ++ Split e ∷ [])) _
         (λ nodes. Fine → Walks d q nodes (zero ∷ high ∷ open_)) (λ nodes. Fine → Walks d q nodes open_)
-        (go Fine (zero ∷ high ∷ open_) (facts.below e) (s.1 ++ Split e ∷ []) is_low split) (λ nodes k.
+        (go Fine (zero ∷ high ∷ open_) (facts.below_zero e) (s.1 ++ Split e ∷ []) is_low split) (λ nodes k.
         good_chain (Left q made splits) (branch d q made es (knowing s.0 (is_zero e), nodes)) _
         (λ more. Fine → Walks d q more (high ∷ open_)) (λ more. Fine → Walks d q more open_)
         (go Fine (high ∷ open_) (is_zero e) nodes is_none k) (λ more j.
-        go Fine open_ (facts.above e) more is_high j))
+        go Fine open_ (facts.above_zero e) more is_high j))
 
   pub branch_good : (es : List Form) → BranchGood es
   branch_good [] K more one adds ends Fine open_ s w known =

@@ -25,12 +25,12 @@ use Rattle.acc_choices.specs.declared.listing.InstError.TheVariants as listing
 use Rattle.acc_inst.specs.declared.making.Instance.{Instance}
 use Rattle.acc_inst.specs.Making.{Chosen, instance_of, is_instance_wide}
 use Rattle.acc_choices.specs.Parts.{Listing}
-use Rattle.acc_choices.specs.Parts as parts
 use Rattle.acc_inst.specs.Instances.{instances_of}
 use Rattle.acc_inst.specs.Lists.{splits_of, listed, lists_of}
 use Rattle.acc_inst.proofs.OfHypotheses.{listed_are_of}
 use Rattle.acc_branch.specs.declared.halts.Halt.TheVariants.{Wide, Open}
-use Rattle.acc_branch.specs.Courses.{Course, chain}
+use Rattle.acc_base.specs.Computing.{chain}
+use Rattle.acc_branch.specs.Courses.{Course}
 use Rattle.acc_course.specs.Searches.{branch, of_lists, starting, started, course}
 use Rattle.acc_searched.specs.OpenLeaves.{Begins, IsDecided, splits_in, instances_in, IsHad, IsOpenLeaf}
 use Rattle.acc_searched.specs.Courses.{IsProof}
@@ -56,7 +56,7 @@ lists_listed : (q : Sequent) (hints : List Lin) (l : Listed) → lists_of q hint
     → All (IsListed q) (map (instance_of q) l.insts) × All (GuardsAmong l.splits) (map (instance_of q) l.insts)
 lists_listed q hints l e = by (instances_of q hints) refl e
   where
-    by : (o : Listing (List Chosen)) → instances_of q hints ≡ o → parts.chain o (listed q hints) ≡ Ok l
+    by : (o : Listing (List Chosen)) → instances_of q hints ≡ o → chain o (listed q hints) ≡ Ok l
         → All (IsListed q) (map (instance_of q) l.insts) × All (GuardsAmong l.splits) (map (instance_of q) l.insts)
     by (Ok insts) is h =
         let splits = splits_of q hints (map (instance_of q) insts) in
@@ -82,16 +82,18 @@ module _ (leaf : List Rel) (point : Point) (meets : Meets leaf point) (splits : 
   is_off : (R : List Rel) → ((r : Rel) → Contains R r → Contains leaf r) → All (IsDecided R) splits → (g : Rel) → IsAmong splits g.form
       → IsTrue (is_met (unknowns_of leaf) point g) → Unshown R g.equal g.form → ⊥
   is_off R inside decided g among met (inl open_) =
-      let other = R ++ facts.above g.form ∷ [] in
+      let other = R ++ facts.above_zero g.form ∷ [] in
       let there = solution other open_.0 open_.1 in
-      not_above R leaf other inside (λ r h. Contains-append_left R (facts.above g.form ∷ []) r h) here there splits decided g.form among
-      (low g.equal (worth_of here.D here.v g.form) (solved_says leaf point meets g met)) (Contains-push R (facts.above g.form))
+      not_above R leaf other inside (λ r h. Contains-append_left R (facts.above_zero g.form ∷ []) r h) here there splits decided g.form
+      among
+      (low g.equal (worth_of here.D here.v g.form) (solved_says leaf point meets g met)) (Contains-push R (facts.above_zero g.form))
   is_off R inside decided g among met (inr (e, open_)) =
-      let other = R ++ facts.below g.form ∷ [] in
+      let other = R ++ facts.below_zero g.form ∷ [] in
       let there = solution other open_.0 open_.1 in
-      not_below R leaf other inside (λ r h. Contains-append_left R (facts.below g.form ∷ []) r h) here there splits decided g.form among
+      not_below R leaf other inside (λ r h. Contains-append_left R (facts.below_zero g.form ∷ []) r h) here there splits decided g.form
+      among
       (subst (λ (b : Bool). Says b (worth_of here.D here.v g.form)) e (solved_says leaf point meets g met))
-      (Contains-push R (facts.below g.form))
+      (Contains-push R (facts.below_zero g.form))
 
   had : (x : Instance) → GuardsAmong splits x → Tried (AreDecided splits) leaf x → IsHad leaf point x
   had x among (inl h) met = h
@@ -116,16 +118,17 @@ module _ (d : Design) (q : Sequent) where
   started_good made splits all = by (facts.is_above_wide q.goal) refl
     where
       by : (wide : Bool) → facts.is_above_wide q.goal ≡ wide
-          → Good (Left q made splits) (chain (if wide then Err Wide else Ok (facts.above q.goal)) (λ contrary.
+          → Good (Left q made splits) (chain (if wide then Err Wide else Ok (facts.above_zero q.goal)) (λ contrary.
           branch d q made splits (starting q contrary, []))) (IsProof d q)
       by true e = tt
       by false e =
-          good_weaker (Left q made splits) (branch d q made splits (starting q (facts.above q.goal), [])) (λ nodes. ⊤ → Walks d q nodes [])
+          good_weaker (Left q made splits) (branch d q made splits (starting q (facts.above_zero q.goal), []))
+          (λ nodes. ⊤ → Walks d q nodes [])
           (IsProof d q)
           (branch_good d q made all splits splits (λ rels insts. Begins q rels × Added made rels insts)
           (λ rels more insts h. (begins_grows rels more h.0, added_more made rels more insts h.1))
           (λ rels insts n x at h. (begins_grows rels (x.rel ∷ []) h.0, added_one made rels insts n x at h.1)) (λ rels insts h. h.1)
-          (λ rels insts h decided. (h.0, decided)) ⊤ [] (starting q (facts.above q.goal), []) (λ fine rest. refl)
+          (λ rels insts h decided. (h.0, decided)) ⊤ [] (starting q (facts.above_zero q.goal), []) (λ fine rest. refl)
           (([], sym (append-nil (known_first q))), (λ n x none at. absurd (cc))))
           (λ nodes w. walks_all d q nodes e (w tt))
 

@@ -21,7 +21,8 @@ use Rattle.acc_proof.specs.Facts as facts
 use Rattle.acc_proof.specs.Facts.{refuted, excluded, at_most_shown, at_least_shown, all_shown}
 use Rattle.acc_proof.specs.Proofs.{sure}
 use Rattle.acc_branch.specs.declared.halts.Halt.TheVariants.{Wide}
-use Rattle.acc_branch.specs.Courses.{chain, of_elimination}
+use Rattle.acc_base.specs.Computing.{chain}
+use Rattle.acc_branch.specs.Courses.{of_elimination}
 use Rattle.acc_branch.specs.Known.{verdict, multipliers_in, refuting, with_next, if_shown, excludes, shows_at_most}
 use Rattle.acc_branch.specs.Known.{shows_at_least, shows_rest, shows, shows_all}
 use Rattle.acc_searched.proofs.Good.{Leaf, Good, good_chain, good_weaker}
@@ -42,7 +43,7 @@ Open rels = (p : Point) × Meets rels p
 
 -- what is known doesn't show a relation: its contrary may hold, on one side
 abbrev pub Unshown : List Rel → Bool → Form → Type 0
-Unshown rels equal f = Open (rels ++ facts.above f ∷ []) ⊎ ((equal ≡ true) × Open (rels ++ facts.below f ∷ []))
+Unshown rels equal f = Open (rels ++ facts.above_zero f ∷ []) ⊎ ((equal ≡ true) × Open (rels ++ facts.below_zero f ∷ []))
 
 abbrev pub UnshownAny : List Rel → List Rel → Type 0
 UnshownAny rels rs = (r : Rel) × Contains rs r × Unshown rels r.equal r.form
@@ -99,12 +100,12 @@ module _ (Q : Leaf) where
   excluded_good rels found false r = excludes_good rels found r
 
   at_most_good : (rels : List Rel) (found : List Mults) (f : Form)
-      → Good Q (shows_at_most rels found f) (OneTold (rels ++ facts.above f ∷ []) (at_most_shown rels f) found)
-  at_most_good rels found f = excluded_good rels found (facts.is_above_wide f) (facts.above f)
+      → Good Q (shows_at_most rels found f) (OneTold (rels ++ facts.above_zero f ∷ []) (at_most_shown rels f) found)
+  at_most_good rels found f = excluded_good rels found (facts.is_above_wide f) (facts.above_zero f)
 
   at_least_good : (rels : List Rel) (found : List Mults) (f : Form)
-      → Good Q (shows_at_least rels found f) (OneTold (rels ++ facts.below f ∷ []) (at_least_shown rels f) found)
-  at_least_good rels found f = excluded_good rels found (facts.is_below_wide f) (facts.below f)
+      → Good Q (shows_at_least rels found f) (OneTold (rels ++ facts.below_zero f ∷ []) (at_least_shown rels f) found)
+  at_least_good rels found f = excluded_good rels found (facts.is_below_wide f) (facts.below_zero f)
 
   -- some lists more show facts
   abbrev More : (List Mults → Checked (List Mults)) → List Mults → List Mults → Type 0
@@ -123,10 +124,10 @@ module _ (Q : Leaf) where
   both_good : (rels : List Rel) (found : List Mults) (f : Form) (more : List Mults) → OneMore (at_most_shown rels f) found more
       → Good Q (shows_at_least rels more f) (Told rels true f found)
   both_good rels found f more h =
-      good_weaker Q (shows_at_least rels more f) (OneTold (rels ++ facts.below f ∷ []) (at_least_shown rels f) more)
+      good_weaker Q (shows_at_least rels more f) (OneTold (rels ++ facts.below_zero f ∷ []) (at_least_shown rels f) more)
       (Told rels true f found) (at_least_good rels more f) (λ o k. by o k)
     where
-      by : (o : Option (List Mults)) → OneTold (rels ++ facts.below f ∷ []) (at_least_shown rels f) more o → Told rels true f found o
+      by : (o : Option (List Mults)) → OneTold (rels ++ facts.below_zero f ∷ []) (at_least_shown rels f) more o → Told rels true f found o
       by None k = inr (refl, k)
       by (Some last) k = (
         h.0 ∷ k.0 ∷ [],
@@ -143,10 +144,10 @@ module _ (Q : Leaf) where
   shows_good : (rels : List Rel) (found : List Mults) (r : Rel)
       → Good Q (shows rels found r) (Told rels r.equal r.form found)
   shows_good rels found r =
-      good_chain Q (shows_at_most rels found r.form) _ (OneTold (rels ++ facts.above r.form ∷ []) (at_most_shown rels r.form) found)
+      good_chain Q (shows_at_most rels found r.form) _ (OneTold (rels ++ facts.above_zero r.form ∷ []) (at_most_shown rels r.form) found)
       (Told rels r.equal r.form found) (at_most_good rels found r.form) (λ o h. by o h)
     where
-      by : (o : Option (List Mults)) → OneTold (rels ++ facts.above r.form ∷ []) (at_most_shown rels r.form) found o
+      by : (o : Option (List Mults)) → OneTold (rels ++ facts.above_zero r.form ∷ []) (at_most_shown rels r.form) found o
           → Good Q (if_shown o (shows_rest rels r)) (Told rels r.equal r.form found)
       by None h = inl h
       by (Some more) h = rest_good rels found r.equal r.form more h

@@ -1,7 +1,8 @@
 -- A point that meets relations, over one denominator: each form is worth a whole number there.
 use Rattle.std.proofs.Common.{◌≡◌, ℕ, zero, suc, Bool, true, false, List, [], ◌∷◌, refl, ap, sym, ◌∙◌, subst, arith, ℤ, pos, negsuc}
 use Rattle.std.proofs.Common.{◌+ℤ◌, ◌*ℤ◌, neg_ℤ, if◌then◌else◌}
-use Rattle.std.specs.Prelude.{All, IsTrue, int_lt, int_le}
+use Rattle.std.specs.Prelude.{All, IsTrue, Option, Some, None, int_lt, int_le}
+use Rattle.std.specs.Option.{option_map_or}
 use Rattle.std.specs.Ordering.{int_eq}
 use Rattle.std.specs.List.{Contains}
 use lib.Signed.{◌<ℤ◌, ◌≤ℤ◌}
@@ -20,8 +21,8 @@ use Rattle.acc_base.proofs.SumLaws.{form_sum-worth}
 use Rattle.acc_instanced.proofs.PartValues.{one_times, minus_times}
 use Rattle.acc_points.specs.Fractions.{Fraction}
 use Rattle.acc_points.specs.Points.{Point, value}
-use Rattle.acc_readings.specs.Readings.{unknowns_of, number_of}
-use Rattle.acc_axioms.specs.Axioms.{at_most, is_zero}
+use Rattle.acc_readings.specs.Readings.{unknowns_of, place_of}
+use Rattle.acc_base.specs.Forms.{at_most, is_zero}
 use Rattle.acc_proof.specs.Facts.{one}
 use Rattle.acc_solved.specs.Meetings.{value_at, plus_exactly, sum_at, form_at, is_met, is_above, Meets}
 use Rattle.acc_solved.proofs.Ints.{move, above_times, below_times, cancel_below, cancel_zero, above_other}
@@ -103,18 +104,19 @@ Says false n = n ≤ℤ pos 0
 
 module _ (names : List Unknown) (p : Point) (s : Scaled p) where
   abbrev pub value_of : Unknown → ℤ
-  value_of u = if is_bare_one u then s.D else s.f (number_of names u)
+  value_of u = if is_bare_one u then s.D else option_map_or s.f (place_of names u) (pos 0)
 
-  value_worth : (u : Unknown) (alone : Bool) → Worth s.D (if alone then s.D else s.f (number_of names u))
-      (if alone then (pos 1, pos 1) else value p (number_of names u))
-  value_worth u true = (omega (arith, ints), omega (arith, ints))
-  value_worth u false = s.worths (number_of names u)
+  value_worth : (alone : Bool) (place : Option ℕ) → Worth s.D (if alone then s.D else option_map_or s.f place (pos 0))
+      (if alone then (pos 1, pos 1) else option_map_or (value p) place (pos 0, pos 1))
+  value_worth true place = (omega (arith, ints), omega (arith, ints))
+  value_worth false None = let none = zero-*ℤ s.D in (omega (arith, ints, none), omega (arith, ints))
+  value_worth false (Some k) = s.worths k
 
   sum_is : (ts : List (Unknown × ℤ)) (X : ℤ) (x : Fraction) → Worth s.D X x
       → Worth s.D (X +ℤ worth value_of ts) (sum_at names p x ts)
   sum_is [] X x w = let same : X ≡ X +ℤ pos 0 = omega (arith, ints) in subst (λ y. Worth s.D y x) same w
   sum_is (t ∷ ts) X x w =
-      let v = value_worth t.0 (is_bare_one t.0) in
+      let v = value_worth (is_bare_one t.0) (place_of names t.0) in
       let next = sum_worth s.D X (value_of t.0) t.1 x (value_at names p t.0) w v in
       let over = above_times x.1 (value_at names p t.0).1 w.1 v.1 in
       let same : (X +ℤ t.1 *ℤ value_of t.0) +ℤ worth value_of ts ≡ X +ℤ worth value_of (t ∷ ts) = omega (arith, ints) in

@@ -8,8 +8,8 @@ use Rattle.acc_base.specs.declared.sequents.Sequent.{Sequent}
 use Rattle.acc_points.specs.Points.{Point}
 use Rattle.acc_readings.specs.Readings.{unknowns_of}
 use Rattle.acc_solved.specs.Meetings.{is_met, Meets}
-use Rattle.acc_axioms.specs.Axioms.{is_zero}
-use Rattle.acc_proof.specs.Facts.{below, above}
+use Rattle.acc_base.specs.Forms.{is_zero}
+use Rattle.acc_proof.specs.Facts.{below_zero, above_zero}
 use Rattle.acc_proof.specs.Proofs.{known_first}
 use Rattle.acc_inst.specs.declared.listing.Listed.{Listed}
 use Rattle.acc_inst.specs.declared.making.Instance.{Instance}
@@ -23,7 +23,7 @@ Begins q rels = (more : List Rel) × (rels ≡ known_first q ++ more)
 
 -- one branch of a split is among relations: the form is below 0, or it is 0, or it is above 0
 abbrev pub IsDecided : List Rel → Form → Type 0
-IsDecided rels e = Contains rels (below e) ⊎ (Contains rels (is_zero e) ⊎ Contains rels (above e))
+IsDecided rels e = Contains rels (below_zero e) ⊎ (Contains rels (is_zero e) ⊎ Contains rels (above_zero e))
 
 abbrev pub splits_in : Listing Listed → List Form
 splits_in (Ok l) = l.splits

@@ -2,3 +2,5 @@
 #![tactic(auto)]
 
 pub mod laws;
+
+pub use laws::{an_open_leaf_is_met, nodes_are_a_proof};

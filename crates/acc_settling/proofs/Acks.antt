@@ -2,6 +2,8 @@
 use Rattle.std.proofs.Common.{◌≡◌, ◌≤◌, ◌⊎◌, inl, inr, ℕ, List, [], ◌∷◌, length, take, refl, sym, ap, subst, ◌∙◌, arith, ◌++◌}
 use Rattle.std.specs.Prelude.{◌≢◌, option_and_then}
 use Rattle.std.proofs.lemmas.List.{append-nil, take_all, take-append-le}
+use Rattle.acc_base.specs.declared.designs.At.{At}
+use Rattle.acc_base.specs.declared.machines.Cause.{Cause}
 use Rattle.acc_base.specs.declared.machines.Event.{Event}
 use Rattle.acc_base.specs.declared.machines.Event.TheVariants.{Begin}
 use Rattle.acc_base.specs.declared.machines.Turn.{Turn}
@@ -19,6 +21,17 @@ use Rattle.acc_engine.proofs.Tails.{event_keeps}
 use Rattle.acc_settling.specs.Chains.{but_one}
 use Rattle.acc_settling.specs.Runs.{IsAcked, IsAckedButOne}
 use Rattle.acc_settling.proofs.Turned.{turn_keeps, turn_stays}
+
+-- a turn that doesn't end
+abbrev pub IsUnended : Turn → Type 0
+IsUnended x = ((at : At) × (x ≡ turn.Stepped at)) ⊎ ((h : ℕ) × (n : ℕ) × (x ≡ turn.Blocked h n)) ⊎ ((c : Cause) × (x ≡ turn.Turned c))
+    ⊎ ((at : At) × (x ≡ turn.Back at))
+
+pub unended : (x : Turn) → IsUnended x → x ≢ turn.Ended
+unended x (inl (at, e)) ended = let k : turn.Stepped at ≡ turn.Ended = sym e ∙ ended in absurd cc
+unended x (inr (inl (h, n, e))) ended = let k : turn.Blocked h n ≡ turn.Ended = sym e ∙ ended in absurd cc
+unended x (inr (inr (inl (c, e)))) ended = let k : turn.Turned c ≡ turn.Ended = sym e ∙ ended in absurd cc
+unended x (inr (inr (inr (at, e)))) ended = let k : turn.Back at ≡ turn.Ended = sym e ∙ ended in absurd cc
 
 -- where all events are durable, so is each reply
 pub all_acked : {D : Type 0} (e : Journalled D) → IsKept e.design e.state → e.settled ≡ length e.state.events → IsAcked e

@@ -20,7 +20,7 @@ use Rattle.acc_player.proofs.Items.{item_is}
 use Rattle.acc_lock_rules.specs.LockRules.{with_locks}
 use Rattle.acc_lock_rules.proofs.Rooms.{no_room_when_full, no_room_in_a_crowd}
 use Rattle.acc_settling.specs.Chains.{but_one, runs_stays, again_stays}
-use Rattle.acc_settling.specs.Leaving.{number_in, stop_of, Leaves}
+use Rattle.acc_settling.specs.Leaving.{number_in, stop_of, LeavesEngine}
 use Rattle.acc_settling.specs.Openings.{CanBegin}
 use Rattle.acc_settling.proofs.Acks.{begin_history, acked_begun, one_same, acked_same}
 
@@ -87,7 +87,7 @@ module _ {D : Type 0} (clock : D → ℕ) (left_since : D → ℕ → List ℕ �
     (count : D → ℕ) (only_now : (disk : D) (image : List ℕ) → left_since disk (clock disk) image → may_leave disk image)
     (old new : Journalled D) (stays : StaysBut old new) (unfailed : old.failed ≡ false) (within : old.settled ≤ length old.state.events)
   where
-    begun_leaves : (place t : ℕ) → Begins place t old new → Leaves clock left_since told may_leave count None old new
+    begun_leaves : (place t : ℕ) → Begins place t old new → LeavesEngine clock left_since told may_leave count None old new
     begun_leaves place t begins =
         let history = begin_history old new place t stays begins in
         let acked = acked_begun old new place t stays begins within in (
@@ -96,14 +96,14 @@ module _ {D : Type 0} (clock : D → ℕ) (left_since : D → ℕ → List ℕ �
           again_stays told may_leave old new (Begin begins.call ∷ []) stays history unfailed acked,
         )
 
-    same_leaves : new.state ≡ old.state → Leaves clock left_since told may_leave count None old new
+    same_leaves : new.state ≡ old.state → LeavesEngine clock left_since told may_leave count None old new
     same_leaves same =
         let history = ap (λ (w : World). w.events) same ∙ sym (append-nil old.state.events) in (
           runs_stays told may_leave clock left_since count only_now old new [] stays history (one_same old new stays same within),
           again_stays told may_leave old new [] stays history unfailed (acked_same old new stays same within),
         )
 
-    pub draws_leave : (place : ℕ) (drawn : Drawn) → Draws drawn place old new → Leaves clock left_since told may_leave count None old new
+    pub draws_leave : (place : ℕ) (drawn : Drawn) → Draws drawn place old new → LeavesEngine clock left_since told may_leave count None old new
     draws_leave place (Begun t) h = begun_leaves place t h.0
     draws_leave place Empty h = absurd h
     draws_leave place Full h = same_leaves h.1.state
@@ -111,7 +111,7 @@ module _ {D : Type 0} (clock : D → ℕ) (left_since : D → ℕ → List ℕ �
 
     -- a begin or a turn that is refused
     pub refuses_leave : (error : EngineError) → RefusesTurn error old.failed → new.state ≡ old.state
-        → Leaves clock left_since told may_leave count (Some (stop_of error)) old new
+        → LeavesEngine clock left_since told may_leave count (Some (stop_of error)) old new
     refuses_leave engine_error.Disk why same = absurd why
     refuses_leave engine_error.Failed why same = absurd (let e = sym unfailed ∙ why in cc)
     refuses_leave engine_error.Memory why same = ((same_leaves same).0, stays.failed ∙ unfailed)

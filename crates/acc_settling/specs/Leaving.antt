@@ -31,11 +31,11 @@ Stops count Disk old new = (new.failed ≡ true) × Rose (count old.disk) (count
 Stops count Memory old new = new.failed ≡ false
 
 -- the run goes on, and the next call may come, or a fault or want of memory has stopped it
-abbrev pub Leaves : {D : Type 0} → (D → ℕ) → (D → ℕ → List ℕ → Type 0) → (D → Option (List ℕ)) → (D → List ℕ → Type 0) → (D → ℕ)
+abbrev pub LeavesEngine : {D : Type 0} → (D → ℕ) → (D → ℕ → List ℕ → Type 0) → (D → Option (List ℕ)) → (D → List ℕ → Type 0) → (D → ℕ)
     → Option Stop → Journalled D → Journalled D → Type 0
-Leaves clock left_since told may_leave count None old new =
+LeavesEngine clock left_since told may_leave count None old new =
     RunsOn clock left_since told may_leave count old new × IsReadyAgain told may_leave old new
-Leaves clock left_since told may_leave count (Some stop) old new =
+LeavesEngine clock left_since told may_leave count (Some stop) old new =
     RunsOn clock left_since told may_leave count old new × Stops count stop old new
 
 -- ---- laws, by which calls are put together
@@ -48,19 +48,19 @@ stops_since count Memory old mid new le unfailed = unfailed
 
 module _ {D : Type 0} (clock : D → ℕ) (left_since : D → ℕ → List ℕ → Type 0) (told : D → Option (List ℕ)) (may_leave : D → List ℕ → Type 0)
     (count : D → ℕ) where
-  pub leaves_ready : (p q : Journalled D) → Leaves clock left_since told may_leave count None p q → q.failed ≡ false
+  pub leaves_ready : (p q : Journalled D) → LeavesEngine clock left_since told may_leave count None p q → q.failed ≡ false
   leaves_ready p q a = a.1.unfailed
 
-  pub leaves_want : (p q : Journalled D) → Leaves clock left_since told may_leave count None p q
-      → Leaves clock left_since told may_leave count (Some Memory) p q
+  pub leaves_want : (p q : Journalled D) → LeavesEngine clock left_since told may_leave count None p q
+      → LeavesEngine clock left_since told may_leave count (Some Memory) p q
   leaves_want p q a = (a.0, a.1.unfailed)
 
   module _ (only_now : (disk : D) (image : List ℕ) → left_since disk (clock disk) image → may_leave disk image) where
-    pub leaves_none : (p : Journalled D) → p.failed ≡ false → Leaves clock left_since told may_leave count None p p
+    pub leaves_none : (p : Journalled D) → p.failed ≡ false → LeavesEngine clock left_since told may_leave count None p p
     leaves_none p ready = (runs_none told may_leave clock left_since count only_now p, again_none told may_leave p ready)
 
-    pub leaves_more : (why : Option Stop) (p q r : Journalled D) → Leaves clock left_since told may_leave count None p q
-        → Leaves clock left_since told may_leave count why q r → Leaves clock left_since told may_leave count why p r
+    pub leaves_more : (why : Option Stop) (p q r : Journalled D) → LeavesEngine clock left_since told may_leave count None p q
+        → LeavesEngine clock left_since told may_leave count why q r → LeavesEngine clock left_since told may_leave count why p r
     leaves_more None p q r a b =
         (runs_more told may_leave clock left_since count only_now p q r a.0 a.1 b.0, again_more told may_leave p q r a.1 b.1)
     leaves_more (Some stop) p q r a b =

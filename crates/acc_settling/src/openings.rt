@@ -11,14 +11,21 @@ use acc_player::Board;
 use acc_store::Store;
 use std::alloc::{AllocError, Global};
 
+// Whether an event begins a call.
+fn is_begin(event: &Event) -> bool
+    ensures { result ≡ is_begin event.now }
+{
+    match event {
+        Event::Begin(_) => true,
+        Event::Step(_) | Event::Abort(_, _) | Event::Undo(_) => false,
+    }
+}
+
 // How many of the events are begins.
 fn begins(events: &[Event]) -> usize
     ensures { result ≡ count_by is_begin events.now }
 {
-    events
-        .iter()
-        .filter(|event| matches!(event, Event::Begin(_)))
-        .count()
+    events.iter().filter(|event| is_begin(event)).count()
 }
 
 /// The board before the first mention. Each reply is durable then.

@@ -7,7 +7,7 @@ ghost use Rattle.acc_script.specs.OrderLines.{IsPlace};
 ghost use Rattle.acc_player.specs.Boards.{play_of, IsBoardOf, IsUnbegun};
 ghost use Rattle.acc_player.specs.Ways.{PlayPrecedes, PlayPrecedesEach};
 ghost use Rattle.acc_schedule.specs.Schedules.{TellsScheduleFrom};
-ghost use Rattle.acc_settling.specs.Leaving.{Leaves};
+ghost use Rattle.acc_settling.specs.Leaving.{LeavesEngine};
 ghost use Rattle.acc_settling.specs.Openings.{opening_at, IsFresh, CanBegin};
 ghost use Rattle.acc_settling.specs.Runs.{RunsOn, IsAckedButOne};
 ghost use Rattle.acc_settling.specs.Schedules.{IsClosed, StopsSo, TellsStop, TellsPart, TellsPartOfSchedule};
@@ -69,8 +69,8 @@ fn play_out<S: Store, D: Disk>(
         board.new.text.items player.new.state.events begun) }
     ensures settled { OnOk result (player.new.settled ≡ length player.new.state.events) }
     ensures board { IsBoardOf player.new.calls (CanBegin player.new) board.new }
-    ensures done { OnOk result (Leaves D.clock D.left_since D.told D.may_leave D.faults None player.old player.new) }
-    ensures stops { IfErr result (λ stop. Leaves D.clock D.left_since D.told D.may_leave D.faults (Some stop) player.old player.new) }
+    ensures done { OnOk result (LeavesEngine D.clock D.left_since D.told D.may_leave D.faults None player.old player.new) }
+    ensures stops { IfErr result (λ stop. LeavesEngine D.clock D.left_since D.told D.may_leave D.faults (Some stop) player.old player.new) }
     ensures front { OnErr result (PlayPrecedesEach (play_of player.new.state board.new)
         (IsAfterSchedule d.now player.old.calls order.now (play_of player.old.state board.old))) }
 {

@@ -29,7 +29,7 @@ impl<'a, S: Store, D: Disk> Model for Settling<'a, S, D> {
 
 impl<'a, S: Store, D: Disk> Settling<'a, S, D> {
     ghost use Rattle.std.specs.Prelude.{◌≡◌, length, false, None, Some, IfErr, OnOk};
-    ghost use Rattle.acc_settling.specs.Leaving.{Leaves};
+    ghost use Rattle.acc_settling.specs.Leaving.{LeavesEngine};
     ghost use Rattle.acc_settling.specs.Runs.{IsAcked, IsAckedButOne};
 
     /// Makes the history durable, all of it. It takes no memory.
@@ -41,8 +41,8 @@ impl<'a, S: Store, D: Disk> Settling<'a, S, D> {
         ensures begun { self.new.begun ≡ self.old.begun }
         ensures all { OnOk result ((self.new.settled ≡ length self.new.state.events) × IsAcked self.new) }
         ensures one { IsAckedButOne self.old → IsAckedButOne self.new }
-        ensures done { OnOk result (Leaves D.clock D.left_since D.told D.may_leave D.faults None self.old self.new) }
-        ensures stops { IfErr result (λ stop. Leaves D.clock D.left_since D.told D.may_leave D.faults (Some stop) self.old self.new) }
+        ensures done { OnOk result (LeavesEngine D.clock D.left_since D.told D.may_leave D.faults None self.old self.new) }
+        ensures stops { IfErr result (λ stop. LeavesEngine D.clock D.left_since D.told D.may_leave D.faults (Some stop) self.old self.new) }
     {
         settle(&mut self.engine)
     }
@@ -52,7 +52,7 @@ impl<'a, S: Store, D: Disk> Player for Settling<'a, S, D> {
     ghost use Rattle.std.specs.Prelude.{◌≡◌, false};
     ghost use Rattle.acc_lock_rules.specs.LockRules.{with_locks};
     ghost use Rattle.acc_lock_rules.proofs.Orderly.{locks_are_orderly};
-    ghost use Rattle.acc_settling.specs.Leaving.{Leaves, leaves_none, leaves_ready, leaves_more, leaves_want};
+    ghost use Rattle.acc_settling.specs.Leaving.{LeavesEngine, leaves_none, leaves_ready, leaves_more, leaves_want};
     ghost use Rattle.acc_settling.specs.Openings.{CanBegin};
 
     ghost design = { λ p. p.design };
@@ -67,7 +67,7 @@ impl<'a, S: Store, D: Disk> Player for Settling<'a, S, D> {
 
     ghost can_begin = { λ p at. CanBegin p at };
 
-    ghost leaves = { λ why p q. Leaves D.clock D.left_since D.told D.may_leave D.faults why p q };
+    ghost leaves = { λ why p q. LeavesEngine D.clock D.left_since D.told D.may_leave D.faults why p q };
 
     fn begin_at(&mut self, place: u64) -> Result<Option<u64>, Stop> {
         begin(&mut self.engine, place)

@@ -7,7 +7,7 @@ ghost use Rattle.acc_engine.specs.Standing.{IsSound};
 ghost use Rattle.acc_player.specs.declared.stops.Stop.TheVariants.{Memory};
 ghost use Rattle.acc_player.specs.Players.{BeginsAt, CanStart, IsNoBegin, MayTurn};
 ghost use Rattle.acc_lock_rules.specs.LockRules.{with_locks};
-ghost use Rattle.acc_settling.specs.Leaving.{number_in, stop_of, Leaves};
+ghost use Rattle.acc_settling.specs.Leaving.{number_in, stop_of, LeavesEngine};
 ghost use Rattle.acc_settling.specs.Openings.{CanBegin};
 ghost use Rattle.acc_settling.specs.Runs.{IsAcked, IsAckedButOne};
 
@@ -53,8 +53,8 @@ pub fn begin<S: Store, D: Disk>(engine: &mut Engine<S, D>, place: u64) -> Result
     ensures calls { engine.new.calls ≡ engine.old.calls }
     ensures others { (at : ℕ) → at ≢ place - 1 → CanBegin engine.old at → CanBegin engine.new at }
     ensures unmoved { IsNoBegin result → (at : ℕ) → CanBegin engine.old at → CanBegin engine.new at }
-    ensures done { OnOk result (Leaves D.clock D.left_since D.told D.may_leave D.faults None engine.old engine.new) }
-    ensures stops { IfErr result (λ stop. Leaves D.clock D.left_since D.told D.may_leave D.faults (Some stop) engine.old engine.new) }
+    ensures done { OnOk result (LeavesEngine D.clock D.left_since D.told D.may_leave D.faults None engine.old engine.new) }
+    ensures stops { IfErr result (λ stop. LeavesEngine D.clock D.left_since D.told D.may_leave D.faults (Some stop) engine.old engine.new) }
 {
     match engine.begin_at(place) {
         Ok(drawn) => Ok(number_in(drawn)),
@@ -73,8 +73,8 @@ pub fn settle<S: Store, D: Disk>(engine: &mut Engine<S, D>) -> Result<(), Stop>
     ensures begun { engine.new.begun ≡ engine.old.begun }
     ensures all { OnOk result ((engine.new.settled ≡ length engine.new.state.events) × IsAcked engine.new) }
     ensures one { IsAckedButOne engine.old → IsAckedButOne engine.new }
-    ensures done { OnOk result (Leaves D.clock D.left_since D.told D.may_leave D.faults None engine.old engine.new) }
-    ensures stops { IfErr result (λ stop. Leaves D.clock D.left_since D.told D.may_leave D.faults (Some stop) engine.old engine.new) }
+    ensures done { OnOk result (LeavesEngine D.clock D.left_since D.told D.may_leave D.faults None engine.old engine.new) }
+    ensures stops { IfErr result (λ stop. LeavesEngine D.clock D.left_since D.told D.may_leave D.faults (Some stop) engine.old engine.new) }
 {
     match engine.settle() {
         Ok(_) => Ok(()),
@@ -94,8 +94,8 @@ pub fn take<S: Store, D: Disk>(engine: &mut Engine<S, D>, t: u64) -> Result<Turn
     ensures design { engine.new.design ≡ engine.old.design }
     ensures calls { engine.new.calls ≡ engine.old.calls }
     ensures begun { engine.new.begun ≡ engine.old.begun }
-    ensures done { OnOk result (Leaves D.clock D.left_since D.told D.may_leave D.faults None engine.old engine.new) }
-    ensures stops { IfErr result (λ stop. Leaves D.clock D.left_since D.told D.may_leave D.faults (Some stop) engine.old engine.new) }
+    ensures done { OnOk result (LeavesEngine D.clock D.left_since D.told D.may_leave D.faults None engine.old engine.new) }
+    ensures stops { IfErr result (λ stop. LeavesEngine D.clock D.left_since D.told D.may_leave D.faults (Some stop) engine.old engine.new) }
 {
     let turn = match engine.turn(t) {
         Ok(turn) => turn,
@@ -106,6 +106,6 @@ pub fn take<S: Store, D: Disk>(engine: &mut Engine<S, D>, t: u64) -> Result<Turn
             settle(engine)?;
             Ok(turn)
         }
-        _ => Ok(turn),
+        Turn::Stepped(_) | Turn::Blocked(_, _) | Turn::Turned(_) | Turn::Back(_) => Ok(turn),
     }
 }

@@ -13,13 +13,15 @@ use Rattle.std.proofs.lemmas.Bool.Decides.{Decides-int_eq}
 use Rattle.std.proofs.lemmas.List.Elements.{All-nil, All-head, All-tail, All-cons, All-push}
 use Rattle.acc_rows.specs.declared.stops.Stop.TheVariants.{Refuted, Many}
 use Rattle.acc_rows.specs.declared.rows.Row.{Row}
-use Rattle.acc_rows.specs.Answers.{Computation, steps}
+use Rattle.acc_base.specs.Computing.{steps}
+use Rattle.acc_rows.specs.Answers.{Computation}
 use Rattle.acc_base.specs.Collecting.{worth}
 use Rattle.acc_rows.specs.Sparse.{Sparse, same_numbers, no_numbers}
-use Rattle.acc_systems.specs.Systems.{MOST, is_false, same_bool, repeats, is_constant, admitted}
+use Rattle.acc_systems.specs.declared.systems.TheConstants.{MOST_RELATIONS}
+use Rattle.acc_systems.specs.Systems.{is_false, same_bool, repeats, is_constant, admitted}
 use Rattle.acc_solved.proofs.Ints.{below_times}
 use Rattle.acc_solved.proofs.Values.{Holds, holds_chain, holds_weaker}
-use Rattle.acc_solved.proofs.Points.{form, is_same}
+use Rattle.acc_solved.proofs.Points.{row_worth, is_same}
 
 -- a relation whose form is worth this is met
 abbrev pub MetBy : Bool → ℤ → Type 0
@@ -28,7 +30,7 @@ MetBy false z = z ≤ℤ pos 0
 
 -- it is met where each unknown is worth f / D
 abbrev pub Met : (ℕ → ℤ) → ℤ → Row → Type 0
-Met f D r = MetBy r.equal (form f D r)
+Met f D r = MetBy r.equal (row_worth f D r)
 
 -- ---- repetitions
 
@@ -73,7 +75,7 @@ any_met f D r (k ∷ rows) e all = by (any_met f D r rows) (repeats r k) refl e
 
 -- ---- true constants
 
-constant_form : (f : ℕ → ℤ) (D : ℤ) (r : Row) → is_constant r ≡ true → form f D r ≡ r.constant *ℤ D
+constant_form : (f : ℕ → ℤ) (D : ℤ) (r : Row) → is_constant r ≡ true → row_worth f D r ≡ r.constant *ℤ D
 constant_form f D r e = by r.terms e
   where
     by : (xs : Sparse) → no_numbers xs ≡ true → r.constant *ℤ D +ℤ worth f xs ≡ r.constant *ℤ D
@@ -83,14 +85,14 @@ constant_form f D r e = by r.terms e
 true_met : (f : ℕ → ℤ) (D : ℤ) (r : Row) → pos 0 <ℤ D → is_constant r ≡ true → is_false r ≡ false → Met f D r
 true_met f D r above constant is = by r.equal is
   where
-    known : form f D r ≡ r.constant *ℤ D
+    known : row_worth f D r ≡ r.constant *ℤ D
     known = constant_form f D r constant
 
     not_true : (b : Bool) → not b ≡ false → b ≡ true
     not_true true e = refl
     not_true false e = absurd (cc)
 
-    by : (b : Bool) → (if b then not (int_eq r.constant (pos 0)) else int_lt (pos 0) r.constant) ≡ false → MetBy b (form f D r)
+    by : (b : Bool) → (if b then not (int_eq r.constant (pos 0)) else int_lt (pos 0) r.constant) ≡ false → MetBy b (row_worth f D r)
     by true e =
         let zero_is = (Decides-int_eq r.constant (pos 0)).0 (not_true (int_eq r.constant (pos 0)) e) in
         known ∙ (ap (λ z. z *ℤ D) zero_is ∙ zero-*ℤ D)
@@ -133,7 +135,7 @@ admitted_by P rows r all p false c false false constant wrong any = (
 pub admitted_holds : (P : Row → Type 0) (rows : List Row) (r : Row) → All P rows → (is_constant r ≡ false → P r)
     → Holds (admitted rows r) (Admits P rows r)
 admitted_holds P rows r all p =
-    admitted_by P rows r all p (is_constant r) (is_false r) (list_any (repeats r) rows) (nat_le MOST (length rows)) refl refl refl
+    admitted_by P rows r all p (is_constant r) (is_false r) (list_any (repeats r) rows) (nat_le MOST_RELATIONS (length rows)) refl refl refl
 
 -- ---- steps that each add a relation for an item
 

@@ -9,7 +9,7 @@ use Rattle.std.proofs.lemmas.Int.{ints}
 use Rattle.std.proofs.lemmas.List.{length-set}
 use Rattle.std.proofs.lemmas.List.Elements.{All-nil, All-head, All-tail, All-cons}
 use Rattle.acc_rows.specs.declared.rows.Row.{Row}
-use Rattle.acc_rows.specs.Answers.{steps}
+use Rattle.acc_base.specs.Computing.{steps}
 use Rattle.acc_systems.specs.Made.{Ordered}
 use Rattle.acc_rows.specs.Sparse.{at}
 use Rattle.acc_rows.specs.Rows.{has, cleared}
@@ -20,7 +20,8 @@ use Rattle.acc_rows.proofs.Worths.{gives_both}
 use Rattle.acc_systems.proofs.Orders.{cleared_ordered}
 use Rattle.acc_solved.proofs.Ints.{cancel_zero, cancel_below, below_times, above_times, above_other}
 use Rattle.acc_solved.proofs.Values.{Holds, holds_chain, holds_weaker, from_gives, IsRoot}
-use Rattle.acc_solved.proofs.Points.{coef, at_is, form, form_moved, form_without, rest_of, moved, Worths, worths_moved, root_is, is_same}
+use Rattle.acc_solved.proofs.Points.{coef, at_is, row_worth, form_moved, form_without, rest_of, moved, Worths, worths_moved, root_is}
+use Rattle.acc_solved.proofs.Points.{is_same}
 use Rattle.acc_solved.proofs.Points.{is_other}
 use Rattle.acc_solved.proofs.Bounds.{root_worth}
 use Rattle.acc_solved.proofs.Mixes.{Among, ClearedTo, cleared_gives, gone_at, lacks_both, form_mix, has_other, not_has}
@@ -54,7 +55,7 @@ stays_by false x z above h = below_times z x (omega (arith, ints, above)) h
 pub stays_met : (f : ℕ → ℤ) (D : ℤ) (u : ℕ) (z : Fraction) (r : Row) → pos 0 <ℤ z.1 → coef u r.terms ≡ pos 0 → Met f D r
     → Met (moved f D u z) (D *ℤ z.1) r
 stays_met f D u z r above none met = subst (λ y. MetBy r.equal y) (sym (form_without f D u z r none))
-    (stays_by r.equal (form f D r) z.1 above met)
+    (stays_by r.equal (row_worth f D r) z.1 above met)
 
 pub all_stay : (f : ℕ → ℤ) (D : ℤ) (u : ℕ) (z : Fraction) → pos 0 <ℤ z.1 → (rows : List Row) → All (λ r. coef u r.terms ≡ pos 0) rows
     → All (Met f D) rows → All (Met (moved f D u z) (D *ℤ z.1)) rows
@@ -154,30 +155,30 @@ module _ (n : ℕ) where
       same q w (inr i) = here w i
 
   -- where the equation is 0 and the made relation is met, so is the relation
-  cleared_back : (f : ℕ → ℤ) (D : ℤ) (u : ℕ) (e r m : Row) → ClearedTo n u e r m → form f D e ≡ pos 0 → Met f D m → Met f D r
+  cleared_back : (f : ℕ → ℤ) (D : ℤ) (u : ℕ) (e r m : Row) → ClearedTo n u e r m → row_worth f D e ≡ pos 0 → Met f D m → Met f D r
   cleared_back f D u e r m c zero_e met = by m.equal r.equal c.1 met
     where
-      sum : pos c.0.mix.g *ℤ form f D m ≡ c.0.p *ℤ form f D r
+      sum : pos c.0.mix.g *ℤ row_worth f D m ≡ c.0.p *ℤ row_worth f D r
       sum =
           let mix = form_mix f D c.0.p r c.0.q e m c.0.mix in
           let none = ap (λ z. c.0.q *ℤ z) zero_e ∙ *ℤ-zero c.0.q in
           omega (arith, ints, mix, none)
 
-      by : (b c' : Bool) → b ≡ c' → MetBy b (form f D m) → MetBy c' (form f D r)
+      by : (b c' : Bool) → b ≡ c' → MetBy b (row_worth f D m) → MetBy c' (row_worth f D r)
       by true true e h =
           let none = ap (λ z. pos c.0.mix.g *ℤ z) h ∙ *ℤ-zero (pos c.0.mix.g) in
-          cancel_zero c.0.p (form f D r) (above_other c.0.p c.0.above) (sym sum ∙ none)
+          cancel_zero c.0.p (row_worth f D r) (above_other c.0.p c.0.above) (sym sum ∙ none)
       by false false e h =
-          let low = below_times (pos c.0.mix.g) (form f D m) (omega (arith, ints)) h in
+          let low = below_times (pos c.0.mix.g) (row_worth f D m) (omega (arith, ints)) h in
           let s = sum in
-          cancel_below c.0.p (form f D r) c.0.above (omega (arith, ints, low, s))
+          cancel_below c.0.p (row_worth f D r) c.0.above (omega (arith, ints, low, s))
       by true false e h = absurd (cc)
       by false true e h = absurd (cc)
 
   module _ (k : ℕ) (left : List ℕ) (e : Row) (fe : Fit k left e) (equal : e.equal ≡ true) (there : has k e ≡ true) where
     -- where the equation is 0, the relation is met
     abbrev pub So : (ℕ → ℤ) → ℤ → Row → Type 0
-    So f D r = form f D e ≡ pos 0 → Met f D r
+    So f D r = row_worth f D e ≡ pos 0 → Met f D r
 
     replaced_holds : (rows : List Row) (r : Row) → All (Fit (suc k) left) rows → Fit k left r
         → Holds (replaced k e rows r) (λ new. All (Fit (suc k) left) new
@@ -199,13 +200,13 @@ module _ (n : ℕ) where
     all_replaced rows fits = adds_steps (Fit (suc k) left) So (Fit k left) (replaced k e) replaced_holds rows [] fits
         (All-nil (Fit (suc k) left))
 
-    all_so : (f : ℕ → ℤ) (D : ℤ) → form f D e ≡ pos 0 → (rs : List Row) → All (So f D) rs → All (Met f D) rs
+    all_so : (f : ℕ → ℤ) (D : ℤ) → row_worth f D e ≡ pos 0 → (rs : List Row) → All (So f D) rs → All (Met f D) rs
     all_so f D zero_e [] all = All-nil (Met f D)
     all_so f D zero_e (r ∷ rs) all = All-cons (Met f D) r rs (All-head (So f D) r rs all zero_e)
         (all_so f D zero_e rs (All-tail (So f D) r rs all))
 
-    equation_met : (f : ℕ → ℤ) (D : ℤ) → form f D e ≡ pos 0 → Met f D e
-    equation_met f D zero_e = subst (λ b. MetBy b (form f D e)) (sym equal) zero_e
+    equation_met : (f : ℕ → ℤ) (D : ℤ) → row_worth f D e ≡ pos 0 → Met f D e
+    equation_met f D zero_e = subst (λ b. MetBy b (row_worth f D e)) (sym equal) zero_e
 
     -- a value by the equation meets all
     pub placed_meets : (rest new : List Row) → Adds (Fit (suc k) left) So [] rest new → Out k left → k < n → (p : Point) → MeetsAt n p new
@@ -216,7 +217,7 @@ module _ (n : ℕ) where
         let f' = moved m.f m.D k z in
         let D' = m.D *ℤ z.1 in
         let above = above_times m.D z.1 m.above g.1 in
-        let zero_e : form f' D' e ≡ pos 0 = form_moved m.f m.D k z e
+        let zero_e : row_worth f' D' e ≡ pos 0 = form_moved m.f m.D k z e
         ∙ (ap (λ a. z.1 *ℤ rest_of m.f m.D k e +ℤ a *ℤ (z.0 *ℤ m.D)) (sym (at_once k e fe.ordered))
         ∙ root_worth m.D (rest_of m.f m.D k e) (at k e.terms) z g) in
         let still = all_stay m.f m.D k z g.1 new (lack new adds.0) m.met in

@@ -8,7 +8,7 @@ use Rattle.std.proofs.lemmas.Int.{ints}
 use Rattle.std.proofs.lemmas.List.Elements.{All-nil, All-head, All-tail, All-cons}
 use Rattle.acc_base.proofs.Products.{times_sum}
 use Rattle.acc_rows.specs.declared.rows.Row.{Row}
-use Rattle.acc_rows.specs.Answers.{steps}
+use Rattle.acc_base.specs.Computing.{steps}
 use Rattle.acc_rows.specs.Sparse.{at}
 use Rattle.acc_systems.specs.Systems.{is_lower}
 use Rattle.acc_rows.specs.Numbers.{product}

@@ -11,7 +11,7 @@ use Rattle.std.proofs.lemmas.List.{length-set, reverse-append, get_or_past, get_
 use Rattle.std.proofs.lemmas.List.Elements.{All-nil, All-head, All-tail, All-cons}
 use Rattle.acc_rows.specs.declared.rows.Row.{Row}
 use Rattle.acc_systems.specs.declared.systems.Bounded.{Bounded}
-use Rattle.acc_rows.specs.Answers.{steps}
+use Rattle.acc_base.specs.Computing.{steps}
 use Rattle.acc_systems.specs.Made.{Ordered}
 use Rattle.acc_rows.specs.Sparse.{at}
 use Rattle.acc_rows.specs.Rows.{crossing}
@@ -23,7 +23,7 @@ use Rattle.acc_rows.proofs.Worths.{gives_both}
 use Rattle.acc_systems.proofs.Orders.{crossing_ordered}
 use Rattle.acc_solved.proofs.Ints.{cancel_below, below_times, above_times}
 use Rattle.acc_solved.proofs.Values.{Holds, holds_chain, holds_weaker, from_gives, Worth}
-use Rattle.acc_solved.proofs.Points.{coef, at_is, form, form_moved, rest_of, moved, Worths, worths_moved, is_same, is_other}
+use Rattle.acc_solved.proofs.Points.{coef, at_is, row_worth, form_moved, rest_of, moved, Worths, worths_moved, is_same, is_other}
 use Rattle.acc_solved.proofs.Bounds.{worth_at, MetAt, ZeroAt, OnSide, Tight, AnyOf, pick, bounded_is}
 use Rattle.acc_solved.proofs.Mixes.{Among, CrossedTo, crossing_gives, gone_at, lacks_both, form_mix}
 use Rattle.acc_solved.proofs.Admits.{MetBy, Met, Admits, admitted_holds, Adds, adds_steps}
@@ -86,15 +86,15 @@ module _ (n : ℕ) where
   at_between : (u : ℕ) (us : List ℕ) (r : Row) → Between us r → at u r.terms ≡ coef u r.terms
   at_between u us r b = at_is u 0 r.terms b.ordered.terms
 
-  met_below : (f : ℕ → ℤ) (D : ℤ) (r : Row) → r.equal ≡ false → form f D r ≤ℤ pos 0 → Met f D r
-  met_below f D r e h = subst (λ b. MetBy b (form f D r)) (sym e) h
+  met_below : (f : ℕ → ℤ) (D : ℤ) (r : Row) → r.equal ≡ false → row_worth f D r ≤ℤ pos 0 → Met f D r
+  met_below f D r e h = subst (λ b. MetBy b (row_worth f D r)) (sym e) h
 
-  below_met : (f : ℕ → ℤ) (D : ℤ) (r : Row) → r.equal ≡ false → Met f D r → form f D r ≤ℤ pos 0
-  below_met f D r e h = subst (λ b. MetBy b (form f D r)) e h
+  below_met : (f : ℕ → ℤ) (D : ℤ) (r : Row) → r.equal ≡ false → Met f D r → row_worth f D r ≤ℤ pos 0
+  below_met f D r e h = subst (λ b. MetBy b (row_worth f D r)) e h
 
   -- what a pair of bounds implies
   abbrev Implied : Row → (ℕ → ℤ) → ℤ → Row → Type 0
-  Implied up f D low = (p : ℤ) × (q : ℤ) × (pos 0 <ℤ p) × (pos 0 <ℤ q) × ((p *ℤ form f D low +ℤ q *ℤ form f D up) ≤ℤ pos 0)
+  Implied up f D low = (p : ℤ) × (q : ℤ) × (pos 0 <ℤ p) × (pos 0 <ℤ q) × ((p *ℤ row_worth f D low +ℤ q *ℤ row_worth f D up) ≤ℤ pos 0)
 
   abbrev AllImplied : List Row → (ℕ → ℤ) → ℤ → Row → Type 0
   AllImplied lows f D up = All (Implied up f D) lows
@@ -126,7 +126,7 @@ module _ (n : ℕ) where
     implied : (f : ℕ → ℤ) (D : ℤ) (up low m : Row) → CrossedTo n u up low m → Met f D m → Implied up f D low
     implied f D up low m (p, q, pa, qa, mix, none, unequal, among) met =
         let low_m = below_met f D m unequal met in
-        let whole = below_times (pos mix.g) (form f D m) (omega (arith, ints)) low_m in
+        let whole = below_times (pos mix.g) (row_worth f D m) (omega (arith, ints)) low_m in
         let same = form_mix f D p low q up m mix in
         (p, q, pa, qa, omega (arith, ints, whole, same))
 
@@ -161,7 +161,7 @@ module _ (n : ℕ) where
       abbrev ups : List Row
       ups = filter (is_upper u) rows
 
-      form_at : (z : Fraction) (r : Row) → Before r → form (moved f D u z) (D *ℤ z.1) r ≡ worth_at D (rest_of f D u r) (at u r.terms) z
+      form_at : (z : Fraction) (r : Row) → Before r → row_worth (moved f D u z) (D *ℤ z.1) r ≡ worth_at D (rest_of f D u r) (at u r.terms) z
       form_at z r b =
           form_moved f D u z r ∙ ap (λ a. z.1 *ℤ rest_of f D u r +ℤ a *ℤ (z.0 *ℤ D)) (sym (at_between u (u ∷ us) r b))
 
@@ -180,9 +180,9 @@ module _ (n : ℕ) where
       up_met : (z : Fraction) (up low : Row) → Before up → Before low → ZeroAt f D above u point h z low
           → Implied up (moved f D u z) (D *ℤ z.1) low → Met (moved f D u z) (D *ℤ z.1) up
       up_met z up low bu bl zero_low (p, q, pa, qa, sum) =
-          let none : p *ℤ form (moved f D u z) (D *ℤ z.1) low ≡ pos 0 = ap (λ k. p *ℤ k) (form_at z low bl ∙ zero_low) ∙ *ℤ-zero p in
+          let none : p *ℤ row_worth (moved f D u z) (D *ℤ z.1) low ≡ pos 0 = ap (λ k. p *ℤ k) (form_at z low bl ∙ zero_low) ∙ *ℤ-zero p in
           met_below (moved f D u z) (D *ℤ z.1) up bu.unequal
-          (cancel_below q (form (moved f D u z) (D *ℤ z.1) up) qa (omega (arith, ints, none, sum)))
+          (cancel_below q (row_worth (moved f D u z) (D *ℤ z.1) up) qa (omega (arith, ints, none, sum)))
 
       ups_met : (z : Fraction) (ls : List Row) → AnyOf (ZeroAt f D above u point h z) ls → All Before ls → (vs : List Row) → All Before vs
           → All (AllImplied ls (moved f D u z) (D *ℤ z.1)) vs → All (Met (moved f D u z) (D *ℤ z.1)) vs

@@ -11,7 +11,8 @@ use Rattle.std.proofs.lemmas.Bool.Decides.{nat_tests}
 use Rattle.std.proofs.lemmas.List.Elements.{All-nil, All-cons, All-head, All-tail, All-set, All-replicate}
 use Rattle.acc_rows.specs.declared.rows.Row.{Row}
 use Rattle.acc_systems.specs.declared.systems.Eliminated.{Eliminated}
-use Rattle.acc_rows.specs.Answers.{Computation, chain, steps}
+use Rattle.acc_base.specs.Computing.{chain, steps}
+use Rattle.acc_rows.specs.Answers.{Computation}
 use Rattle.acc_rows.specs.Numbers.{product, opposite}
 use Rattle.acc_rows.specs.Divisors.{divisor, quotient}
 use Rattle.acc_rows.specs.Sparse.{at}

@@ -13,7 +13,8 @@ use Rattle.std.proofs.lemmas.List.Elements.{All-nil, All-head, All-tail, All-con
 use Rattle.acc_base.proofs.Products.{times_sum, sum_times, times_times}
 use Rattle.acc_rows.specs.declared.stops.Stop.TheVariants.{Refuted, Wide, Many, Memory}
 use Rattle.acc_rows.specs.declared.rows.Row.{Row}
-use Rattle.acc_rows.specs.Answers.{Computation, chain}
+use Rattle.acc_base.specs.Computing.{chain}
+use Rattle.acc_rows.specs.Answers.{Computation}
 use Rattle.acc_base.specs.Collecting.{worth}
 use Rattle.acc_systems.specs.Made.{IsProper}
 use Rattle.acc_rows.specs.Numbers.{kept, opposite}
@@ -25,7 +26,7 @@ use Rattle.acc_rows.proofs.Worths.{Gives, gives_chain, gives_weaker, gives_both,
 use Rattle.acc_rows.proofs.Entries.{mixed_all}
 use Rattle.acc_systems.proofs.Divisions.{Divides, common_divides, quotient_times}
 use Rattle.acc_solved.proofs.Ints.{times_less, Other, cancel_zero, above_other, product_other}
-use Rattle.acc_solved.proofs.Points.{only, coef, form}
+use Rattle.acc_solved.proofs.Points.{only, coef, row_worth}
 
 -- one answer for all f
 gives_all : {A F : Type 0} (o : Computation A) (P : F → A → Type 0) → F → ((f : F) → Gives o (P f)) → Gives o (λ x. (f : F) → P f x)
@@ -291,7 +292,7 @@ lacks_both u p r q e m mix a b =
 
 -- the form is worth what the multiples are worth
 pub form_mix : (f : ℕ → ℤ) (D : ℤ) (p : ℤ) (r : Row) (q : ℤ) (e m : Row) → (mix : Mix p r q e m)
-    → pos mix.g *ℤ form f D m ≡ p *ℤ form f D r +ℤ q *ℤ form f D e
+    → pos mix.g *ℤ row_worth f D m ≡ p *ℤ row_worth f D r +ℤ q *ℤ row_worth f D e
 form_mix f D p r q e m mix =
     let terms = mix.terms f in
     let g = pos mix.g in

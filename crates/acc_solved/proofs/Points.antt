@@ -8,7 +8,7 @@ use Rattle.std.proofs.lemmas.Bool.Decides.{nat_tests}
 use Rattle.std.proofs.lemmas.List.{get_or-set_same, get_or-set_other}
 use Rattle.acc_base.proofs.Products.{times_sum, sum_times, times_times}
 use Rattle.acc_rows.specs.declared.rows.Row.{Row}
-use Rattle.acc_rows.specs.Answers.{steps}
+use Rattle.acc_base.specs.Computing.{steps}
 use Rattle.acc_base.specs.Collecting.{worth}
 use Rattle.acc_systems.specs.Made.{Rises}
 use Rattle.acc_rows.specs.Sparse.{Sparse, at}
@@ -141,8 +141,8 @@ worths_moved f D u z p l above h i = by (i == u) refl
 abbrev pub rest_of : (ℕ → ℤ) → ℤ → ℕ → Row → ℤ
 rest_of f D u r = r.constant *ℤ D +ℤ worth (others f u) r.terms
 
-abbrev pub form : (ℕ → ℤ) → ℤ → Row → ℤ
-form f D r = r.constant *ℤ D +ℤ worth f r.terms
+abbrev pub row_worth : (ℕ → ℤ) → ℤ → Row → ℤ
+row_worth f D r = r.constant *ℤ D +ℤ worth f r.terms
 
 module _ (f : ℕ → ℤ) (D : ℤ) (u : ℕ) (p : Point) (h : Worths f D p) where
   summed_by : (X : ℤ) (x : Fraction) (t : ℕ × ℤ) (b : Bool) → Worth D X x
@@ -172,7 +172,7 @@ module _ (f : ℕ → ℤ) (D : ℤ) (u : ℕ) (p : Point) (h : Worths f D p) wh
 -- ---- what a relation's form is worth at the point with another value
 
 pub form_moved : (f : ℕ → ℤ) (D : ℤ) (u : ℕ) (z : Fraction) (r : Row)
-    → form (moved f D u z) (D *ℤ z.1) r ≡ z.1 *ℤ rest_of f D u r +ℤ coef u r.terms *ℤ (z.0 *ℤ D)
+    → row_worth (moved f D u z) (D *ℤ z.1) r ≡ z.1 *ℤ rest_of f D u r +ℤ coef u r.terms *ℤ (z.0 *ℤ D)
 form_moved f D u z r =
     let terms = worth_moved f D u z r.terms in
     let constant = swap r.constant D z.1 in
@@ -183,12 +183,12 @@ form_moved f D u z r =
 
 -- a relation without the unknown
 pub form_without : (f : ℕ → ℤ) (D : ℤ) (u : ℕ) (z : Fraction) (r : Row) → coef u r.terms ≡ pos 0
-    → form (moved f D u z) (D *ℤ z.1) r ≡ z.1 *ℤ form f D r
+    → row_worth (moved f D u z) (D *ℤ z.1) r ≡ z.1 *ℤ row_worth f D r
 form_without f D u z r e =
     let whole = form_moved f D u z r in
     let parts = worth_parts f u r.terms in
     let none = ap (λ y. y *ℤ f u) e ∙ zero-*ℤ (f u) in
     let gone = ap (λ y. y *ℤ (z.0 *ℤ D)) e ∙ zero-*ℤ (z.0 *ℤ D) in
-    let same : form f D r ≡ rest_of f D u r = omega (arith, ints, parts, none) in
+    let same : row_worth f D r ≡ rest_of f D u r = omega (arith, ints, parts, none) in
     let along = ap (λ y. z.1 *ℤ y) same in
     omega (arith, ints, whole, gone, along)

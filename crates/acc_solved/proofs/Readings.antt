@@ -1,7 +1,8 @@
 -- Relations that are read are met where their rows are.
 use Rattle.std.proofs.Common.{◌≡◌, ℕ, suc, ◌<◌, Bool, true, false, List, [], ◌∷◌, length, Ok, Err, refl, ap, sym, ◌∙◌, subst, arith, ℤ, pos}
 use Rattle.std.proofs.Common.{◌+ℤ◌, ◌*ℤ◌, if◌then◌else◌}
-use Rattle.std.specs.Prelude.{All, IsTrue, map, int_lt, int_le, ◌||◌}
+use Rattle.std.specs.Prelude.{All, IsTrue, Option, Some, None, map, int_lt, int_le, ◌||◌}
+use Rattle.std.specs.Option.{option_map_or}
 use Rattle.std.specs.Ordering.{int_eq}
 use lib.Signed.{◌<ℤ◌, ◌≤ℤ◌}
 use lib.IntN.{*ℤ_comm, *ℤ-zero, zero-*ℤ}
@@ -13,7 +14,8 @@ use Rattle.acc_base.specs.declared.forms.Rel.{Rel}
 use Rattle.acc_base.specs.Numbers.{total}
 use Rattle.acc_base.proofs.Products.{sum_times}
 use Rattle.acc_rows.specs.declared.rows.Row.{Row}
-use Rattle.acc_rows.specs.Answers.{Computation, chain, steps}
+use Rattle.acc_base.specs.Computing.{chain, steps}
+use Rattle.acc_rows.specs.Answers.{Computation}
 use Rattle.acc_base.specs.Collecting.{worth}
 use Rattle.acc_base.specs.UnknownEquality.{is_bare_one}
 use Rattle.acc_systems.specs.Made.{Ordered, IsProper}
@@ -22,16 +24,16 @@ use Rattle.acc_rows.specs.Sparse.{Sparse, mixed}
 use Rattle.acc_systems.specs.Systems.{eliminated}
 use Rattle.acc_points.specs.Fractions.{Fraction}
 use Rattle.acc_points.specs.Points.{Point, value, point_of}
-use Rattle.acc_readings.specs.Readings.{unknowns_of, number_of, read_number, read_term, row_of, rows_from}
+use Rattle.acc_readings.specs.Readings.{place_of, unknowns_of, read_number, with_number, read_term, row_of, rows_from}
 use Rattle.acc_points.specs.Searches.{searched}
 use Rattle.acc_solved.specs.Meetings.{value_at, plus_exactly, sum_at, form_at, is_met, is_above, Meets, SearchedIsMet}
 use Rattle.acc_rows.proofs.Worths.{Gives, gives_chain}
 use Rattle.acc_rows.proofs.Entries.{mixed_all}
-use Rattle.acc_readings.proofs.Names.{Named, unknowns_stand, named_below}
-use Rattle.acc_points.proofs.Searched.{part, unit, read_worth, constant_some, row_ordered}
+use Rattle.acc_readings.proofs.Names.{place_below}
+use Rattle.acc_points.proofs.Refuting.{part, unit, read_worth, constant_some, row_ordered}
 use Rattle.acc_solved.proofs.Ints.{above_times, below_times, cancel_below, cancel_zero, above_other, Other}
 use Rattle.acc_solved.proofs.Values.{Holds, holds_chain, holds_weaker, held, from_gives, Worth, sum_worth}
-use Rattle.acc_solved.proofs.Points.{Worths, form}
+use Rattle.acc_solved.proofs.Points.{Worths, row_worth}
 use Rattle.acc_solved.proofs.Mixes.{other}
 use Rattle.acc_solved.proofs.Admits.{MetBy, Met}
 use Rattle.acc_solved.proofs.Asides.{MeetsAt}
@@ -47,33 +49,33 @@ module _ (names : List Unknown) where
   abbrev Fine : ℕ × ℤ → Type 0
   Fine m = IsProper (length names) m
 
-  mixed_fine : (terms : Sparse) (t : Unknown × ℤ) → int_eq t.1 (pos 0) ≡ false → number_of names t.0 < length names → All Fine terms
-      → Gives (mixed (pos 1) (pos 1) terms ((number_of names t.0, t.1) ∷ [])) (All Fine)
-  mixed_fine terms t e l all =
+  mixed_fine : (terms : Sparse) (n : ℤ) (k : ℕ) → int_eq n (pos 0) ≡ false → k < length names → All Fine terms
+      → Gives (mixed (pos 1) (pos 1) terms ((k, n) ∷ [])) (All Fine)
+  mixed_fine terms n k e l all =
       mixed_all Fine (pos 1) (pos 1) Fine Fine (λ u m h. (h.0, subst (λ z. Other z) (sym (one_of m)) h.1))
       (λ u m h. (h.0, subst (λ z. Other z) (sym (one_of m)) h.1)) (λ u m k h g i. (h.0, other (pos 1 *ℤ m +ℤ pos 1 *ℤ k) i)) terms
-      ((number_of names t.0, t.1) ∷ []) all (All-cons Fine (number_of names t.0, t.1) [] (l, other t.1 e) (All-nil Fine))
+      ((k, n) ∷ []) all (All-cons Fine (k, n) [] (l, other n e) (All-nil Fine))
 
-  term_fine : (terms : Sparse) (t : Unknown × ℤ) → Named names t → All Fine terms → (one b : Bool) → is_bare_one t.0 ≡ one
-      → int_eq t.1 (pos 0) ≡ b → Gives (if one || b then Ok terms else mixed (pos 1) (pos 1) terms ((number_of names t.0, t.1) ∷ []))
-      (All Fine)
-  term_fine terms t named all true b is e = all
-  term_fine terms t named all false true is e = all
-  term_fine terms t named all false false is e = mixed_fine terms t e (named_below names t named is) all
+  term_fine : (terms : Sparse) (n : ℤ) → All Fine terms → (one b : Bool) (place : Option ℕ) → int_eq n (pos 0) ≡ b
+      → ((k : ℕ) → place ≡ Some k → k < length names)
+      → Gives (if one || b then Ok terms else option_map_or (with_number terms n) place (Ok terms)) (All Fine)
+  term_fine terms n all true b place e below = all
+  term_fine terms n all false true place e below = all
+  term_fine terms n all false false None e below = all
+  term_fine terms n all false false (Some k) e below = mixed_fine terms n k e (below k refl) all
 
-  terms_fine : (ts : List (Unknown × ℤ)) (terms : Sparse) → All (Named names) ts → All Fine terms
-      → Gives (steps (read_term names) terms ts) (All Fine)
-  terms_fine [] terms named all = all
-  terms_fine (t ∷ ts) terms named all =
+  terms_fine : (ts : List (Unknown × ℤ)) (terms : Sparse) → All Fine terms → Gives (steps (read_term names) terms ts) (All Fine)
+  terms_fine [] terms all = all
+  terms_fine (t ∷ ts) terms all =
       gives_chain (read_term names terms t) _ (All Fine) (All Fine)
-      (term_fine terms t (All-head (Named names) t ts named) all (is_bare_one t.0) (int_eq t.1 (pos 0)) refl refl)
-      (λ more fine. terms_fine ts more (All-tail (Named names) t ts named) fine)
+      (term_fine terms t.1 all (is_bare_one t.0) (int_eq t.1 (pos 0)) (place_of names t.0) refl (place_below names t.0))
+      (λ more fine. terms_fine ts more fine)
 
   -- ---- what a relation is worth over D
 
   module _ (f : ℕ → ℤ) (D : ℤ) where
     abbrev scaled : Bool → Unknown → ℤ
-    scaled one u = if one then D else f (number_of names u)
+    scaled one u = if one then D else option_map_or f (place_of names u) (pos 0)
 
     abbrev rel_worth : Rel → ℤ
     rel_worth r = r.form.constant *ℤ D +ℤ total (map (λ t. t.1 *ℤ scaled (is_bare_one t.0) t.0) r.form.terms)
@@ -101,10 +103,10 @@ module _ (names : List Unknown) where
 
   -- a row reads a relation
   abbrev Reads : Rel → Row → Type 0
-  Reads r row = ((f : ℕ → ℤ) (D : ℤ) → form f D row ≡ rel_worth f D r) × (row.equal ≡ r.equal) × All Fine row.terms
+  Reads r row = ((f : ℕ → ℤ) (D : ℤ) → row_worth f D row ≡ rel_worth f D r) × (row.equal ≡ r.equal) × All Fine row.terms
 
-  row_reads : (place : ℕ) (r : Rel) → All (Named names) r.form.terms → Holds (row_of names place r) (Reads r)
-  row_reads place r named =
+  row_reads : (place : ℕ) (r : Rel) → Holds (row_of names place r) (Reads r)
+  row_reads place r =
       holds_chain (chain (kept r.form.constant) (λ first. steps read_number first r.form.terms)) _
       (λ m. m ≡ r.form.constant +ℤ total (map (λ t. t.1 *ℤ unit names (λ _. pos 0) (is_bare_one t.0)) r.form.terms)) (Reads r)
       (from_gives (chain (kept r.form.constant) (λ first. steps read_number first r.form.terms)) _ (constant_some names r))
@@ -112,7 +114,7 @@ module _ (names : List Unknown) where
       holds_chain (steps (read_term names) [] r.form.terms) _
       (λ zs. ((f : ℕ → ℤ) → worth f zs ≡ pos 0 +ℤ total (map (λ t. t.1 *ℤ part names f (is_bare_one t.0) t.0) r.form.terms))
       × All Fine zs) (Reads r) (terms_hold (steps (read_term names) [] r.form.terms)
-      (λ f. read_worth names f r.form.terms [] (pos 0) refl) (terms_fine r.form.terms [] named (All-nil Fine))) (λ terms h.
+      (λ f. read_worth names f r.form.terms [] (pos 0) refl) (terms_fine r.form.terms [] (All-nil Fine))) (λ terms h.
       ((λ f D. same constant c terms f (h.0 f) D), refl, h.1)))
     where
       terms_hold : (o : Computation Sparse) → ((f : ℕ → ℤ)
@@ -136,15 +138,12 @@ module _ (names : List Unknown) where
   abbrev AllRead : List Rel → List Row → Type 0
   AllRead rels rows = All (Readable (length names)) rows × ((f : ℕ → ℤ) (D : ℤ) → All (Met f D) rows → All (RelMet f D) rels)
 
-  all_read : (rels : List Rel) (place : ℕ) → All (λ r. All (Named names) r.form.terms) rels
-      → Holds (rows_from names place rels) (AllRead rels)
-  all_read [] place named = (All-nil (Readable (length names)), λ f D met. All-nil (RelMet f D))
-  all_read (r ∷ rs) place named =
+  all_read : (rels : List Rel) (place : ℕ) → Holds (rows_from names place rels) (AllRead rels)
+  all_read [] place = (All-nil (Readable (length names)), λ f D met. All-nil (RelMet f D))
+  all_read (r ∷ rs) place =
       holds_chain (row_of names place r) _ (λ row. Reads r row × Ordered row) (AllRead (r ∷ rs))
-      (both (row_of names place r) (row_reads place r (All-head (λ r. All (Named names) r.form.terms) r rs named))
-      (row_ordered names place r)) (λ row reads.
-      holds_chain (rows_from names (suc place) rs) _ (AllRead rs) (AllRead (r ∷ rs))
-      (all_read rs (suc place) (All-tail (λ r. All (Named names) r.form.terms) r rs named)) (λ rows all. (
+      (both (row_of names place r) (row_reads place r) (row_ordered names place r)) (λ row reads.
+      holds_chain (rows_from names (suc place) rs) _ (AllRead rs) (AllRead (r ∷ rs)) (all_read rs (suc place)) (λ rows all. (
         All-cons (Readable (length names)) row rows (reads.1, reads.0.2) all.0,
         λ f D met. All-cons (RelMet f D) r rs (one_met f D row reads.0 (All-head (Met f D) row rows met))
             (all.1 f D (All-tail (Met f D) row rows met)),
@@ -160,15 +159,17 @@ module _ (names : List Unknown) where
   -- ---- the values of relations at a point
 
   module _ (f : ℕ → ℤ) (D : ℤ) (above : pos 0 <ℤ D) (point : Point) (h : Worths f D point) where
-    value_worth : (u : Unknown) (one : Bool) → Worth D (scaled f D one u) (if one then (pos 1, pos 1) else value point (number_of names u))
-    value_worth u true = (omega (arith, ints), omega (arith, ints))
-    value_worth u false = h (number_of names u)
+    value_worth : (one : Bool) (place : Option ℕ) → Worth D (if one then D else option_map_or f place (pos 0))
+        (if one then (pos 1, pos 1) else option_map_or (value point) place (pos 0, pos 1))
+    value_worth true place = (omega (arith, ints), omega (arith, ints))
+    value_worth false None = let none = zero-*ℤ D in (omega (arith, ints, none), omega (arith, ints))
+    value_worth false (Some k) = h k
 
     sum_is : (ts : List (Unknown × ℤ)) (X : ℤ) (x : Fraction) → Worth D X x
         → Worth D (X +ℤ total (map (λ t. t.1 *ℤ scaled f D (is_bare_one t.0) t.0) ts)) (sum_at names point x ts)
     sum_is [] X x w = let same : X ≡ X +ℤ pos 0 = omega (arith, ints) in subst (λ y. Worth D y x) same w
     sum_is (t ∷ ts) X x w =
-        let v = value_worth t.0 (is_bare_one t.0) in
+        let v = value_worth (is_bare_one t.0) (place_of names t.0) in
         let next = sum_worth D X (scaled f D (is_bare_one t.0) t.0) t.1 x (value_at names point t.0) w v in
         let over = above_times x.1 (value_at names point t.0).1 w.1 v.1 in
         let same : (X +ℤ t.1 *ℤ scaled f D (is_bare_one t.0) t.0) +ℤ total (map (λ t. t.1 *ℤ scaled f D (is_bare_one t.0) t.0) ts)
@@ -241,7 +242,7 @@ module _ (rels : List Rel) where
   searched_meets : Holds (searched rels) (Meets rels)
   searched_meets =
       holds_chain (rows_from (unknowns_of rels) 0 rels) _ (AllRead (unknowns_of rels) rels) _
-      (all_read (unknowns_of rels) rels 0 (unknowns_stand rels)) (λ rows read.
+      (all_read (unknowns_of rels) rels 0) (λ rows read.
       holds_weaker (chain (eliminated count rows) (point_of count)) (λ p. MeetsAt count p rows × All Lowest p) _
       (λ p m. meets rows read p m.0 m.1)
       (both_hold (chain (eliminated count rows) (point_of count)) (λ p. MeetsAt count p rows) (All Lowest) (point_meets count rows read.0)

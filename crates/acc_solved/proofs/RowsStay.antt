@@ -1,8 +1,8 @@
 -- Rows that were read stay as they are when more relations come: their unknowns keep their numbers.
 use Rattle.std.proofs.Common.{◌≡◌, ℕ, suc, ◌+◌, ◌<◌, Bool, true, false, List, [], ◌∷◌, ◌++◌, length, Ok, Err, refl, ap, sym, ◌∙◌, subst}
 use Rattle.std.proofs.Common.{arith, ℤ, pos, if◌then◌else◌, ◌⊎◌, inl, inr}
-use Rattle.std.specs.Prelude.{All, ◌||◌}
-use Rattle.std.specs.Option.{is_some, unwrap_or}
+use Rattle.std.specs.Prelude.{All, Some, ◌||◌}
+use Rattle.std.specs.Option.{is_some, option_map_or}
 use Rattle.std.specs.List.{fold}
 use Rattle.std.specs.Ordering.{int_eq}
 use Rattle.std.proofs.Math.ListN.{get_or-append}
@@ -13,10 +13,11 @@ use Rattle.std.proofs.lemmas.List.Elements.{All-head, All-tail}
 use Rattle.acc_base.specs.declared.forms.Unknown.{Unknown}
 use Rattle.acc_base.specs.declared.forms.Rel.{Rel}
 use Rattle.acc_rows.specs.declared.rows.Row.{Row}
-use Rattle.acc_rows.specs.Answers.{Computation, chain, steps}
+use Rattle.acc_base.specs.Computing.{chain, steps}
+use Rattle.acc_rows.specs.Answers.{Computation}
 use Rattle.acc_rows.specs.Numbers.{kept}
-use Rattle.acc_rows.specs.Sparse.{Sparse, mixed}
-use Rattle.acc_readings.specs.Readings.{place_of, with_term, with_rel, unknowns_of, number_of, once, read_number, read_term, row_of}
+use Rattle.acc_rows.specs.Sparse.{Sparse}
+use Rattle.acc_readings.specs.Readings.{place_of, with_term, with_rel, unknowns_of, once, read_number, with_number, read_term, row_of}
 use Rattle.acc_readings.specs.Readings.{rows_from}
 use Rattle.acc_readings.proofs.Names.{Stands, Named, unknowns_stand, stands_push, placed}
 use Rattle.acc_solved.specs.Rows.{RowsStay}
@@ -32,16 +33,16 @@ first_is a b h k = by_cases a b (lt_or a b) h k
     by_cases a b (inr (inl l)) h k = absurd (k l)
     by_cases a b (inr (inr e)) h k = e
 
-number_same : (us : List Unknown) (u v : Unknown) → Stands u us → number_of (us ++ v ∷ []) u ≡ number_of us u
-number_same us u v s =
+place_same : (us : List Unknown) (u v : Unknown) → Stands u us → place_of (us ++ v ∷ []) u ≡ place_of us u
+place_same us u v s =
     let p = placed us u s in
     let q = placed (us ++ v ∷ []) u (stands_push u v us s) in
     let here = position-Some (λ w. unknown_eq w u) us p.0 u p.1 in
     let there = position-Some (λ w. unknown_eq w u) (us ++ v ∷ []) q.0 u q.1 in
-    ap (λ o. unwrap_or o 0) q.1 ∙ (first_is q.0 p.0
+    q.1 ∙ (ap Some (first_is q.0 p.0
     (λ l. both_cannot _ (sym (ap (λ w. unknown_eq w u) (get_or-append us (v ∷ []) u q.0 (before q.0 p.0 (length us) l here.0)))
     ∙ there.1) (here.2 q.0 l)) (λ l. both_cannot _ (ap (λ w. unknown_eq w u) (get_or-append us (v ∷ []) u p.0 here.0) ∙ here.1)
-    (there.2 p.0 l)) ∙ sym (ap (λ o. unwrap_or o 0) p.1))
+    (there.2 p.0 l))) ∙ sym p.1)
   where
     before : (a b n : ℕ) → a < b → b < n → a < n
     before a b n l m = omega (arith, l, m)
@@ -50,9 +51,9 @@ number_same us u v s =
     both_cannot true e f = cc
     both_cannot false e f = cc
 
--- names that come later leave numbers as they are
+-- names that come later leave places as they are
 abbrev Later : List Unknown → List Unknown → Type 0
-Later us vs = (u : Unknown) → Stands u us → Stands u vs × (number_of vs u ≡ number_of us u)
+Later us vs = (u : Unknown) → Stands u us → Stands u vs × (place_of vs u ≡ place_of us u)
 
 later_same : (us : List Unknown) → Later us us
 later_same us u s = (s, refl)
@@ -65,7 +66,7 @@ later_later us vs ws a b u s =
 
 name_later_by : (us : List Unknown) (v : Unknown) (b : Bool) → Later us (if b then us else us ++ v ∷ [])
 name_later_by us v true u s = (s, refl)
-name_later_by us v false u s = (stands_push u v us s, number_same us u v s)
+name_later_by us v false u s = (stands_push u v us s, place_same us u v s)
 
 term_later_by : (us : List Unknown) (t : Unknown × ℤ) (b c : Bool) → Later us (if b then us else (if c then us else us ++ t.0 ∷ []))
 term_later_by us t true c = later_same us
@@ -85,11 +86,11 @@ rels_later (r ∷ rs) us = later_later us (with_rel us r) (fold with_rel (with_r
 
 module _ (us vs : List Unknown) (later : Later us vs) where
   term_same_by : (terms : Sparse) (t : Unknown × ℤ) → Named us t → (one z : Bool) → is_bare_one t.0 ≡ one
-      → (if one || z then Ok terms else mixed (pos 1) (pos 1) terms ((number_of vs t.0, t.1) ∷ []))
-      ≡ (if one || z then Ok terms else mixed (pos 1) (pos 1) terms ((number_of us t.0, t.1) ∷ []))
+      → (if one || z then Ok terms else option_map_or (with_number terms t.1) (place_of vs t.0) (Ok terms))
+      ≡ (if one || z then Ok terms else option_map_or (with_number terms t.1) (place_of us t.0) (Ok terms))
   term_same_by terms t n true z e = refl
   term_same_by terms t n false true e = refl
-  term_same_by terms t n false false e = ap (λ k. mixed (pos 1) (pos 1) terms ((k, t.1) ∷ [])) ((later t.0 (n e)).1)
+  term_same_by terms t n false false e = ap (λ o. option_map_or (with_number terms t.1) o (Ok terms)) ((later t.0 (n e)).1)
 
   terms_same : (ts : List (Unknown × ℤ)) (terms : Sparse) → All (Named us) ts
       → steps (read_term vs) terms ts ≡ steps (read_term us) terms ts

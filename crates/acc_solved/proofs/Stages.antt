@@ -1,16 +1,18 @@
 -- The two stages of an elimination, and the point that its values give backwards.
-use Rattle.std.proofs.Common.{◌≡◌, ℕ, zero, suc, ◌+◌, ◌<◌, Bool, true, false, List, [], ◌∷◌, ◌++◌, Option, Some, None, Ok, Err, refl, ap}
+use Rattle.std.proofs.Common.{◌≡◌, ℕ, zero, suc, ◌+◌, ◌<◌, Bool, true, false, List, [], ◌∷◌, ◌++◌, Option, Some, None, Ok, refl, ap}
 use Rattle.std.proofs.Common.{sym, ◌∙◌, subst, arith, ℤ, pos, if◌then◌else◌, ◌⊎◌, inl, inr, append_assoc, append-nil}
 use Rattle.std.specs.Prelude.{All, reverse}
 use Rattle.std.proofs.lemmas.List.{reverse-append}
 use Rattle.std.proofs.lemmas.List.Elements.{All-nil, All-head, All-tail, All-cons, All-push}
 use Rattle.acc_rows.specs.declared.rows.Row.{Row}
 use Rattle.acc_systems.specs.declared.systems.Reduced.{Reduced}
-use Rattle.acc_rows.specs.Answers.{Computation, chain, steps}
+use Rattle.acc_base.specs.Computing.{chain, steps}
 use Rattle.acc_rows.proofs.Chains.{steps_append}
+use Rattle.acc_systems.proofs.SystemSteps.{numbers_suc}
 use Rattle.acc_systems.specs.Made.{Rises, Ordered, IsProper}
 use Rattle.acc_rows.specs.Sparse.{Sparse, at, no_numbers}
-use Rattle.acc_systems.specs.Systems.{is_constant, taken, replaced, set_aside, counted}
+use Rattle.acc_base.specs.Items.{numbers_from}
+use Rattle.acc_systems.specs.Systems.{is_constant, taken, replaced, set_aside}
 use Rattle.acc_points.specs.Points.{Point, placed_by}
 use Rattle.acc_solved.proofs.Ints.{Other}
 use Rattle.acc_solved.proofs.Values.{Holds, holds_chain, holds_weaker}
@@ -165,11 +167,12 @@ module _ (n : ℕ) where
         back = backs_append s.rows t.rows u.rows a.es b.es a.back b.back;
       }
 
-  pub first_stage : (j k : ℕ) (s : Reduced) → k + j ≡ n → Begun k s → Holds (steps set_aside s (counted k j)) (Later n s)
+  pub first_stage : (j k : ℕ) (s : Reduced) → k + j ≡ n → Begun k s → Holds (steps set_aside s (numbers_from k j)) (Later n s)
   first_stage zero k s e b =
       let same : k ≡ n = omega (arith, e) in
       record { begun = subst (λ i. Begun i s) same b; es = []; is = sym (append-nil s.aside); back = λ p m. m }
   first_stage (suc j) k s e b =
-      holds_chain (set_aside s k) _ (Later (suc k) s) (Later n s) (aside_holds k s (omega (arith, e)) b) (λ t l.
-      holds_weaker (steps set_aside t (counted (suc k) j)) (Later n t) (Later n s) (λ u m. later_later (suc k) n s t u l m)
-      (first_stage j (suc k) t (omega (arith, e)) l.begun))
+      subst (λ us. Holds (steps set_aside s us) (Later n s)) (sym (numbers_suc k j))
+      (holds_chain (set_aside s k) _ (Later (suc k) s) (Later n s) (aside_holds k s (omega (arith, e)) b) (λ t l.
+      holds_weaker (steps set_aside t (numbers_from (suc k) j)) (Later n t) (Later n s) (λ u m. later_later (suc k) n s t u l m)
+      (first_stage j (suc k) t (omega (arith, e)) l.begun)))

@@ -7,7 +7,8 @@ use lib.IntN.{*ℤ_comm, *ℤ-zero}
 use Rattle.std.proofs.lemmas.Int.{ints}
 use Rattle.std.proofs.lemmas.List.Elements.{All-head}
 use Rattle.acc_base.proofs.Products.{times_sum, sum_times, times_times}
-use Rattle.acc_rows.specs.Answers.{Computation, chain}
+use Rattle.acc_base.specs.Computing.{chain}
+use Rattle.acc_rows.specs.Answers.{Computation}
 use Rattle.acc_rows.specs.Numbers.{kept, product, opposite}
 use Rattle.acc_rows.specs.Divisors.{divisor, quotient}
 use Rattle.acc_points.specs.Fractions.{Fraction, reduced, upright, fraction, numerator, plus_times, solved}

@@ -5,9 +5,10 @@ use Rattle.std.proofs.lemmas.List.Elements.{All-nil, All-head, All-tail, All-con
 use Rattle.acc_rows.specs.declared.rows.Row.{Row}
 use Rattle.acc_systems.specs.declared.systems.Reduced.{Reduced}
 use Rattle.acc_systems.specs.declared.systems.Bounded.{Bounded}
-use Rattle.acc_rows.specs.Answers.{chain, steps}
+use Rattle.acc_base.specs.Computing.{chain, steps}
 use Rattle.acc_systems.specs.Made.{Ordered}
-use Rattle.acc_systems.specs.Systems.{admitted, set_aside, whole, crossed, counted, unbounded, eliminated}
+use Rattle.acc_base.specs.Items.{numbers_from}
+use Rattle.acc_systems.specs.Systems.{admitted, set_aside, whole, crossed, unbounded, eliminated}
 use Rattle.acc_points.specs.Points.{placed, placed_by, zeros, point_of}
 use Rattle.acc_solved.proofs.Values.{Holds, holds_chain, holds_weaker}
 use Rattle.acc_solved.proofs.Mixes.{Among}
@@ -58,7 +59,7 @@ module _ (n : ℕ) where
       ended : Holds (eliminated n rows) (λ s. Holds (point_of n s) (λ p. MeetsAt n p rows))
       ended =
           holds_chain (steps admitted [] rows) _ (Adds (Fit n 0 []) Met [] rows) _ (begin rows all) (λ system adds.
-          holds_chain (steps set_aside (whole system) (counted 0 n)) _ (Later n n (whole system)) _
+          holds_chain (steps set_aside (whole system) (numbers_from 0 n)) _ (Later n n (whole system)) _
           (first_stage n n 0 (whole system) (omega arith) (record { rows = adds.0; left = All-nil (λ w. w < 0); apart = tt }))
           (λ r later.
           holds_chain (steps crossed (unbounded r.rows) r.left) _ (Found n (unbounded r.rows)) _

@@ -1,6 +1,7 @@
 -- What a point shows: the values of relations there, and that they are met.
 use Rattle.std.specs.Prelude.{◌≡◌, if◌then◌else◌, Bool, IsTrue, All, List, [], ◌∷◌, length, Ok, ℤ, pos, ◌+ℤ◌, ◌*ℤ◌, int_lt, unsigned_abs}
 use Rattle.std.specs.Int.{IsGcd}
+use Rattle.std.specs.Option.{option_map_or}
 use Rattle.acc_base.specs.declared.forms.Unknown.{Unknown}
 use Rattle.acc_base.specs.declared.forms.Rel.{Rel}
 use Rattle.acc_base.specs.Linear.{meets}
@@ -8,12 +9,13 @@ use Rattle.acc_base.specs.Sums.{Term}
 use Rattle.acc_base.specs.UnknownEquality.{is_bare_one}
 use Rattle.acc_points.specs.Fractions.{Fraction}
 use Rattle.acc_points.specs.Points.{Point, value}
-use Rattle.acc_readings.specs.Readings.{unknowns_of, number_of}
+use Rattle.acc_readings.specs.Readings.{unknowns_of, place_of}
 use Rattle.acc_points.specs.Searches.{searched}
 
--- the value of an unknown at a point; the number 1 without condition is 1
+-- the value of an unknown at a point; the number 1 without condition is 1, and an unknown that isn't among the names 0
 abbrev pub value_at : List Unknown → Point → Unknown → Fraction
-value_at names point u = if is_bare_one u then (pos 1, pos 1) else value point (number_of names u)
+value_at names point u =
+    if is_bare_one u then (pos 1, pos 1) else option_map_or (value point) (place_of names u) (pos 0, pos 1)
 
 -- x + c * y for fractions, not in lowest terms
 abbrev pub plus_exactly : Fraction → ℤ → Fraction → Fraction

@@ -1,7 +1,7 @@
 -- Rows that were read stay when more relations come.
 use Rattle.std.specs.Prelude.{◌≡◌, List, ◌++◌, length, Ok}
 use Rattle.acc_base.specs.declared.forms.Rel.{Rel}
-use Rattle.acc_rows.specs.Answers.{chain}
+use Rattle.acc_base.specs.Computing.{chain}
 use Rattle.acc_readings.specs.Readings.{unknowns_of, rows_from}
 
 -- the rows of more relations are the rows of the first ones, read with their own unknowns, and those of the others behind them

@@ -2,3 +2,5 @@
 #![tactic(auto)]
 
 pub mod laws;
+
+pub use laws::{a_point_meets_the_relations, rows_stay};

@@ -14,4 +14,4 @@ pub use limits::limit_spot;
 pub use names::name_spot;
 pub use orders::order_spot;
 pub use scripts::script_spot;
-pub use statements::{bytes_of, line_spot, spot_at, statement_spot};
+pub use statements::{bytes_of, is_one_of, line_spot, spot_at, statement_spot};

@@ -8,7 +8,7 @@ use crate::statements::{
     Statement, bytes_of, first_spot, head_of, is_name, line_spot, spot_at, statement_at, word_at,
 };
 use acc_explain::Spot;
-use acc_lex::{Kind, Token};
+use acc_lex::{Kind, Token, language};
 use std::alloc::Global;
 
 /// A fault of a name that isn't defined.
@@ -85,7 +85,7 @@ fn type_fault<'a>(text: &'a [u8], tokens: &'a [Token], of: &'a [Token]) -> Optio
 
 /// The names of a `forall`, where a clause begins with one.
 pub fn forall_names<'a>(text: &[u8], statement: &'a [Token]) -> &'a [Token] {
-    if word_at(text, statement, 1) != b"forall".as_slice() {
+    if word_at(text, statement, 1) != language::FORALL {
         return &[];
     }
     let behind = tokens_from(statement, 2);
@@ -156,12 +156,12 @@ fn use_fault<'a>(
     next: Option<&Token>,
 ) -> Option<NameFault<'a>> {
     let text = around.text;
-    if is_mark(text, next, b"[") {
+    if is_mark(text, next, language::OPEN) {
         match table_named(text, around.tokens, bytes_of(text, token)) {
             Some(_) => None,
             None => undefined(token, Role::Table),
         }
-    } else if is_mark(text, before, b".") {
+    } else if is_mark(text, before, language::DOT) {
         column_fault(text, around.tokens, table, token)
     } else {
         variable_fault(text, around.of_type, around.own, token)
@@ -178,7 +178,7 @@ fn first_undefined<'a>(around: Around<'a>, used: &'a [Token]) -> Option<NameFaul
             if let Some(fault) = use_fault(around, table, before, token, next) {
                 return Some(fault);
             }
-            if is_mark(around.text, next, b"[") {
+            if is_mark(around.text, next, language::OPEN) {
                 table = bytes_of(around.text, token);
             }
         }
@@ -235,7 +235,7 @@ fn pairs_fault<'a>(text: &'a [u8], tokens: &'a [Token], of: &'a [Token]) -> Opti
     let step = type_named(text, tokens, word_at(text, of, 5)).unwrap_or(&[]);
     let pairs = tokens_from(of, 9);
     for (i, token) in pairs.iter().enumerate() {
-        let of_type = if is_mark(text, pairs.get(i + 1), b"=") {
+        let of_type = if is_mark(text, pairs.get(i + 1), language::EQUAL) {
             held
         } else {
             step
@@ -305,18 +305,18 @@ fn statement_fault<'a>(
     let head = head_of(text, of.tokens);
     if is_table(text, of.tokens) {
         table_fault(text, tokens, of.tokens)
-    } else if head == b"type".as_slice() {
+    } else if head == language::TYPE {
         type_fault(text, tokens, of.tokens)
-    } else if head == b"local".as_slice() {
+    } else if head == language::LOCAL {
         let names = tokens_from(of.tokens, 1);
         repeated(text, names, parameters(of.of_type), Role::Variable)
-    } else if head == b"point".as_slice() {
+    } else if head == language::POINT {
         point_fault(text, of)
-    } else if head == b"goto".as_slice() {
+    } else if head == language::GOTO {
         goto_fault(text, of)
-    } else if head == b"entry".as_slice() {
+    } else if head == language::ENTRY {
         entry_fault(text, tokens, of.tokens)
-    } else if head == b"hint".as_slice() {
+    } else if head == language::HINT {
         hint_fault(text, tokens, of.tokens)
     } else {
         value_fault(text, tokens, of)

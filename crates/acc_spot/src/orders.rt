@@ -2,7 +2,8 @@
 use crate::numbers::{is_numeral, value_of};
 use crate::scripts::{LineWord, mark, next_word};
 use crate::statements::line_spot;
-use acc_explain::{Spot, push_quoted};
+use acc_base::bounds::MOST_TURNS;
+use acc_explain::{Spot, push_quoted, push_with};
 use std::alloc::Global;
 
 /// Whether a word is the number of one of so many places.
@@ -36,7 +37,12 @@ pub fn order_spot(alloc: Global, places: u64, line: &[u8]) -> Spot {
             spot.hint.push_number(places);
             spot.hint.push(b" transactions; their numbers begin at 1, without leading zeros");
         }
-        None => spot.what.push(b"an order has at most 1,048,576 numbers"),
+        None => push_with(
+            &mut spot.what,
+            b"an order has at most ",
+            MOST_TURNS,
+            b" numbers",
+        ),
     }
     spot
 }

@@ -1,11 +1,10 @@
 //! Where names are defined, by the tokens of a text.
-use crate::statements::{bytes_of, head_of, is_name, split_statement, word_at};
-use acc_lex::Token;
+use crate::statements::{bytes_of, head_of, is_name, is_one_of, split_statement, word_at};
+use acc_lex::{Token, language};
 
 /// Whether a statement defines a table.
 pub fn is_table(text: &[u8], statement: &[Token]) -> bool {
-    let head = head_of(text, statement);
-    head == b"table".as_slice() || head == b"private".as_slice()
+    is_one_of(&language::TABLES, head_of(text, statement))
 }
 
 /// The first of some tokens that is this name.
@@ -34,7 +33,7 @@ pub fn table_named<'a>(text: &[u8], tokens: &'a [Token], name: &[u8]) -> Option<
 pub fn type_named<'a>(text: &[u8], tokens: &'a [Token], name: &[u8]) -> Option<&'a [Token]> {
     let mut rest = tokens;
     while let Some((statement, behind)) = split_statement(rest) {
-        if head_of(text, statement) == b"type".as_slice() && word_at(text, statement, 1) == name {
+        if head_of(text, statement) == language::TYPE && word_at(text, statement, 1) == name {
             return Some(rest);
         }
         rest = behind;
@@ -45,7 +44,7 @@ pub fn type_named<'a>(text: &[u8], tokens: &'a [Token], name: &[u8]) -> Option<&
 /// Whether a statement stands behind a type.
 fn ends_type(text: &[u8], statement: &[Token]) -> bool {
     let head = head_of(text, statement);
-    head == b"type".as_slice() || head == b"entry".as_slice() || head == b"hint".as_slice()
+    head == language::TYPE || head == language::ENTRY || head == language::HINT
 }
 
 /// The first statement with this word at its head within the type at the front, of which the second word is the name, where
@@ -83,7 +82,7 @@ pub fn parameters(of_type: &[Token]) -> &[Token] {
 
 /// What `local` names in the type at the front.
 pub fn locals<'a>(text: &[u8], of_type: &'a [Token]) -> &'a [Token] {
-    match member_named(text, of_type, b"local", None) {
+    match member_named(text, of_type, language::LOCAL, None) {
         Some(statement) => tokens_from(statement, 1),
         None => &[],
     }
@@ -99,5 +98,5 @@ pub fn local_named<'a>(text: &[u8], of_type: &'a [Token], name: &[u8]) -> Option
 
 /// Where a point of the type at the front is defined.
 pub fn point_named<'a>(text: &[u8], of_type: &'a [Token], name: &[u8]) -> Option<&'a Token> {
-    member_named(text, of_type, b"point", Some(name))?.get(1)
+    member_named(text, of_type, language::POINT, Some(name))?.get(1)
 }

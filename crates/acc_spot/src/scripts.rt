@@ -1,11 +1,16 @@
 //! The word of a script's line that is refused.
 use crate::numbers::{is_integer, is_numeral, is_within, value_of};
 use crate::statements::line_spot;
-use acc_base::bounds::{LATEST_ASK, LONGEST_TAPE};
+use acc_base::bounds::{LARGEST_NUMBER, LATEST_ASK, LONGEST_TAPE, MOST_CALLS};
 use acc_base::designs::{Design, TxType};
-use acc_explain::{Spot, push_quoted};
+use acc_explain::{Spot, push_quoted, push_with};
 use acc_page::Page;
 use std::alloc::Global;
+
+/// The word behind which a line's tape stands.
+const TAPE: &[u8] = b"|";
+/// The word behind which stands after how many steps a call is asked to turn.
+const ASK: &[u8] = b"@";
 
 /// A word of a line.
 #[derive(Clone, Copy)]
@@ -65,8 +70,12 @@ fn push_number_fault(spot: &mut Spot, word: LineWord) {
     push_quoted(&mut spot.what, word.bytes);
     if is_integer(word.bytes) {
         spot.what.push(b" is out of range");
-        spot.hint
-            .push(b"numbers are within 35,184,372,088,832 of 0")
+        push_with(
+            &mut spot.hint,
+            b"numbers are within ",
+            LARGEST_NUMBER,
+            b" of 0",
+        )
     } else {
         spot.what.push(b" is no whole number");
         spot.hint.push(
@@ -82,7 +91,7 @@ fn is_value(word: LineWord) -> bool {
 
 /// Whether a word begins a tape or an asked abort.
 fn is_part(word: LineWord) -> bool {
-    word.bytes == b"|".as_slice() || word.bytes == b"@".as_slice()
+    word.bytes == TAPE || word.bytes == ASK
 }
 
 /// Where the parameters end, or what is wrong with them; the spot is said then.
@@ -126,7 +135,7 @@ fn tape_end(spot: &mut Spot, line: &[u8], from: usize) -> Option<usize> {
     for _ in 0..=LONGEST_TAPE {
         match next_word(line, at) {
             Some(word) if is_value(word) => at = end_of(word),
-            Some(word) if word.bytes != b"@".as_slice() => {
+            Some(word) if word.bytes != ASK => {
                 push_number_fault(spot, word);
                 return None;
             }
@@ -134,15 +143,33 @@ fn tape_end(spot: &mut Spot, line: &[u8], from: usize) -> Option<usize> {
         }
     }
     spot.column = from;
-    spot.what.push(b"a tape has at most 4,096 numbers");
+    push_with(
+        &mut spot.what,
+        b"a tape has at most ",
+        LONGEST_TAPE,
+        b" numbers",
+    );
     None
+}
+
+/// Says how many lines a script has.
+fn push_most_calls(spot: &mut Spot) {
+    push_with(
+        &mut spot.what,
+        b"a script has at most ",
+        MOST_CALLS,
+        b" transactions",
+    )
 }
 
 /// Says what is wrong behind the `@` of a line.
 fn push_ask_fault(spot: &mut Spot, line: &[u8], from: usize) {
     spot.column = from;
-    spot.hint.push(
-        b"behind `@` stands one number up to 65,536, the number of steps after which the transaction is asked to turn, and nothing more",
+    push_with(
+        &mut spot.hint,
+        b"behind `@` stands one number up to ",
+        LATEST_ASK,
+        b", the number of steps after which the transaction is asked to turn, and nothing more",
     );
     let Some(word) = next_word(line, from) else {
         return spot.what.push(b"a number is missing behind `@`");
@@ -160,9 +187,7 @@ fn push_ask_fault(spot: &mut Spot, line: &[u8], from: usize) {
             spot.what
                 .push(b" is too much: a line ends behind the number of `@`")
         }
-        None => spot
-            .what
-            .push(b"a script has at most 1,048,576 transactions"),
+        None => push_most_calls(spot),
     }
 }
 
@@ -170,7 +195,7 @@ fn push_ask_fault(spot: &mut Spot, line: &[u8], from: usize) {
 fn push_rest_fault(spot: &mut Spot, line: &[u8], ty: &TxType, from: usize) {
     let mut at = from;
     if let Some(word) = next_word(line, at) {
-        if word.bytes == b"|".as_slice() {
+        if word.bytes == TAPE {
             match tape_end(spot, line, end_of(word)) {
                 Some(end) => at = end,
                 None => return,
@@ -178,16 +203,14 @@ fn push_rest_fault(spot: &mut Spot, line: &[u8], ty: &TxType, from: usize) {
         }
     }
     match next_word(line, at) {
-        Some(word) if word.bytes == b"@".as_slice() => push_ask_fault(spot, line, end_of(word)),
+        Some(word) if word.bytes == ASK => push_ask_fault(spot, line, end_of(word)),
         Some(word) => {
             mark(spot, word);
             push_quoted(&mut spot.what, word.bytes);
             spot.what.push(b" is too much");
             push_form(&mut spot.hint, ty)
         }
-        None => spot
-            .what
-            .push(b"a script has at most 1,048,576 transactions"),
+        None => push_most_calls(spot),
     }
 }
 

@@ -2,21 +2,20 @@
 ghost use Rattle.std.specs.Prelude.{◌<◌, length, IfSome};
 
 use acc_explain::Spot;
-use acc_lex::signs::keyword;
-use acc_lex::{Kind, Token};
+use acc_lex::{Kind, Token, keyword, language};
 use acc_page::Page;
 use std::alloc::Global;
+
+/// Whether a word is one of some words.
+pub fn is_one_of(words: &[&[u8]], word: &[u8]) -> bool {
+    words.iter().any(|other| *other == word)
+}
 
 /// The bytes of a token.
 pub fn bytes_of<'a>(text: &'a [u8], token: &Token) -> &'a [u8] {
     let to = (token.to as usize).min(text.len());
     let from = (token.from as usize).min(to);
     &text[from..to]
-}
-
-/// Whether a token ends a statement.
-fn is_end(token: &Token) -> bool {
-    token.kind == Kind::End
 }
 
 /// The tokens before the first end, and those behind it, if there is one.
@@ -63,9 +62,9 @@ fn type_at<'a>(
     rest: &'a [Token],
 ) -> &'a [Token] {
     let head = head_of(text, statement);
-    if head == b"type".as_slice() {
+    if head == language::TYPE {
         rest
-    } else if head == b"entry".as_slice() || head == b"hint".as_slice() {
+    } else if head == language::ENTRY || head == language::HINT {
         &[]
     } else {
         of_type

@@ -10,10 +10,12 @@ use Rattle.acc_rows.specs.declared.stops.Stop.{Stop}
 use Rattle.acc_rows.specs.declared.stops.Stop.TheVariants.{Refuted, Many}
 use Rattle.acc_rows.specs.declared.rows.Row.{Row}
 use Rattle.acc_systems.specs.declared.systems.Replaced.{Replaced}
-use Rattle.acc_rows.specs.Answers.{Computation, chain, steps}
+use Rattle.acc_base.specs.Computing.{chain, steps}
+use Rattle.acc_rows.specs.Answers.{Computation}
 use Rattle.acc_rows.specs.Rows.{has, cleared, cleared_by}
 use Rattle.acc_rows.specs.Sparse.{at}
-use Rattle.acc_systems.specs.Systems.{MOST, is_false, repeats, is_constant, is_without, admitted, taken, replaced}
+use Rattle.acc_systems.specs.declared.systems.TheConstants.{MOST_RELATIONS}
+use Rattle.acc_systems.specs.Systems.{is_false, repeats, is_constant, is_without, admitted, taken, replaced}
 use Rattle.acc_systems.specs.Repetitions.{GrowTogether, TellBehind, StillBehind}
 use Rattle.acc_systems.proofs.Apart.{told_stayed, told_grown}
 use Rattle.acc_systems.proofs.Apart.{ok_chain}
@@ -23,7 +25,7 @@ use Rattle.acc_stages.specs.declared.stages.Step.{Step}
 use Rattle.acc_stages.specs.declared.stages.Stage.{Stage}
 use Rattle.acc_stages.specs.declared.carrying.Note.{Note}
 use Rattle.acc_stages.specs.Followed.{listed, left_of, left_first, told, followed_at}
-use Rattle.acc_stages.specs.Stages.{form, reduced, first_stage, with_left, with_aside, FollowsBy, IsStage}
+use Rattle.acc_stages.specs.Stages.{row_form, reduced, first_stage, with_left, with_aside, FollowsBy, IsStage}
 use Rattle.acc_stages.specs.Carried.{has_unknown, note_of, count_with, noted, noted_once, all_noted, Noticed, noticed_at, noticed}
 use Rattle.acc_stages.specs.Carried.{stage_with}
 use Rattle.acc_stages.proofs.Lefts.{admitted_left, left_same, left_untold, at_same, step_left, step_tells}
@@ -46,23 +48,23 @@ before (Err d) next y e = absurd (cc)
 -- ---- what the system behind a step has of a relation that is left there
 
 -- one that is left doesn't make the system too large
-room : (a : Bool) (n : ℕ) (r : Row) → IfOk (left_of a n r) (λ o. IfSome o (λ m. (m ≡ r) × (nat_lt n MOST ≡ true)))
-room a n r = by (is_constant r) (is_false r) a (nat_le MOST n) refl
+room : (a : Bool) (n : ℕ) (r : Row) → IfOk (left_of a n r) (λ o. IfSome o (λ m. (m ≡ r) × (nat_lt n MOST_RELATIONS ≡ true)))
+room a n r = by (is_constant r) (is_false r) a (nat_le MOST_RELATIONS n) refl
   where
-    by : (b c d e : Bool) → nat_le MOST n ≡ e
+    by : (b c d e : Bool) → nat_le MOST_RELATIONS n ≡ e
         → IfOk {T = Option Row} {E = Stop}
         (if b then (if c then Err (Refuted r) else Ok None) else (if d then Ok None else (if e then Err Many else Ok (Some r))))
-        (λ o. IfSome o (λ m. (m ≡ r) × (nat_lt n MOST ≡ true)))
+        (λ o. IfSome o (λ m. (m ≡ r) × (nat_lt n MOST_RELATIONS ≡ true)))
     by true true d e h = tt
     by true false d e h = tt
     by false c true e h = tt
     by false c false true h = tt
     by false c false false h = (refl, grind (arith, nat_tests, h))
 
-left_is : (a : Bool) (n : ℕ) (r m : Row) → left_of a n r ≡ Ok (Some m) → (m ≡ r) × (nat_lt n MOST ≡ true)
-left_is a n r m e = subst (λ o. IfOk o (λ o. IfSome o (λ m. (m ≡ r) × (nat_lt n MOST ≡ true)))) e (room a n r)
+left_is : (a : Bool) (n : ℕ) (r m : Row) → left_of a n r ≡ Ok (Some m) → (m ≡ r) × (nat_lt n MOST_RELATIONS ≡ true)
+left_is a n r m e = subst (λ o. IfOk o (λ o. IfSome o (λ m. (m ≡ r) × (nat_lt n MOST_RELATIONS ≡ true)))) e (room a n r)
 
-count_left : (rows : List Row) (m : Row) → nat_lt (length rows) MOST ≡ true
+count_left : (rows : List Row) (m : Row) → nat_lt (length rows) MOST_RELATIONS ≡ true
     → count_with true (length rows) ≡ length (rows ++ m ∷ [])
 count_left rows m h =
     ap (λ b. if b then suc (length rows) else length rows) h ∙ (let l = length-append rows (m ∷ []) in omega (arith, l))
@@ -132,8 +134,8 @@ module _ (first : List Row) (earlier : List Step) (u : ℕ) (e : Row) (rows othe
       (subst (λ made. GrowTogether system.made system.rows made (system.rows ++ [])) (sym (append-nil system.made))
       (told_stayed system.made system.rows (system.rows ++ []) (append-nil system.rows)))
   goes q m (Some x) there left =
-      made_behind u system.made system.rows (system.made ++ form x ∷ []) (system.rows ++ x ∷ []) q there
-      (told_grown system.made system.rows (system.made ++ form x ∷ []) (system.rows ++ x ∷ []) x refl refl)
+      made_behind u system.made system.rows (system.made ++ row_form x ∷ []) (system.rows ++ x ∷ []) q there
+      (told_grown system.made system.rows (system.made ++ row_form x ∷ []) (system.rows ++ x ∷ []) x refl refl)
 
   still_by : (q m : Row) (p : Option Row) (b : Bool) → has u q ≡ b
       → (if b then cleared_by (at u e.terms) e (at u q.terms) q else Ok q) ≡ Ok m
@@ -189,10 +191,10 @@ left_equal first ss t o x equal e f =
 
 -- ---- all steps
 
-forms_with : (system : List Row) (o : Option Row) → map form system ++ listed (note_of true o).made ≡ map form (system ++ listed o)
+forms_with : (system : List Row) (o : Option Row) → map row_form system ++ listed (note_of true o).made ≡ map row_form (system ++ listed o)
 forms_with [] None = refl
 forms_with [] (Some r) = refl
-forms_with (r ∷ rows) o = ap (λ rs. form r ∷ rs) (forms_with rows o)
+forms_with (r ∷ rows) o = ap (λ rs. row_form r ∷ rs) (forms_with rows o)
 
 module _ (rows : List Row) (t : Row) (equal : t.equal ≡ false) where
   -- what is carried along of a stage
@@ -207,7 +209,7 @@ module _ (rows : List Row) (t : Row) (equal : t.equal ≡ false) where
         ∙ (ap (λ c. chain c (λ o. Ok (system ++ listed o))) left ∙ ap (λ o. Ok (system ++ listed o)) (ap (λ y. y.1) same));
     stage = λ i. record {
       path = record {
-        first = (forms_with system o ∙ ap (λ y. map form (system ++ listed y.1)) same) i;
+        first = (forms_with system o ∙ ap (λ y. map row_form (system ++ listed y.1)) same) i;
         steps = [];
       };
       rows = system ++ listed x.1;

@@ -7,28 +7,30 @@ use Rattle.std.proofs.lemmas.List.{reverse-append, length-map}
 use Rattle.acc_rows.specs.declared.rows.Row.{Row}
 use Rattle.acc_systems.specs.declared.systems.Reduced.{Reduced}
 use Rattle.acc_systems.specs.declared.systems.Replaced.{Replaced}
-use Rattle.acc_rows.specs.Answers.{Computation, chain, steps}
-use Rattle.acc_systems.specs.Systems.{repeats, is_constant, admitted, taken, replaced, whole, set_aside, counted}
+use Rattle.acc_base.specs.Computing.{chain, steps}
+use Rattle.acc_rows.specs.Answers.{Computation}
+use Rattle.acc_base.specs.Items.{numbers_from}
+use Rattle.acc_systems.specs.Systems.{repeats, is_constant, admitted, taken, replaced, whole, set_aside}
 use Rattle.acc_systems.specs.Repetitions.{AreApart, TellBehind}
 use Rattle.acc_systems.proofs.Apart.{system_apart, aside_apart}
 use Rattle.acc_rows.proofs.Chains.{steps_append}
 use Rattle.acc_stages.specs.declared.stages.Step.{Step}
 use Rattle.acc_stages.specs.declared.stages.Stage.{Stage}
 use Rattle.acc_stages.specs.Followed.{listed, left_first, told, followed_at, followed, through}
-use Rattle.acc_stages.specs.Stages.{form, begun, aside_of, reduced, with_last, first_stage, with_left, with_aside, FollowsBy, IsStage}
+use Rattle.acc_stages.specs.Stages.{row_form, begun, aside_of, reduced, with_last, first_stage, with_left, with_aside, FollowsBy, IsStage}
 use Rattle.acc_stages.proofs.Lefts.{chain_ok, admitted_left, left_same, taken_with, listed_not_taken, step_tells, step_left}
 use Rattle.acc_stages.proofs.Lefts.{one_more, through_same}
 
 -- ---- one unknown more
 
-pub counted_push : (n i : ℕ) → counted i (suc n) ≡ counted i n ++ (i + n) ∷ []
-counted_push zero i = let e : i ≡ i + zero = omega arith in ap (λ (j : ℕ). j ∷ []) e
-counted_push (suc n) i =
-    let e : suc i + n ≡ i + suc n = omega arith in
-    ap (λ us. i ∷ us) (counted_push n (suc i) ∙ ap (λ j. counted (suc i) n ++ j ∷ []) e)
+pub numbers_push : (n i : ℕ) → numbers_from i (suc n) ≡ numbers_from i n ++ (i + n) ∷ []
+numbers_push zero i = let e : i ≡ i + zero = omega arith in ap (λ (j : ℕ). j ∷ []) e
+numbers_push (suc n) i =
+    let e : (i + 1) + n ≡ i + suc n = omega arith in
+    ap (λ us. i ∷ us) (numbers_push n (i + 1) ∙ ap (λ j. numbers_from (i + 1) n ++ j ∷ []) e)
 
-counted_next : (n : ℕ) → counted 0 (suc n) ≡ counted 0 n ++ n ∷ []
-counted_next n = let e : 0 + n ≡ n = omega arith in counted_push n 0 ∙ ap (λ j. counted 0 n ++ j ∷ []) e
+numbers_next : (n : ℕ) → numbers_from 0 (suc n) ≡ numbers_from 0 n ++ n ∷ []
+numbers_next n = let e : 0 + n ≡ n = omega arith in numbers_push n 0 ∙ ap (λ j. numbers_from 0 n ++ j ∷ []) e
 
 module _ (rows : List Row) (more : List ℕ) (us : List ℕ) where
   pub begun_append : chain (steps admitted [] rows) (λ system. steps set_aside (whole system) (us ++ more))
@@ -42,8 +44,8 @@ module _ (rows : List Row) (more : List ℕ) (us : List ℕ) where
 
 pub begun_next : (rows : List Row) (n : ℕ) → begun rows (suc n) ≡ chain (begun rows n) (λ s. set_aside s n)
 begun_next rows n =
-    ap (λ us. chain (steps admitted [] rows) (λ system. steps set_aside (whole system) us)) (counted_next n)
-    ∙ (begun_append rows (n ∷ []) (counted 0 n) ∙ by (begun rows n))
+    ap (λ us. chain (steps admitted [] rows) (λ system. steps set_aside (whole system) us)) (numbers_next n)
+    ∙ (begun_append rows (n ∷ []) (numbers_from 0 n) ∙ by (begun rows n))
   where
     by : (o : Computation Reduced) → chain o (λ s. steps set_aside s (n ∷ [])) ≡ chain o (λ s. set_aside s n)
     by (Ok s) = chain_ok (set_aside s n)
@@ -184,21 +186,21 @@ module _ (g : Stage) (u : ℕ) (e : Row) (others : List Row) (system : Replaced)
 
 -- ---- the first system
 
-forms_any : (p : Row → Bool) → ((r : Row) → p (form r) ≡ p r) → (rows : List Row) → list_any p (map form rows) ≡ list_any p rows
+forms_any : (p : Row → Bool) → ((r : Row) → p (row_form r) ≡ p r) → (rows : List Row) → list_any p (map row_form rows) ≡ list_any p rows
 forms_any p h [] = refl
 forms_any p h (r ∷ rows) = λ i. h r i || forms_any p h rows i
 
-pub forms_tell : (r : Row) (rows : List Row) → list_any (repeats r) (map form rows) ≡ list_any (repeats r) rows
+pub forms_tell : (r : Row) (rows : List Row) → list_any (repeats r) (map row_form rows) ≡ list_any (repeats r) rows
 forms_tell r rows = forms_any (repeats r) (λ k. refl) rows
 
 -- one more relation of the first system
 pub first_more : (rows system : List Row) (t : Row) → steps admitted [] rows ≡ Ok system
-    → steps admitted [] (rows ++ t ∷ []) ≡ chain (left_first (map form system) t) (λ o. Ok (system ++ listed o))
+    → steps admitted [] (rows ++ t ∷ []) ≡ chain (left_first (map row_form system) t) (λ o. Ok (system ++ listed o))
 first_more rows system t e =
     steps_append admitted rows (t ∷ []) []
     ∙ (ap (λ o. chain o (λ s. steps admitted s (t ∷ []))) e ∙ (chain_ok (admitted system t) ∙ (admitted_left system t
     ∙ ap (λ o. chain o (λ o. Ok (system ++ listed o)))
-    (left_same _ _ _ _ t (λ some. sym (forms_tell t system)) (sym (length-map system form))))))
+    (left_same _ _ _ _ t (λ some. sym (forms_tell t system)) (sym (length-map system row_form))))))
 
 first_laws : (rows system : List Row) → steps admitted [] rows ≡ Ok system → Laws rows 0 (first_stage system)
 first_laws rows system e =
@@ -207,7 +209,7 @@ first_laws rows system e =
       apart = system_apart rows system e;
       tells = λ r some. forms_tell r system;
       after = λ t equal.
-          ap (λ o. chain o (λ system. Ok (whole system))) (first_more rows system t e) ∙ by (left_first (map form system) t);
+          ap (λ o. chain o (λ system. Ok (whole system))) (first_more rows system t e) ∙ by (left_first (map row_form system) t);
     }
   where
     by : (c : Computation (Option Row)) → chain (chain c (λ o. Ok (system ++ listed o))) (λ system. Ok (whole system))

@@ -10,11 +10,13 @@ use Rattle.acc_rows.specs.declared.stops.Stop.{Stop}
 use Rattle.acc_rows.specs.declared.stops.Stop.TheVariants.{Refuted, Many}
 use Rattle.acc_rows.specs.declared.rows.Row.{Row}
 use Rattle.acc_systems.specs.declared.systems.Replaced.{Replaced}
-use Rattle.acc_rows.specs.Answers.{Computation, Answers, chain, steps}
+use Rattle.acc_base.specs.Computing.{Answers, chain, steps}
+use Rattle.acc_rows.specs.Answers.{tells, Computation}
 use Rattle.acc_rows.specs.Sparse.{at, mixture, mixed}
 use Rattle.acc_rows.specs.Numbers.{size}
-use Rattle.acc_rows.specs.Rows.{divided, divisor_of, lowest, has, turned, cleared_by, cleared}
-use Rattle.acc_systems.specs.Systems.{MOST, is_false, repeats, is_constant, is_without, is_equation_with, taken, admitted, replaced}
+use Rattle.acc_rows.specs.Rows.{divided, divisor_of, lowest, has, cancelling, cleared_by, cleared}
+use Rattle.acc_systems.specs.declared.systems.TheConstants.{MOST_RELATIONS}
+use Rattle.acc_systems.specs.Systems.{is_false, repeats, is_constant, is_without, is_equation_with, taken, admitted, replaced}
 use Rattle.acc_systems.specs.Repetitions.{TellBehind}
 use Rattle.acc_systems.proofs.Apart.{any_ok, ok_chain, ok_steps}
 use Rattle.acc_systems.proofs.Behind.{has_as}
@@ -31,7 +33,7 @@ chain_ok (Err e) = refl
 
 pub admitted_left : (rows : List Row) (r : Row)
     → admitted rows r ≡ chain (left_of (list_any (repeats r) rows) (length rows) r) (λ o. Ok (rows ++ listed o))
-admitted_left rows r = by (is_constant r) (is_false r) (list_any (repeats r) rows) (nat_le MOST (length rows))
+admitted_left rows r = by (is_constant r) (is_false r) (list_any (repeats r) rows) (nat_le MOST_RELATIONS (length rows))
   where
     by : (b c d e : Bool) → (if b then (if c then Err (Refuted r) else Ok rows)
         else (if d then Ok rows else (if e then Err Many else Ok (rows ++ r ∷ []))))
@@ -48,15 +50,15 @@ left_same a b m n r same count = by (is_constant r) refl
   where
     by : (c : Bool) → is_constant r ≡ c
         → (if c then (if is_false r then Err (Refuted r) else Ok None)
-        else (if a then Ok None else (if nat_le MOST m then Err Many else Ok (Some r))))
+        else (if a then Ok None else (if nat_le MOST_RELATIONS m then Err Many else Ok (Some r))))
         ≡ (if c then (if is_false r then Err (Refuted r) else Ok None)
-        else (if b then Ok None else (if nat_le MOST n then Err Many else Ok (Some r))))
+        else (if b then Ok None else (if nat_le MOST_RELATIONS n then Err Many else Ok (Some r))))
     by true e = refl
-    by false e = λ i. if same e i then Ok None else (if nat_le MOST (count i) then Err Many else Ok (Some r))
+    by false e = λ i. if same e i then Ok None else (if nat_le MOST_RELATIONS (count i) then Err Many else Ok (Some r))
 
 -- what is left doesn't repeat one
 pub left_untold : (a : Bool) (n : ℕ) (r : Row) (P : Row → Type 0) → (a ≡ false → P r) → IfOk (left_of a n r) (λ o. IfSome o P)
-left_untold a n r P h = by (is_constant r) (is_false r) a (nat_le MOST n) h
+left_untold a n r P h = by (is_constant r) (is_false r) a (nat_le MOST_RELATIONS n) h
   where
     by : (b c d e : Bool) → (d ≡ false → P r)
         → IfOk {T = Option Row} {E = Stop}
@@ -221,7 +223,8 @@ module _ (equal : Bool) where
       by false = h
       by true =
           ok_chain (size (at u e.terms)) _ (λ _. Unit {0}) Same (any_ok (size (at u e.terms))) (λ p _.
-          ok_chain (turned (at u e.terms) (at u r.terms)) _ (λ _. Unit {0}) Same (any_ok (turned (at u e.terms) (at u r.terms))) (λ q _.
+          ok_chain (cancelling (at u e.terms) (at u r.terms)) _ (λ _. Unit {0}) Same
+          (any_ok (cancelling (at u e.terms) (at u r.terms))) (λ q _.
           ok_chain (mixed p q r.terms e.terms) _ (λ _. Unit {0}) Same (any_ok (mixed p q r.terms e.terms)) (λ terms _.
           ok_chain (mixture p r.constant q e.constant) _ (λ _. Unit {0}) Same (any_ok (mixture p r.constant q e.constant)) (λ constant _.
           ok_chain (mixed p q r.by e.by) _ (λ _. Unit {0}) Same (any_ok (mixed p q r.by e.by)) (λ by _.
@@ -256,7 +259,7 @@ at_untold first earlier s (Some r) =
     (λ m _. left_untold (told first (s ∷ earlier) m) s.count m (λ m. told first (s ∷ earlier) m ≡ false) (λ e. e))
 
 pub answers_untold : (first : List Row) (earlier : List Step) (s : Step) (o : Option Row) (r : Result (Option Row) Stop)
-    → Answers r (followed_at first earlier s o) → IfOk r (λ o. IfSome o (λ m. told first (s ∷ earlier) m ≡ false))
+    → Answers tells r (followed_at first earlier s o) → IfOk r (λ o. IfSome o (λ m. told first (s ∷ earlier) m ≡ false))
 answers_untold first earlier s o (Ok p) h =
     subst (λ c. IfOk c (λ o. IfSome o (λ m. told first (s ∷ earlier) m ≡ false))) h (at_untold first earlier s o)
 answers_untold first earlier s o (Err e) h = tt

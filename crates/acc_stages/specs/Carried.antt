@@ -1,16 +1,20 @@
 -- A relation that is carried along behind others: what the path of their stage notes of it.
+-- For instance: the path is that of x - y = 0 and x - 3 <= 0, whose one step sets the equation aside for x. The relation 2 - x <= 0 is
+-- left in the first system; the step changes it, so its note is that it made 2 - y <= 0, which is left. The path with it has 2 - x <= 0
+-- behind its first system's relations, 2 - y <= 0 behind those that its step made, and one relation more in that step's count.
 use Rattle.std.specs.Prelude.{◌≡◌, ℕ, suc, nat_lt, Bool, true, false, ◌&&◌, if◌then◌else◌, List, [], ◌∷◌, ◌++◌, reverse}
 use Rattle.std.specs.Prelude.{Option, Some, None, Ok}
 use Rattle.acc_rows.specs.declared.rows.Row.{Row}
-use Rattle.acc_rows.specs.Answers.{Computation, chain}
+use Rattle.acc_base.specs.Computing.{chain}
+use Rattle.acc_rows.specs.Answers.{Computation}
 use Rattle.acc_rows.specs.Rows.{has}
-use Rattle.acc_systems.specs.Systems.{MOST}
+use Rattle.acc_systems.specs.declared.systems.TheConstants.{MOST_RELATIONS}
 use Rattle.acc_stages.specs.declared.stages.Step.{Step}
 use Rattle.acc_stages.specs.declared.stages.Path.{Path}
 use Rattle.acc_stages.specs.declared.stages.Stage.{Stage}
 use Rattle.acc_stages.specs.declared.carrying.Note.{Note}
 use Rattle.acc_stages.specs.Followed.{listed, left_first, followed_at}
-use Rattle.acc_stages.specs.Stages.{form}
+use Rattle.acc_stages.specs.Stages.{row_form}
 
 abbrev pub has_unknown : ℕ → Option Row → Bool
 has_unknown u None = false
@@ -19,11 +23,11 @@ has_unknown u (Some r) = has u r
 -- what a step notes of what is left of a relation there, where it is known whether the step changed it
 abbrev pub note_of : Bool → Option Row → Note
 note_of is_changed None = record { made = None; is_left = false }
-note_of is_changed (Some m) = record { made = if is_changed then Some (form m) else None; is_left = true }
+note_of is_changed (Some m) = record { made = if is_changed then Some (row_form m) else None; is_left = true }
 
 -- how many relations a system has with one more, where one is left
 abbrev pub count_with : Bool → ℕ → ℕ
-count_with is_left count = if is_left && nat_lt count MOST then suc count else count
+count_with is_left count = if is_left && nat_lt count MOST_RELATIONS then suc count else count
 
 abbrev pub noted : Step → Note → Step
 noted s n = record { aside = s.aside; made = s.made ++ listed n.made; count = count_with n.is_left s.count }

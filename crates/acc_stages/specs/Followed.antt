@@ -1,11 +1,16 @@
 -- What is left of a relation that comes behind others, in their stage of equations.
+-- For instance: the first system is x - y = 0 and x - 3 <= 0, and its one step sets the equation aside for x, which makes y - 3 <= 0. Of
+-- one more relation, 2 - x <= 0, all is left in the first system, since it repeats none there; the step takes x out of it, so 2 - y <= 0
+-- is left behind the steps. Of x - 3 <= 0 once more nothing is left: it repeats one of the first system.
 use Rattle.std.specs.Prelude.{ℕ, nat_le, Bool, ◌&&◌, ◌||◌, if◌then◌else◌, List, [], ◌∷◌, length, Option, Some, None, Ok, Err}
 use Rattle.std.specs.List.{list_any}
 use Rattle.acc_rows.specs.declared.stops.Stop.TheVariants.{Refuted, Many}
 use Rattle.acc_rows.specs.declared.rows.Row.{Row}
-use Rattle.acc_rows.specs.Answers.{Computation, chain, steps}
+use Rattle.acc_base.specs.Computing.{chain, steps}
+use Rattle.acc_rows.specs.Answers.{Computation}
 use Rattle.acc_rows.specs.Rows.{cleared}
-use Rattle.acc_systems.specs.Systems.{MOST, is_false, repeats, is_constant, is_without}
+use Rattle.acc_systems.specs.declared.systems.TheConstants.{MOST_RELATIONS}
+use Rattle.acc_systems.specs.Systems.{is_false, repeats, is_constant, is_without}
 use Rattle.acc_stages.specs.declared.stages.Step.{Step}
 use Rattle.acc_stages.specs.declared.stages.Path.{Path}
 
@@ -17,7 +22,7 @@ listed (Some r) = r ∷ []
 abbrev pub left_of : Bool → ℕ → Row → Computation (Option Row)
 left_of is_repeated count r =
     if is_constant r then (if is_false r then Err (Refuted r) else Ok None)
-    else (if is_repeated then Ok None else (if nat_le MOST count then Err Many else Ok (Some r)))
+    else (if is_repeated then Ok None else (if nat_le MOST_RELATIONS count then Err Many else Ok (Some r)))
 
 -- whether a relation repeats one of the system behind steps, of which the last comes first: it repeats one that was made there, or
 -- lacks the unknown and repeats one of the system before

@@ -3,20 +3,22 @@ use Rattle.std.specs.Prelude.{◌≡◌, ℕ, zero, suc, List, [], ◌∷◌, �
 use Rattle.acc_rows.specs.declared.rows.Row.{Row}
 use Rattle.acc_systems.specs.declared.systems.Reduced.{Reduced}
 use Rattle.acc_systems.specs.declared.systems.Replaced.{Replaced}
-use Rattle.acc_rows.specs.Answers.{Computation, chain, steps}
-use Rattle.acc_systems.specs.Systems.{admitted, taken, replaced, whole, set_aside, counted}
+use Rattle.acc_base.specs.Computing.{chain, steps}
+use Rattle.acc_rows.specs.Answers.{Computation}
+use Rattle.acc_base.specs.Items.{numbers_from}
+use Rattle.acc_systems.specs.Systems.{admitted, taken, replaced, whole, set_aside}
 use Rattle.acc_systems.specs.Repetitions.{TellBehind}
 use Rattle.acc_stages.specs.declared.stages.Step.{Step}
 use Rattle.acc_stages.specs.declared.stages.Stage.{Stage}
 use Rattle.acc_stages.specs.Followed.{listed}
 
--- a relation without its multipliers
-abbrev pub form : Row → Row
-form r = record r { by = [] }
+-- a relation without its multipliers: its form, and whether it is an equation
+abbrev pub row_form : Row → Row
+row_form r = record r { by = [] }
 
 -- the stage of equations of the first unknowns
 abbrev pub begun : List Row → ℕ → Computation Reduced
-begun rows unknowns = chain (steps admitted [] rows) (λ system. steps set_aside (whole system) (counted 0 unknowns))
+begun rows unknowns = chain (steps admitted [] rows) (λ system. steps set_aside (whole system) (numbers_from 0 unknowns))
 
 abbrev pub aside_of : List Step → List (ℕ × Row)
 aside_of ss = map (λ s. s.aside) ss
@@ -30,7 +32,7 @@ with_last s o = record { rows = s.rows ++ listed o; aside = s.aside; left = s.le
 
 -- the stage before its first step
 abbrev pub first_stage : List Row → Stage
-first_stage system = record { path = record { first = map form system; steps = [] }; rows = system; left = [] }
+first_stage system = record { path = record { first = map row_form system; steps = [] }; rows = system; left = [] }
 
 -- an unknown is left
 abbrev pub with_left : Stage → ℕ → Stage

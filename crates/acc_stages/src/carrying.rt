@@ -11,7 +11,7 @@ use crate::stages::{Path, Step};
 use acc_base::sequences::Seq;
 use acc_rows::rows::Row;
 use acc_rows::stops::Stop;
-use acc_systems::systems::{MOST, form_of};
+use acc_systems::systems::{MOST_RELATIONS, form_of};
 use std::alloc::{AllocError, Global};
 use std::mem;
 
@@ -103,11 +103,11 @@ fn trail_of(alloc: Global, path: &Path, rest: Option<Row>) -> Result<Trail, Stop
     Ok(Trail { notes, left })
 }
 
-/// How many relations a system has with one more, where one is left. It never has more than `MOST`.
+/// How many relations a system has with one more, where one is left. It never has more than `MOST_RELATIONS`.
 fn count_with(is_left: bool, count: usize) -> usize
     ensures { result ≡ count_with is_left count }
 {
-    if is_left && count < MOST {
+    if is_left && count < MOST_RELATIONS {
         count + 1
     } else {
         count

@@ -1,7 +1,8 @@
 //! What is left of one more relation in a stage of equations that is kept.
 ghost use Rattle.std.specs.Prelude.{◌≡◌, ◌∷◌, ◌++◌, false, reverse, Some, IfOk, IfSome, OnOk};
 ghost use Rattle.std.specs.List.{list_any};
-ghost use Rattle.acc_rows.specs.Answers.{Answers};
+ghost use Rattle.acc_base.specs.Computing.{Answers};
+ghost use Rattle.acc_rows.specs.Answers.{tells};
 ghost use Rattle.acc_systems.specs.Systems.{repeats};
 ghost use Rattle.acc_stages.specs.Followed.{left_of, left_first, listed, told, followed_at, followed_all, through};
 
@@ -9,12 +10,12 @@ use crate::stages::{Path, Step};
 use acc_base::sequences::Seq;
 use acc_rows::rows::{Row, cleared};
 use acc_rows::stops::Stop;
-use acc_systems::systems::{MOST, is_constant, is_false, is_repetition};
+use acc_systems::systems::{MOST_RELATIONS, is_constant, is_false, is_repetition};
 use std::alloc::{AllocError, Global};
 
 /// What is left of one more relation of a system of `count`, where it is known whether it repeats one.
 fn left_of(row: Row, is_repeated: bool, count: usize) -> Result<Option<Row>, Stop>
-    ensures { Answers result (left_of is_repeated count row) }
+    ensures { Answers tells result (left_of is_repeated count row) }
 {
     if is_constant(&row) {
         if is_false(&row) {
@@ -25,7 +26,7 @@ fn left_of(row: Row, is_repeated: bool, count: usize) -> Result<Option<Row>, Sto
     if is_repeated {
         return Ok(None);
     }
-    if count >= MOST {
+    if count >= MOST_RELATIONS {
         return Err(Stop::Many);
     }
     Ok(Some(row))
@@ -70,7 +71,7 @@ fn follow_row(
     row: Row,
 ) -> Result<Option<Row>, Stop>
     requires { told first.now (reverse earlier.now) row ≡ false }
-    ensures { Answers result (followed_at first.now (reverse earlier.now) step.now (Some row)) }
+    ensures { Answers tells result (followed_at first.now (reverse earlier.now) step.now (Some row)) }
 {
     if !row.has(step.aside.0) {
         let is_repeated = is_repetition(step.made.as_slice(), &row);
@@ -90,7 +91,7 @@ pub fn follow_step(
     rest: Option<Row>,
 ) -> Result<Option<Row>, Stop>
     requires { IfSome rest (λ row. told first.now (reverse earlier.now) row ≡ false) }
-    ensures value { Answers result (followed_at first.now (reverse earlier.now) step.now rest) }
+    ensures value { Answers tells result (followed_at first.now (reverse earlier.now) step.now rest) }
     ensures untold { IfOk result (λ left. IfSome left (λ row. told first.now (step.now ∷ reverse earlier.now) row ≡ false)) }
 {
     match rest {
@@ -101,7 +102,7 @@ pub fn follow_step(
 
 /// What is left of one more relation of the first system.
 pub fn left_first(first: &[Row], row: Row) -> Result<Option<Row>, Stop>
-    ensures value { Answers result (left_first first.now row) }
+    ensures value { Answers tells result (left_first first.now row) }
     ensures untold { IfOk result (λ rest. IfSome rest (λ r. list_any (repeats r) first.now ≡ false)) }
 {
     let is_repeated = is_repetition(first, &row);
@@ -111,7 +112,7 @@ pub fn left_first(first: &[Row], row: Row) -> Result<Option<Row>, Stop>
 /// What is left behind all steps.
 fn follow_all(alloc: Global, path: &Path, rest: Option<Row>) -> Result<Option<Row>, Stop>
     requires { IfSome rest (λ row. list_any (repeats row) path.now.first ≡ false) }
-    ensures { Answers result (followed_all path.now rest) }
+    ensures { Answers tells result (followed_all path.now rest) }
 {
     let first = path.first.as_slice();
     let steps = path.steps.as_slice();
@@ -124,7 +125,7 @@ fn follow_all(alloc: Global, path: &Path, rest: Option<Row>) -> Result<Option<Ro
 
 /// What is left of one more relation behind the path, or what stops it. An equation isn't led through rightly: it may be set aside.
 pub fn follow(alloc: Global, path: &Path, row: Row) -> Result<Option<Row>, Stop>
-    ensures { Answers result (through path.now row) }
+    ensures { Answers tells result (through path.now row) }
 {
     let rest = left_first(path.first.as_slice(), row)?;
     follow_all(alloc, path, rest)

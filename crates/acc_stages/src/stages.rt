@@ -1,9 +1,10 @@
 //! The stage of equations of a system, kept so that one more relation can be led through it.
 ghost use Rattle.std.specs.Prelude.{◌≡◌, map, IfOk, IfErr, OnOk, OnErr, [], ◌∷◌, ◌++◌};
-ghost use Rattle.acc_rows.specs.Answers.{StoppedBy, steps};
+ghost use Rattle.acc_base.specs.Computing.{steps};
+ghost use Rattle.acc_rows.specs.Answers.{StoppedBy};
 ghost use Rattle.acc_systems.specs.Repetitions.{AreApart};
 ghost use Rattle.acc_systems.specs.Systems.{admitted, replaced, set_aside};
-ghost use Rattle.acc_stages.specs.Stages.{form, reduced, IsFirst, SetsAside, Follows};
+ghost use Rattle.acc_stages.specs.Stages.{row_form, reduced, IsFirst, SetsAside, Follows};
 
 use acc_base::sequences::Seq;
 use acc_rows::rows::Row;
@@ -38,7 +39,7 @@ pub struct Stage {
 
 /// Relations without their multipliers.
 fn forms_of(alloc: Global, rows: &[Row]) -> Result<Seq<Row>, AllocError>
-    ensures { IfOk result (λ forms. forms ≡ map form rows.now) }
+    ensures { IfOk result (λ forms. forms ≡ map row_form rows.now) }
 {
     let mut forms = Seq::new(alloc);
     for row in rows {

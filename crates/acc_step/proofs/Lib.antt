@@ -9,5 +9,5 @@ pub mod ActionSteps
 pub mod ColumnChanges
 pub mod RowWalks
 pub mod NearColumns
-pub mod Leaves
+pub mod StepLeaves
 pub mod Alike

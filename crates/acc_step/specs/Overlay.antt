@@ -2,6 +2,7 @@
 use Rattle.std.specs.Prelude.{◌≤◌, ℕ, Bool, true, List, [], ◌∷◌, ◌++◌, length, Option, Some, None, IfSome, find, if◌then◌else◌, ℤ, pos}
 use Rattle.std.specs.Prelude.{◌+ℤ◌, slice_set, slice_index_or}
 use Rattle.std.specs.Ordering.{is_eq}
+use Rattle.acc_base.specs.declared.bounds.TheConstants.{MOST_COLUMNS}
 use Rattle.acc_base.specs.declared.tables.Row.{Row}
 use Rattle.acc_base.specs.declared.designs.Side.{Side}
 use Rattle.acc_base.specs.declared.designs.Side.TheVariants.{Next, Undo}
@@ -26,7 +27,7 @@ columns_after p (w ∷ ws) old = columns_after p ws (columns_step p w old)
 
 -- the columns of a row, if there is one, are at most 12
 abbrev pub AreFew : Option (List ℤ) → Type 0
-AreFew cols = IfSome cols (λ c. length c ≤ 12)
+AreFew cols = IfSome cols (λ c. length c ≤ MOST_COLUMNS)
 
 -- ---- the writes of changes
 

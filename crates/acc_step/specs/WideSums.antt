@@ -1,10 +1,11 @@
 -- Sums that may leave 128 bits.
 use Rattle.std.specs.Prelude.{◌≡◌, ◌^◌, ◌⊎◌, ℤ, pos, negsuc, ◌+ℤ◌, ◌*ℤ◌, ◌<ℤ◌}
+use Rattle.acc_base.specs.declared.bounds.TheConstants.{LARGEST_SUM}
 use Rattle.acc_step.specs.declared.wide_sums.WideSum.{WideSum}
 
 -- the number that a sum stands for
 abbrev pub amount : WideSum → ℤ
-amount s = pos (2 ^ 120) *ℤ s.carries +ℤ s.rest
+amount s = pos LARGEST_SUM *ℤ s.carries +ℤ s.rest
 
 -- both numbers lie above 2^46, or both below -2^46
 abbrev pub AreFarAlike : ℤ → ℤ → Type 0

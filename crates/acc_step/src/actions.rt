@@ -12,6 +12,7 @@ use crate::changes::evaluated;
 use crate::errors::StepError;
 use crate::variables::Variables;
 use crate::writers::make_change;
+use acc_base::bounds::{LARGEST_SUM, MOST_ACTIONS};
 use acc_base::designs::Side;
 use acc_base::steps::Action;
 use acc_store::{Store, Write};
@@ -52,9 +53,9 @@ pub fn act_all<S: Store>(
     variables: &Variables,
 ) -> Result<Vec<Write>, StepError>
     requires can { All CanAct actions.now }
-    requires few { length actions.now ≤ 16 }
+    requires few { length actions.now ≤ MOST_ACTIONS }
     requires order { IsInOrder (S.rows s.now) }
-    requires within { AreWithin (2 ^ 120) (S.rows s.now) }
+    requires within { AreWithin LARGEST_SUM (S.rows s.now) }
     ensures rows { IfOk result (λ ws. after_actions side (values_of variables.now) actions.now (S.rows s.now)
         ≡ Some (written ws.items (S.rows s.now))) }
     ensures range { IsErrOf result StepError.Range → after_actions side (values_of variables.now) actions.now (S.rows s.now) ≡ None }

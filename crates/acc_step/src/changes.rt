@@ -31,7 +31,7 @@ pub enum RowChange {
 /// The row that an action puts, if its numbers are in range.
 fn to_put(table: u32, key: &[Lin], values: &[Lin], variables: &Variables) -> Option<RowChange>
     requires key { IsKey key.now }
-    requires few { length values.now ≤ 12 }
+    requires few { length values.now ≤ MOST_COLUMNS }
     ensures { result ≡ change_if_small (values_of variables.now) (ToPut table key.now values.now) }
 {
     let parts = key_in_range(key, variables)?;

@@ -2,7 +2,7 @@
 ghost use Rattle.std.specs.Prelude.{◌≡◌, ◌^◌, length, All, IfOk, IfSome, IsErrOf, Some, option_copied};
 ghost use Rattle.acc_base.specs.Numbers.{IsSmall};
 ghost use Rattle.acc_base.specs.Tables.{IsInOrder};
-ghost use Rattle.acc_base.specs.Effects.{OutOfRange, step_of, step_at, step_effect, effect_of};
+ghost use Rattle.acc_base.specs.Effects.{OutOfRange, step_of, step_effect, effect_of};
 ghost use Rattle.acc_base.specs.Runnable.{IsRunnable, CanStep, IsSmallFrame};
 ghost use Rattle.acc_store.specs.Bounds.{AreWithin};
 ghost use Rattle.acc_store.specs.Rows.{IsNarrow};
@@ -13,7 +13,8 @@ use crate::errors::StepError;
 use crate::paths::path_taken;
 use crate::reads::take_reads;
 use crate::variables::Variables;
-use acc_base::designs::{Design, Point, Side};
+use acc_base::bounds::LARGEST_SUM;
+use acc_base::designs::{At, Design, Side};
 use acc_base::machines::Frame;
 use acc_base::sequences::Seq;
 use acc_base::steps::{Step, Target};
@@ -35,25 +36,13 @@ pub struct StepEffect {
     pub target: Target,
 }
 
-/// The step of a point on a side.
-fn step_on(side: Side, point: &Point) -> &Step
-    ensures { result.now ≡ step_at side point.now }
-{
-    match side {
-        Side::Next => &point.next,
-        Side::Undo => &point.undo,
-    }
-}
-
 /// The step of a point of a type, if there is one.
-pub fn step_for(d: &Design, ty: u32, point: u32, side: Side) -> Option<&Step>
+pub fn step_for(d: &Design, at: At, side: Side) -> Option<&Step>
     requires runnable { IsRunnable d.now }
-    ensures value { option_copied result ≡ step_of d.now ty point side }
+    ensures value { option_copied result ≡ step_of d.now at.ty at.point side }
     ensures can { IfSome (option_copied result) (CanStep side) }
 {
-    let ty = d.types.as_slice().get(ty as usize)?;
-    let point = ty.points.as_slice().get(point as usize)?;
-    Some(step_on(side, point))
+    d.step(at, side)
 }
 
 /// What a step of a frame does.
@@ -67,7 +56,7 @@ fn step_effect_on<S: Store>(
     requires can { CanStep side step.now }
     requires fits { IsSmallFrame f.now }
     requires order { IsInOrder (S.rows s.now) }
-    requires within { AreWithin (2 ^ 120) (S.rows s.now) }
+    requires within { AreWithin LARGEST_SUM (S.rows s.now) }
     ensures value { IfOk result (λ e. seen (S.rows s.now) e ≡ step_effect (S.rows s.now) f.now side (Some step.now)) }
     ensures range { IsErrOf result StepError.Range → step_effect (S.rows s.now) f.now side (Some step.now) ≡ OutOfRange }
     ensures narrow { IfOk result (λ e. All IsNarrow e.writes) }
@@ -107,7 +96,7 @@ pub fn effect<S: Store>(
     requires runnable { IsRunnable d.now }
     requires fits { IsSmallFrame f.now }
     requires order { IsInOrder (S.rows s.now) }
-    requires within { AreWithin (2 ^ 120) (S.rows s.now) }
+    requires within { AreWithin LARGEST_SUM (S.rows s.now) }
     ensures value { IfOk result (λ e. seen (S.rows s.now) e ≡ effect_of d.now (S.rows s.now) f.now side) }
     ensures range { IsErrOf result StepError.Range → effect_of d.now (S.rows s.now) f.now side ≡ OutOfRange }
 
@@ -116,7 +105,7 @@ pub fn effect<S: Store>(
     ensures small { IfOk result (λ e. All IsSmall e.locals) }
     ensures kept { IfOk result (λ e. length e.locals ≡ length f.now.locals) }
 {
-    match step_for(d, f.ty, f.point, side) {
+    match step_for(d, f.at(), side) {
         Some(step) => step_effect_on(alloc, f, side, step, s),
         None => Err(StepError::Range),
     }

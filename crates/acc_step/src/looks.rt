@@ -11,7 +11,7 @@ use crate::paths::path_taken;
 use crate::ranges::are_in_range;
 use crate::reads::take_reads;
 use crate::variables::Variables;
-use acc_base::bounds::MOST_LOCALS;
+use acc_base::bounds::{LARGEST_SUM, MOST_LOCALS};
 use acc_base::designs::{Design, Side};
 use acc_base::machines::Frame;
 use acc_base::steps::{Step, Target};
@@ -34,7 +34,7 @@ fn led_to(target: Target) -> Outlook
 {
     match target {
         Target::Refuse(n) => Outlook::Refused(n),
-        _ => Outlook::Goes(target),
+        Target::Point(_) | Target::Commit | Target::Undone => Outlook::Goes(target),
     }
 }
 
@@ -58,7 +58,7 @@ fn look_on<S: Store>(
     requires can { CanStep side step.now }
     requires fits { IsSmallFrame f.now }
     requires order { IsInOrder (S.rows s.now) }
-    requires within { AreWithin (2 ^ 120) (S.rows s.now) }
+    requires within { AreWithin LARGEST_SUM (S.rows s.now) }
     ensures outcome { result ≡ outlook_of (step_effect (S.rows s.now) f.now side (Some step.now)) }
     ensures locals { IfSome (locals_after (step_effect (S.rows s.now) f.now side (Some step.now)))
         (λ locals. take (length f.now.locals) after.new ≡ locals) }
@@ -95,7 +95,7 @@ pub fn look<S: Store>(
     requires runnable { IsRunnable d.now }
     requires fits { IsSmallFrame f.now }
     requires order { IsInOrder (S.rows s.now) }
-    requires within { AreWithin (2 ^ 120) (S.rows s.now) }
+    requires within { AreWithin LARGEST_SUM (S.rows s.now) }
     ensures outcome { result ≡ outlook_of (effect_of d.now (S.rows s.now) f.now side) }
     ensures locals { IfSome (locals_after (effect_of d.now (S.rows s.now) f.now side))
         (λ locals. take (length f.now.locals) after.new ≡ locals) }
@@ -103,7 +103,7 @@ pub fn look<S: Store>(
     // The places after those of the locals stay as they were.
     ensures others { drop (length f.now.locals) after.new ≡ drop (length f.now.locals) after.old }
 {
-    match step_for(d, f.ty, f.point, side) {
+    match step_for(d, f.at(), side) {
         Some(step) => look_on(f, side, step, s, after),
         None => Outlook::Range,
     }

@@ -14,7 +14,7 @@ pub fn is_place(table: u32, key: &[i64], other_table: u32, other: &[i64]) -> boo
 {
     match table.cmp(&other_table) {
         Ordering::Equal => key.cmp(&other).is_eq(),
-        _ => false,
+        Ordering::Less | Ordering::Greater => false,
     }
 }
 

@@ -16,6 +16,7 @@ use crate::values::in_range;
 use crate::variables::Variables;
 use crate::walks::columns_past;
 use crate::writers::{near_sum, value_at};
+use acc_base::bounds::{LARGEST_SUM, MOST_ACTIONS};
 use acc_base::designs::Side;
 use acc_base::steps::Action;
 use acc_store::Store;
@@ -45,8 +46,8 @@ fn may_add_forward<S: Store>(
     variables: &Variables,
 ) -> bool
     requires can { All CanAct before.now }
-    requires few { length before.now ≤ 16 }
-    requires within { AreWithin (2 ^ 120) (S.rows s.now) }
+    requires few { length before.now ≤ MOST_ACTIONS }
+    requires within { AreWithin LARGEST_SUM (S.rows s.now) }
     ensures { result ≡ may_add_to Forward col more
         (columns_through (values_of variables.now) (place_at key.now) before.now (columns_at (place_at key.now) (S.rows s.now))) }
 {
@@ -67,8 +68,8 @@ fn may_add<S: Store>(
     variables: &Variables,
 ) -> bool
     requires can { All CanAct before.now }
-    requires few { length before.now ≤ 16 }
-    requires within { AreWithin (2 ^ 120) (S.rows s.now) }
+    requires few { length before.now ≤ MOST_ACTIONS }
+    requires within { AreWithin LARGEST_SUM (S.rows s.now) }
     ensures { result ≡ may_add_to side col more
         (columns_through (values_of variables.now) (place_at key.now) before.now (columns_at (place_at key.now) (S.rows s.now))) }
 {
@@ -87,15 +88,15 @@ fn may_change_row<S: Store>(
     variables: &Variables,
 ) -> bool
     requires can { All CanAct before.now }
-    requires few { length before.now ≤ 16 }
-    requires within { AreWithin (2 ^ 120) (S.rows s.now) }
+    requires few { length before.now ≤ MOST_ACTIONS }
+    requires within { AreWithin LARGEST_SUM (S.rows s.now) }
     ensures { result ≡ may_make side change.now
         (columns_through (values_of variables.now) (place_at (key_of change.now)) before.now
         (columns_at (place_at (key_of change.now)) (S.rows s.now))) }
 {
     match change {
         RowChange::Add(key, col, more) => may_add(s, side, key, *col, *more, before, variables),
-        _ => true,
+        RowChange::Put(_, _) | RowChange::Drop(_) | RowChange::Set(_, _, _) => true,
     }
 }
 
@@ -109,8 +110,8 @@ fn is_action_in_range<S: Store>(
 ) -> bool
     requires can { CanAct action.now }
     requires all_can { All CanAct before.now }
-    requires few { length before.now ≤ 16 }
-    requires within { AreWithin (2 ^ 120) (S.rows s.now) }
+    requires few { length before.now ≤ MOST_ACTIONS }
+    requires within { AreWithin LARGEST_SUM (S.rows s.now) }
     ensures { result ≡ may_follow side (change_if_small (values_of variables.now) action.now)
         (λ p. columns_through (values_of variables.now) p before.now (columns_at p (S.rows s.now))) }
 {
@@ -123,9 +124,9 @@ fn is_action_in_range<S: Store>(
 /// Whether the numbers of the actions of a path are in range. An `add` walks the actions before it.
 pub fn are_in_range<S: Store>(s: &S, side: Side, actions: &[Action], variables: &Variables) -> bool
     requires can { All CanAct actions.now }
-    requires few { length actions.now ≤ 16 }
+    requires few { length actions.now ≤ MOST_ACTIONS }
     requires order { IsInOrder (S.rows s.now) }
-    requires within { AreWithin (2 ^ 120) (S.rows s.now) }
+    requires within { AreWithin LARGEST_SUM (S.rows s.now) }
     ensures { result ≡ is_some (after_actions side (values_of variables.now) actions.now (S.rows s.now)) }
 {
     for i in 0..actions.len() {

@@ -94,7 +94,7 @@ fn read_row<S: Store>(s: &S, table: u32, key: &[Lin], variables: &Variables) -> 
 }
 
 /// A number of rows.
-fn counted<S: Store>(s: &S, table: u32, prefix: &[i64]) -> i128
+fn rows_counted<S: Store>(s: &S, table: u32, prefix: &[i64]) -> i128
     ensures { result ≡ count_of (S.rows s.now) table prefix.now }
 {
     s.count(table, prefix) as i128
@@ -107,7 +107,7 @@ fn read_count<S: Store>(s: &S, table: u32, prefix: &[Lin], variables: &Variables
         (count_of (S.rows s.now) table (lin_values (values_of variables.now) prefix.now)) }
 {
     match key_in_range(prefix, variables) {
-        Some(key) => in_range(counted(s, table, key.as_slice())),
+        Some(key) => in_range(rows_counted(s, table, key.as_slice())),
         None => None,
     }
 }
@@ -194,7 +194,15 @@ fn place_after(tape: &[i64], at: u32, read: &Read) -> u32
                 at
             }
         }
-        _ => at,
+        Read::Let(_, _)
+        | Read::Col(_, _, _, _)
+        | Read::Has(_, _, _)
+        | Read::Count(_, _, _)
+        | Read::Sum(_, _, _, _)
+        | Read::Least(_, _, _)
+        | Read::Greatest(_, _, _)
+        | Read::Mul(_, _, _)
+        | Read::Div(_, _, _) => at,
     }
 }
 

@@ -9,7 +9,7 @@ ghost use Rattle.acc_step.specs.Variables.{values_of};
 
 use crate::variables::Variables;
 use crate::wide_sums::{WideSum, shortened, with_more};
-use acc_base::bounds::{LARGEST_NUMBER, MOST_KEY_PARTS};
+use acc_base::bounds::{LARGEST_NUMBER, LARGEST_SUM, MOST_KEY_PARTS};
 use acc_base::forms::Lin;
 use acc_store::Inline;
 
@@ -33,11 +33,11 @@ pub fn times(a: i64, b: i64) -> i128
 /// A sum and one more product.
 fn with_product(sum: WideSum, factor: i64, value: i64) -> WideSum
     requires carries { unsigned_abs sum.carries ≤ 2 ^ 100 }
-    requires rest { unsigned_abs sum.rest ≤ 2 ^ 120 }
+    requires rest { unsigned_abs sum.rest ≤ LARGEST_SUM }
     requires value { IsSmall value }
     ensures amount { amount result ≡ amount sum +ℤ (factor *ℤ value) }
     ensures carries { unsigned_abs result.carries ≤ unsigned_abs sum.carries + 1 }
-    ensures rest { unsigned_abs result.rest ≤ 2 ^ 120 }
+    ensures rest { unsigned_abs result.rest ≤ LARGEST_SUM }
 {
     with_more(sum, times(factor, value))
 }
@@ -45,10 +45,10 @@ fn with_product(sum: WideSum, factor: i64, value: i64) -> WideSum
 /// A sum and one more term.
 fn with_term(sum: WideSum, term: &(u32, i64), variables: &Variables) -> WideSum
     requires carries { unsigned_abs sum.carries ≤ 2 ^ 100 }
-    requires rest { unsigned_abs sum.rest ≤ 2 ^ 120 }
+    requires rest { unsigned_abs sum.rest ≤ LARGEST_SUM }
     ensures amount { amount result ≡ amount sum +ℤ term_value (values_of variables.now) term.now }
     ensures carries { unsigned_abs result.carries ≤ unsigned_abs sum.carries + 1 }
-    ensures rest { unsigned_abs result.rest ≤ 2 ^ 120 }
+    ensures rest { unsigned_abs result.rest ≤ LARGEST_SUM }
 {
     with_product(sum, term.1, variables.value(term.0))
 }
@@ -57,7 +57,7 @@ fn with_term(sum: WideSum, term: &(u32, i64), variables: &Variables) -> WideSum
 fn terms_sum(terms: &[(u32, i64)], variables: &Variables) -> WideSum
     ensures amount { amount result ≡ total (map (term_value (values_of variables.now)) terms.now) }
     ensures carries { unsigned_abs result.carries ≤ 2 ^ 100 }
-    ensures rest { unsigned_abs result.rest ≤ 2 ^ 120 }
+    ensures rest { unsigned_abs result.rest ≤ LARGEST_SUM }
 {
     let mut sum = WideSum {
         carries: 0,
@@ -72,7 +72,7 @@ fn terms_sum(terms: &[(u32, i64)], variables: &Variables) -> WideSum
 /// A linear value, exactly.
 fn linear_sum(l: &Lin, variables: &Variables) -> WideSum
     ensures amount { amount result ≡ lin_value (values_of variables.now) l.now }
-    ensures rest { unsigned_abs result.rest ≤ 2 ^ 120 }
+    ensures rest { unsigned_abs result.rest ≤ LARGEST_SUM }
 {
     let terms = terms_sum(l.coeffs.as_slice(), variables);
     with_more(terms, widened(l.constant))

@@ -1,5 +1,6 @@
 //! The variables of a transaction.
 ghost use Rattle.std.specs.Prelude.{◌≡◌, ◌≤◌, ◌^◌, All, slice_set};
+ghost use Rattle.acc_base.specs.declared.bounds.TheConstants.{LARGEST_NUMBER};
 ghost use Rattle.acc_base.specs.Numbers.{IsSmall};
 ghost use Rattle.acc_base.specs.Linear.{var};
 ghost use Rattle.acc_base.specs.Runnable.{IsSmallFrame};
@@ -14,7 +15,7 @@ pub struct Variables {
     pub locals: Inline<i64, MOST_LOCALS>,
     pub number: u64,
     ghost small: { All IsSmall locals },
-    ghost small_number: { number ≤ 2 ^ 45 },
+    ghost small_number: { number ≤ LARGEST_NUMBER },
 }
 
 impl Variables {

@@ -12,7 +12,7 @@ use crate::lookups::is_place;
 use crate::values::widened;
 use crate::variables::Variables;
 use crate::writers::{near_sum, value_at};
-use acc_base::bounds::MOST_COLUMNS;
+use acc_base::bounds::{LARGEST_SUM, MOST_ACTIONS, MOST_COLUMNS};
 use acc_base::steps::Action;
 use acc_store::{Inline, Store};
 
@@ -36,7 +36,7 @@ fn with_sum(cols: Inline<i128, MOST_COLUMNS>, col: u32, more: i64) -> Inline<i12
 
 /// Numbers as columns.
 fn widened_columns(values: &[i64]) -> Inline<i128, MOST_COLUMNS>
-    requires few { length values.now ≤ 12 }
+    requires few { length values.now ≤ MOST_COLUMNS }
     ensures { result ≡ values.now }
 {
     let mut cols = Inline::new(0);
@@ -132,8 +132,8 @@ pub fn columns_past<S: Store>(
     variables: &Variables,
 ) -> Option<Inline<i128, MOST_COLUMNS>>
     requires can { All CanAct actions.now }
-    requires few { length actions.now ≤ 16 }
-    requires within { AreWithin (2 ^ 120) (S.rows s.now) }
+    requires few { length actions.now ≤ MOST_ACTIONS }
+    requires within { AreWithin LARGEST_SUM (S.rows s.now) }
     ensures value { result ≡ columns_through (values_of variables.now) (table, key.now) actions.now
         (columns_at (table, key.now) (S.rows s.now)) }
     ensures near { AreNear (2 ^ 121) result }

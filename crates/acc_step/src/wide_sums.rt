@@ -2,8 +2,10 @@
 ghost use Rattle.std.specs.Prelude.{◌≡◌, ◌≤◌, ◌^◌, ◌+◌, unsigned_abs, ◌+ℤ◌};
 ghost use Rattle.acc_step.specs.WideSums.{amount, AreAlike};
 
+use acc_base::bounds::LARGEST_SUM;
+
 /// What is carried: 2^120.
-const CARRY: i128 = 1_329_227_995_784_915_872_903_807_060_280_344_576;
+const CARRY: i128 = LARGEST_SUM as i128;
 
 /// A sum: so many carries, and a rest within one carry of 0.
 #[derive(Clone, Copy)]
@@ -26,7 +28,7 @@ fn carried(carries: i128, rest: i128) -> WideSum
     requires rest { unsigned_abs rest ≤ 2 ^ 121 }
     ensures amount { amount result ≡ amount (record { carries = carries; rest = rest }) }
     ensures carries { unsigned_abs result.carries ≤ unsigned_abs carries + 1 }
-    ensures rest { unsigned_abs result.rest ≤ 2 ^ 120 }
+    ensures rest { unsigned_abs result.rest ≤ LARGEST_SUM }
 {
     if rest > CARRY {
         WideSum {
@@ -46,18 +48,18 @@ fn carried(carries: i128, rest: i128) -> WideSum
 /// The sum and one more number.
 pub fn with_more(sum: WideSum, more: i128) -> WideSum
     requires carries { unsigned_abs sum.carries ≤ 2 ^ 100 }
-    requires rest { unsigned_abs sum.rest ≤ 2 ^ 120 }
-    requires more { unsigned_abs more ≤ 2 ^ 120 }
+    requires rest { unsigned_abs sum.rest ≤ LARGEST_SUM }
+    requires more { unsigned_abs more ≤ LARGEST_SUM }
     ensures amount { amount result ≡ amount sum +ℤ more }
     ensures carries { unsigned_abs result.carries ≤ unsigned_abs sum.carries + 1 }
-    ensures rest { unsigned_abs result.rest ≤ 2 ^ 120 }
+    ensures rest { unsigned_abs result.rest ≤ LARGEST_SUM }
 {
     carried(sum.carries, plus(sum.rest, more))
 }
 
 /// The amount of a sum; where that is far from 0, one carry on the same side.
 pub fn shortened(sum: WideSum) -> i128
-    requires rest { unsigned_abs sum.rest ≤ 2 ^ 120 }
+    requires rest { unsigned_abs sum.rest ≤ LARGEST_SUM }
     ensures { AreAlike result (amount sum) }
 {
     match sum.carries {

@@ -14,6 +14,7 @@ use crate::changes::{RowChange, RowKey};
 use crate::errors::StepError;
 use crate::lookups::columns_now;
 use crate::values::{in_range, widened};
+use acc_base::bounds::{MOST_COLUMNS, MOST_KEY_PARTS};
 use acc_base::designs::Side;
 use acc_base::sequences::Seq;
 use acc_base::tables::{Key, Row};
@@ -47,7 +48,7 @@ fn push_if(writes: &mut Vec<Write>, write: Option<Write>) -> Result<(), AllocErr
 /// The key of a row, in memory of its own.
 fn owned_key(alloc: Global, key: &RowKey) -> Result<Key, AllocError>
     ensures parts { IfOk result (λ k. k.parts ≡ key.now.parts) }
-    ensures short { IfOk result (λ k. length k.parts ≤ 6) }
+    ensures short { IfOk result (λ k. length k.parts ≤ MOST_KEY_PARTS) }
 {
     Ok(Key {
         parts: Seq::from_vec(Vec::from_slice(alloc, key.parts.as_slice())?),
@@ -56,7 +57,7 @@ fn owned_key(alloc: Global, key: &RowKey) -> Result<Key, AllocError>
 
 /// The write of a row.
 fn put_write(alloc: Global, key: &RowKey, cols: Vec<i128>) -> Result<Write, AllocError>
-    requires few { length cols.items ≤ 12 }
+    requires few { length cols.items ≤ MOST_COLUMNS }
     ensures value { IfOk result (λ w. w ≡ Puts (row_of (place_at key.now) cols.items)) }
     ensures narrow { IfOk result IsNarrow }
 {
@@ -85,7 +86,7 @@ fn put_row(
     columns: &[i64],
     writes: &mut Vec<Write>,
 ) -> Result<(), AllocError>
-    requires few { length columns.now ≤ 12 }
+    requires few { length columns.now ≤ MOST_COLUMNS }
     requires narrow { All IsNarrow writes.old.items }
     ensures value { OnOk result (writes.new.items ≡ with_write writes.old.items (Some (Puts (row_of (place_at key.now) columns.now)))) }
     ensures narrow { OnOk result (All IsNarrow writes.new.items) }
@@ -126,7 +127,7 @@ fn write_with(
     col: u32,
     value: i128,
 ) -> Result<Write, AllocError>
-    requires few { length cols.now ≤ 12 }
+    requires few { length cols.now ≤ MOST_COLUMNS }
     ensures value { IfOk result (λ w. w ≡ put_with (place_at key.now) col value cols.now) }
     ensures narrow { IfOk result IsNarrow }
 {

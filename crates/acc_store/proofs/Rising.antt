@@ -13,7 +13,7 @@ use Rattle.std.specs.Map.{keys_of}
 use Rattle.std.proofs.lemmas.Int.{ints}
 use Rattle.acc_base.specs.Tables.{Place, place_cmp, parts_at, with_part}
 use Rattle.acc_store.proofs.Live.{content}
-use Rattle.acc_store.specs.Rows.{Entry, live, is_below, below, IsUp, IsRising}
+use Rattle.acc_store.specs.Rows.{Entry, live, is_below, entries_below, IsUp, IsRising}
 
 key_rises : (p a b : List ℤ) → starts_with int_eq a p ≡ true → starts_with int_eq b p ≡ true → slice_cmp int_cmp a b ≡ Less → (x y : ℤ) →
     slice_get a (length p) ≡ Some x → slice_get b (length p) ≡ Some y → x ≤ℤ y
@@ -58,34 +58,34 @@ module _ (t : ℕ) (p : List ℤ) where
 
   -- a part of an earlier place is not above the parts of later ones
   first_rises : (a : Place) (x : ℤ) (es : List Entry) → is_below t p a ≡ true → slice_get a.1 (length p) ≡ Some x →
-      AllByRecursion (λ q. place_cmp a q ≡ Less) (keys_of es) → AllByRecursion (λ y. x ≤ℤ y) (parts_at (length p) (live (below t p es)))
+      AllByRecursion (λ q. place_cmp a q ≡ Less) (keys_of es) → AllByRecursion (λ y. x ≤ℤ y) (parts_at (length p) (live (entries_below t p es)))
   first_rises a x [] ha ex h = tt
   first_rises a x (e ∷ es) ha ex h = by (is_below t p e.0) refl e.1.cells (first_rises a x es ha ex h.1)
     where
-      add : (v : Option ℤ) → ((y : ℤ) → v ≡ Some y → x ≤ℤ y) → AllByRecursion (λ y. x ≤ℤ y) (parts_at (length p) (live (below t p es))) →
-          AllByRecursion (λ y. x ≤ℤ y) (with_part v (parts_at (length p) (live (below t p es))))
+      add : (v : Option ℤ) → ((y : ℤ) → v ≡ Some y → x ≤ℤ y) → AllByRecursion (λ y. x ≤ℤ y) (parts_at (length p) (live (entries_below t p es))) →
+          AllByRecursion (λ y. x ≤ℤ y) (with_part v (parts_at (length p) (live (entries_below t p es))))
       add None g ih = ih
       add (Some y) g ih = (g y refl, ih)
 
       by : (b : Bool) → is_below t p e.0 ≡ b → (v : Option (List ℤ)) →
-          AllByRecursion (λ y. x ≤ℤ y) (parts_at (length p) (live (below t p es))) →
-          AllByRecursion (λ y. x ≤ℤ y) (parts_at (length p) (live (cond b ((e.0, content v e.1.room) ∷ below t p es) (below t p es))))
+          AllByRecursion (λ y. x ≤ℤ y) (parts_at (length p) (live (entries_below t p es))) →
+          AllByRecursion (λ y. x ≤ℤ y) (parts_at (length p) (live (cond b ((e.0, content v e.1.room) ∷ entries_below t p es) (entries_below t p es))))
       by false g v ih = ih
       by true g None ih = ih
       by true g (Some c) ih = add (slice_get e.0.1 (length p)) (λ y ey. place_rises a e.0 ha g h.0 x y ex ey) ih
 
-  pub parts_rise : (es : List Entry) → IsUp es → IsRising (parts_at (length p) (live (below t p es)))
+  pub parts_rise : (es : List Entry) → IsUp es → IsRising (parts_at (length p) (live (entries_below t p es)))
   unfolding IsStrictlySortedBy
   parts_rise [] up = tt
   parts_rise (e ∷ es) up = by (is_below t p e.0) refl e.1.cells (parts_rise es up.1)
     where
       add : (v : Option ℤ) → slice_get e.0.1 (length p) ≡ v → is_below t p e.0 ≡ true →
-          IsRising (parts_at (length p) (live (below t p es))) → IsRising (with_part v (parts_at (length p) (live (below t p es))))
+          IsRising (parts_at (length p) (live (entries_below t p es))) → IsRising (with_part v (parts_at (length p) (live (entries_below t p es))))
       add None g b ih = ih
       add (Some x) g b ih = (first_rises e.0 x es b g up.0, ih)
 
-      by : (b : Bool) → is_below t p e.0 ≡ b → (v : Option (List ℤ)) → IsRising (parts_at (length p) (live (below t p es))) →
-          IsRising (parts_at (length p) (live (cond b ((e.0, content v e.1.room) ∷ below t p es) (below t p es))))
+      by : (b : Bool) → is_below t p e.0 ≡ b → (v : Option (List ℤ)) → IsRising (parts_at (length p) (live (entries_below t p es))) →
+          IsRising (parts_at (length p) (live (cond b ((e.0, content v e.1.room) ∷ entries_below t p es) (entries_below t p es))))
       by false g v ih = ih
       by true g None ih = ih
       by true g (Some c) ih = add (slice_get e.0.1 (length p)) refl g ih

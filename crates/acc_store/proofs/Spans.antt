@@ -16,7 +16,7 @@ use Rattle.acc_base.specs.Tables.{Place, place_cmp, is_under}
 use Rattle.acc_base.proofs.Places.{one_place}
 use Rattle.acc_store.specs.Places.{top}
 use Rattle.acc_store.proofs.Live.{content}
-use Rattle.acc_store.specs.Rows.{Entry, row_of, with_row, live, entry_at, is_below, below, AreFit}
+use Rattle.acc_store.specs.Rows.{Entry, row_of, with_row, live, entry_at, is_below, entries_below, AreFit}
 
 -- a prefix is not above its longer keys
 before_last : (p : List ℤ) (k : ℕ) → is_gt (slice_cmp int_cmp p (p ++ replicate k top)) ≡ false
@@ -90,7 +90,7 @@ place_between t p k q small fits = by (nat_cmp t q.0) (ranked t q.0 (nat_cmp t q
     by Greater h = ap (λ b. b && starts_with int_eq q.1 p) (unlike_table (q.0 == t) (unsigned_Decides q.0 t) (λ e. omega arith))
 
 pub span_is : (t : ℕ) (p : List ℤ) (es : List Entry) → length p ≤ 6 → AreFit es →
-    filter (λ e. range_contains place_cmp (Included (t, p)) (Included (t, p ++ replicate (6 - length p) top)) e.0) es ≡ below t p es
+    filter (λ e. range_contains place_cmp (Included (t, p)) (Included (t, p ++ replicate (6 - length p) top)) e.0) es ≡ entries_below t p es
 span_is t p [] short fit = refl
 span_is t p (e ∷ es) short fit =
     let fits : length e.0.1 ≤ length p + (6 - length p) = let few = fit.0.short in omega arith in
@@ -98,12 +98,12 @@ span_is t p (e ∷ es) short fit =
     (e ∷ span_is t p es short fit.1 i) (span_is t p es short fit.1 i)
 
 -- the rows of the entries whose keys begin with a prefix
-pub live_below : (t : ℕ) (p : List ℤ) (es : List Entry) → live (below t p es) ≡ filter (is_under t p) (live es)
+pub live_below : (t : ℕ) (p : List ℤ) (es : List Entry) → live (entries_below t p es) ≡ filter (is_under t p) (live es)
 live_below t p [] = refl
 live_below t p (e ∷ es) = by (is_below t p e.0) refl e.1.cells (live_below t p es)
   where
-    by : (b : Bool) → is_below t p e.0 ≡ b → (v : Option (List ℤ)) → live (below t p es) ≡ filter (is_under t p) (live es) →
-        live (cond b ((e.0, content v e.1.room) ∷ below t p es) (below t p es)) ≡ filter (is_under t p) (with_row e.0 v (live es))
+    by : (b : Bool) → is_below t p e.0 ≡ b → (v : Option (List ℤ)) → live (entries_below t p es) ≡ filter (is_under t p) (live es) →
+        live (cond b ((e.0, content v e.1.room) ∷ entries_below t p es) (entries_below t p es)) ≡ filter (is_under t p) (with_row e.0 v (live es))
     by true h None ih = ih
     by false h None ih = ih
     by true h (Some c) ih = ap (λ rows. row_of e.0 c ∷ rows) ih ∙ sym
@@ -122,11 +122,11 @@ starts_short (y ∷ q) (x ∷ p) h = ap (λ b. int_eq x y && b) (starts_short q 
     never true = refl
     never false = refl
 
-below_long : (t : ℕ) (p : List ℤ) (es : List Entry) → 6 < length p → AreFit es → below t p es ≡ []
+below_long : (t : ℕ) (p : List ℤ) (es : List Entry) → 6 < length p → AreFit es → entries_below t p es ≡ []
 below_long t p [] long fit = refl
 below_long t p (e ∷ es) long fit =
     let short = fit.0.short in
-    ap (λ b. cond b (e ∷ below t p es) (below t p es)) (none (e.0.0 == t) (starts_short e.0.1 p (omega arith))) ∙ below_long t p es long
+    ap (λ b. cond b (e ∷ entries_below t p es) (entries_below t p es)) (none (e.0.0 == t) (starts_short e.0.1 p (omega arith))) ∙ below_long t p es long
     fit.1
   where
     none : (b : Bool) → starts_with int_eq e.0.1 p ≡ false → (b && starts_with int_eq e.0.1 p) ≡ false

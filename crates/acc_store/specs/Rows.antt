@@ -6,6 +6,7 @@ use Rattle.std.specs.Ordering.{int_eq}
 use Rattle.std.specs.List.Sorted.{IsStrictlySortedBy}
 use Rattle.std.specs.Map.{keys_of, lookup}
 use Rattle.std.specs.BTreeMap.{is_at as at}
+use Rattle.acc_base.specs.declared.bounds.TheConstants.{LARGEST_SUM, MOST_COLUMNS, MOST_KEY_PARTS}
 use Rattle.acc_base.specs.declared.tables.Row.{Row}
 use Rattle.acc_base.specs.Tables.{Place, place_of, place_cmp, put, drop_row, cell}
 use Rattle.acc_store.specs.Contents.{Content}
@@ -59,7 +60,7 @@ IsUp es = IsStrictlySortedBy place_cmp (keys_of es)
 
 -- a key is short, and its parts are of 64 bits
 pub record IsFit (p : Place) : Type 0 where
-  pub short : length p.1 ≤ 6
+  pub short : length p.1 ≤ MOST_KEY_PARTS
   pub parts : All (λ x. x ≤ℤ top) p.1
 
 abbrev pub AreFit : List Entry → Type 0
@@ -70,8 +71,8 @@ abbrev pub is_below : ℕ → List ℤ → Place → Bool
 is_below t p q = (q.0 == t) && starts_with int_eq q.1 p
 
 -- the entries whose keys begin with a prefix
-abbrev pub below : ℕ → List ℤ → List Entry → List Entry
-below t p es = filter (λ e. is_below t p e.0) es
+abbrev pub entries_below : ℕ → List ℤ → List Entry → List Entry
+entries_below t p es = filter (λ e. is_below t p e.0) es
 
 -- ---- the parts of keys after a prefix
 
@@ -98,7 +99,7 @@ written (w ∷ ws) rows = written ws (write w rows)
 
 -- a row that is put has a key of at most 6 parts and at most 12 columns
 abbrev pub IsNarrow : Write → Type 0
-IsNarrow (Puts r) = (length r.key.parts ≤ 6) × (length r.cols ≤ 12)
+IsNarrow (Puts r) = (length r.key.parts ≤ MOST_KEY_PARTS) × (length r.cols ≤ MOST_COLUMNS)
 IsNarrow (Gone t k) = ⊤
 
 -- ---- room for writes
@@ -138,7 +139,7 @@ in_table t rows = filter (λ r. r.table == t) rows
 
 -- the absolute values of each column of each table add up to at most 2^120
 abbrev pub SumsFit : List Row → Type 0
-SumsFit rows = (t c : ℕ) → sum_by (λ r. unsigned_abs (cell c r)) (in_table t rows) ≤ 2 ^ 120
+SumsFit rows = (t c : ℕ) → sum_by (λ r. unsigned_abs (cell c r)) (in_table t rows) ≤ LARGEST_SUM
 
 -- ---- blank entries
 

@@ -14,6 +14,7 @@ use crate::maps::Entries;
 use crate::places::Place;
 use crate::slots::Slot;
 use crate::writes::Write;
+use acc_base::bounds::{MOST_COLUMNS, MOST_KEY_PARTS};
 use acc_base::tables::Row;
 use std::alloc::{AllocError, Global};
 
@@ -106,8 +107,8 @@ fn make_room_for(entries: &mut Entries, alloc: Global, write: &Write) -> Result<
 
 /// Puts a row, for which there is room.
 fn put_row(entries: &mut Entries, row: &Row)
-    requires short { length row.now.key.parts ≤ 6 }
-    requires columns { length row.now.cols ≤ 12 }
+    requires short { length row.now.key.parts ≤ MOST_KEY_PARTS }
+    requires columns { length row.now.cols ≤ MOST_COLUMNS }
     requires room { has_room_at entries.old.entries (place_of row.now) (length row.now.cols) ≡ true }
     requires up { IsUp entries.old.entries }
     ensures rows { live entries.new.entries ≡ put row.now (live entries.old.entries) }
@@ -219,7 +220,7 @@ fn forget_for(entries: &mut Entries, write: &Write, were_put: bool)
     match (write, were_put) {
         (Write::Row(row), false) => forget(entries, row.table, row.key.parts.as_slice()),
         (Write::Gone(table, key), true) => forget(entries, *table, key.parts.as_slice()),
-        _ => (),
+        (Write::Row(_), true) | (Write::Gone(_, _), false) => (),
     }
 }
 

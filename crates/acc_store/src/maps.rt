@@ -11,6 +11,7 @@ ghost use Rattle.acc_store.specs.Rows.{row_of as row_with, with_row};
 
 use crate::places::Place;
 use crate::slots::Slot;
+use acc_base::bounds::MOST_COLUMNS;
 use acc_base::sequences::Seq;
 use acc_base::tables::{Key, Row};
 use std::alloc::{AllocError, Global};
@@ -22,7 +23,7 @@ pub type Entries = BTreeMap<Place, Slot>;
 /// The columns of the row at a place.
 fn cells_of<'a>(entries: &'a Entries, place: &Place) -> Option<&'a [i128]>
     ensures value { option_copied result ≡ cells_there place.now entries.now.entries }
-    ensures few { IfSome (option_copied result) (λ cols. length cols ≤ 12) }
+    ensures few { IfSome (option_copied result) (λ cols. length cols ≤ MOST_COLUMNS) }
 {
     match entries.get(place) {
         Some(slot) => slot.cells(),
@@ -34,7 +35,7 @@ fn cells_of<'a>(entries: &'a Entries, place: &Place) -> Option<&'a [i128]>
 fn cells_at<'a>(entries: &'a Entries, table: u32, key: &[i64]) -> Option<&'a [i128]>
     requires fit { AreFit entries.now.entries }
     ensures value { option_copied result ≡ cells_there (table, key.now) entries.now.entries }
-    ensures few { IfSome (option_copied result) (λ cols. length cols ≤ 12) }
+    ensures few { IfSome (option_copied result) (λ cols. length cols ≤ MOST_COLUMNS) }
 {
     match Place::of(table, key) {
         Some(place) => cells_of(entries, &place),
@@ -78,7 +79,7 @@ pub fn columns_at<'a>(entries: &'a Entries, table: u32, key: &[i64]) -> Option<&
     requires fit { AreFit entries.now.entries }
     requires up { IsUp entries.now.entries }
     ensures value { option_copied result ≡ columns_of (find (is_at table key.now) (live entries.now.entries)) }
-    ensures few { IfSome (option_copied result) (λ cols. length cols ≤ 12) }
+    ensures few { IfSome (option_copied result) (λ cols. length cols ≤ MOST_COLUMNS) }
 {
     cells_at(entries, table, key)
 }

@@ -1,6 +1,7 @@
 //! What stands at a place.
 ghost use Rattle.std.specs.Prelude.{◌≡◌, ◌≤◌, length, None, Some, IfOk, IfSome, IsOk, OnOk, option_copied};
 
+use acc_base::bounds::MOST_COLUMNS;
 use std::alloc::{AllocError, Global};
 use std::marker::Model;
 
@@ -13,13 +14,14 @@ pub struct Slot {
 
 impl Model for Slot {
     ghost use Rattle.std.specs.Prelude.{vec_len, vec_capacity, ◌≤◌};
+    ghost use Rattle.acc_base.specs.declared.bounds.TheConstants.{MOST_COLUMNS};
     ghost use Rattle.acc_store.specs.Contents.{Content, cells_of};
 
     ghost Value = { Content };
 
     ghost view = { λ s. record { cells = cells_of s.is_row s.cells.items; room = vec_capacity s.cells } };
 
-    ghost invariant = { λ s. vec_len s.cells ≤ 12 };
+    ghost invariant = { λ s. vec_len s.cells ≤ MOST_COLUMNS };
 }
 
 impl Slot {
@@ -37,7 +39,7 @@ impl Slot {
     /// The cells, if they are a row's.
     pub fn cells(&self) -> Option<&[i128]>
         ensures value { option_copied result ≡ self.now.cells }
-        ensures few { IfSome (option_copied result) (λ cells. length cells ≤ 12) }
+        ensures few { IfSome (option_copied result) (λ cells. length cells ≤ MOST_COLUMNS) }
     {
         if self.is_row {
             Some(self.cells.as_slice())
@@ -62,7 +64,7 @@ impl Slot {
 
     /// Takes these cells, for which there is room.
     pub fn put(&mut self, cells: &[i128])
-        requires few { length cells.now ≤ 12 }
+        requires few { length cells.now ≤ MOST_COLUMNS }
         requires room { length cells.now ≤ self.old.room }
         ensures cells { self.new.cells ≡ Some cells.now }
         ensures kept { self.old.room ≤ self.new.room }

@@ -8,6 +8,7 @@ use crate::changes::apply_writes;
 use crate::maps::{Entries, column_at, columns_at, has_row, rows_of};
 use crate::sums::{count_under, greatest_under, least_under, sum_under};
 use crate::writes::Write;
+use acc_base::bounds::MOST_COLUMNS;
 use acc_base::sequences::Seq;
 use acc_base::tables::Plain;
 use std::alloc::{AllocError, Global};
@@ -48,7 +49,7 @@ pub trait Store {
     /// The columns of the row with this key, if there is one.
     fn columns<'a>(&'a self, table: u32, key: &[i64]) -> Option<&'a [i128]>
         ensures value { option_copied result ≡ columns_of (find (is_at table key.now) (rows self.now)) }
-        ensures few { IfSome (option_copied result) (λ cols. length cols ≤ 12) };
+        ensures few { IfSome (option_copied result) (λ cols. length cols ≤ MOST_COLUMNS) };
 
     /// How many rows of the table have keys that begin with the prefix.
     fn count(&self, table: u32, prefix: &[i64]) -> u64

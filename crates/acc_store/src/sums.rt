@@ -8,18 +8,19 @@ ghost use Rattle.std.specs.BTreeMap.{keys, is_at as at};
 ghost use Rattle.acc_base.specs.Tables.{count_of, sum_of, least_of, greatest_of, parts_at, cell};
 ghost use Rattle.acc_base.specs.Tables.{best};
 ghost use Rattle.acc_store.specs.Rows.{live, column_in, one_in, part_in, IsRising, SumsFit, IsUp};
-ghost use Rattle.acc_store.specs.Rows.{AreFit, below};
+ghost use Rattle.acc_store.specs.Rows.{AreFit, entries_below};
 
 use crate::maps::{Entries, column};
-use crate::places::{MOST_PARTS, Place};
+use crate::places::Place;
 use crate::slots::Slot;
+use acc_base::bounds::{LARGEST_SUM, MOST_KEY_PARTS};
 use std::collections::btree_map::Range;
 
 /// The entries whose keys begin with a prefix.
 fn entries_below<'a>(entries: &'a Entries, table: u32, prefix: &[i64]) -> Range<'a, Place, Slot>
-    requires short { length prefix.now ≤ 6 }
+    requires short { length prefix.now ≤ MOST_KEY_PARTS }
     requires fit { AreFit entries.now.entries }
-    ensures below { result ≡ below table prefix.now entries.now.entries }
+    ensures below { result ≡ entries_below table prefix.now entries.now.entries }
     ensures few { length result < 2 ^ 63 }
 {
     let start = Place::new(table, prefix);
@@ -58,7 +59,7 @@ fn value(slot: &Slot, col: u32) -> i128
 
 /// A sum, which fits.
 fn plus(a: i128, b: i128) -> i128
-    requires fits { unsigned_abs a + unsigned_abs b ≤ 2 ^ 120 }
+    requires fits { unsigned_abs a + unsigned_abs b ≤ LARGEST_SUM }
     ensures value { result ≡ a +ℤ b }
     ensures bound { unsigned_abs result ≤ unsigned_abs a + unsigned_abs b }
 {
@@ -67,7 +68,7 @@ fn plus(a: i128, b: i128) -> i128
 
 /// The sum of a column over the entries.
 fn sum_live(entries: Range<'_, Place, Slot>, col: u32) -> i128
-    requires fits { sum_by (λ r. unsigned_abs (cell col r)) (live entries) ≤ 2 ^ 120 }
+    requires fits { sum_by (λ r. unsigned_abs (cell col r)) (live entries) ≤ LARGEST_SUM }
     ensures { result ≡ total (map (cell col) (live entries.entry)) }
 {
     let mut sum = 0;
@@ -116,7 +117,7 @@ fn greatest_live(entries: Range<'_, Place, Slot>, at: usize) -> i64
 
 /// How many rows have keys that begin with a prefix of at most 6 parts.
 fn count_below(entries: &Entries, table: u32, prefix: &[i64]) -> u64
-    requires short { length prefix.now ≤ 6 }
+    requires short { length prefix.now ≤ MOST_KEY_PARTS }
     requires fit { AreFit entries.now.entries }
     ensures { pos result ≡ count_of (live entries.now.entries) table prefix.now }
 {
@@ -128,7 +129,7 @@ pub fn count_under(entries: &Entries, table: u32, prefix: &[i64]) -> u64
     requires fit { AreFit entries.now.entries }
     ensures { pos result ≡ count_of (live entries.now.entries) table prefix.now }
 {
-    if prefix.len() <= MOST_PARTS {
+    if prefix.len() <= MOST_KEY_PARTS {
         count_below(entries, table, prefix)
     } else {
         0
@@ -137,7 +138,7 @@ pub fn count_under(entries: &Entries, table: u32, prefix: &[i64]) -> u64
 
 /// The sum of a column over the rows whose keys begin with a prefix of at most 6 parts.
 fn sum_below(entries: &Entries, table: u32, prefix: &[i64], col: u32) -> i128
-    requires short { length prefix.now ≤ 6 }
+    requires short { length prefix.now ≤ MOST_KEY_PARTS }
     requires fit { AreFit entries.now.entries }
     requires sums { SumsFit (live entries.now.entries) }
     ensures { result ≡ sum_of (live entries.now.entries) table prefix.now col }
@@ -151,7 +152,7 @@ pub fn sum_under(entries: &Entries, table: u32, prefix: &[i64], col: u32) -> i12
     requires sums { SumsFit (live entries.now.entries) }
     ensures { result ≡ sum_of (live entries.now.entries) table prefix.now col }
 {
-    if prefix.len() <= MOST_PARTS {
+    if prefix.len() <= MOST_KEY_PARTS {
         sum_below(entries, table, prefix, col)
     } else {
         0
@@ -160,7 +161,7 @@ pub fn sum_under(entries: &Entries, table: u32, prefix: &[i64], col: u32) -> i12
 
 /// The least part after a prefix of at most 6 parts, and 0 where there is none.
 fn least_below(entries: &Entries, table: u32, prefix: &[i64]) -> i64
-    requires short { length prefix.now ≤ 6 }
+    requires short { length prefix.now ≤ MOST_KEY_PARTS }
     requires fit { AreFit entries.now.entries }
     requires up { IsUp entries.now.entries }
     ensures { result ≡ least_of (live entries.now.entries) table prefix.now }
@@ -174,7 +175,7 @@ pub fn least_under(entries: &Entries, table: u32, prefix: &[i64]) -> i64
     requires up { IsUp entries.now.entries }
     ensures { result ≡ least_of (live entries.now.entries) table prefix.now }
 {
-    if prefix.len() <= MOST_PARTS {
+    if prefix.len() <= MOST_KEY_PARTS {
         least_below(entries, table, prefix)
     } else {
         0
@@ -183,7 +184,7 @@ pub fn least_under(entries: &Entries, table: u32, prefix: &[i64]) -> i64
 
 /// The greatest part after a prefix of at most 6 parts, and 0 where there is none.
 fn greatest_below(entries: &Entries, table: u32, prefix: &[i64]) -> i64
-    requires short { length prefix.now ≤ 6 }
+    requires short { length prefix.now ≤ MOST_KEY_PARTS }
     requires fit { AreFit entries.now.entries }
     requires up { IsUp entries.now.entries }
     ensures { result ≡ greatest_of (live entries.now.entries) table prefix.now }
@@ -197,7 +198,7 @@ pub fn greatest_under(entries: &Entries, table: u32, prefix: &[i64]) -> i64
     requires up { IsUp entries.now.entries }
     ensures { result ≡ greatest_of (live entries.now.entries) table prefix.now }
 {
-    if prefix.len() <= MOST_PARTS {
+    if prefix.len() <= MOST_KEY_PARTS {
         greatest_below(entries, table, prefix)
     } else {
         0

@@ -10,9 +10,11 @@ use Rattle.acc_rows.specs.declared.stops.Stop.{Stop}
 use Rattle.acc_rows.specs.declared.stops.Stop.TheVariants.{Refuted, Many}
 use Rattle.acc_rows.specs.declared.rows.Row.{Row}
 use Rattle.acc_systems.specs.declared.systems.Reduced.{Reduced}
-use Rattle.acc_rows.specs.Answers.{Computation, chain, steps, Leaves}
+use Rattle.acc_base.specs.Computing.{chain, steps, Leaves}
+use Rattle.acc_rows.specs.Answers.{tells, Computation}
 use Rattle.acc_rows.specs.Rows.{cleared}
-use Rattle.acc_systems.specs.Systems.{MOST, is_false, repeats, is_constant, admitted, is_equation_with, taken, replaced, set_aside}
+use Rattle.acc_systems.specs.declared.systems.TheConstants.{MOST_RELATIONS}
+use Rattle.acc_systems.specs.Systems.{is_false, repeats, is_constant, admitted, is_equation_with, taken, replaced, set_aside}
 use Rattle.acc_systems.specs.Repetitions.{Differs, AreApart, TellsOf, StillTellsOf, GrowTogether}
 
 -- ---- what holds of a value that is computed
@@ -59,7 +61,7 @@ admitted_by rows r false c false false h a = apart_push rows r a h
 
 admitted_apart : (rows : List Row) (r : Row) → AreApart rows → IfOk (admitted rows r) AreApart
 admitted_apart rows r a =
-    admitted_by rows r (is_constant r) (is_false r) (list_any (repeats r) rows) (nat_le MOST (length rows)) refl a
+    admitted_by rows r (is_constant r) (is_false r) (list_any (repeats r) rows) (nat_le MOST_RELATIONS (length rows)) refl a
 
 pub system_apart : (rows system : List Row) → steps admitted [] rows ≡ Ok system → AreApart system
 system_apart rows system e =
@@ -141,9 +143,9 @@ stays_by some rows r false c false false = λ other no t. t ∙ sym (any_skip (r
 pub stays_told : (some rows more : List Row) (r : Row) → admitted rows r ≡ Ok more → StillTellsOf some rows some more r
 stays_told some rows more r same =
     subst (λ o. IfOk o (λ more. StillTellsOf some rows some more r)) same
-    (stays_by some rows r (is_constant r) (is_false r) (list_any (repeats r) rows) (nat_le MOST (length rows)))
+    (stays_by some rows r (is_constant r) (is_false r) (list_any (repeats r) rows) (nat_le MOST_RELATIONS (length rows)))
 
-pub kept_told : {B : Type 0} (result : Result B Stop) (some rows more : List Row) (r : Row) → Leaves result more (admitted rows r)
+pub kept_told : {B : Type 0} (result : Result B Stop) (some rows more : List Row) (r : Row) → Leaves tells result more (admitted rows r)
     → OnOk result (StillTellsOf some rows some more r)
 kept_told (Ok x) some rows more r h = stays_told some rows more r h
 kept_told (Err e) some rows more r h = tt
@@ -171,7 +173,7 @@ grows_by rows r false c false false = more_rows rows r
 pub admitted_grows : (rows more : List Row) (r : Row) → admitted rows r ≡ Ok more → Grows rows r more
 admitted_grows rows more r same =
     subst (λ o. IfOk o (Grows rows r)) same
-    (grows_by rows r (is_constant r) (is_false r) (list_any (repeats r) rows) (nat_le MOST (length rows)))
+    (grows_by rows r (is_constant r) (is_false r) (list_any (repeats r) rows) (nat_le MOST_RELATIONS (length rows)))
 
 pub told_stayed : (some rows more : List Row) → more ≡ rows → GrowTogether some rows some more
 told_stayed some rows more same = λ other. (

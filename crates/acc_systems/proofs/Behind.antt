@@ -13,10 +13,12 @@ use Rattle.acc_base.specs.Pairs.{pair_decides}
 use Rattle.acc_rows.specs.declared.stops.Stop.{Stop}
 use Rattle.acc_rows.specs.declared.stops.Stop.TheVariants.{Refuted, Many}
 use Rattle.acc_rows.specs.declared.rows.Row.{Row}
-use Rattle.acc_rows.specs.Answers.{Leaves}
+use Rattle.acc_base.specs.Computing.{Leaves}
+use Rattle.acc_rows.specs.Answers.{tells}
 use Rattle.acc_rows.specs.Sparse.{Sparse, same_numbers, no_numbers}
 use Rattle.acc_rows.specs.Rows.{has}
-use Rattle.acc_systems.specs.Systems.{MOST, is_false, same_bool, repeats, is_constant, is_without, admitted}
+use Rattle.acc_systems.specs.declared.systems.TheConstants.{MOST_RELATIONS}
+use Rattle.acc_systems.specs.Systems.{is_false, same_bool, repeats, is_constant, is_without, admitted}
 use Rattle.acc_systems.specs.Repetitions.{GrowTogether, StillBehind, told_behind}
 
 -- ---- relations that repeat one another
@@ -80,7 +82,7 @@ module _ (rows : List Row) (r other : Row) (some : is_constant other ≡ false) 
       → list_any (repeats other) more ≡ (list_any (repeats other) rows || repeats other r)
   admitted_tells more same =
       subst (λ o. IfOk o (λ more. list_any (repeats other) more ≡ (list_any (repeats other) rows || repeats other r))) same
-      (tells_by (is_constant r) (is_false r) (list_any (repeats r) rows) (nat_le MOST (length rows)) refl refl)
+      (tells_by (is_constant r) (is_false r) (list_any (repeats r) rows) (nat_le MOST_RELATIONS (length rows)) refl refl)
 
 -- ---- behind an equation
 
@@ -94,7 +96,7 @@ stays_so false false w b h = refl
 
 -- one without the unknown stays
 pub kept_behind : {B : Type 0} (result : Result B Stop) (u : ℕ) (made kept more : List Row) (row : Row) → has u row ≡ false
-    → Leaves result more (admitted kept row) → OnOk result (StillBehind u row made kept made more)
+    → Leaves tells result more (admitted kept row) → OnOk result (StillBehind u row made kept made more)
 kept_behind (Err e) u made kept more row none h = tt
 kept_behind (Ok x) u made kept more row none h = λ r before rest some told.
     ap (λ b. b || (is_without u r && list_any (repeats r) rest)) (admitted_tells kept row r some more h)

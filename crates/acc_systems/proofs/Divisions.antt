@@ -17,7 +17,7 @@ use Rattle.acc_systems.specs.Made.{Sums as IsSum}
 use Rattle.acc_rows.specs.Numbers.{kept, opposite, size}
 use Rattle.acc_rows.specs.Sparse.{Sparse, at, mixture, mixed}
 use Rattle.acc_rows.specs.Divisors.{divisor_within, divisor, common, quotient}
-use Rattle.acc_rows.specs.Rows.{numbers, quotients, divided, divisor_of, lowest, made, has, turned, cleared_by, cleared, crossing}
+use Rattle.acc_rows.specs.Rows.{numbers, quotients, divided, divisor_of, lowest, made, has, cancelling, cleared_by, cleared, crossing}
 use Rattle.acc_rows.proofs.Worths.{Gives, gives_chain, mixture_gives, mixed_gives, kept_gives, gives_weaker}
 use Rattle.acc_systems.specs.Systems.{is_upper, is_lower, eliminated}
 use Rattle.acc_systems.proofs.Kept.{Keeps, EliminatedGood, eliminated_keeps}
@@ -152,16 +152,18 @@ module _ (f base : ℕ → ℤ) where
   size_by a true = gives_weaker (kept (a *ℤ negsuc 0)) (λ m. m ≡ a *ℤ negsuc 0) (λ m. Unit {0}) (λ m h. tt) (kept_gives (a *ℤ negsuc 0))
   size_by a false = tt
 
-  turned_by : (b : ℤ) (t : Bool) → Gives (if t then Ok b else opposite b) (λ m. Unit {0})
-  turned_by b true = tt
-  turned_by b false = gives_weaker (kept (b *ℤ negsuc 0)) (λ m. m ≡ b *ℤ negsuc 0) (λ m. Unit {0}) (λ m h. tt) (kept_gives (b *ℤ negsuc 0))
+  cancelling_by : (b : ℤ) (t : Bool) → Gives (if t then Ok b else opposite b) (λ m. Unit {0})
+  cancelling_by b true = tt
+  cancelling_by b false =
+      gives_weaker (kept (b *ℤ negsuc 0)) (λ m. m ≡ b *ℤ negsuc 0) (λ m. Unit {0}) (λ m h. tt) (kept_gives (b *ℤ negsuc 0))
 
   cleared_when : (u : ℕ) (e r : Row) (b : Bool) → Sums e → Sums r
       → Gives (if b then cleared_by (at u e.terms) e (at u r.terms) r else Ok r) Sums
   cleared_when u e r false he hr = hr
   cleared_when u e r true he hr =
       gives_chain (size (at u e.terms)) _ (λ m. Unit {0}) Sums (size_by (at u e.terms) (int_lt (at u e.terms) (pos 0))) (λ p _.
-      gives_chain (turned (at u e.terms) (at u r.terms)) _ (λ m. Unit {0}) Sums (turned_by (at u r.terms) (int_lt (at u e.terms) (pos 0)))
+      gives_chain (cancelling (at u e.terms) (at u r.terms)) _ (λ m. Unit {0}) Sums
+      (cancelling_by (at u r.terms) (int_lt (at u e.terms) (pos 0)))
       (λ q _. made_sums p r q e r.equal hr he))
 
   pub cleared_sums : (u : ℕ) (e r : Row) → Sums e → e.equal ≡ true → has u e ≡ true → Sums r → Gives (cleared u e r) Sums
@@ -170,7 +172,7 @@ module _ (f base : ℕ → ℤ) where
   pub crossing_sums : (u : ℕ) (up low : Row) → Sums up → is_upper u up ≡ true → Sums low → is_lower u low ≡ true
       → Gives (crossing u up low) Sums
   crossing_sums u up low hu _ hl _ =
-      gives_chain (opposite (at u low.terms)) _ (λ m. Unit {0}) Sums (turned_by (at u low.terms) false)
+      gives_chain (opposite (at u low.terms)) _ (λ m. Unit {0}) Sums (cancelling_by (at u low.terms) false)
       (λ q _. made_sums (at u up.terms) low q up false hl hu)
 
   -- what an elimination leaves, and the false constant that ends it, are sums of the relations that it began with

@@ -11,10 +11,13 @@ use Rattle.acc_rows.specs.declared.rows.Row.{Row}
 use Rattle.acc_systems.specs.declared.systems.Reduced.{Reduced}
 use Rattle.acc_systems.specs.declared.systems.Bounded.{Bounded}
 use Rattle.acc_systems.specs.declared.systems.Eliminated.{Eliminated}
-use Rattle.acc_rows.specs.Answers.{Computation, chain, steps}
+use Rattle.acc_base.specs.Computing.{chain, steps}
+use Rattle.acc_rows.specs.Answers.{Computation}
 use Rattle.acc_rows.specs.Rows.{has, cleared, crossing}
-use Rattle.acc_systems.specs.Systems.{MOST, is_false, repeats, is_constant, admitted, is_equation_with, taken, replaced, set_aside, whole}
-use Rattle.acc_systems.specs.Systems.{is_upper, is_lower, is_without, crossed_once, crossed_with, or_else, crossed, unbounded, counted}
+use Rattle.acc_systems.specs.declared.systems.TheConstants.{MOST_RELATIONS}
+use Rattle.acc_systems.specs.Systems.{is_false, repeats, is_constant, admitted, is_equation_with, taken, replaced, set_aside, whole}
+use Rattle.acc_base.specs.Items.{numbers_from}
+use Rattle.acc_systems.specs.Systems.{is_upper, is_lower, is_without, crossed_once, crossed_with, or_else, crossed, unbounded}
 use Rattle.acc_systems.specs.Systems.{eliminated}
 use Rattle.acc_rows.proofs.Worths.{Gives}
 
@@ -80,7 +83,7 @@ module _ (Good : Row → Type 0) where
 
   pub admitted_keeps : (rows : List Row) (r : Row) → All Good rows → Good r → Keeps (admitted rows r) (All Good)
   admitted_keeps rows r all good =
-      admitted_by rows r (is_constant r) (is_false r) (list_any (repeats r) rows) (nat_le MOST (length rows)) refl refl all good
+      admitted_by rows r (is_constant r) (is_false r) (list_any (repeats r) rows) (nat_le MOST_RELATIONS (length rows)) refl refl all good
 
   -- ---- an equation that is taken
 
@@ -186,8 +189,9 @@ module _ (Good : Row → Type 0) where
     eliminated_keeps n rows all =
         keeps_chain (steps admitted [] rows) _ (All Good) EliminatedGood
         (keeps_steps admitted (All Good) Good (λ rs r a g. admitted_keeps rs r a g) rows all [] (All-nil Good)) (λ system a.
-        keeps_chain (steps set_aside (whole system) (counted 0 n)) _ ReducedGood EliminatedGood
-        (keeps_steps set_aside ReducedGood (λ _. Unit {0}) (λ s u g _. set_aside_keeps s u g) (counted 0 n) (anything (counted 0 n))
+        keeps_chain (steps set_aside (whole system) (numbers_from 0 n)) _ ReducedGood EliminatedGood
+        (keeps_steps set_aside ReducedGood (λ _. Unit {0}) (λ s u g _. set_aside_keeps s u g) (numbers_from 0 n)
+        (anything (numbers_from 0 n))
         (whole system) (record { rows = a; aside = All-nil (λ x. Good x.1) })) (λ s g.
         keeps_chain (steps crossed (unbounded s.rows) s.left) _ BoundedGood EliminatedGood
         (keeps_steps crossed BoundedGood (λ _. Unit {0}) (λ t u h _. crossed_keeps t u h) s.left (anything s.left) (unbounded s.rows)

@@ -7,3 +7,4 @@ pub mod Signs
 pub mod Orders
 pub mod FalseConstants
 pub mod Propers
+pub mod Nears

@@ -9,7 +9,7 @@ use Rattle.acc_rows.specs.Answers.{Computation}
 use Rattle.acc_systems.specs.Made.{Rises, Ordered}
 use Rattle.acc_rows.specs.Numbers.{product, opposite, size}
 use Rattle.acc_rows.specs.Sparse.{Sparse, at, put, put_left, scaled, mixture, mixed_after, mixed}
-use Rattle.acc_rows.specs.Rows.{quotients, divided, divisor_of, made, has, turned, cleared_by, cleared, crossing}
+use Rattle.acc_rows.specs.Rows.{quotients, divided, divisor_of, made, has, cancelling, cleared_by, cleared, crossing}
 use Rattle.acc_systems.specs.Systems.{is_upper, is_lower, eliminated}
 use Rattle.acc_rows.proofs.Worths.{Gives, gives_chain, gives_weaker, kept_gives, mixture_gives}
 use Rattle.acc_systems.proofs.Kept.{Keeps, EliminatedGood, eliminated_keeps}
@@ -99,17 +99,17 @@ some_size : (a : ℤ) (b : Bool) → Gives (if b then opposite a else Ok a) (λ 
 some_size a true = some_product a (negsuc 0)
 some_size a false = tt
 
-some_turned : (a : ℤ) (b : Bool) → Gives (if b then Ok a else opposite a) (λ _. Unit {0})
-some_turned a true = tt
-some_turned a false = some_product a (negsuc 0)
+some_cancelling : (a : ℤ) (b : Bool) → Gives (if b then Ok a else opposite a) (λ _. Unit {0})
+some_cancelling a true = tt
+some_cancelling a false = some_product a (negsuc 0)
 
 cleared_when : (u : ℕ) (e r : Row) (b : Bool) → Ordered e → Ordered r
     → Gives (if b then cleared_by (at u e.terms) e (at u r.terms) r else Ok r) Ordered
 cleared_when u e r false he hr = hr
 cleared_when u e r true he hr =
     gives_chain (size (at u e.terms)) _ (λ _. Unit {0}) Ordered (some_size (at u e.terms) (int_lt (at u e.terms) (pos 0))) (λ p _.
-    gives_chain (turned (at u e.terms) (at u r.terms)) _ (λ _. Unit {0}) Ordered
-    (some_turned (at u r.terms) (int_lt (at u e.terms) (pos 0))) (λ q _. made_ordered p r q e r.equal hr he))
+    gives_chain (cancelling (at u e.terms) (at u r.terms)) _ (λ _. Unit {0}) Ordered
+    (some_cancelling (at u r.terms) (int_lt (at u e.terms) (pos 0))) (λ q _. made_ordered p r q e r.equal hr he))
 
 pub cleared_ordered : (u : ℕ) (e r : Row) → Ordered e → e.equal ≡ true → has u e ≡ true → Ordered r → Gives (cleared u e r) Ordered
 cleared_ordered u e r he equal _ hr = cleared_when u e r (has u r) he hr

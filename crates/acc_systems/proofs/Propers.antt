@@ -9,7 +9,7 @@ use Rattle.acc_rows.specs.declared.rows.Row.{Row}
 use Rattle.acc_rows.specs.Numbers.{kept, opposite, size}
 use Rattle.acc_rows.specs.Sparse.{Sparse, at, mixture, mixed}
 use Rattle.acc_rows.specs.Divisors.{quotient, common}
-use Rattle.acc_rows.specs.Rows.{numbers, quotients, divided, divisor_of, lowest, made, has, turned, cleared_by, cleared, crossing}
+use Rattle.acc_rows.specs.Rows.{numbers, quotients, divided, divisor_of, lowest, made, has, cancelling, cleared_by, cleared, crossing}
 use Rattle.acc_systems.specs.Systems.{is_upper, is_lower, eliminated}
 use Rattle.acc_systems.specs.Made.{IsProper, Proper}
 use Rattle.acc_rows.proofs.Worths.{Gives, gives_chain, gives_weaker, kept_gives, mixture_gives, mixed_gives}
@@ -70,9 +70,9 @@ size_other : (a : ℤ) (b : Bool) → Other a → Gives (if b then opposite a el
 size_other a true h = opposite_other a h
 size_other a false h = h
 
-turned_other : (a : ℤ) (b : Bool) → Other a → Gives (if b then Ok a else opposite a) Other
-turned_other a true h = h
-turned_other a false h = opposite_other a h
+cancelling_other : (a : ℤ) (b : Bool) → Other a → Gives (if b then Ok a else opposite a) Other
+cancelling_other a true h = h
+cancelling_other a false h = opposite_other a h
 
 module _ (n : ℕ) where
   quotients_proper : (g : ℕ) (xs : Sparse) → All (Divides g) (numbers xs) → All (IsProper n) xs → All (IsProper n) (quotients g xs)
@@ -112,8 +112,8 @@ module _ (n : ℕ) where
   cleared_when u e r true is he there hr =
       gives_chain (size (at u e.terms)) _ Other (Proper n)
       (size_other (at u e.terms) (int_lt (at u e.terms) (pos 0)) (has_other u e there)) (λ p p_is.
-      gives_chain (turned (at u e.terms) (at u r.terms)) _ Other (Proper n)
-      (turned_other (at u r.terms) (int_lt (at u e.terms) (pos 0)) (has_other u r is))
+      gives_chain (cancelling (at u e.terms) (at u r.terms)) _ Other (Proper n)
+      (cancelling_other (at u r.terms) (int_lt (at u e.terms) (pos 0)) (has_other u r is))
       (λ q q_is. made_proper p r q e r.equal p_is q_is hr he))
 
   pub cleared_proper : (u : ℕ) (e r : Row) → Proper n e → e.equal ≡ true → has u e ≡ true → Proper n r → Gives (cleared u e r) (Proper n)

@@ -10,7 +10,7 @@ use Rattle.acc_systems.specs.Made.{MayStand as May, OfEquation as Of, Signed as 
 use Rattle.acc_rows.specs.Numbers.{kept, opposite, size}
 use Rattle.acc_rows.specs.Sparse.{Sparse, at, mixture, mixed}
 use Rattle.acc_rows.specs.Divisors.{quotient}
-use Rattle.acc_rows.specs.Rows.{quotients, divided, divisor_of, lowest, made, has, turned, cleared_by, cleared, crossing}
+use Rattle.acc_rows.specs.Rows.{quotients, divided, divisor_of, lowest, made, has, cancelling, cleared_by, cleared, crossing}
 use Rattle.acc_systems.specs.Systems.{is_upper, is_lower, eliminated}
 use Rattle.acc_rows.proofs.Worths.{Gives, gives_chain, gives_weaker, gives_both, kept_gives, mixture_gives, mixed_gives}
 use Rattle.acc_systems.proofs.Kept.{Keeps, EliminatedGood, eliminated_keeps}
@@ -43,8 +43,8 @@ quotient_sign g (pos n) h = by (int_lt (pos n) (pos 0)) refl
     by false e = from_zero (n / g)
 quotient_sign g (negsuc n) h = absurd (cc)
 
-turned_sign : (a : ℤ) → int_lt a (pos 0) ≡ true → int_le (pos 0) (a *ℤ negsuc 0) ≡ true
-turned_sign a e =
+cancelling_sign : (a : ℤ) → int_lt a (pos 0) ≡ true → int_le (pos 0) (a *ℤ negsuc 0) ≡ true
+cancelling_sign a e =
     let h : a *ℤ negsuc 0 ≡ pos 0 -ℤ a = omega (arith, ints) in
     ap (int_le (pos 0)) h ∙ grind (arith, ints)
 
@@ -139,12 +139,13 @@ module _ (is_equation : ℕ → Bool) where
   size_by : (a : ℤ) (b : Bool) → int_lt a (pos 0) ≡ b → Gives (if b then opposite a else Ok a) (λ p. int_le (pos 0) p ≡ true)
   size_by a true e =
       gives_weaker (kept (a *ℤ negsuc 0)) (λ m. m ≡ a *ℤ negsuc 0) (λ p. int_le (pos 0) p ≡ true)
-      (λ m h. ap (int_le (pos 0)) h ∙ turned_sign a e) (kept_gives (a *ℤ negsuc 0))
+      (λ m h. ap (int_le (pos 0)) h ∙ cancelling_sign a e) (kept_gives (a *ℤ negsuc 0))
   size_by a false e = at_least a e
 
-  turned_any : (b : ℤ) (t : Bool) → Gives (if t then Ok b else opposite b) (λ _. Unit {0})
-  turned_any b true = tt
-  turned_any b false = gives_weaker (kept (b *ℤ negsuc 0)) (λ m. m ≡ b *ℤ negsuc 0) (λ _. Unit {0}) (λ m h. tt) (kept_gives (b *ℤ negsuc 0))
+  cancelling_any : (b : ℤ) (t : Bool) → Gives (if t then Ok b else opposite b) (λ _. Unit {0})
+  cancelling_any b true = tt
+  cancelling_any b false =
+      gives_weaker (kept (b *ℤ negsuc 0)) (λ m. m ≡ b *ℤ negsuc 0) (λ _. Unit {0}) (λ m h. tt) (kept_gives (b *ℤ negsuc 0))
 
   cleared_when : (u : ℕ) (e r : Row) (b : Bool) → Signed e → e.equal ≡ true → Signed r
       → Gives (if b then cleared_by (at u e.terms) e (at u r.terms) r else Ok r) Signed
@@ -152,8 +153,8 @@ module _ (is_equation : ℕ → Bool) where
   cleared_when u e r true he equal hr =
       gives_chain (size (at u e.terms)) _ (λ p. int_le (pos 0) p ≡ true) Signed
       (size_by (at u e.terms) (int_lt (at u e.terms) (pos 0)) refl) (λ p p_is.
-      gives_chain (turned (at u e.terms) (at u r.terms)) _ (λ _. Unit {0}) Signed
-      (turned_any (at u r.terms) (int_lt (at u e.terms) (pos 0))) (λ q _.
+      gives_chain (cancelling (at u e.terms) (at u r.terms)) _ (λ _. Unit {0}) Signed
+      (cancelling_any (at u r.terms) (int_lt (at u e.terms) (pos 0))) (λ q _.
       made_if p r q e r.equal (by_equation p q p_is r.equal r.by e.by hr.may hr.equal (he.equal equal))))
 
   pub cleared_signed : (u : ℕ) (e r : Row) → Signed e → e.equal ≡ true → has u e ≡ true → Signed r → Gives (cleared u e r) Signed

@@ -12,8 +12,10 @@ use Rattle.acc_rows.specs.Sparse.{at}
 use Rattle.acc_rows.specs.declared.stops.Stop.{Stop}
 use Rattle.acc_systems.specs.declared.systems.Parted.{Parted}
 use Rattle.acc_systems.specs.declared.systems.Bounded.{Bounded}
-use Rattle.acc_rows.specs.Answers.{Computation, StoppedBy, chain, steps}
-use Rattle.acc_systems.specs.Systems.{is_equation_with, taken, counted, is_without, is_lower, is_upper, IsParted, parted_with}
+use Rattle.acc_base.specs.Computing.{chain, steps}
+use Rattle.acc_rows.specs.Answers.{Computation, StoppedBy}
+use Rattle.acc_base.specs.Items.{numbers_from}
+use Rattle.acc_systems.specs.Systems.{is_equation_with, taken, is_without, is_lower, is_upper, IsParted, parted_with}
 use Rattle.acc_systems.specs.Systems.{crossed_with, crossed, bounds_of, or_else}
 use Rattle.acc_rows.proofs.Chains.{stopped_along, stopped_chain}
 
@@ -56,17 +58,16 @@ module _ (u : ℕ) where
 
 -- ---- the numbers of the unknowns
 
-counted_suc : (i m n : ℕ) → m ≡ suc n → counted i m ≡ i ∷ counted (suc i) n
-counted_suc i m n e = ap (counted i) e
+pub numbers_suc : (i n : ℕ) → numbers_from i (suc n) ≡ i ∷ numbers_from (suc i) n
+numbers_suc i n = let e : i + 1 ≡ suc i = omega arith in ap (λ j. i ∷ numbers_from j n) e
 
-pub counted_more : (i n : ℕ) → i < n → counted i (n - i) ≡ i ∷ counted (i + 1) (n - (i + 1))
-counted_more i n l =
+pub numbers_more : (i n : ℕ) → i < n → numbers_from i (n - i) ≡ i ∷ numbers_from (i + 1) (n - (i + 1))
+numbers_more i n l =
     let e : n - i ≡ suc (n - (i + 1)) = omega (arith, l) in
-    let f : suc i ≡ i + 1 = omega arith in
-    counted_suc i (n - i) (n - (i + 1)) e ∙ ap (λ j. i ∷ counted j (n - (i + 1))) f
+    ap (numbers_from i) e
 
-pub counted_none : (i n : ℕ) → n ≤ i → counted i (n - i) ≡ []
-counted_none i n l = let e : n - i ≡ zero = omega (arith, l) in ap (counted i) e
+pub numbers_none : (i n : ℕ) → n ≤ i → numbers_from i (n - i) ≡ []
+numbers_none i n l = let e : n - i ≡ zero = omega (arith, l) in ap (numbers_from i) e
 
 -- ---- relations that are parted by the sign of a coefficient
 

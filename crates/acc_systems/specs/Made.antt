@@ -1,5 +1,6 @@
 -- What is known of the relations that an elimination makes: each is a sum of multiples of those that it began with.
 use Rattle.std.specs.Prelude.{◌≡◌, ◌≤◌, ◌<◌, ℕ, suc, Bool, true, false, List, [], ◌∷◌, All, Err, ℤ, pos, ◌+ℤ◌, int_le, unsigned_abs}
+use Rattle.acc_base.specs.Bounded.{IsBounded}
 use Rattle.acc_base.specs.Collecting.{worth}
 use Rattle.acc_rows.specs.declared.stops.Stop.TheVariants.{Refuted}
 use Rattle.acc_rows.specs.declared.rows.Row.{Row}
@@ -37,6 +38,13 @@ IsProper n m = (m.0 < n) × (0 < unsigned_abs m.1)
 
 abbrev pub Proper : ℕ → Row → Type 0
 Proper n r = All (IsProper n) r.by
+
+-- multipliers are within 2^120 of 0
+abbrev pub IsNear : ℕ × ℤ → Type 0
+IsNear m = IsBounded m.1
+
+abbrev pub Near : Row → Type 0
+Near r = All IsNear r.by
 
 -- ---- laws of the false constant that ends an elimination
 

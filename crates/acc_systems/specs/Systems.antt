@@ -1,22 +1,22 @@
 -- Elimination of unknowns from a system of relations: first by equations, then by pairs of bounds.
-use Rattle.std.specs.Prelude.{◌≡◌, ℕ, zero, suc, nat_le, Bool, true, false, ◌&&◌, not, if◌then◌else◌, List, [], ◌∷◌, ◌++◌, length, filter}
+use Rattle.std.specs.Prelude.{◌≡◌, ℕ, nat_le, Bool, true, false, ◌&&◌, not, if◌then◌else◌, List, [], ◌∷◌, ◌++◌, length, filter}
 use Rattle.std.specs.Prelude.{Option, Some, None, option_map, Ok, Err, pos, int_lt}
 use Rattle.std.specs.List.{list_any}
 use Rattle.std.specs.Ordering.{int_eq}
 use Rattle.acc_rows.specs.declared.stops.Stop.TheVariants.{Refuted, Many}
 use Rattle.acc_rows.specs.declared.rows.Row.{Row}
+use Rattle.acc_systems.specs.declared.systems.TheConstants.{MOST_RELATIONS}
 use Rattle.acc_systems.specs.declared.systems.Reduced.{Reduced}
 use Rattle.acc_systems.specs.declared.systems.Parted.{Parted}
 use Rattle.acc_systems.specs.declared.systems.Bounded.{Bounded}
 use Rattle.acc_systems.specs.declared.systems.Eliminated.{Eliminated}
-use Rattle.acc_rows.specs.Answers.{Computation, chain, steps}
+use Rattle.acc_base.specs.Computing.{chain, steps}
+use Rattle.acc_base.specs.Items.{numbers_from}
+use Rattle.acc_rows.specs.Answers.{Computation}
 use Rattle.acc_rows.specs.Sparse.{at, same_numbers, no_numbers}
 use Rattle.acc_rows.specs.Rows.{has, cleared, crossing}
 
 -- ---- the relations of a system
-
-abbrev pub MOST : ℕ
-MOST = 4096
 
 -- whether a relation without unknowns is false
 abbrev pub is_false : Row → Bool
@@ -37,7 +37,7 @@ is_constant r = no_numbers r.terms
 abbrev pub admitted : List Row → Row → Computation (List Row)
 admitted rows r =
     if is_constant r then (if is_false r then Err (Refuted r) else Ok rows)
-    else (if list_any (repeats r) rows then Ok rows else (if nat_le MOST (length rows) then Err Many else Ok (rows ++ r ∷ [])))
+    else (if list_any (repeats r) rows then Ok rows else (if nat_le MOST_RELATIONS (length rows) then Err Many else Ok (rows ++ r ∷ [])))
 
 -- ---- by equations
 
@@ -117,11 +117,6 @@ crossed s u =
 
 -- ---- the whole elimination
 
--- the numbers from a first one on
-abbrev pub counted : ℕ → ℕ → List ℕ
-counted first zero = []
-counted first (suc n) = first ∷ counted (suc first) n
-
 -- a system of which no unknown was eliminated
 abbrev pub unbounded : List Row → Bounded
 unbounded rows = record { rows = rows; bounds = [] }
@@ -133,4 +128,4 @@ eliminated_left r =
 abbrev pub eliminated : ℕ → List Row → Computation Eliminated
 eliminated unknowns rows =
     chain (steps admitted [] rows) (λ system.
-    chain (steps set_aside (whole system) (counted 0 unknowns)) eliminated_left)
+    chain (steps set_aside (whole system) (numbers_from 0 unknowns)) eliminated_left)

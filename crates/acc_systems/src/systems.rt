@@ -1,11 +1,13 @@
 //! Systems of relations: what is dropped, and what ends an elimination.
 ghost use Rattle.std.specs.Prelude.{◌≡◌, ◌<◌, [], length, position, Ok, IfSome, IfOk, OnOk, MatchResult};
 ghost use Rattle.std.specs.List.{list_any};
-ghost use Rattle.acc_rows.specs.Answers.{Answers, Leaves, StoppedBy, steps};
+ghost use Rattle.acc_base.specs.Computing.{Answers, Leaves, steps};
+ghost use Rattle.acc_rows.specs.Answers.{tells, StoppedBy};
 ghost use Rattle.acc_systems.specs.Systems.{is_false, is_equation_with, repeats, is_constant, admitted, Takes, replaced, put_aside};
 ghost use Rattle.acc_systems.specs.Systems.{set_aside, whole, parted_with, eliminated_left};
 ghost use Rattle.acc_systems.specs.Repetitions.{AreApart, TellsOf, StillTellsOf, GrowTogether, StillBehind, TellBehind};
-ghost use Rattle.acc_systems.specs.Systems.{counted, IsParted, crossed_once, crossed_with, or_else, crossed, unbounded, eliminated};
+ghost use Rattle.acc_base.specs.Items.{numbers_from};
+ghost use Rattle.acc_systems.specs.Systems.{IsParted, crossed_once, crossed_with, or_else, crossed, unbounded, eliminated};
 
 use acc_base::sequences::{Seq, copied};
 use acc_rows::rows::{Row, cleared, crossing};
@@ -14,7 +16,7 @@ use std::alloc::{AllocError, Global};
 use std::mem;
 
 /// The most relations of a system.
-pub const MOST: usize = 4096;
+pub const MOST_RELATIONS: usize = 4096;
 
 /// Whether a relation without unknowns is false.
 pub fn is_false(row: &Row) -> bool
@@ -56,7 +58,7 @@ pub fn is_repetition(rows: &[Row], row: &Row) -> bool
 /// One more relation, where it is known whether it repeats one.
 fn keep(rows: &mut Vec<Row>, row: Row, is_repeated: bool) -> Result<(), Stop>
     requires { is_repeated ≡ list_any (repeats row) rows.old.items }
-    ensures { Leaves result rows.new.items (admitted rows.old.items row) }
+    ensures { Leaves tells result rows.new.items (admitted rows.old.items row) }
 {
     if is_constant(&row) {
         if is_false(&row) {
@@ -67,7 +69,7 @@ fn keep(rows: &mut Vec<Row>, row: Row, is_repeated: bool) -> Result<(), Stop>
     if is_repeated {
         return Ok(());
     }
-    if rows.len() >= MOST {
+    if rows.len() >= MOST_RELATIONS {
         return Err(Stop::Many);
     }
     rows.push(row)?;
@@ -76,7 +78,7 @@ fn keep(rows: &mut Vec<Row>, row: Row, is_repeated: bool) -> Result<(), Stop>
 
 /// One more relation. The cost is that of comparing it with each of the system.
 pub fn admit(rows: &mut Vec<Row>, row: Row) -> Result<(), Stop>
-    ensures { Leaves result rows.new.items (admitted rows.old.items row) }
+    ensures { Leaves tells result rows.new.items (admitted rows.old.items row) }
 {
     let is_repeated = is_repetition(rows.as_slice(), &row);
     keep(rows, row, is_repeated)
@@ -114,7 +116,7 @@ pub fn form_of(alloc: Global, row: &Row) -> Result<Row, AllocError>
 
 /// One more relation that has just been made.
 fn admit_made(alloc: Global, made: &mut Vec<Row>, kept: &mut Vec<Row>, row: Row) -> Result<(), Stop>
-    ensures value { Leaves result kept.new.items (admitted kept.old.items row) }
+    ensures value { Leaves tells result kept.new.items (admitted kept.old.items row) }
     ensures told { OnOk result (GrowTogether made.old.items kept.old.items made.new.items kept.new.items) }
 {
     let before = kept.len();
@@ -135,7 +137,7 @@ fn replace(
     row: Row,
 ) -> Result<(), Stop>
     requires { TellsOf made.old.items kept.old.items row }
-    ensures value { Leaves result kept.new.items (replaced unknown equation.now kept.old.items row) }
+    ensures value { Leaves tells result kept.new.items (replaced unknown equation.now kept.old.items row) }
     ensures told { OnOk result (StillTellsOf made.old.items kept.old.items made.new.items kept.new.items row) }
     ensures behind { OnOk result (StillBehind unknown row made.old.items kept.old.items made.new.items kept.new.items) }
 {
@@ -197,7 +199,7 @@ fn put_aside(
     others: Vec<Row>,
 ) -> Result<(), Stop>
     requires { AreApart others.items }
-    ensures { Leaves result state.new (put_aside state.old unknown (equation, others.items)) }
+    ensures { Leaves tells result state.new (put_aside state.old unknown (equation, others.items)) }
 {
     let Replaced { rows, made: _ } = replace_all(alloc, unknown, &equation, others)?;
     state.rows = rows;
@@ -208,7 +210,7 @@ fn put_aside(
 /// The system without the unknown where an equation has it; else the unknown is left.
 fn set_aside(alloc: Global, state: &mut Reduced, unknown: u32) -> Result<(), Stop>
     requires { AreApart state.old.rows }
-    ensures { Leaves result state.new (set_aside state.old unknown) }
+    ensures { Leaves tells result state.new (set_aside state.old unknown) }
 {
     let mut rows = mem::replace(&mut state.rows, Seq::new(alloc)).into_vec();
     match take_equation(&mut rows, unknown) {
@@ -224,7 +226,7 @@ fn set_aside(alloc: Global, state: &mut Reduced, unknown: u32) -> Result<(), Sto
 /// The system without the unknowns that equations have, in their order.
 fn set_all_aside(alloc: Global, unknowns: u32, rows: Seq<Row>) -> Result<Reduced, Stop>
     requires { AreApart rows }
-    ensures { Answers result (steps set_aside (whole rows) (counted 0 unknowns)) }
+    ensures { Answers tells result (steps set_aside (whole rows) (numbers_from 0 unknowns)) }
 {
     let mut state = Reduced {
         rows,
@@ -283,7 +285,7 @@ fn part(alloc: Global, unknown: u32, rows: Seq<Row>) -> Result<Parted, AllocErro
 
 /// One more relation, made of an upper and a lower bound.
 fn cross(alloc: Global, unknown: u32, up: &Row, kept: &mut Vec<Row>, low: &Row) -> Result<(), Stop>
-    ensures { Leaves result kept.new.items (crossed_once unknown up.now kept.old.items low.now) }
+    ensures { Leaves tells result kept.new.items (crossed_once unknown up.now kept.old.items low.now) }
 {
     let row = crossing(alloc, unknown, up, low)?;
     admit(kept, row)
@@ -297,7 +299,7 @@ fn cross_lows(
     kept: &mut Vec<Row>,
     up: &Row,
 ) -> Result<(), Stop>
-    ensures { Leaves result kept.new.items (crossed_with unknown lows.now kept.old.items up.now) }
+    ensures { Leaves tells result kept.new.items (crossed_with unknown lows.now kept.old.items up.now) }
 {
     for low in lows {
         cross(alloc, unknown, up, kept, low)?;
@@ -313,7 +315,7 @@ fn cross_all(
     ups: &[Row],
     mut kept: Vec<Row>,
 ) -> Result<Seq<Row>, Stop>
-    ensures { Answers result (steps (crossed_with unknown lows.now) kept.items ups.now) }
+    ensures { Answers tells result (steps (crossed_with unknown lows.now) kept.items ups.now) }
 {
     for up in ups {
         cross_lows(alloc, unknown, lows, &mut kept, up)?;
@@ -330,7 +332,7 @@ fn or_else(lows: Seq<Row>, ups: Seq<Row>) -> Seq<Row>
 
 /// The system without the unknown.
 fn cross_out(alloc: Global, state: &mut Bounded, unknown: u32) -> Result<(), Stop>
-    ensures { Leaves result state.new (crossed state.old unknown) }
+    ensures { Leaves tells result state.new (crossed state.old unknown) }
 {
     let rows = mem::replace(&mut state.rows, Seq::new(alloc));
     let Parted { without, lows, ups } = part(alloc, unknown, rows)?;
@@ -342,7 +344,7 @@ fn cross_out(alloc: Global, state: &mut Bounded, unknown: u32) -> Result<(), Sto
 
 /// The system without the unknowns, one after the other.
 pub fn cross_each(alloc: Global, unknowns: &[u32], rows: Seq<Row>) -> Result<Bounded, Stop>
-    ensures { Answers result (steps crossed (unbounded rows) unknowns.now) }
+    ensures { Answers tells result (steps crossed (unbounded rows) unknowns.now) }
 {
     let mut state = Bounded {
         rows,
@@ -356,7 +358,7 @@ pub fn cross_each(alloc: Global, unknowns: &[u32], rows: Seq<Row>) -> Result<Bou
 
 /// The relations one after the other, as a system.
 pub fn admit_all(alloc: Global, rows: Vec<Row>) -> Result<Seq<Row>, Stop>
-    ensures { Answers result (steps admitted [] rows.items) }
+    ensures { Answers tells result (steps admitted [] rows.items) }
 {
     let mut kept = Vec::new(alloc);
     let mut rest = rows;
@@ -376,7 +378,7 @@ pub struct Eliminated {
 
 /// The elimination of the unknowns that are left, by pairs of bounds.
 fn eliminate_left(alloc: Global, reduced: Reduced) -> Result<Eliminated, Stop>
-    ensures { Answers result (eliminated_left reduced) }
+    ensures { Answers tells result (eliminated_left reduced) }
 {
     let Reduced { rows, aside, left } = reduced;
     let Bounded { rows: _, bounds } = cross_each(alloc, left.as_slice(), rows)?;
@@ -385,7 +387,7 @@ fn eliminate_left(alloc: Global, reduced: Reduced) -> Result<Eliminated, Stop>
 
 /// The elimination of all unknowns: first by equations, then by pairs of bounds.
 pub fn eliminate_all(alloc: Global, unknowns: u32, rows: Vec<Row>) -> Result<Eliminated, Stop>
-    ensures { Answers result (eliminated unknowns rows.items) }
+    ensures { Answers tells result (eliminated unknowns rows.items) }
 {
     let system = admit_all(alloc, rows)?;
     let reduced = set_all_aside(alloc, unknowns, system)?;

@@ -11,6 +11,7 @@ ghost use Rattle.acc_table.specs.Entries.{pairs_agree, entry_forbids, entry_clas
 ghost use Rattle.acc_table.specs.Entries.{IsPointOf, TellsLowest};
 
 use crate::closures::undo_points;
+use acc_base::bounds::{MOST_ENTRIES, MOST_POINTS};
 use acc_base::designs::{At, Design, Entry, Side};
 use acc_base::machines::Frame;
 
@@ -56,7 +57,7 @@ fn first_forbidding(
     side: Side,
     locals: &[i64],
 ) -> Option<u32>
-    requires few { length entries.now ≤ 1024 }
+    requires few { length entries.now ≤ MOST_ENTRIES }
     ensures { result ≡ first_from (entry_forbids held held_locals.now step side locals.now) 1 entries.now }
 {
     for (i, entry) in entries.iter().enumerate() {
@@ -72,13 +73,9 @@ pub fn forbids(d: &Design, held: &Frame, at: At, side: Side, locals: &[i64]) -> 
     requires formed { IsWellFormed d.now }
     ensures { TellsLowest (Forbids d.now (at_of held.now) held.now.locals at side locals.now) result }
 {
-    let held_at = At {
-        ty: held.ty,
-        point: held.point,
-    };
     first_forbidding(
         d.entries.as_slice(),
-        held_at,
+        held.at(),
         held.locals.as_slice(),
         at,
         side,
@@ -100,10 +97,10 @@ fn entry_may_clash(entry: &Entry, a: u32, a_locals: &[i64], b: u32, b_locals: &[
 fn entry_clashes(
     entry: &Entry,
     a: u32,
-    a_points: &[bool; 32],
+    a_points: &[bool; MOST_POINTS],
     a_locals: &[i64],
     b: u32,
-    b_points: &[bool; 32],
+    b_points: &[bool; MOST_POINTS],
     b_locals: &[i64],
 ) -> bool
     ensures { result ≡ entry_clashes a a_points.now a_locals.now b b_points.now b_locals.now entry.now }
@@ -114,23 +111,23 @@ fn entry_clashes(
 }
 
 /// Whether a point's flag is set.
-fn is_set(flags: &[bool; 32], q: u32) -> bool
+fn is_set(flags: &[bool; MOST_POINTS], q: u32) -> bool
     ensures { result ≡ is_set flags.now q }
 {
-    q < 32 && flags[q as usize]
+    (q as usize) < MOST_POINTS && flags[q as usize]
 }
 
 /// The first of the entries that makes two points clash, by its number from 1.
 fn first_clashing(
     entries: &[Entry],
     a: u32,
-    a_points: &[bool; 32],
+    a_points: &[bool; MOST_POINTS],
     a_locals: &[i64],
     b: u32,
-    b_points: &[bool; 32],
+    b_points: &[bool; MOST_POINTS],
     b_locals: &[i64],
 ) -> Option<u32>
-    requires few { length entries.now ≤ 1024 }
+    requires few { length entries.now ≤ MOST_ENTRIES }
     ensures { result ≡ first_from (either_clashes a a_points.now a_locals.now b b_points.now b_locals.now) 1 entries.now }
 {
     for (i, entry) in entries.iter().enumerate() {

@@ -17,4 +17,4 @@ mod writing;
 pub use creating::FIRST_BYTES;
 pub use errors::WalError;
 pub use wal::Wal;
-pub use writing::event_len;
+pub use writing::{LONGEST_TURN, SHORTEST_EVENT, event_len};

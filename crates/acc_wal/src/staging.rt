@@ -3,6 +3,7 @@ ghost use Rattle.std.specs.Prelude.{◌≡◌, ◌⊎◌, ◌≤◌, ◌<◌, �
 ghost use Rattle.std.specs.Prelude.{vec_capacity};
 ghost use Rattle.std.specs.Int.{w32, to_be_bytes};
 
+use crate::writing::SHORTEST_EVENT;
 use acc_base::machines::Event;
 use std::alloc::{AllocError, Global};
 
@@ -15,15 +16,15 @@ pub fn four(alloc: Global) -> Result<Vec<u8>, AllocError>
     Ok(staged)
 }
 
-// How many events find room in so many bytes. The shortest has five.
+// How many events find room in so many bytes, where each is of the shortest.
 pub fn places_of(bytes: usize) -> usize
-    ensures enough { bytes ≤ 5 * result }
-    ensures least { 5 * result < bytes + 5 }
+    ensures enough { bytes ≤ SHORTEST_EVENT * result }
+    ensures least { SHORTEST_EVENT * result < bytes + SHORTEST_EVENT }
 {
-    if bytes % 5 == 0 {
-        bytes / 5
+    if bytes % SHORTEST_EVENT == 0 {
+        bytes / SHORTEST_EVENT
     } else {
-        bytes / 5 + 1
+        bytes / SHORTEST_EVENT + 1
     }
 }
 

@@ -11,7 +11,7 @@ TellsWide (Ok x) wide = IsFalse wide
 TellsWide (Err Wide) wide = IsTrue wide
 TellsWide (Err Memory) wide = Unit {0}
 
--- the same cause, of a sum of forms
-abbrev pub turned : FormSum → WpError
-turned form_sum.Wide = Wide
-turned form_sum.Memory = Memory
+-- why a sum of forms isn't given, as a cause
+abbrev pub cause_of : FormSum → WpError
+cause_of form_sum.Wide = Wide
+cause_of form_sum.Memory = Memory

@@ -1,7 +1,7 @@
 //! What an action adds to the value of an atom.
 ghost use Rattle.std.specs.Prelude.{◌≡◌, ◌++◌, IfOk, OnOk, option_copied};
 ghost use Rattle.acc_instanced.specs.Summands.{lin_parts};
-ghost use Rattle.acc_preconditions.specs.Changes.{key_of, place_of, value_parts, minus, presence_change, column_change, presence_of};
+ghost use Rattle.acc_preconditions.specs.Changes.{key_of, value_parts, minus, presence_change, column_change, presence_of};
 ghost use Rattle.acc_preconditions.specs.Changes.{column_of, change};
 
 use acc_base::forms::{Atom, Lin};
@@ -17,17 +17,6 @@ pub fn key_of(action: &Action) -> &Seq<Lin>
     match action {
         Action::Put(_, key, _) | Action::Del(_, key) => key,
         Action::Set(_, key, _, _) | Action::Add(_, key, _, _) => key,
-    }
-}
-
-/// The key or the prefix of an atom.
-pub fn place_of(atom: &Atom) -> &[Lin]
-    ensures { result.now ≡ place_of atom.now }
-{
-    match atom {
-        Atom::One | Atom::Var(_) => &[],
-        Atom::Has(_, key) | Atom::Col(_, key, _) => key.as_slice(),
-        Atom::Count(_, prefix) | Atom::Sum(_, prefix, _) => prefix.as_slice(),
     }
 }
 

@@ -1,7 +1,7 @@
 //! Why a weakest precondition isn't given.
 ghost use Rattle.std.specs.Prelude.{◌≡◌};
 ghost use Rattle.acc_wp.specs.declared.errors.WpError.TheVariants.{Memory as OutOfMemory};
-ghost use Rattle.acc_wp.specs.Causes.{turned};
+ghost use Rattle.acc_wp.specs.Causes.{cause_of};
 
 use acc_base::sums::FormSum;
 use std::alloc::{AllocError, AllocFailed};
@@ -33,7 +33,7 @@ impl<T: Drop> From<AllocFailed<T>> for WpError {
 }
 
 impl From<FormSum> for WpError {
-    ghost from_gives = { λ f e. e ≡ turned f };
+    ghost from_gives = { λ f e. e ≡ cause_of f };
 
     fn from(e: FormSum) -> Self {
         match e {

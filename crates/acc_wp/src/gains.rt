@@ -4,7 +4,7 @@ ghost use Rattle.acc_base.specs.Sums.{TellsWide};
 ghost use Rattle.acc_instanced.specs.Summands.{with_summands, are_summands_wide};
 ghost use Rattle.acc_preconditions.specs.Gains.{term_summands, is_term_long, gained, is_gained_wide};
 
-use crate::changes::{change, key_of, place_of};
+use crate::changes::{change, key_of};
 use crate::unders::{has_false, lengthened};
 use acc_base::forms::{Form, Unknown};
 use acc_base::sequences::Seq;
@@ -29,7 +29,7 @@ fn add_gains(
     if parts.is_empty() {
         return Ok(());
     }
-    let place = place_of(&unknown.atom);
+    let place = unknown.atom.key();
     let under = lengthened(alloc, &unknown.under, place, key_of(action).as_slice())?;
     if has_false(under.as_slice()) {
         return Ok(());

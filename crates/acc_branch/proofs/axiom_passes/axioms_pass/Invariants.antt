@@ -1,5 +1,5 @@
 use Rattle.std.proofs.Common.{◌≡◌, drop}
-use Rattle.acc_branch.specs.Courses.{steps}
+use Rattle.acc_base.specs.Computing.{steps}
 use Rattle.acc_branch.specs.Known.{known_of}
 use Rattle.acc_branch.specs.AxiomPasses.{try_kind}
 use Rattle.acc_branch.proofs.axiom_passes.axioms_pass.Given as goal

@@ -1,5 +1,5 @@
 use Rattle.std.proofs.Common.{◌≡◌, drop}
-use Rattle.acc_branch.specs.Courses.{steps}
+use Rattle.acc_base.specs.Computing.{steps}
 use Rattle.acc_branch.specs.Known.{known_of}
 use Rattle.acc_branch.specs.AxiomPasses.{try_axiom}
 use Rattle.acc_branch.proofs.axiom_passes.try_kind.Given as goal

@@ -1,6 +1,6 @@
 use Rattle.std.proofs.Common.{◌≡◌, drop, []}
-use Rattle.acc_choices.specs.Parts.{steps}
-use Rattle.acc_choices.specs.Choices.{with_whole}
+use Rattle.acc_base.specs.Computing.{steps}
+use Rattle.acc_choices.specs.Walks.{with_whole}
 use Rattle.acc_choices.proofs.choices.by_whole.Given as goal
 
 abbrev pub invariant-loop-pattern : goal.invariant-loop-pattern

@@ -1,7 +1,8 @@
-use Rattle.std.proofs.Common.{◌≡◌, drop, []}
-use Rattle.std.specs.List.{fold}
-use Rattle.acc_choices.specs.Choices.{with_new}
+use Rattle.std.proofs.Common.{◌≡◌, map}
+use Rattle.acc_base.specs.Items.{numbers_from}
+use Rattle.acc_choices.specs.Choices.{new_place}
+use Rattle.acc_choices.specs.Walks.{patterns_in}
 use Rattle.acc_choices.proofs.patterns.news_of.Given as goal
 
-abbrev pub invariant-loop-place : goal.invariant-loop-place
-invariant-loop-place l = fold (with_new l.taken) l.news (drop l.place-index l.places) ≡ fold (with_new l.taken) [] l.places
+abbrev pub invariant-loop-i : goal.invariant-loop-i
+invariant-loop-i l = l.news ≡ map (new_place (patterns_in l.taken) l.places) (numbers_from 0 l.i)

@@ -1,7 +1,6 @@
-use Rattle.std.proofs.Common.{◌≡◌, drop, []}
-use Rattle.std.specs.List.{fold}
-use Rattle.acc_choices.specs.Choices.{with_nothing}
+use Rattle.std.proofs.Common.{◌≡◌, []}
+use Rattle.acc_choices.specs.Choices.{values_in}
 use Rattle.acc_choices.proofs.values.nothings.Given as goal
 
-abbrev pub invariant-loop-name : goal.invariant-loop-name
-invariant-loop-name l = fold with_nothing l.values (drop l.name-index l.vars) ≡ fold with_nothing [] l.vars
+abbrev pub invariant-loop : goal.invariant-loop
+invariant-loop l = l.values ≡ values_in l.counter []

@@ -1,6 +1,6 @@
 use Rattle.std.proofs.Common.{◌≡◌, drop, []}
 use Rattle.std.specs.List.{fold}
-use Rattle.acc_choices.specs.Choices.{with_value}
+use Rattle.acc_choices.specs.Walks.{with_value}
 use Rattle.acc_choices.proofs.values.values_by.Given as goal
 
 abbrev pub invariant-loop-value : goal.invariant-loop-value

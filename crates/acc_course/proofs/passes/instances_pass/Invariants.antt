@@ -1,5 +1,5 @@
 use Rattle.std.proofs.Common.{◌≡◌, drop}
-use Rattle.acc_branch.specs.Courses.{steps}
+use Rattle.acc_base.specs.Computing.{steps}
 use Rattle.acc_branch.specs.Known.{known_of}
 use Rattle.acc_course.specs.Passes.{try_next}
 use Rattle.acc_course.proofs.passes.instances_pass.Given as goal

@@ -1,5 +1,5 @@
 use Rattle.std.proofs.Common.{◌≡◌, drop}
-use Rattle.acc_rows.specs.Answers.{steps}
+use Rattle.acc_base.specs.Computing.{steps}
 use Rattle.acc_readings.specs.Readings.{read_next}
 use Rattle.acc_decisions.proofs.reading.read_all.Given as goal
 

@@ -10,7 +10,7 @@ returns-in-Blocked-clause-kept g c = record { accepted = c.events-events.ensures
 
 pub put-requires : goal.put-requires
 put-requires g c =
-    let turns = lags_turns c.args.t c.args.turn c.args.state.now.world.events c.args.wal.now c.in_default.not-Blocked c.requires.lags in
+    let turns = lags_turns c.args.t c.args.turn c.args.state.now.world.events c.args.wal.now c.in-Stepped.is c.requires.lags in
     let same = c.last_turn.ensures.same (_) turns.event (c.as_slice.ensures ∙ c.events-events.ensures.events ∙ turns.added) in
     let brief = subst (λ (e : Event). length (event_bytes e) ≤ 14) (sym same) (turn_brief c.args.t turns.event turns.of_turn) in
     record {
@@ -22,10 +22,10 @@ put-requires g c =
       short = omega (arith, brief, c.requires.short);
     }
 
-pub returns : goal.returns
-returns g c =
+pub returns-in-Stepped : goal.returns-in-Stepped
+returns-in-Stepped g c =
     let events = c.args.state.now.world.events in
-    let turns = lags_turns c.args.t c.args.turn events c.args.wal.now c.in_default.not-Blocked c.requires.lags in
+    let turns = lags_turns c.args.t c.args.turn events c.args.wal.now c.in-Stepped.is c.requires.lags in
     let same = c.last_turn.ensures.same (_) turns.event (c.as_slice.ensures ∙ c.events-events.ensures.events ∙ turns.added) in
     record {
       up = caught_up c.args.t events c.args.wal.now c.put.new.wal c.last_turn.result turns same c.put.ensures c.requires.unspent;

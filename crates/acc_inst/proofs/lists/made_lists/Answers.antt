@@ -1,4 +1,4 @@
-use Rattle.acc_inst.proofs.Made.{made_of}
+use Rattle.acc_inst.proofs.ListsMade.{made_of}
 use Rattle.acc_inst.proofs.lists.made_lists.Goals as goal
 
 pub returns-clause-of : goal.returns-clause-of

@@ -1,6 +1,6 @@
 use Rattle.std.proofs.Common.{sym, ap, ◌∙◌}
 use Rattle.std.specs.Prelude.{reverse}
-use Rattle.acc_rows.specs.Answers.{steps}
+use Rattle.acc_base.specs.Computing.{steps}
 use Rattle.acc_rows.proofs.Chains.{answers_along}
 use Rattle.acc_points.specs.Points.{placed}
 use Rattle.acc_known.specs.Ends.{placed_at}

@@ -1,6 +1,6 @@
 use Rattle.std.proofs.Common.{◌≡◌, ◌≤◌, length, take}
 use Rattle.std.specs.Prelude.{reverse}
-use Rattle.acc_rows.specs.Answers.{steps}
+use Rattle.acc_base.specs.Computing.{steps}
 use Rattle.acc_known.specs.Ends.{placed_at}
 use Rattle.acc_known.proofs.ending.place_by_steps.Given as goal
 

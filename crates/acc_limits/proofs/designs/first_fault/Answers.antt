@@ -1,6 +1,6 @@
 use Rattle.std.proofs.Common.{◌≡◌, ℕ, ◌<◌, [], IfSome, IfNone, sym, subst}
 use Rattle.std.proofs.lemmas.List.Elements.{All-contains}
-use Rattle.acc_limits.specs.declared.limits.Limit.{Limit}
+use Rattle.acc_base.specs.declared.limits.Limit.{Limit}
 use Rattle.acc_limits.specs.Numbers.{is_before}
 use Rattle.acc_statements.specs.Counts.{statements_of}
 use Rattle.acc_limits.specs.Faults.{limit_faults}

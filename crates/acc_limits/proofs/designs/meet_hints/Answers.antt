@@ -1,9 +1,9 @@
-use Rattle.acc_limits.specs.declared.limits.Limit.TheVariants as limit
+use Rattle.acc_base.specs.declared.limits.Limit.TheVariants as limit
 use Rattle.acc_limits.specs.Statements.{hint_marks}
-use Rattle.acc_limits.proofs.Counted.{counted_next}
+use Rattle.acc_limits.proofs.Limited.{limited_next}
 use Rattle.acc_limits.proofs.designs.meet_hints.Goals as goal
 
 pub loop-i-preserved : goal.loop-i-preserved
 loop-i-preserved c =
-    counted_next limit.EntriesAndHints 1024 hint_marks c.args.hints.now c.loop-i.i _ _ _ _ _ c.loop-i.invariant c.pass_if.ensures
+    limited_next limit.EntriesAndHints 1024 hint_marks c.args.hints.now c.loop-i.i _ _ _ _ _ c.loop-i.invariant c.pass_if.ensures
     c.meet_hint.ensures c.loop-i-test.true c.index-hints-i.is

@@ -2,7 +2,7 @@ use Rattle.std.proofs.Common.{◌≡◌, ◌∙◌, ℕ, ◌<◌, ◌^◌, [], f
 use Rattle.std.proofs.lemmas.List.Elements.{All-contains}
 use Rattle.acc_syntax.specs.declared.trees.DesignTree.{DesignTree}
 use Rattle.acc_statements.specs.Counts.{statements_of}
-use Rattle.acc_limits.specs.declared.limits.Limit.{Limit}
+use Rattle.acc_base.specs.declared.limits.Limit.{Limit}
 use Rattle.acc_limits.specs.declared.walks.Walk.{Walk}
 use Rattle.acc_limits.specs.Numbers.{is_before}
 use Rattle.acc_base.specs.Leasts.{IsLeast, better}

@@ -1,5 +1,5 @@
 use Rattle.std.proofs.Common.{◌≡◌, ℕ, List, [], ◌++◌, ap, ◌∙◌, append-nil}
-use Rattle.acc_limits.specs.declared.limits.Limit.{Limit}
+use Rattle.acc_base.specs.declared.limits.Limit.{Limit}
 use Rattle.acc_limits.specs.Numbers.{is_before}
 use Rattle.acc_limits.specs.Faults.{limit_faults}
 use Rattle.acc_base.specs.Leasts.{IsLeast}

@@ -2,8 +2,8 @@ use Rattle.std.proofs.Common.{◌≡◌, ℕ, ◌+◌, List, map, drop, ap, sym,
 use Rattle.acc_base.specs.declared.forms.Clause.{Clause}
 use Rattle.acc_oblig.specs.Drafts.{each_from, each_path}
 use Rattle.acc_oblig.specs.PathPromises.{always_at, always_drafts}
-use Rattle.acc_places.specs.SeenPlaces.{stop}
-use Rattle.acc_places.specs.Stops.{joined, at_stop, stops_of}
+use Rattle.acc_places.specs.SeenPlaces.{path_place}
+use Rattle.acc_places.specs.DesignPlaces.{joined, at_path_place, path_places}
 use Rattle.acc_obligations.proofs.Going.{Going, going_all, going_on, going_off, going_past, each_past}
 use Rattle.acc_places.proofs.Small.{design_small}
 use Rattle.acc_path_rules.proofs.Walks.{paths_each_next}
@@ -26,8 +26,8 @@ loop-k-preserved c =
     let clauses = c.as_slice-clauses.result.now in
     let k = c.loop-k.k in
     let x = c.index-clauses-k.result in
-    let all : map stop ps ≡ stops_of d = ap (map stop) c.as_slice.ensures.value ∙ c.in_ok-paths.ensures.value in
-    going_on _ _ _ (joined (at_stop (always_at d k x)) (map stop ps))
+    let all : map path_place ps ≡ path_places d = ap (map path_place) c.as_slice.ensures.value ∙ c.in_ok-paths.ensures.value in
+    going_on _ _ _ (joined (at_path_place (always_at d k x)) (map path_place ps))
     (each_from (k + 1) (λ (k : ℕ) (x : Clause). each_path d (always_at d k x)) (drop (k + 1) clauses)) _ _
     (paths_each_next d ps all (always_at d) clauses k x c.loop-k-test.true c.index-clauses-k.is) c.loop-k.invariant
     c.in_ok-add_clause_always.ensures
@@ -39,8 +39,8 @@ returns-in_err-add_clause_always c =
     let clauses = c.as_slice-clauses.result.now in
     let k = c.loop-k.k in
     let x = c.index-clauses-k.result in
-    let all : map stop ps ≡ stops_of d = ap (map stop) c.as_slice.ensures.value ∙ c.in_ok-paths.ensures.value in
-    going_off _ _ _ (joined (at_stop (always_at d k x)) (map stop ps))
+    let all : map path_place ps ≡ path_places d = ap (map path_place) c.as_slice.ensures.value ∙ c.in_ok-paths.ensures.value in
+    going_off _ _ _ (joined (at_path_place (always_at d k x)) (map path_place ps))
     (each_from (k + 1) (λ (k : ℕ) (x : Clause). each_path d (always_at d k x)) (drop (k + 1) clauses)) _ _ _ _ _
     c.from_residual-in_err-add_clause_always.ensures.1
     (paths_each_next d ps all (always_at d) clauses k x c.loop-k-test.true c.index-clauses-k.is) c.loop-k.invariant

@@ -1,6 +1,6 @@
 use Rattle.acc_oblig.specs.PathPromises.{always_at}
-use Rattle.acc_places.specs.SeenPlaces.{stop}
-use Rattle.acc_places.specs.Stops.{at_stop}
+use Rattle.acc_places.specs.SeenPlaces.{path_place}
+use Rattle.acc_places.specs.DesignPlaces.{at_path_place}
 use Rattle.acc_obligations.proofs.Going.{going_all, going_on, going_off, going_past, joined_next, joined_past}
 use Rattle.acc_path_rules.proofs.always.add_clause_always.Goals as goal
 
@@ -10,18 +10,19 @@ loop-q-init c = going_all _ _
 pub loop-q-preserved : goal.loop-q-preserved
 loop-q-preserved c =
     going_on _ _ _ _ _ _ _
-    (joined_next stop (at_stop (always_at c.args.d.now c.args.k c.args.c.now)) c.args.paths.now c.loop-q.q-index c.q-item.result
+    (joined_next path_place (at_path_place (always_at c.args.d.now c.args.k c.args.c.now)) c.args.paths.now c.loop-q.q-index c.q-item.result
     c.loop-q-test.true c.q-item.is)
     c.loop-q.invariant c.in_ok-add_path_always.ensures
 
 pub returns-in_err-add_path_always : goal.returns-in_err-add_path_always
 returns-in_err-add_path_always c =
     going_off _ _ _ _ _ _ _ _ _ _ c.from_residual.ensures.1
-    (joined_next stop (at_stop (always_at c.args.d.now c.args.k c.args.c.now)) c.args.paths.now c.loop-q.q-index c.q-item.result
+    (joined_next path_place (at_path_place (always_at c.args.d.now c.args.k c.args.c.now)) c.args.paths.now c.loop-q.q-index c.q-item.result
     c.loop-q-test.true c.q-item.is)
     c.loop-q.invariant c.in_err-add_path_always.ensures
 
 pub returns : goal.returns
 returns c =
-    going_past _ _ _ _ (joined_past stop (at_stop (always_at c.args.d.now c.args.k c.args.c.now)) c.args.paths.now c.loop-q.q-index
+    going_past _ _ _ _ (joined_past path_place
+    (at_path_place (always_at c.args.d.now c.args.k c.args.c.now)) c.args.paths.now c.loop-q.q-index
     c.loop-q-test.false) c.loop-q.invariant

@@ -2,8 +2,8 @@ use Rattle.std.proofs.Common.{◌≡◌, ◌+◌, ◌-◌, map, ap, ◌∙◌}
 use Rattle.acc_base.specs.declared.bounds.TheConstants.{MOST_CLAUSES}
 use Rattle.acc_oblig.specs.Drafts.{each_path, each_number}
 use Rattle.acc_oblig.specs.PathPromises.{promise_at}
-use Rattle.acc_places.specs.SeenPlaces.{stop}
-use Rattle.acc_places.specs.Stops.{joined, at_stop, stops_of}
+use Rattle.acc_places.specs.SeenPlaces.{path_place}
+use Rattle.acc_places.specs.DesignPlaces.{joined, at_path_place, path_places}
 use Rattle.acc_obligations.proofs.Going.{going_all, going_on, going_off, going_past, number_past}
 use Rattle.acc_places.proofs.Small.{design_small}
 use Rattle.acc_path_rules.proofs.Walks.{paths_number_next}
@@ -20,8 +20,8 @@ loop-k-preserved c =
     let d = c.args.d.now in
     let ps = c.as_slice.result.now in
     let k = c.loop-k.k in
-    let all : map stop ps ≡ stops_of d = ap (map stop) c.as_slice.ensures.value ∙ c.in_ok-paths.ensures.value in
-    going_on _ _ _ (joined (at_stop (promise_at d k)) (map stop ps))
+    let all : map path_place ps ≡ path_places d = ap (map path_place) c.as_slice.ensures.value ∙ c.in_ok-paths.ensures.value in
+    going_on _ _ _ (joined (at_path_place (promise_at d k)) (map path_place ps))
     (each_number (k + 1) (MOST_CLAUSES - (k + 1)) (λ k. each_path d (promise_at d k))) _ _
     (paths_number_next d ps all (promise_at d) MOST_CLAUSES k c.loop-k-test.true) c.loop-k.invariant c.in_ok-add_number_promises.ensures
 
@@ -30,8 +30,8 @@ returns-in_err-add_number_promises c =
     let d = c.args.d.now in
     let ps = c.as_slice.result.now in
     let k = c.loop-k.k in
-    let all : map stop ps ≡ stops_of d = ap (map stop) c.as_slice.ensures.value ∙ c.in_ok-paths.ensures.value in
-    going_off _ _ _ (joined (at_stop (promise_at d k)) (map stop ps))
+    let all : map path_place ps ≡ path_places d = ap (map path_place) c.as_slice.ensures.value ∙ c.in_ok-paths.ensures.value in
+    going_off _ _ _ (joined (at_path_place (promise_at d k)) (map path_place ps))
     (each_number (k + 1) (MOST_CLAUSES - (k + 1)) (λ k. each_path d (promise_at d k))) _ _ _ _ _
     c.from_residual-in_err-add_number_promises.ensures.1
     (paths_number_next d ps all (promise_at d) MOST_CLAUSES k c.loop-k-test.true) c.loop-k.invariant c.in_err-add_number_promises.ensures

@@ -6,16 +6,16 @@ use Rattle.acc_oblig.specs.Settings.{Setting}
 use Rattle.acc_oblig.specs.PathPromises.{clause_names}
 use Rattle.acc_oblig.specs.Spares.{entry_for, spare_drafts}
 use Rattle.acc_goals.specs.Causes.{Adds, at_case}
-use Rattle.acc_places.specs.SeenPlaces.{rest, stop}
+use Rattle.acc_places.specs.SeenPlaces.{point_place, path_place}
 use Rattle.acc_path_rules.specs.Openings.{open_by}
 use Rattle.acc_path_rules.proofs.Kept.{setting_at, spare_opened}
 use Rattle.acc_path_rules.proofs.spares.add_path_spare.Goals as goal
 
 pub returns-in-Some : goal.returns-in-Some
 returns-in-Some c =
-    let q = stop c.args.q.now in
+    let q = path_place c.args.q.now in
     let d = c.args.d.now in
-    let held = rest c.args.held.now in
+    let held = point_place c.args.held.now in
     let clause = c.args.c.now in
     let side = q.w.side in
     let names : true ≡ clause_names q.path.actions clause =

@@ -2,8 +2,8 @@ use Rattle.std.proofs.Common.{◌≡◌, ℕ, ◌+◌, List, map, drop, sym, sub
 use Rattle.acc_base.specs.declared.forms.Clause.{Clause}
 use Rattle.acc_oblig.specs.Drafts.{each_from, each_path}
 use Rattle.acc_oblig.specs.Spares.{spare_at, held_drafts}
-use Rattle.acc_places.specs.SeenPlaces.{rest, stop}
-use Rattle.acc_places.specs.Stops.{joined, at_rest, at_stop, stops_of}
+use Rattle.acc_places.specs.SeenPlaces.{point_place, path_place}
+use Rattle.acc_places.specs.DesignPlaces.{joined, at_point_place, at_path_place, path_places}
 use Rattle.acc_obligations.proofs.Going.{Going, going_all, going_on, going_off, going_past, each_past}
 use Rattle.acc_path_rules.proofs.Walks.{paths_each_next}
 use Rattle.acc_path_rules.proofs.spares.add_point_spares.Goals as goal
@@ -14,8 +14,8 @@ loop-k-init c =
     let out = c.args.out.now in
     subst (λ (cs : List Clause). Going out out (each_from 0
     (λ (k : ℕ) (x : Clause). each_path d (spare_at d c.args.held.now.at c.args.held.now.ty.now c.args.held.now.point.now k x)) cs)
-    (at_rest (held_drafts d) (rest c.args.held.now))) (sym c.as_slice-clauses.ensures)
-    (going_all out (at_rest (held_drafts d) (rest c.args.held.now)))
+    (at_point_place (held_drafts d) (point_place c.args.held.now))) (sym c.as_slice-clauses.ensures)
+    (going_all out (at_point_place (held_drafts d) (point_place c.args.held.now)))
 
 pub loop-k-preserved : goal.loop-k-preserved
 loop-k-preserved c =
@@ -24,8 +24,9 @@ loop-k-preserved c =
     let clauses = c.as_slice-clauses.result.now in
     let k = c.loop-k.k in
     let x = c.index-clauses-k.result in
-    let all : map stop ps ≡ stops_of d = c.requires.all in
-    going_on _ _ _ (joined (at_stop (spare_at d c.args.held.now.at c.args.held.now.ty.now c.args.held.now.point.now k x)) (map stop ps))
+    let all : map path_place ps ≡ path_places d = c.requires.all in
+    going_on _ _ _ (joined (at_path_place (spare_at d c.args.held.now.at c.args.held.now.ty.now c.args.held.now.point.now k x))
+    (map path_place ps))
     (each_from (k + 1) (λ (k : ℕ) (x : Clause). each_path d
     (spare_at d c.args.held.now.at c.args.held.now.ty.now c.args.held.now.point.now k x)) (drop (k + 1) clauses)) _ _
     (paths_each_next d ps all (spare_at d c.args.held.now.at c.args.held.now.ty.now c.args.held.now.point.now) clauses k x
@@ -38,8 +39,9 @@ returns-in_err-add_clause_spares c =
     let clauses = c.as_slice-clauses.result.now in
     let k = c.loop-k.k in
     let x = c.index-clauses-k.result in
-    let all : map stop ps ≡ stops_of d = c.requires.all in
-    going_off _ _ _ (joined (at_stop (spare_at d c.args.held.now.at c.args.held.now.ty.now c.args.held.now.point.now k x)) (map stop ps))
+    let all : map path_place ps ≡ path_places d = c.requires.all in
+    going_off _ _ _ (joined (at_path_place (spare_at d c.args.held.now.at c.args.held.now.ty.now c.args.held.now.point.now k x))
+    (map path_place ps))
     (each_from (k + 1) (λ (k : ℕ) (x : Clause). each_path d
     (spare_at d c.args.held.now.at c.args.held.now.ty.now c.args.held.now.point.now k x)) (drop (k + 1) clauses)) _ _ _ _ _
     c.from_residual.ensures.1

@@ -2,8 +2,8 @@ use Rattle.std.proofs.Common.{ℕ, drop}
 use Rattle.acc_base.specs.declared.forms.Clause.{Clause}
 use Rattle.acc_oblig.specs.Drafts.{each_from, each_path}
 use Rattle.acc_oblig.specs.Spares.{spare_at, held_drafts}
-use Rattle.acc_places.specs.SeenPlaces.{rest}
-use Rattle.acc_places.specs.Stops.{at_rest}
+use Rattle.acc_places.specs.SeenPlaces.{point_place}
+use Rattle.acc_places.specs.DesignPlaces.{at_point_place}
 use Rattle.acc_obligations.proofs.Going.{Going}
 use Rattle.acc_path_rules.proofs.spares.add_point_spares.Given as goal
 
@@ -11,4 +11,4 @@ abbrev pub invariant-loop-k : goal.invariant-loop-k
 invariant-loop-k l =
     Going l.fn.out l.out
     (each_from l.k (λ (k : ℕ) (c : Clause). each_path l.d (spare_at l.d l.held.at l.held.ty.now l.held.point.now k c)) (drop l.k l.clauses))
-    (at_rest (held_drafts l.d) (rest l.held))
+    (at_point_place (held_drafts l.d) (point_place l.held))

@@ -3,7 +3,7 @@ use Rattle.acc_oblig.specs.Naming.{own_naming}
 use Rattle.acc_oblig.specs.Settings.{step_vars}
 use Rattle.acc_oblig.specs.Spares.{held_names}
 use Rattle.acc_assumptions.specs.Seen.{seen}
-use Rattle.acc_places.specs.SeenPlaces.{rest}
+use Rattle.acc_places.specs.SeenPlaces.{point_place}
 use Rattle.acc_path_rules.proofs.Helds.{spare_added}
 use Rattle.acc_path_rules.proofs.spares.add_spare.Goals as goal
 
@@ -13,7 +13,8 @@ returns c =
     let locals = length c.args.held.now.ty.now.locals in
     let own = c.step_vars.result + (c.len-locals.result + 1) in
     let vars = length c.args.c.now.vars in
-    spare_added c.add_clause.result c.args.out.now c.add_clause.new.out c.args.origin s (rest c.args.held.now) c.args.pairs c.args.c.now
+    spare_added c.add_clause.result c.args.out.now c.add_clause.new.out c.args.origin s
+    (point_place c.args.held.now) c.args.pairs c.args.c.now
     own (own + c.len-2.result) c.in_ok-ordered.ordered c.as_slice.result.now c.in_ok-n.n
     (ap (λ z. z + (c.len-locals.result + 1)) c.step_vars.ensures ∙ ap (λ z. step_vars s + (z + 1)) c.len-locals.ensures)
     (ap (λ z. own + z) c.len-2.ensures) c.in_ok-ordered.ensures (c.as_slice.ensures.value ∙ c.in_ok-actions.ensures)

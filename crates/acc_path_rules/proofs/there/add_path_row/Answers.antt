@@ -1,9 +1,10 @@
 use Rattle.std.proofs.Common.{◌≡◌, ◌++◌, List, [], ◌∷◌, refl, ap, sym, ◌∙◌}
 use Rattle.std.specs.Prelude.{Some, None}
 use Rattle.acc_base.specs.declared.steps.Action.{Action}
+use Rattle.acc_base.specs.declared.sequents.Rule.TheVariants.{There}
 use Rattle.acc_oblig.specs.Settings.{Setting, last_now}
 use Rattle.acc_assumptions.specs.Seen.{seen}
-use Rattle.acc_places.specs.SeenPlaces.{stop}
+use Rattle.acc_places.specs.SeenPlaces.{path_place}
 use Rattle.acc_obligations.proofs.PathAdded.{path_added}
 use Rattle.acc_path_rules.specs.Rows.{needed_at}
 use Rattle.acc_path_rules.proofs.Rows.{before, row_added}
@@ -11,7 +12,7 @@ use Rattle.acc_path_rules.proofs.there.add_path_row.Goals as goal
 
 pub returns-in_ok-names-in-Some : goal.returns-in_ok-names-in-Some
 returns-in_ok-names-in-Some c =
-    let q = stop c.args.q.now in
+    let q = path_place c.args.q.now in
     let d = c.args.d.now in
     let k = c.args.k in
     let own = c.setting_before-s.result in
@@ -21,7 +22,7 @@ returns-in_ok-names-in-Some c =
     let names : c.in_ok-names-in-Some.names ≡ last_now s ++ s.locals ∷ [] =
     c.in_ok-names-in-Some.ensures ∙ ap (λ (z : Setting). last_now z ++ z.locals ∷ []) c.setting_before-s.ensures.seen in
     row_added c.add_path_clause.result c.args.out.now c.add_path_clause.new.out d k q (Some c.in-Some.there) some
-    (path_added c.add_path_clause.result c.args.out.now c.add_path_clause.new.out 4 None k q.w s (last_now s ++ s.locals ∷ [])
+    (path_added c.add_path_clause.result c.args.out.now c.add_path_clause.new.out There None k q.w s (last_now s ++ s.locals ∷ [])
     c.in-Some.there
     c.path_origin.result (seen own) c.in_ok-names-in-Some.names c.in-Some.there c.path_origin.ensures c.setting_before-s.ensures.seen names
     refl

@@ -1,11 +1,11 @@
 use Rattle.std.proofs.Common.{drop, map}
 use Rattle.acc_oblig.specs.PathPromises.{there_at}
-use Rattle.acc_places.specs.SeenPlaces.{stop}
-use Rattle.acc_places.specs.Stops.{joined, at_stop}
+use Rattle.acc_places.specs.SeenPlaces.{path_place}
+use Rattle.acc_places.specs.DesignPlaces.{joined, at_path_place}
 use Rattle.acc_obligations.proofs.Going.{Going}
 use Rattle.acc_path_rules.proofs.there.add_rows.Given as goal
 
 abbrev pub invariant-loop-q : goal.invariant-loop-q
 invariant-loop-q l =
-    let make = at_stop (there_at l.d l.k) in
-    Going l.fn.out l.out (joined make (map stop (drop l.q-index l.paths))) (joined make (map stop l.paths))
+    let make = at_path_place (there_at l.d l.k) in
+    Going l.fn.out l.out (joined make (map path_place (drop l.q-index l.paths))) (joined make (map path_place l.paths))

@@ -1,13 +1,13 @@
 use Rattle.std.proofs.Common.{◌≡◌, ◌++◌, map, drop}
 use Rattle.acc_oblig.specs.Drafts.{each, each_from}
-use Rattle.acc_places.specs.SeenPlaces.{stop}
-use Rattle.acc_places.specs.Stops.{stop_alone}
+use Rattle.acc_places.specs.SeenPlaces.{path_place}
+use Rattle.acc_places.specs.DesignPlaces.{path_place_alone}
 use Rattle.acc_places.proofs.places.add_paths.Given as goal
 
 abbrev pub invariant-loop-i : goal.invariant-loop-i
 invariant-loop-i l =
-    map stop l.out.items
-    ++ each_from l.i (λ j path. stop_alone (record { at = l.q.at; side = l.side; path = j }) l.q.ty.now l.q.point.now l.step path)
+    map path_place l.out.items
+    ++ each_from l.i (λ j path. path_place_alone (record { at = l.q.at; side = l.side; path = j }) l.q.ty.now l.q.point.now l.step path)
     (drop l.i l.paths)
-    ≡ map stop l.fn.out.items
-    ++ each (λ j path. stop_alone (record { at = l.q.at; side = l.side; path = j }) l.q.ty.now l.q.point.now l.step path) l.paths
+    ≡ map path_place l.fn.out.items
+    ++ each (λ j path. path_place_alone (record { at = l.q.at; side = l.side; path = j }) l.q.ty.now l.q.point.now l.step path) l.paths

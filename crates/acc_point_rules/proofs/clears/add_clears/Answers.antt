@@ -3,7 +3,7 @@ use Rattle.std.specs.Prelude.{List, Ok, Err}
 use Rattle.acc_base.specs.declared.tables.Table.{Table}
 use Rattle.acc_oblig.specs.Drafts.{each, each_from, each_path}
 use Rattle.acc_oblig.specs.PointRules.{clear_at}
-use Rattle.acc_places.specs.SeenPlaces.{stop}
+use Rattle.acc_places.specs.SeenPlaces.{path_place}
 use Rattle.acc_obligations.proofs.Going.{Going, going_all, going_on, going_off, going_past, each_next, each_past}
 use Rattle.acc_obligations.proofs.PathAdded.{paths_added}
 use Rattle.acc_places.proofs.Small.{design_small}
@@ -23,7 +23,7 @@ loop-t-init c =
 pub loop-t-preserved : goal.loop-t-preserved
 loop-t-preserved c =
     let d = c.args.d.now in
-    let all = ap (map stop) c.as_slice.ensures.value ∙ c.in_ok-paths.ensures.value in
+    let all = ap (map path_place) c.as_slice.ensures.value ∙ c.in_ok-paths.ensures.value in
     going_on _ _ _ _ _ _ _
     (each_next (λ (t : ℕ) (table : Table). each_path d (clear_at d t table)) c.as_slice-tables.result.now c.loop-t.t c.index-tables-t.result
     c.loop-t-test.true c.index-tables-t.is) c.loop-t.invariant
@@ -33,7 +33,7 @@ loop-t-preserved c =
 pub returns-in_err-add_table_clears : goal.returns-in_err-add_table_clears
 returns-in_err-add_table_clears c =
     let d = c.args.d.now in
-    let all = ap (map stop) c.as_slice.ensures.value ∙ c.in_ok-paths.ensures.value in
+    let all = ap (map path_place) c.as_slice.ensures.value ∙ c.in_ok-paths.ensures.value in
     going_off _ _ _ _ _ _ _ _ _ _ c.from_residual-in_err-add_table_clears.ensures.1
     (each_next (λ (t : ℕ) (table : Table). each_path d (clear_at d t table)) c.as_slice-tables.result.now c.loop-t.t c.index-tables-t.result
     c.loop-t-test.true c.index-tables-t.is) c.loop-t.invariant

@@ -3,14 +3,14 @@ use Rattle.acc_oblig.specs.Settings.{Setting, step_vars}
 use Rattle.acc_oblig.specs.Drafts.{setting_of}
 use Rattle.acc_oblig.specs.PointRules.{fall_in}
 use Rattle.acc_assumptions.specs.Seen.{seen}
-use Rattle.acc_places.specs.SeenPlaces.{stop}
+use Rattle.acc_places.specs.SeenPlaces.{path_place}
 use Rattle.acc_point_rules.specs.Bounds.{is_fall_wide}
 use Rattle.acc_point_rules.proofs.Assembled.{fall_added, fall_wide, clause_refused}
 use Rattle.acc_point_rules.proofs.variants.add_fall.Goals as goal
 
 pub returns : goal.returns
 returns c =
-    let q = stop c.args.q.now in
+    let q = path_place c.args.q.now in
     let s : Setting = setting_of c.args.d.now q.x q.p q.step q.w.path q.path in
     fall_added c.add_goal.result c.args.out.now c.add_goal.new.out (seen c.path_setting-s.result) s q.w q.p.variant
     c.args.target.now.variant
@@ -20,7 +20,7 @@ returns c =
 
 pub returns-in_err-goal : goal.returns-in_err-goal
 returns-in_err-goal c =
-    let q = stop c.args.q.now in
+    let q = path_place c.args.q.now in
     let s : Setting = setting_of c.args.d.now q.x q.p q.step q.w.path q.path in
     let behind = c.args.target.now.variant in
     clause_refused Form _ _ c.path_origin-origin.result (is_fall_wide (seen c.path_setting-s.result) q.p.variant behind) _ _

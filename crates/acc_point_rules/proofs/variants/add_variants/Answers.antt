@@ -2,7 +2,7 @@ use Rattle.std.proofs.Common.{◌++◌, map, ap, sym, ◌∙◌, append_assoc}
 use Rattle.std.specs.Prelude.{List, Ok, Err}
 use Rattle.acc_oblig.specs.Drafts.{Draft, each_path}
 use Rattle.acc_oblig.specs.PointRules.{each_point, fall_at}
-use Rattle.acc_places.specs.SeenPlaces.{rest, stop}
+use Rattle.acc_places.specs.SeenPlaces.{point_place, path_place}
 use Rattle.acc_obligations.proofs.Going.{going_all, going_on, going_off}
 use Rattle.acc_obligations.proofs.PathAdded.{paths_added}
 use Rattle.acc_places.proofs.Small.{design_small}
@@ -24,7 +24,7 @@ returns-in_err-add_both_bounds c =
     let low : List Draft = each_point d (bound_drafts d Lowest) in
     let high : List Draft = each_point d (bound_drafts d Highest) in
     let falls : List Draft = each_path d (fall_at d) in
-    let points = ap (map rest) c.as_slice.ensures.value ∙ c.in_ok-points.ensures.value in
+    let points = ap (map point_place) c.as_slice.ensures.value ∙ c.in_ok-points.ensures.value in
     going_off old old c.add_both_bounds.new.out (low ++ high) falls (low ++ (high ++ falls)) (low ++ (high ++ falls)) _ _ _
     c.from_residual-in_err-add_both_bounds.ensures.1 (sym (append_assoc low high falls)) (going_all old (low ++ (high ++ falls)))
     (both_points_added (Err c.in_err-add_both_bounds.field-0.0) old c.add_both_bounds.new.out d (bound_drafts d Lowest)
@@ -39,8 +39,8 @@ returns c =
     let low : List Draft = each_point d (bound_drafts d Lowest) in
     let high : List Draft = each_point d (bound_drafts d Highest) in
     let falls : List Draft = each_path d (fall_at d) in
-    let points = ap (map rest) c.as_slice.ensures.value ∙ c.in_ok-points.ensures.value in
-    let paths = ap (map stop) c.as_slice-all.ensures.value ∙ c.in_ok-paths.ensures.value in
+    let points = ap (map point_place) c.as_slice.ensures.value ∙ c.in_ok-points.ensures.value in
+    let paths = ap (map path_place) c.as_slice-all.ensures.value ∙ c.in_ok-paths.ensures.value in
     going_then c.add_falls.result old mid c.add_falls.new.out falls (low ++ (high ++ falls))
     (going_on old old mid (low ++ high) falls (low ++ (high ++ falls)) (low ++ (high ++ falls)) (sym (append_assoc low high falls))
     (going_all old (low ++ (high ++ falls)))

@@ -23,9 +23,9 @@ variant_is s l now_named ns now vars e en ev =
 pub returns-clause-goal : goal.returns-clause-goal
 returns-clause-goal c =
     let s = seen c.args.s.now in
-    let first = variant_is s c.args.before.now c.in_ok-first.first c.in_ok-counted.field-0 (first_now s) c.step_vars-vars.result
+    let first = variant_is s c.args.before.now c.in_ok-first.first c.in_ok-numbers_from.field-0 (first_now s) c.step_vars-vars.result
     c.in_ok-first.ensures
-    c.in_ok-counted.ensures c.step_vars-vars.ensures in
+    c.in_ok-numbers_from.ensures c.step_vars-vars.ensures in
     let last = variant_is s c.args.behind.now c.in_ok-last.last c.in_ok-last_names.field-0 (last_now s) c.step_vars-vars.result
     c.in_ok-last.ensures
     c.in_ok-last_names.ensures c.step_vars-vars.ensures in
@@ -37,9 +37,9 @@ returns-clause-goal c =
 pub returns-clause-wide : goal.returns-clause-wide
 returns-clause-wide c =
     let s = seen c.args.s.now in
-    let first = variant_is s c.args.before.now c.in_ok-first.first c.in_ok-counted.field-0 (first_now s) c.step_vars-vars.result
+    let first = variant_is s c.args.before.now c.in_ok-first.first c.in_ok-numbers_from.field-0 (first_now s) c.step_vars-vars.result
     c.in_ok-first.ensures
-    c.in_ok-counted.ensures c.step_vars-vars.ensures in
+    c.in_ok-numbers_from.ensures c.step_vars-vars.ensures in
     let last = variant_is s c.args.behind.now c.in_ok-last.last c.in_ok-last_names.field-0 (last_now s) c.step_vars-vars.result
     c.in_ok-last.ensures
     c.in_ok-last_names.ensures c.step_vars-vars.ensures in

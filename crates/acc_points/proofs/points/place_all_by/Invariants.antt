@@ -1,6 +1,6 @@
 use Rattle.std.proofs.Common.{◌≡◌, ◌≤◌, length, take}
 use Rattle.std.specs.Prelude.{reverse}
-use Rattle.acc_rows.specs.Answers.{steps}
+use Rattle.acc_base.specs.Computing.{steps}
 use Rattle.acc_points.specs.Points.{placed_by}
 use Rattle.acc_points.proofs.points.place_all_by.Given as goal
 

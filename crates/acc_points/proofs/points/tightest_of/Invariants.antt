@@ -1,5 +1,5 @@
 use Rattle.std.proofs.Common.{◌≡◌, drop}
-use Rattle.acc_rows.specs.Answers.{steps}
+use Rattle.acc_base.specs.Computing.{steps}
 use Rattle.acc_points.specs.Points.{tightest}
 use Rattle.acc_points.proofs.points.tightest_of.Given as goal
 

@@ -4,7 +4,7 @@ use Rattle.acc_oblig.specs.Drafts.{each_number}
 use Rattle.acc_oblig.specs.PointRules.{each_point}
 use Rattle.acc_oblig.specs.Ranges.{range_at}
 use Rattle.acc_oblig.specs.Drafts.{Draft}
-use Rattle.acc_places.specs.SeenPlaces.{rest}
+use Rattle.acc_places.specs.SeenPlaces.{point_place}
 use Rattle.acc_obligations.proofs.Going.{Going, going_all, going_on, going_off, going_past, number_next, number_past}
 use Rattle.acc_places.proofs.Small.{design_small}
 use Rattle.acc_obligations.proofs.Items.{number_all, points_added}
@@ -21,7 +21,7 @@ loop-k-init c =
 
 pub loop-k-preserved : goal.loop-k-preserved
 loop-k-preserved c =
-    let all = ap (map rest) c.as_slice.ensures.value ∙ c.in_ok-points.ensures.value in
+    let all = ap (map point_place) c.as_slice.ensures.value ∙ c.in_ok-points.ensures.value in
     going_on _ _ _ _ _ _ _ (number_next (λ k. each_point c.args.d.now (range_at c.args.d.now k)) c.args.count c.loop-k.k c.loop-k-test.true)
     c.loop-k.invariant
     (points_added (Ok tt) c.loop-k.out c.add_number_ranges.new.out c.args.d.now (range_at c.args.d.now c.loop-k.k) c.as_slice.result.now all
@@ -29,7 +29,7 @@ loop-k-preserved c =
 
 pub returns-in_err-add_number_ranges : goal.returns-in_err-add_number_ranges
 returns-in_err-add_number_ranges c =
-    let all = ap (map rest) c.as_slice.ensures.value ∙ c.in_ok-points.ensures.value in
+    let all = ap (map point_place) c.as_slice.ensures.value ∙ c.in_ok-points.ensures.value in
     going_off _ _ _ _ _ _ _ _ _ _ c.from_residual-in_err-add_number_ranges.ensures.1
     (number_next (λ k. each_point c.args.d.now (range_at c.args.d.now k)) c.args.count c.loop-k.k c.loop-k-test.true) c.loop-k.invariant
     (points_added (Err c.in_err-add_number_ranges.field-0.0) c.loop-k.out c.add_number_ranges.new.out c.args.d.now

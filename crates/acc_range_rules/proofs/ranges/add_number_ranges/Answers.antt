@@ -1,6 +1,6 @@
 use Rattle.acc_oblig.specs.Ranges.{range_at}
-use Rattle.acc_places.specs.SeenPlaces.{rest}
-use Rattle.acc_places.specs.Stops.{at_rest}
+use Rattle.acc_places.specs.SeenPlaces.{point_place}
+use Rattle.acc_places.specs.DesignPlaces.{at_point_place}
 use Rattle.acc_obligations.proofs.Going.{going_all, going_on, going_off, going_past, joined_next, joined_past}
 use Rattle.acc_range_rules.proofs.ranges.add_number_ranges.Goals as goal
 
@@ -9,19 +9,22 @@ loop-q-init c = going_all _ _
 
 pub loop-q-preserved : goal.loop-q-preserved
 loop-q-preserved c =
-    going_on _ _ _ (at_rest (range_at c.args.d.now c.args.k) (rest c.q-item.result)) _ _ _
-    (joined_next rest (at_rest (range_at c.args.d.now c.args.k)) c.args.points.now c.loop-q.q-index c.q-item.result c.loop-q-test.true
+    going_on _ _ _ (at_point_place (range_at c.args.d.now c.args.k) (point_place c.q-item.result)) _ _ _
+    (joined_next point_place (at_point_place (range_at c.args.d.now c.args.k)) c.args.points.now c.loop-q.q-index c.q-item.result
+    c.loop-q-test.true
     c.q-item.is)
     c.loop-q.invariant c.in_ok-add_point_range.ensures
 
 pub returns-in_err-add_point_range : goal.returns-in_err-add_point_range
 returns-in_err-add_point_range c =
-    going_off _ _ _ (at_rest (range_at c.args.d.now c.args.k) (rest c.q-item.result)) _ _ _ _ _ _ c.from_residual.ensures.1
-    (joined_next rest (at_rest (range_at c.args.d.now c.args.k)) c.args.points.now c.loop-q.q-index c.q-item.result c.loop-q-test.true
+    going_off _ _ _ (at_point_place (range_at c.args.d.now c.args.k) (point_place c.q-item.result)) _ _ _ _ _ _ c.from_residual.ensures.1
+    (joined_next point_place (at_point_place (range_at c.args.d.now c.args.k)) c.args.points.now c.loop-q.q-index c.q-item.result
+    c.loop-q-test.true
     c.q-item.is)
     c.loop-q.invariant c.in_err-add_point_range.ensures
 
 pub returns : goal.returns
 returns c =
-    going_past _ _ _ _ (joined_past rest (at_rest (range_at c.args.d.now c.args.k)) c.args.points.now c.loop-q.q-index c.loop-q-test.false)
+    going_past _ _ _ _ (joined_past point_place
+    (at_point_place (range_at c.args.d.now c.args.k)) c.args.points.now c.loop-q.q-index c.loop-q-test.false)
     c.loop-q.invariant

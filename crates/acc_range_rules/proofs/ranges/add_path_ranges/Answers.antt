@@ -3,7 +3,7 @@ use Rattle.std.specs.Prelude.{List}
 use Rattle.acc_base.specs.declared.steps.Path.{Path}
 use Rattle.acc_base.specs.declared.designs.Side.TheVariants.{Undo}
 use Rattle.acc_oblig.specs.Drafts.{each_from}
-use Rattle.acc_places.specs.SeenPlaces.{rest}
+use Rattle.acc_places.specs.SeenPlaces.{point_place}
 use Rattle.acc_range_rules.specs.PathRanges.{path_range, undo_ranges}
 use Rattle.acc_obligations.proofs.Going.{Going, going_all, going_on, going_off, going_past, each_next, each_past}
 use Rattle.acc_range_rules.proofs.ranges.add_path_ranges.Goals as goal
@@ -14,7 +14,7 @@ loop-j-init c =
     (record { at = c.args.q.now.at; side = Undo; path = j }) c.args.q.now.ty.now c.args.q.now.point.now c.args.q.now.point.now.undo
     path in
     subst (λ (ps : List Path). Going c.args.out.now c.args.out.now (each_from 0 make ps)
-    (undo_ranges c.args.d.now c.args.k c.args.place (rest c.args.q.now)))
+    (undo_ranges c.args.d.now c.args.k c.args.place (point_place c.args.q.now)))
     (sym c.as_slice-paths.ensures) (going_all _ _)
 
 pub loop-j-preserved : goal.loop-j-preserved

@@ -3,14 +3,14 @@ use Rattle.std.specs.Prelude.{slice_get, Some}
 use Rattle.acc_oblig.specs.Settings.{step_vars}
 use Rattle.acc_oblig.specs.Ranges.{setting_numbers}
 use Rattle.acc_assumptions.specs.Seen.{seen}
-use Rattle.acc_places.specs.SeenPlaces.{rest}
+use Rattle.acc_places.specs.SeenPlaces.{point_place}
 use Rattle.acc_range_rules.specs.Numbers.{seen_read}
 use Rattle.acc_range_rules.proofs.PointRanges.{read_added, paths_behind_added}
 use Rattle.acc_range_rules.proofs.ranges.add_point_range.Goals as goal
 
 pub returns-in-Number : goal.returns-in-Number
 returns-in-Number c =
-    let q = rest c.args.q.now in
+    let q = point_place c.args.q.now in
     let s = seen c.reads_setting-s.result in
     let stands : slice_get (setting_numbers s (step_vars s)) c.args.k ≡ Some (seen_read c.in-Number.m) =
     first_of (search rules, grind (c.in_ok-m.ensures.value, c.in-Number.is)) in
@@ -20,7 +20,7 @@ returns-in-Number c =
 
 pub returns-in-Behind : goal.returns-in-Behind
 returns-in-Behind c =
-    let q = rest c.args.q.now in
+    let q = point_place c.args.q.now in
     let s = seen c.reads_setting-s.result in
     let behind : c.args.k ≡ length (setting_numbers s (step_vars s)) + c.in-Behind.left =
     first_of (search rules, grind (c.in_ok-m.ensures.value, c.in-Behind.is)) in

@@ -1,5 +1,5 @@
 use Rattle.std.proofs.Common.{◌≡◌, [], drop}
-use Rattle.acc_rows.specs.Answers.{steps}
+use Rattle.acc_base.specs.Computing.{steps}
 use Rattle.acc_readings.specs.Readings.{read_term}
 use Rattle.acc_readings.proofs.readings.read_terms.Given as goal
 

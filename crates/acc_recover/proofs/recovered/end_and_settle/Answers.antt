@@ -23,8 +23,8 @@ returns-in-Ok-settle-clause-moments g c file told only counts =
     (recovered was.design was.world now c.requires.kept.good.lawful c.end_all.ensures.goes c.in-Ok.ensures.ok)
     c.settle.new.self.disk (c.settle.ensures.moments c.end_all.ensures.in_step.unspent file (same ∙ told) alone)
 
-pub returns-in-Err-settle-clause-moments : goal.returns-in-Err-settle-clause-moments
-returns-in-Err-settle-clause-moments g c file told only counts =
+pub returns-in-Err-clause-moments : goal.returns-in-Err-clause-moments
+returns-in-Err-clause-moments g c file told only counts =
     let was = c.args.state.now in
     let old = c.args.wal.now in
     let mid = c.end_all.new.wal in

@@ -5,7 +5,7 @@ use Rattle.acc_player.proofs.Items.{if_stopped, if_handed}
 use Rattle.acc_player.proofs.Wholes.{behind_whole}
 use Rattle.acc_lock_rules.specs.LockRules.{with_locks}
 use Rattle.acc_lock_rules.proofs.Orderly.{locks_are_orderly}
-use Rattle.acc_settling.specs.Leaving.{Leaves, leaves_more, leaves_want}
+use Rattle.acc_settling.specs.Leaving.{LeavesEngine, leaves_more, leaves_want}
 use Rattle.acc_settling.proofs.Boards.{board_stays}
 use Rattle.acc_settling.proofs.Telling.{tells_from}
 use Rattle.acc_settling.proofs.schedules.play_out.Goals as goal
@@ -19,7 +19,7 @@ returns-in_err-settle-clause-stops g c =
     let new = c.settle.new.self in
     let stop = c.in_err-settle.field-0.0 in
     if_handed
-    (λ s. Leaves g.D.Disk.clock g.D.Disk.left_since g.D.Disk.told g.D.Disk.may_leave g.D.Disk.faults (Some s) old new)
+    (λ s. LeavesEngine g.D.Disk.clock g.D.Disk.left_since g.D.Disk.told g.D.Disk.may_leave g.D.Disk.faults (Some s) old new)
     c.from_residual-in_err-settle.result stop c.from_residual-in_err-settle.ensures.1
     (leaves_more g.D.Disk.clock g.D.Disk.left_since g.D.Disk.told g.D.Disk.may_leave g.D.Disk.faults g.met.D.Disk.only_now (Some stop)
     old mid new c.in_ok-run.ensures.done c.in_err-settle.ensures.stops)
@@ -47,7 +47,7 @@ returns-in_err-close-clause-stops g c =
     let mid = c.run.new.player in
     let new = c.settle.new.self in
     if_handed
-    (λ s. Leaves g.D.Disk.clock g.D.Disk.left_since g.D.Disk.told g.D.Disk.may_leave g.D.Disk.faults (Some s) old new)
+    (λ s. LeavesEngine g.D.Disk.clock g.D.Disk.left_since g.D.Disk.told g.D.Disk.may_leave g.D.Disk.faults (Some s) old new)
     c.from_residual-in_err-close.result Memory c.from_residual-in_err-close.ensures.1
     (leaves_want g.D.Disk.clock g.D.Disk.left_since g.D.Disk.told g.D.Disk.may_leave g.D.Disk.faults old new
     (leaves_more g.D.Disk.clock g.D.Disk.left_since g.D.Disk.told g.D.Disk.may_leave g.D.Disk.faults g.met.D.Disk.only_now None old mid

@@ -3,8 +3,8 @@ use Rattle.acc_base.specs.Machine.{World}
 use Rattle.acc_machine.specs.Turns.{IsTurn}
 use Rattle.acc_player.proofs.Items.{if_stopped, if_handed}
 use Rattle.acc_settling.specs.Chains.{ready_stays, again_stays, runs_stays, runs_behind}
-use Rattle.acc_settling.specs.Leaving.{Leaves, stops_since}
-use Rattle.acc_settling.proofs.Acks.{acked_turned, acked_unended}
+use Rattle.acc_settling.specs.Leaving.{LeavesEngine, stops_since}
+use Rattle.acc_settling.proofs.Acks.{acked_turned, acked_unended, unended}
 use Rattle.acc_settling.proofs.Beginning.{refuses_leave}
 use Rattle.acc_settling.proofs.Turned.{turn_adds}
 use Rattle.acc_settling.proofs.turns.take.Goals as goal
@@ -19,8 +19,8 @@ returns-in-Err-clause-stops g c =
 pub returns-in-Err-clause-err : goal.returns-in-Err-clause-err
 returns-in-Err-clause-err g c = inl c.in-Err.ensures.err
 
-pub returns-in_default-clause-done : goal.returns-in_default-clause-done
-returns-in_default-clause-done g c =
+pub returns-in-Stepped-clause-done : goal.returns-in-Stepped-clause-done
+returns-in-Stepped-clause-done g c =
     let old = c.args.engine.now in
     let mid = c.turn.new.self in
     let stays = c.turn.ensures.stays in
@@ -33,7 +33,7 @@ returns-in_default-clause-done g c =
           stays more.1
           (acked_turned old mid more.0 stays.design stays.settled more.1 within t x c.requires.unfinished turned),
       again_stays g.D.Disk.told g.D.Disk.may_leave old mid more.0 stays more.1 c.requires.unfailed
-          (acked_unended old mid more.0 stays.design stays.settled more.1 within t x c.requires.unfinished turned c.in_default.not-Ended),
+          (acked_unended old mid more.0 stays.design stays.settled more.1 within t x c.requires.unfinished turned (unended x c.in-Stepped.is)),
     )
 
 pub returns-in_ok-settle-in-Ended-clause-done : goal.returns-in_ok-settle-in-Ended-clause-done
@@ -76,7 +76,7 @@ returns-in_err-settle-in-Ended-clause-stops g c =
     let left = c.in_err-settle-in-Ended.ensures.stops in
     let same = ap g.D.Disk.faults stays.disk in
     if_handed
-    (λ s. Leaves g.D.Disk.clock g.D.Disk.left_since g.D.Disk.told g.D.Disk.may_leave g.D.Disk.faults (Some s) old new)
+    (λ s. LeavesEngine g.D.Disk.clock g.D.Disk.left_since g.D.Disk.told g.D.Disk.may_leave g.D.Disk.faults (Some s) old new)
     c.from_residual.result stop c.from_residual.ensures.1 (
       runs_behind g.D.Disk.told g.D.Disk.may_leave g.D.Disk.clock g.D.Disk.left_since g.D.Disk.faults g.met.D.Disk.only_now old mid new
           (runs_stays g.D.Disk.told g.D.Disk.may_leave g.D.Disk.clock g.D.Disk.left_since g.D.Disk.faults g.met.D.Disk.only_now old mid

@@ -1,6 +1,6 @@
 use Rattle.std.proofs.Common.{◌≡◌, false, take, drop, Ok}
 use Rattle.std.specs.Prelude.{reverse, IfSome}
-use Rattle.acc_rows.specs.Answers.{chain, steps}
+use Rattle.acc_base.specs.Computing.{chain, steps}
 use Rattle.acc_stages.specs.Followed.{told, followed, followed_all}
 use Rattle.acc_stages.proofs.following.follow_all.Given as goal
 

@@ -1,5 +1,5 @@
 use Rattle.std.proofs.Common.{map, ◌∙◌, ap}
-use Rattle.acc_stages.specs.Stages.{form}
+use Rattle.acc_stages.specs.Stages.{row_form}
 use Rattle.acc_stages.proofs.stages.begin.Goals as goal
 
 pub returns-clause-value : goal.returns-clause-value
@@ -9,7 +9,7 @@ returns-clause-value c =
       admitted = c.in_ok-rows.ensures;
       stage = λ i. record {
         path = record {
-          first = (c.in_ok-first.ensures ∙ ap (map form) c.as_slice.ensures) i;
+          first = (c.in_ok-first.ensures ∙ ap (map row_form) c.as_slice.ensures) i;
           steps = c.new-steps.ensures i;
         };
         rows = c.in_ok-rows.rows;

@@ -1,5 +1,5 @@
 use Rattle.std.proofs.Common.{◌≡◌, drop}
-use Rattle.acc_rows.specs.Answers.{steps}
+use Rattle.acc_base.specs.Computing.{steps}
 use Rattle.acc_systems.specs.Systems.{crossed_once}
 use Rattle.acc_systems.proofs.systems.cross_lows.Given as goal
 

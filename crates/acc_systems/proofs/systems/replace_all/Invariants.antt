@@ -1,6 +1,6 @@
 use Rattle.std.proofs.Common.{◌≡◌, [], false, vec_len}
 use Rattle.std.specs.Prelude.{All, reverse}
-use Rattle.acc_rows.specs.Answers.{steps}
+use Rattle.acc_base.specs.Computing.{steps}
 use Rattle.acc_rows.specs.declared.rows.Row.{Row}
 use Rattle.acc_systems.specs.Systems.{is_constant, replaced}
 use Rattle.acc_systems.specs.Repetitions.{AreApart, TellsOf, told_behind}

@@ -16,7 +16,9 @@ returns c =
     (forbids_to d held locals c.args.at c.args.side c.args.locals.now)
     (forbids_from d held locals c.args.at c.args.side c.args.locals.now) c.first_forbidding.result
     (sym (c.first_forbidding.ensures
-    ∙ (ap (λ h. first_from (entry_forbids held h c.args.at c.args.side c.args.locals.now) 1 c.as_slice.result.now) c.as_slice-2.ensures
+    ∙ (ap
+    (λ a. first_from (entry_forbids a c.as_slice-2.result.now c.args.at c.args.side c.args.locals.now) 1 c.as_slice.result.now) c.at.ensures
+    ∙ ap (λ h. first_from (entry_forbids held h c.args.at c.args.side c.args.locals.now) 1 c.as_slice.result.now) c.as_slice-2.ensures
     ∙ ap (first_from (entry_forbids held locals c.args.at c.args.side c.args.locals.now) 1) c.as_slice.ensures)))
 
 pub first_forbidding-requires : goal.first_forbidding-requires

@@ -1,6 +1,7 @@
 use Rattle.std.proofs.Common.{length, ap, sym, ◌∙◌, subst, arith}
 use Rattle.std.proofs.lemmas.List.{take_all}
-use Rattle.acc_rows.specs.Answers.{steps, Leaves}
+use Rattle.acc_base.specs.Computing.{steps, Leaves}
+use Rattle.acc_rows.specs.Answers.{tells}
 use Rattle.acc_readings.specs.Readings.{read_next}
 use Rattle.acc_decisions.specs.Readings.{unread, read_of}
 use Rattle.acc_decisions.proofs.ReadOn.{rest_is, read_rest, leaves_other}
@@ -18,13 +19,13 @@ returns-in-Ok-clause-read c =
 
 pub returns-in-Ok-clause-all : goal.returns-in-Ok-clause-all
 returns-in-Ok-clause-all c =
-    subst (λ o. Leaves c.read_all-end.result (c.read_all-end.new.names.items, c.read_all-end.new.rows.items) o)
+    subst (λ o. Leaves tells c.read_all-end.result (c.read_all-end.new.names.items, c.read_all-end.new.rows.items) o)
     (ap (steps read_next (read_of c.args.self.now)) (rest_is c.args.rels.now c.args.self.now.count)
     ∙ read_rest c.args.rels.now c.args.self.now.count (read_of c.args.self.now) c.requires.first) c.read_all-end.ensures
 
 pub returns-in-Err-clause-all : goal.returns-in-Err-clause-all
 returns-in-Err-clause-all c =
     leaves_other c.read_all-end.result (c.read_all-end.new.names.items, c.read_all-end.new.rows.items) (read_of c.forget.new.self) _ _
-    c.in-Err.is (subst (λ o. Leaves c.read_all-end.result (c.read_all-end.new.names.items, c.read_all-end.new.rows.items) o)
+    c.in-Err.is (subst (λ o. Leaves tells c.read_all-end.result (c.read_all-end.new.names.items, c.read_all-end.new.rows.items) o)
     (ap (steps read_next (read_of c.args.self.now)) (rest_is c.args.rels.now c.args.self.now.count)
     ∙ read_rest c.args.rels.now c.args.self.now.count (read_of c.args.self.now) c.requires.first) c.read_all-end.ensures)
