@@ -67,6 +67,11 @@ def listed(path, items):
 
 def events_of(path):
     """The events that the batches of a journal hold which count, each a tuple, by docs/JOURNAL.md."""
+    return counted_of(path)[0]
+
+
+def counted_of(path):
+    """These events, and the bytes that count, up to the gate behind the last batch."""
     data = bytes_of(path)
     if data[:2] != b"\xa5\x01":
         raise Differs(f"{path}: no journal")
@@ -78,7 +83,7 @@ def events_of(path):
         if len(body) < size or at >= len(data):
             raise Differs(f"{path}: a batch that is cut short counts")
         found += events_in(body)
-    return found
+    return found, data[:at]
 
 
 def events_in(body):
@@ -94,6 +99,9 @@ def events_in(body):
             tape = struct.unpack(">H", body[at : at + 2])[0]
             at += 2 + 8 * tape + 4
             yield ("begin", sort, values)
+        elif kind == 3:
+            yield ("turn", *struct.unpack(">IBI", body[at + 1 : at + 10]))
+            at += 10
         else:
-            yield ({2: "step", 3: "turn", 4: "back"}[kind], struct.unpack(">I", body[at + 1 : at + 5])[0])
-            at += 10 if kind == 3 else 5
+            yield ({2: "step", 4: "back"}[kind], struct.unpack(">I", body[at + 1 : at + 5])[0])
+            at += 5

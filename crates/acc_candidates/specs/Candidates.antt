@@ -15,11 +15,12 @@ use Rattle.acc_axioms.specs.declared.kinds.AxiomKind.{AxiomKind}
 use Rattle.acc_axioms.specs.declared.kinds.AxiomKind.TheVariants as kind
 use Rattle.acc_axioms.specs.declared.nodes.Schema.{Schema}
 use Rattle.acc_axioms.specs.declared.nodes.Schema.TheVariants as schema
+use Rattle.acc_axioms.specs.declared.nodes.TheConstants.{BELOW, ABOVE}
 
 -- ---- an unknown that stands under values: each value may be below 0, or above 0; or all are 0
 
 abbrev pub with_shut : Unknown → ℕ × List Schema → Lin → ℕ × List Schema
-with_shut u s l = (s.0 + 1, s.1 ++ schema.Shut u s.0 0 ∷ schema.Shut u s.0 1 ∷ [])
+with_shut u s l = (s.0 + 1, s.1 ++ schema.Shut u s.0 BELOW ∷ schema.Shut u s.0 ABOVE ∷ [])
 
 abbrev pub with_shuts : List Schema → Unknown → List Schema
 with_shuts found u = (fold (with_shut u) (0, found) u.under).1

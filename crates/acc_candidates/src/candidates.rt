@@ -4,10 +4,11 @@ ghost use Rattle.acc_axioms.specs.Axioms.{is_plain, count};
 ghost use Rattle.acc_candidates.specs.Candidates.{with_shuts, with_one, for_opened, for_empty, keyed, columned, is_pair, with_same, with_pairs};
 ghost use Rattle.acc_candidates.specs.Candidates.{is_known, with_front, with_key_fronts, with_fronts, with_unknown, candidates};
 ghost use Rattle.acc_axioms.specs.declared.nodes.Schema.TheVariants.{Shut};
+ghost use Rattle.acc_axioms.specs.declared.nodes.TheConstants.{BELOW, ABOVE};
 
 use crate::names::is_known;
 use acc_axioms::kinds::AxiomKind;
-use acc_axioms::nodes::Schema;
+use acc_axioms::nodes::{ABOVE, BELOW, Schema};
 use acc_axioms::terms::plain;
 use acc_base::atoms::AtomKind;
 use acc_base::forms::{Atom, Lin, Unknown};
@@ -18,10 +19,10 @@ use std::alloc::{AllocError, Global};
 
 /// Both axioms for the value with this number.
 fn add_shut(found: &mut Vec<Schema>, u: &Unknown, n: u32) -> Result<(), AllocError>
-    ensures { OnOk result (found.new.items ≡ found.old.items ++ Shut u.now n 0 ∷ Shut u.now n 1 ∷ []) }
+    ensures { OnOk result (found.new.items ≡ found.old.items ++ Shut u.now n BELOW ∷ Shut u.now n ABOVE ∷ []) }
 {
-    found.push(Schema::Shut(copied(u)?, n, 0))?;
-    found.push(Schema::Shut(copied(u)?, n, 1))?;
+    found.push(Schema::Shut(copied(u)?, n, BELOW))?;
+    found.push(Schema::Shut(copied(u)?, n, ABOVE))?;
     Ok(())
 }
 

@@ -1,5 +1,6 @@
 //! Command lines over a shelf and a disk in memory.
 use acc_cli::{Done, acc};
+use acc_crew::Alone;
 use acc_disk::MemDisk;
 use acc_io::{MemShelf, MemSink, Sink};
 use acc_progress::Silent;
@@ -91,7 +92,16 @@ pub fn answer_over<K: Sink>(
     disk: MemDisk,
 ) -> Result<Done<MemDisk>, AllocError> {
     let words = words(alloc, line)?;
-    Ok(acc(alloc, &words, shelf, out, disk, &mut Silent))
+    Ok(acc(
+        alloc,
+        &words,
+        shelf,
+        out,
+        disk,
+        &Alone,
+        &mut None,
+        &mut Silent,
+    ))
 }
 
 /// A sink; the writes of the first list fail, and the others take no more than the second says.

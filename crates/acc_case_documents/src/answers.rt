@@ -2,6 +2,7 @@
 use crate::journals::Journals;
 use acc_case_commands::memory;
 use acc_cli::{acc, asks_journal};
+use acc_crew::Alone;
 use acc_disk::MemDisk;
 use acc_io::{FolderShelf, Shelf};
 use acc_progress::Silent;
@@ -16,7 +17,16 @@ fn answer_words<H: Shelf>(
     disk: MemDisk,
 ) -> Result<(String, MemDisk), AllocError> {
     let mut out = memory::sink(alloc, &[], &[])?;
-    let done = acc(alloc, words, shelf, &mut out, disk, &mut Silent);
+    let done = acc(
+        alloc,
+        words,
+        shelf,
+        &mut out,
+        disk,
+        &Alone,
+        &mut None,
+        &mut Silent,
+    );
     Ok((String::from_utf8_lossy(alloc, out.bytes())?, done.disk))
 }
 

@@ -1,6 +1,7 @@
 //! Command lines over files and disks in memory: how they end, what they print, and what is told of them.
 use acc_case_commands::memory;
 use acc_cli::{acc, help_text};
+use acc_crew::Alone;
 use acc_diagnose::explain;
 use acc_disk::MemDisk;
 use acc_io::{MemShelf, MemSink};
@@ -69,7 +70,17 @@ fn answer_over(
     disk: MemDisk,
 ) -> Result<String, AllocError> {
     let words = memory::words(alloc, line)?;
-    let status = acc(alloc, &words, shelf, out, disk, &mut Silent).status;
+    let status = acc(
+        alloc,
+        &words,
+        shelf,
+        out,
+        disk,
+        &Alone,
+        &mut None,
+        &mut Silent,
+    )
+    .status;
     spelled(alloc, status, &words, shelf, out.bytes())
 }
 

@@ -10,10 +10,13 @@ use acc_case_commands::texts::{self, first_word};
 use acc_case_commands::{memory, proofs};
 use acc_case_documents::documents;
 use acc_cli::acc;
+use acc_crew::Alone;
 use acc_io::{FolderShelf, StdSink};
 use acc_progress::Silent;
 use std::fs::File;
 use std::rt::Files;
+use std::sync::Wait;
+use std::thread::Threads;
 use std::{fs, io};
 
 /// `run WORDS`: a command line over the files of the folder, printed at once.
@@ -22,7 +25,16 @@ fn run<R: Files<File = File> + Print + AllocGlobal>(rt: &R, line: &str) -> io::R
     let mut shelf = FolderShelf::new(rt);
     let mut out = StdSink::new(rt);
     let disk = memory::disk(rt.alloc(), &[], &[], None)?;
-    let done = acc(rt.alloc(), &words, &mut shelf, &mut out, disk, &mut Silent);
+    let done = acc(
+        rt.alloc(),
+        &words,
+        &mut shelf,
+        &mut out,
+        disk,
+        &Alone,
+        &mut None,
+        &mut Silent,
+    );
     println!(rt; "status {}", done.status)
 }
 
@@ -176,13 +188,25 @@ fn answer_command<R: Files<File = File> + Print + AllocGlobal>(
     answer_plain(rt, base, line.as_str())
 }
 
-/// Prints a case, and what it answers.
-pub fn answer<R: Files<File = File> + Print + AllocGlobal>(
+/// Prints a case of a run by threads, and what it answers.
+fn answer_in_threads<R: Files<File = File> + Print + AllocGlobal, T: Threads + Wait + Sync>(
     rt: &R,
+    threads: &T,
+    line: &str,
+) -> io::Result<()> {
+    rt.println(line)?;
+    acc_thread_cases::tell(rt, threads, first_word(line).1)
+}
+
+/// Prints a case, and what it answers.
+pub fn answer<R: Files<File = File> + Print + AllocGlobal, T: Threads + Wait + Sync>(
+    rt: &R,
+    threads: &T,
     kinds: &mut Kinds,
     line: &str,
 ) -> io::Result<()> {
     match first_word(line).0 {
+        "threads" => answer_in_threads(rt, threads, line),
         "device" | "journal" | "relation" => kinds::tell(rt, kinds, line),
         "machine" | "text" | "search" => kinds::tell_or_take(rt, kinds, line),
         "state" | "engine" => kinds::tell_or_accept(rt, kinds, line),

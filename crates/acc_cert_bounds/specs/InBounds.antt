@@ -82,3 +82,21 @@ proof p = nodes p.nodes
 -- indexes below 2^32, numbers of linear values in 64 bits, and all others within 2^120 of 0
 abbrev pub cert : Cert → Bool
 cert c = list_all proof c.proofs
+
+-- ---- the numbers that may have more than 64 bits, alone: those of a split's form, and multipliers. All others are within the bounds by
+-- their types
+
+abbrev pub form_near : Form → Bool
+form_near f = list_all (λ t. is_near t.1) f.terms && is_near f.constant
+
+abbrev pub mults_near : Mults → Bool
+mults_near m = list_all (λ p. is_near p.1) m.of
+
+abbrev pub node_near : Node → Bool
+node_near (node.Split f) = form_near f
+node_near (node.Inst h ls ms) = list_all mults_near ms
+node_near (node.Axiom x ms) = list_all mults_near ms
+node_near (node.Leaf m) = mults_near m
+
+abbrev pub nodes_near : List Node → Bool
+nodes_near = list_all node_near

@@ -4,9 +4,11 @@ use acc_axioms::nodes::{Node, Proof, Schema};
 use acc_farkas::refuting::Mults;
 
 impl Bounded for Mults {
-    ghost use Rattle.acc_cert_bounds.specs.InBounds.{mults};
+    ghost use Rattle.acc_cert_bounds.specs.InBounds.{mults, mults_near};
 
     ghost in_bounds = { mults };
+
+    ghost near = { mults_near };
 
     fn is_in_bounds(&self) -> bool {
         self.of.is_in_bounds()
@@ -14,10 +16,14 @@ impl Bounded for Mults {
 }
 
 impl Bounded for Schema {
+    ghost use Rattle.std.specs.Prelude.{true};
     ghost use Rattle.acc_cert_bounds.specs.InBounds.{schema_in};
 
     ghost in_bounds = { schema_in };
 
+    ghost near = { λ _. true };
+
+    #[tactic(auto, using(crate::proofs::Near::none_wide))]
     fn is_in_bounds(&self) -> bool {
         match self {
             Schema::Has(table, key)
@@ -40,10 +46,13 @@ impl Bounded for Schema {
 }
 
 impl Bounded for Node {
-    ghost use Rattle.acc_cert_bounds.specs.InBounds.{node_in};
+    ghost use Rattle.acc_cert_bounds.specs.InBounds.{node_in, node_near};
 
     ghost in_bounds = { node_in };
 
+    ghost near = { node_near };
+
+    #[tactic(auto, using(crate::proofs::Near::none_wide))]
     fn is_in_bounds(&self) -> bool {
         match self {
             Node::Split(form) => form.is_in_bounds(),
@@ -57,9 +66,11 @@ impl Bounded for Node {
 }
 
 impl Bounded for Proof {
-    ghost use Rattle.acc_cert_bounds.specs.InBounds.{proof};
+    ghost use Rattle.acc_cert_bounds.specs.InBounds.{proof, nodes_near};
 
     ghost in_bounds = { proof };
+
+    ghost near = { λ p. nodes_near p.nodes };
 
     fn is_in_bounds(&self) -> bool {
         self.nodes.is_in_bounds()

@@ -1,5 +1,5 @@
 //! Whether a number is within the bounds of a certificate's file.
-ghost use Rattle.std.specs.Prelude.{◌≡◌};
+ghost use Rattle.std.specs.Prelude.{◌≡◌, IsTrue};
 ghost use Rattle.acc_cert_bounds.specs.InBounds.{is_near, is_narrow, index};
 
 use acc_base::bounds::LARGEST_SUM;
@@ -13,14 +13,16 @@ pub fn is_near(number: i128) -> bool
 
 /// That a number has 64 bits, which is so by its type.
 pub fn is_narrow(number: i64) -> bool
-    ensures { result ≡ is_narrow number }
+    ensures value { result ≡ is_narrow number }
+    ensures always { IsTrue result }
 {
     number <= i64::MAX
 }
 
 /// That a number is below 2^32, which is so by its type.
 pub fn is_index(number: u32) -> bool
-    ensures { result ≡ index number }
+    ensures value { result ≡ index number }
+    ensures always { IsTrue result }
 {
     number <= u32::MAX
 }

@@ -3,9 +3,12 @@ use crate::bounded::Bounded;
 use acc_base::forms::{Atom, Form, Lin, Unknown};
 
 impl Bounded for Lin {
+    ghost use Rattle.std.specs.Prelude.{true};
     ghost use Rattle.acc_cert_bounds.specs.InBounds.{lin};
 
     ghost in_bounds = { lin };
+
+    ghost near = { λ _. true };
 
     fn is_in_bounds(&self) -> bool {
         self.coeffs.is_in_bounds() && self.constant.is_in_bounds()
@@ -13,10 +16,14 @@ impl Bounded for Lin {
 }
 
 impl Bounded for Atom {
+    ghost use Rattle.std.specs.Prelude.{true};
     ghost use Rattle.acc_cert_bounds.specs.InBounds.{atom_in};
 
     ghost in_bounds = { atom_in };
 
+    ghost near = { λ _. true };
+
+    #[tactic(auto, using(crate::proofs::Near::none_wide))]
     fn is_in_bounds(&self) -> bool {
         match self {
             Atom::One => true,
@@ -32,19 +39,25 @@ impl Bounded for Atom {
 }
 
 impl Bounded for Unknown {
+    ghost use Rattle.std.specs.Prelude.{true};
     ghost use Rattle.acc_cert_bounds.specs.InBounds.{unknown};
 
     ghost in_bounds = { unknown };
 
+    ghost near = { λ _. true };
+
+    #[tactic(auto, using(crate::proofs::Near::none_wide))]
     fn is_in_bounds(&self) -> bool {
         self.under.is_in_bounds() && self.atom.is_in_bounds()
     }
 }
 
 impl Bounded for Form {
-    ghost use Rattle.acc_cert_bounds.specs.InBounds.{form_in};
+    ghost use Rattle.acc_cert_bounds.specs.InBounds.{form_in, form_near};
 
     ghost in_bounds = { form_in };
+
+    ghost near = { form_near };
 
     fn is_in_bounds(&self) -> bool {
         self.terms.is_in_bounds() && self.constant.is_in_bounds()

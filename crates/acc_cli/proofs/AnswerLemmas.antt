@@ -19,7 +19,7 @@ use Rattle.acc_inputs.specs.Files.{AreFiles, IsFirstRefused, SaysRefused}
 use Rattle.acc_inputs.specs.Requests.{command_in, texts_in}
 use Rattle.acc_inputs.specs.Text.{IsEarly}
 use Rattle.acc_inputs.specs.declared.requests.Request.{Request}
-use Rattle.acc_inputs.specs.declared.requests.Request.TheVariants.{Play, Rehearse, Print, Check, Prove, Init, Sched, Recover, Dump, Replies}
+use Rattle.acc_inputs.specs.declared.requests.Request.TheVariants.{Play, Rehearse, Print, Check, Prove, Init, Sched, Run, Recover, Dump, Replies}
 use Rattle.acc_inputs.specs.declared.requests.Request.TheVariants.{Help, Version}
 use Rattle.acc_journalled.specs.declared.answers.Answer.{Answer}
 use Rattle.acc_journalled.specs.declared.answers.Ending.{Ending}
@@ -107,6 +107,7 @@ texts_count (Check files) = refl
 texts_count (Prove design) = refl
 texts_count (Init design) = refl
 texts_count (Sched files) = refl
+texts_count (Run files workers) = refl
 texts_count (Recover files) = refl
 texts_count (Dump files) = refl
 texts_count (Replies files) = refl

@@ -15,9 +15,10 @@ use Rattle.acc_journal_commands.specs.Disks.{Seen}
 use Rattle.acc_inputs.specs.Words.{command_of, files_of}
 use Rattle.acc_cli.specs.Meant.{Runs, MeansForm, Meant}
 use Rattle.acc_cli.specs.Answered.{Answered}
-use Rattle.acc_cli.specs.Causes.{EndsSo, LeavesInMemory, LeavesOverJournal, LeavesUnbegun, FindsJournal, RefusesRecovering, RefusesJournal}
+use Rattle.acc_cli.specs.Causes.{EndsSo, LeavesInMemory, LeavesUnbegun, FindsJournal, RefusesRecovering, RefusesJournal}
 use Rattle.acc_cli.specs.Causes.{LeavesOpen, HasCauses}
 use Rattle.acc_journalled.proofs.Endings.{was_of_bytes}
+use Rattle.acc_commands.specs.Overs.{LeavesBy}
 use Rattle.acc_commands.proofs.RefusedOvers.{RefusesOver}
 use Rattle.acc_commands.proofs.WhichCommands.{LeftAnyhow, leaves_unbegun, leaves_open, refuses_journal, fails_by_disk}
 
@@ -42,10 +43,9 @@ module _ (held : List ℕ → Told) (counts counts' : Counts) (disk disk' : Seen
   left_unbegun ends =
       record { ends = ends; left = by (leaves_unbegun ends.command ends.files disk disk' ends.said ends.ending_is ends.meant) }
     where
-      by : LeftAnyhow ends.command ends.said → LeavesInMemory ends.command ends.said ⊎ LeavesOverJournal ends.command ends.said
+      by : LeftAnyhow ends.command ends.said → LeavesInMemory ends.command ends.said ⊎ LeavesBy ends.command ends.said
       by (inl left) = inl (record { is_rehearse = left.0; d = left.1; calls = left.2; order = left.3; tells = left.4 })
-      by (inr left) =
-          inr (record { is_sched = left.0; d = left.1.0; calls = left.1.1; order = left.1.2; first = left.1.3; tells = left.1.4 })
+      by (inr left) = inr left
 
   -- a journal was there, or none is recovered
   refused_journal : EndsSo held counts counts' disk disk' words JournalRefused → RefusesJournal held counts counts' disk disk' words

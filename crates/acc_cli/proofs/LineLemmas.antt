@@ -18,7 +18,7 @@ use Rattle.acc_commands.proofs.LeavesFiles.{leaves_untouched, leaves_file}
 use Rattle.acc_cli.specs.Leavings.{LeavesLine}
 use Rattle.acc_cli.specs.Meant.{LeavesOfLine}
 use Rattle.acc_cli.specs.Recoveries.{wanted_by, IsRecovered}
-use Rattle.acc_cli.specs.Runs.{RunsLine}
+use Rattle.acc_cli.specs.Runs.{RunsLine, WorksLine}
 
 module _ {D : Type 0} (clock : D → ℕ) (left_since : D → ℕ → List ℕ → Type 0) (told : D → Option (List ℕ)) (may_leave : D → List ℕ → Type 0)
     (held : List ℕ → Told) (words : List (List ℕ)) (old new : D) (history : List Event) (settled : ℕ) where
@@ -67,6 +67,25 @@ module _ {D : Type 0} (clock : D → ℕ) (left_since : D → ℕ → List ℕ �
       of_sched g.files (subst (λ (c : Command). OfCommand c g.files) (same_Some g.command command.Sched (sym g.form ∙ is))
       (g.count, g.given, g.left))
 
+  of_run : (workers : ℕ) (files : List (List ℕ)) → OfCommand (command.Run workers) files
+      → WorksLine clock left_since told may_leave held words workers old new history settled
+  unfolding LeavesOf file_count
+  of_run workers [] h = absurd (omega (arith, h.0))
+  of_run workers (design ∷ []) h = absurd (omega (arith, h.0))
+  of_run workers (design ∷ certificate ∷ []) h = absurd (omega (arith, h.0))
+  of_run workers (design ∷ certificate ∷ script ∷ more ∷ rest) h = absurd (omega (arith, h.0))
+  of_run workers (design ∷ certificate ∷ script ∷ []) (count, given, inl none) = inl none
+  of_run workers (design ∷ certificate ∷ script ∷ []) (count, given, inr run) =
+      inr (record { design = design; certificate = certificate; script = script; given = given; run = run })
+
+  pub works_line : (workers : ℕ) → command_of words ≡ Some (command.Run workers)
+      → LeavesLine clock left_since told may_leave held words old new history settled
+      → WorksLine clock left_since told may_leave held words workers old new history settled
+  works_line workers is (inl none) = inl none
+  works_line workers is (inr g) =
+      of_run workers g.files (subst (λ (c : Command). OfCommand c g.files) (same_Some g.command (command.Run workers) (sym g.form ∙ is))
+      (g.count, g.given, g.left))
+
   -- ---- a recovery, of which nothing is said
 
   module _ (out out' : Option (List ℕ)) (code : ℕ) (unsaid : code ≢ 0) where
@@ -111,6 +130,7 @@ module _ {D : Type 0} (clock : D → ℕ) (left_since : D → ℕ → List ℕ �
     of_recovering command.Play w files by h = absurd cc
     of_recovering command.Rehearse w files by h = absurd cc
     of_recovering command.Sched w files by h = absurd cc
+    of_recovering (command.Run workers) w files by h = absurd cc
     of_recovering command.Print w files by h = absurd cc
     of_recovering command.Prove w files by h = absurd cc
     of_recovering command.Check w files by h = absurd cc

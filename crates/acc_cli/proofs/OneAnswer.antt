@@ -1,6 +1,6 @@
 -- A command line means one answer, on a shelf that tells what stands at each name, where no read fails.
 use Rattle.std.proofs.Common.{◌≡◌, ℕ, zero, suc, true, List, [], ◌∷◌, ◌++◌, length, Option, None, Some, refl, sym, ap, subst, ◌∙◌, inl, inr}
-use Rattle.std.proofs.Common.{arith}
+use Rattle.std.proofs.Common.{⊎_elim, arith}
 use Rattle.std.specs.Prelude.{◌≢◌}
 use Rattle.acc_io.specs.Causes.{one_more, Rose}
 use Rattle.acc_io.specs.Counted.{after_files, after_refusal}
@@ -162,13 +162,19 @@ module _ (held : List ℕ → Told) (tells : (name : List ℕ) → held name ≢
   alike command a b ending ending' status status' words is (inl said) =
       let ended : a.status ≡ b.status = status ∙ ap (λ (s : Telling). Ran s.ending) said ∙ sym status' in
       inl (λ i. record { status = ended i; text = (said i).text; history = (said i).history; settled = (said i).settled })
-  alike command a b ending ending' status status' words is (inr both) = inr (record {
+  alike command a b ending ending' status status' words is (inr (inl both)) = inr (inl (record {
     is_prove = is ∙ ap Some both.is_prove;
     one_done = status ∙ ap Ran both.one_done;
     other_done = status' ∙ ap Ran both.other_done;
     history = both.history;
     settled = both.settled;
-  })
+  }))
+  alike command a b ending ending' status status' words is (inr (inr both)) = inr (inr (record {
+    workers = both.workers;
+    is_run = is ∙ ap Some both.is_run;
+    one_whole = ⊎_elim (λ e. inl (status ∙ ap Ran e)) (λ e. inr (status ∙ ap Ran e)) both.one_whole;
+    other_whole = ⊎_elim (λ e. inl (status' ∙ ap Ran e)) (λ e. inr (status' ∙ ap Ran e)) both.other_whole;
+  }))
 
   both_run : (command : Command) (words : List (List ℕ)) (a b : Reply) → command_of words ≡ Some command
       → (is_journalled command ≡ true → TellsAll disk disk_one disk_other)

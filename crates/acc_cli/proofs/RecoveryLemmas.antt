@@ -192,6 +192,7 @@ of_command held words command.Replies w disk disk' old new code (design ∷ cert
 of_command held words command.Init w disk disk' old new code files t is given h = absurd cc
 of_command held words command.Play w disk disk' old new code files t is given h = absurd cc
 of_command held words command.Rehearse w disk disk' old new code files t is given h = absurd cc
+of_command held words (command.Run workers) w disk disk' old new code files t is given h = absurd cc
 of_command held words command.Sched w disk disk' old new code files t is given h = absurd cc
 of_command held words command.Print w disk disk' old new code files t is given h = absurd cc
 of_command held words command.Prove w disk disk' old new code files t is given h = absurd cc

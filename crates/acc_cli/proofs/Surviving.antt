@@ -1,4 +1,4 @@
--- What a crash leaves of `sched` is recovered.
+-- What a crash leaves of `sched` and of `run` is recovered.
 use Rattle.std.proofs.Common.{◌≡◌, ◌⊎◌, inl, inr, ℕ, zero, suc, Bool, true, false, List, [], ◌∷◌, ◌++◌, length, take, drop, Option}
 use Rattle.std.proofs.Common.{Some, refl, sym, ap, subst, ◌∙◌}
 use Rattle.std.specs.Prelude.{option_and_then, IfSome}
@@ -6,9 +6,11 @@ use Rattle.std.specs.List.{list_any}
 use Rattle.std.proofs.lemmas.List.{take-take, take-append-drop}
 use Rattle.std.proofs.lemmas.Option.{none-some}
 use Rattle.acc_base.specs.declared.designs.Design.{Design}
+use Rattle.acc_base.specs.declared.machines.Call.{Call}
 use Rattle.acc_base.specs.declared.machines.Event.{Event}
 use Rattle.acc_base.specs.declared.machines.Reply.{Reply}
 use Rattle.acc_base.specs.Lawful.{AreLawful}
+use Rattle.acc_base.specs.Plays.{Play}
 use Rattle.acc_base.specs.Machine.{World, start, world, after_events, reply_at}
 use Rattle.acc_disk.specs.Crashes.{Only}
 use Rattle.acc_io.specs.Causes.{Rose}
@@ -28,13 +30,20 @@ use Rattle.acc_wal.proofs.Moments.{started, weaker}
 use Rattle.acc_journalled.specs.Recovering.{SaysNotRecovered, RecoversJournal}
 use Rattle.acc_journalled.specs.Tellings.{Telling}
 use Rattle.acc_journalled.proofs.Numbered.{none_unfinished}
-use Rattle.acc_running.specs.Crashes.{IsRecoveredPart, LeavesEvents, LeavesRun, LeavesDurable, IsRecoverable, IsFrontOf}
+use Rattle.acc_running.specs.Crashes.{IsRecoveredPart, LeavesEvents, LeavesRun, LeavesDurable, IsRecoverable, IsFrontOf, RunsOver}
+use Rattle.acc_running.specs.Running.{IsOpening, WorkersLeave}
 use Rattle.acc_running.specs.Recorded.{IsFound, Records}
 use Rattle.acc_running.proofs.Again.{recovered_leads, crash_recovers, end_recovers}
 use Rattle.acc_journal_commands.specs.Disks.{IsUntouched}
-use Rattle.acc_cli.specs.Headline.{KeepsReplies, RecoversTo, Finds, IsOfLine, FindsSuch, AreOnTheWay, AreDurable, LeavesUntold, Survives}
-use Rattle.acc_cli.specs.Headline.{SchedSurvives}
-use Rattle.acc_cli.specs.Runs.{RunsGiven}
+use Rattle.acc_parse.specs.Texts.{IsDesignText}
+use Rattle.acc_formed.specs.WellFormed.{IsWellFormed}
+use Rattle.acc_check.specs.Admissions.{IsAcceptedWith}
+use Rattle.acc_inputs.specs.declared.words.Command.{Command}
+use Rattle.acc_inputs.specs.declared.words.Command.TheVariants as command
+use Rattle.acc_inputs.specs.Words.{files_of}
+use Rattle.acc_inputs.specs.Files.{AreFiles}
+use Rattle.acc_cli.specs.Headline.{KeepsReplies, RecoversTo, Finds, IsOfLine, FindsSuch, AreOnTheWay, AreDurable, LeavesUntold}
+use Rattle.acc_cli.specs.Headline.{CrashesRecover, SchedSurvives, RunSurvives}
 
 -- ---- no event takes a reply back
 
@@ -139,100 +148,146 @@ module _ (d : Design) (file image : List ℕ) where
 
 -- ---- what a crash leaves
 
+-- the files of a command are given, and this is so of their run, whoever took the turns
+record Ran {D : Type 0} (clock : D → ℕ) (left_since : D → ℕ → List ℕ → Type 0) (told : D → Option (List ℕ)) (may_leave : D → List ℕ → Type 0)
+    (held : List ℕ → Told) (words : List (List ℕ)) (c : Command) (old new : D) (history : List Event) (settled : ℕ) : Type 1 where
+  design : List ℕ
+  certificate : List ℕ
+  others : List (List ℕ)
+  given : AreFiles held (files_of c words) (design ∷ certificate ∷ others)
+  d : Design
+  is_text : IsDesignText design d
+  formed : IsWellFormed d
+  is_accepted : IsAcceptedWith d certificate
+  calls : List Call
+  order : List ℕ
+  Opens : World → Play → Type 0
+  over : RunsOver clock left_since told may_leave d calls order Opens old new history settled
+
 module _ {D : Type 0} (clock : D → ℕ) (left_since : D → ℕ → List ℕ → Type 0) (told : D → Option (List ℕ)) (may_leave : D → List ℕ → Type 0)
-    (held : List ℕ → Told) (words : List (List ℕ)) (file : List ℕ) (old new : D) (history : List Event) (settled : ℕ)
+    (held : List ℕ → Told) (words : List (List ℕ)) (c : Command) (file : List ℕ) (old new : D) (history : List Event) (settled : ℕ)
     (is : told old ≡ Some file) (only : Only file (may_leave old)) where
   abbrev IsLeft : List ℕ → Type 0
-  IsLeft image = LeavesUntold held words file history settled image
-      ⊎ IsOfLine held words (λ d. FindsSuch d image (AreOnTheWay d file history))
+  IsLeft image = LeavesUntold held words c file history settled image
+      ⊎ IsOfLine held words c (λ d. FindsSuch d image (AreOnTheWay d file history))
 
   abbrev IsLeftBehind : List ℕ → Type 0
-  IsLeftBehind image = LeavesUntold held words file history settled image
-      ⊎ IsOfLine held words (λ d. FindsSuch d image (AreDurable d history settled))
+  IsLeftBehind image = LeavesUntold held words c file history settled image
+      ⊎ IsOfLine held words c (λ d. FindsSuch d image (AreDurable d history settled))
 
   survives_untouched : ((image : List ℕ) → left_since old (clock old) image → may_leave old image) → IsUntouched old new history settled
-      → Survives clock left_since may_leave held words file old new history settled
+      → CrashesRecover clock left_since may_leave held words c file old new history settled
   survives_untouched only_now none =
-      let here : (image : List ℕ) → may_leave old image → LeavesUntold held words file history settled image =
+      let here : (image : List ℕ) → may_leave old image → LeavesUntold held words c file history settled image =
       λ image left. record { none = none.1; none_durable = none.2; left = inl (only image left) } in
-      subst (λ (x : D). Survives clock left_since may_leave held words file old x history settled) (sym none.0) (record {
+      subst (λ (x : D). CrashesRecover clock left_since may_leave held words c file old x history settled) (sym none.0) (record {
         moments = started clock left_since old IsLeft (λ image left. inl (here image (only_now image left)));
         behind = λ image left. inl (here image left);
       })
 
-  module _ (g : RunsGiven clock left_since told may_leave held words old new history settled) where
-    of_line : (So : Design → Type 0) → So g.run.d → IsOfLine held words So
+  module _ (g : Ran clock left_since told may_leave held words c old new history settled) where
+    of_line : (So : Design → Type 0) → So g.d → IsOfLine held words c So
     of_line So so = record {
       design = g.design;
       certificate = g.certificate;
-      others = g.script ∷ g.order ∷ [];
+      others = g.others;
       given = g.given;
-      d = g.run.d;
-      is_text = g.run.is_text;
-      accepted = g.run.accepted;
+      d = g.d;
+      is_text = g.is_text;
+      accepted = g.is_accepted;
       so = so;
     }
 
-    accepted : IsAccepted g.run.d
+    accepted : IsAccepted g.d
     accepted = record {
-      sound = g.run.accepted.sound;
-      formed = g.run.formed;
-      runnable = well_formed_runs g.run.d g.run.formed;
+      sound = g.is_accepted.sound;
+      formed = g.formed;
+      runnable = well_formed_runs g.d g.formed;
     }
 
-    untold : (image : List ℕ) → history ≡ [] → settled ≡ 0 → LeavesRecovery g.run.d file image
-        → LeavesUntold held words file history settled image
+    untold : (image : List ℕ) → history ≡ [] → settled ≡ 0 → LeavesRecovery g.d file image
+        → LeavesUntold held words c file history settled image
     untold image none none_durable left =
         record { none = none; none_durable = none_durable; left = inr (of_line (λ d. LeavesRecovery d file image) left) }
 
-    left_behind : AreLawful g.run.d history → (image : List ℕ) → LeavesDurable g.run.d file history settled image → IsLeftBehind image
+    left_behind : AreLawful g.d history → (image : List ℕ) → LeavesDurable g.d file history settled image → IsLeftBehind image
     left_behind lawful image (inl none) = inl (untold image none.none none.none_durable none.left)
     left_behind lawful image (inr front) =
-        let found = end_recovers g.run.d history settled image lawful front in
+        let found = end_recovers g.d history settled image lawful front in
         inr (of_line (λ d. FindsSuch d image (AreDurable d history settled)) (record {
           events = found.0;
-          finds = finds g.run.d image found.0 found.1 accepted;
-          such = (found.2, front_keeps g.run.d history settled found.0 found.2 found.1.lawful);
+          finds = finds g.d image found.0 found.1 accepted;
+          such = (found.2, front_keeps g.d history settled found.0 found.2 found.1.lawful);
         }))
 
-    left_during : (first : World) → IsFound g.run.d (Some file) first → AreLawful g.run.d history → (image : List ℕ)
-        → LeavesRun g.run.d file history image → IsLeft image
+    left_during : (first : World) → IsFound g.d (Some file) first → AreLawful g.d history → (image : List ℕ)
+        → LeavesRun g.d file history image → IsLeft image
     left_during first found lawful image left =
-        let again = crash_recovers g.run.d file image history first found lawful left in
+        let again = crash_recovers g.d file image history first found lawful left in
         inr (of_line (λ d. FindsSuch d image (AreOnTheWay d file history)) (record {
           events = again.0;
-          finds = finds g.run.d image again.0 again.1 accepted;
+          finds = finds g.d image again.0 again.1 accepted;
           such = (first, found, again.2);
         }))
 
-    survives_run : Survives clock left_since may_leave held words file old new history settled
-    survives_run = by g.run.runs.recorded
+    survives_run : CrashesRecover clock left_since may_leave held words c file old new history settled
+    survives_run = by g.over.recorded
       where
-        survives_so : AreLawful g.run.d history → ((image : List ℕ) → LeavesRun g.run.d file history image → IsLeft image)
-            → Survives clock left_since may_leave held words file old new history settled
-        survives_so lawful so =
-            let over = g.run.runs in
-            record {
-              moments = weaker clock left_since old new (LeavesRun g.run.d file history) IsLeft so (over.moments file is only);
-              behind = λ image left. left_behind lawful image (over.behind file is only image left);
-            }
+        survives_so : AreLawful g.d history → ((image : List ℕ) → LeavesRun g.d file history image → IsLeft image)
+            → CrashesRecover clock left_since may_leave held words c file old new history settled
+        survives_so lawful so = record {
+          moments = weaker clock left_since old new (LeavesRun g.d file history) IsLeft so (g.over.moments file is only);
+          behind = λ image left. left_behind lawful image (g.over.behind file is only image left);
+        }
 
-        by : Records g.run.d g.run.calls (told old) history settled
-            → Survives clock left_since may_leave held words file old new history settled
+        by : Records g.d g.calls (told old) history settled
+            → CrashesRecover clock left_since may_leave held words c file old new history settled
         by (inl none) =
-            survives_so (subst (AreLawful g.run.d) (sym none.0) (start, refl))
+            survives_so (subst (AreLawful g.d) (sym none.0) (start, refl))
             (λ image left. inl (untold image none.0 none.1
-            (untold_run g.run.d file image (subst (λ (es : List Event). LeavesRun g.run.d file es image) none.0 left))))
+            (untold_run g.d file image (subst (λ (es : List Event). LeavesRun g.d file es image) none.0 left))))
         by (inr (first, found, recorded)) =
-            let lawful : AreLawful g.run.d history = (recorded.last, recorded.lawful) in
+            let lawful : AreLawful g.d history = (recorded.last, recorded.lawful) in
             survives_so lawful
-            (left_during first (subst (λ (o : Option (List ℕ)). IsFound g.run.d o first) is found) lawful)
+            (left_during first (subst (λ (o : Option (List ℕ)). IsFound g.d o first) is found) lawful)
 
-pub survives : {D : Type 0} (clock : D → ℕ) (left_since : D → ℕ → List ℕ → Type 0) (told : D → Option (List ℕ))
-    (may_leave : D → List ℕ → Type 0)
-    → ((disk : D) (image : List ℕ) → left_since disk (clock disk) image → may_leave disk image)
-    → SchedSurvives clock left_since told may_leave
-survives clock left_since told may_leave only_now held words file old new history settled (inl none) is only =
-    survives_untouched clock left_since told may_leave held words file old new history settled is only (only_now old) none
-survives clock left_since told may_leave only_now held words file old new history settled (inr g) is only =
-    survives_run clock left_since told may_leave held words file old new history settled is only g
+module _ {D : Type 0} (clock : D → ℕ) (left_since : D → ℕ → List ℕ → Type 0) (told : D → Option (List ℕ)) (may_leave : D → List ℕ → Type 0)
+    (only_now : (disk : D) (image : List ℕ) → left_since disk (clock disk) image → may_leave disk image) where
+  pub sched_survives : SchedSurvives clock left_since told may_leave
+  sched_survives held words file old new history settled (inl none) is only =
+      survives_untouched clock left_since told may_leave held words command.Sched file old new history settled is only (only_now old) none
+  sched_survives held words file old new history settled (inr g) is only =
+      survives_run clock left_since told may_leave held words command.Sched file old new history settled is only (record {
+        design = g.design;
+        certificate = g.certificate;
+        others = g.script ∷ g.order ∷ [];
+        given = g.given;
+        d = g.run.d;
+        is_text = g.run.is_text;
+        formed = g.run.formed;
+        is_accepted = g.run.accepted;
+        calls = g.run.calls;
+        order = g.run.runs.numbers;
+        Opens = IsOpening g.run.calls;
+        over = g.run.runs.runs.over;
+      })
+
+  pub run_survives : RunSurvives clock left_since told may_leave
+  run_survives held words workers file old new history settled (inl none) is only =
+      survives_untouched clock left_since told may_leave held words (command.Run workers) file old new history settled is only
+      (only_now old) none
+  run_survives held words workers file old new history settled (inr g) is only =
+      survives_run clock left_since told may_leave held words (command.Run workers) file old new history settled is only (record {
+        design = g.design;
+        certificate = g.certificate;
+        others = g.script ∷ [];
+        given = g.given;
+        d = g.run.d;
+        is_text = g.run.is_text;
+        formed = g.run.formed;
+        is_accepted = g.run.accepted;
+        calls = g.run.calls;
+        order = [];
+        Opens = WorkersLeave g.run.d g.run.calls;
+        over = g.run.runs;
+      })

@@ -7,9 +7,7 @@ use Rattle.acc_io.specs.Counted.{after_files}
 use Rattle.acc_io.specs.Shelves.{Told}
 use Rattle.acc_io.specs.declared.counts.Counts.{Counts}
 use Rattle.acc_io.specs.declared.shelf.ShelfError.{ShelfError}
-use Rattle.acc_schedule.specs.Schedules.{TellsSchedule, TellsScheduleFrom}
-use Rattle.acc_settling.specs.Openings.{opening_at}
-use Rattle.acc_base.specs.Machine.{World}
+use Rattle.acc_schedule.specs.Schedules.{TellsSchedule}
 use Rattle.acc_wal.specs.Creating.{IsThere}
 use Rattle.acc_recover.specs.Refusals.{RefusesRecovery, IsOfJournal, IsOfBytes, CountsSame}
 use Rattle.acc_recover.specs.declared.errors.RecoverError.{RecoverError}
@@ -22,6 +20,7 @@ use Rattle.acc_cli.specs.declared.status.Status.TheVariants.{Usage, File, Sink, 
 use Rattle.acc_inputs.specs.Words.{command_of, files_of}
 use Rattle.acc_inputs.specs.Files.{AreFiles, IsFirstRefused, SaysRefused}
 use Rattle.acc_commands.specs.Means.{Means}
+use Rattle.acc_commands.specs.Overs.{IsRecovering, LeavesBy}
 use Rattle.acc_file_commands.specs.ProveFiles.{StaysOpen}
 use Rattle.acc_journalled.specs.Tellings.{Telling}
 use Rattle.acc_journal_commands.specs.Disks.{Seen}
@@ -57,19 +56,10 @@ pub record LeavesInMemory (c : Command) (said : Telling) : Type 0 where
   pub order : List ℕ
   pub tells : TellsSchedule d calls order said.text said.history false
 
--- it is `sched`, and so does its schedule behind the recovered history
-pub record LeavesOverJournal (c : Command) (said : Telling) : Type 0 where
-  pub is_sched : c ≡ command.Sched
-  pub d : Design
-  pub calls : List Call
-  pub order : List ℕ
-  pub first : World
-  pub tells : TellsScheduleFrom d calls (opening_at first calls) order said.text said.history false
-
 -- a schedule leaves a place that couldn't begin
 pub record LeavesUnbegun (held : List ℕ → Told) (counts counts' : Counts) (disk disk' : Seen) (words : List (List ℕ)) : Type 0 where
   pub ends : EndsSo held counts counts' disk disk' words Unbegun
-  pub left : LeavesInMemory ends.command ends.said ⊎ LeavesOverJournal ends.command ends.said
+  pub left : LeavesInMemory ends.command ends.said ⊎ LeavesBy ends.command ends.said
 
 -- it is `init`, the first two bytes of the disk say that a journal is there, and it holds what it held
 pub record FindsJournal (c : Command) (disk disk' : Seen) : Type 0 where
@@ -77,10 +67,10 @@ pub record FindsJournal (c : Command) (disk disk' : Seen) : Type 0 where
   pub there : IfSome disk.told IsThere
   pub same : disk'.told ≡ disk.told
 
--- It is `sched`, `recover`, `dump` or `replies`, and the bytes of the disk give this cause why nothing is recovered. What is no journal is
--- left as it is; a journal that is refused counts what it counted.
+-- It is `sched`, `run`, `recover`, `dump` or `replies`, and the bytes of the disk give this cause why nothing is recovered. What is no
+-- journal is left as it is; a journal that is refused counts what it counted.
 pub record RefusesRecovering (c : Command) (disk disk' : Seen) : Type 0 where
-  pub is_over : (c ≡ command.Sched) ⊎ (c ≡ command.Recover) ⊎ (c ≡ command.Dump) ⊎ (c ≡ command.Replies)
+  pub is_over : IsRecovering c
   pub d : Design
   pub error : RecoverError
   pub of_bytes : IsOfBytes error

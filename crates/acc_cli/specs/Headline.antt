@@ -1,4 +1,4 @@
--- What a crash leaves of `sched`, and what `recover` finds in it.
+-- What a crash leaves of `sched` and of `run`, and what `recover` finds in it.
 use Rattle.std.specs.Prelude.{◌≡◌, ◌⊎◌, ℕ, List, [], ◌∷◌, length, take, Option, Some, option_and_then, IfSome}
 use Rattle.acc_base.specs.declared.designs.Design.{Design}
 use Rattle.acc_base.specs.declared.machines.Event.{Event}
@@ -20,10 +20,11 @@ use Rattle.acc_journalled.specs.Recovering.{RecoversJournal}
 use Rattle.acc_journalled.specs.Tellings.{Telling}
 use Rattle.acc_running.specs.Crashes.{IsFrontOf}
 use Rattle.acc_running.specs.Recorded.{IsFound}
+use Rattle.acc_inputs.specs.declared.words.Command.{Command}
 use Rattle.acc_inputs.specs.declared.words.Command.TheVariants as command
 use Rattle.acc_inputs.specs.Words.{files_of}
 use Rattle.acc_inputs.specs.Files.{AreFiles}
-use Rattle.acc_cli.specs.Runs.{RunsLine}
+use Rattle.acc_cli.specs.Runs.{RunsLine, WorksLine}
 
 -- whoever has a reply after the earlier events has the same one after the later
 abbrev pub KeepsReplies : Design → List Event → List Event → Type 0
@@ -51,12 +52,12 @@ pub record Finds (d : Design) (image : List ℕ) (events : List Event) : Type 0 
   pub recovers : (text : World → ℕ → List ℕ) (told' : Option (List ℕ)) (before after : ℕ) (t : Telling) → ¬ Rose before after
       → RecoversJournal text d (Some image) told' (Rose before after) t → RecoversTo d events told' t
 
--- the files of `sched` are given: the first spells this design, which is accepted with the second, and this is so to it
-pub record IsOfLine (held : List ℕ → Told) (words : List (List ℕ)) (So : Design → Type 0) : Type 0 where
+-- the files of the command are given: the first spells this design, which is accepted with the second, and this is so to it
+pub record IsOfLine (held : List ℕ → Told) (words : List (List ℕ)) (c : Command) (So : Design → Type 0) : Type 0 where
   pub design : List ℕ
   pub certificate : List ℕ
   pub others : List (List ℕ)
-  pub given : AreFiles held (files_of command.Sched words) (design ∷ certificate ∷ others)
+  pub given : AreFiles held (files_of c words) (design ∷ certificate ∷ others)
   pub d : Design
   pub is_text : IsDesignText design d
   pub accepted : IsAcceptedWith d certificate
@@ -78,27 +79,35 @@ abbrev pub AreDurable : Design → List Event → ℕ → List Event → Type 0
 AreDurable d history settled events = IsFrontOf history settled events × KeepsReplies d (take settled history) events
 
 -- nothing is told, and the bytes are those of the file, or count what it counted, or that with its compensation
-pub record LeavesUntold (held : List ℕ → Told) (words : List (List ℕ)) (file : List ℕ) (history : List Event) (settled : ℕ)
+pub record LeavesUntold (held : List ℕ → Told) (words : List (List ℕ)) (c : Command) (file : List ℕ) (history : List Event) (settled : ℕ)
     (image : List ℕ) : Type 0 where
   pub none : history ≡ []
   pub none_durable : settled ≡ 0
-  pub left : (image ≡ file) ⊎ IsOfLine held words (λ d. LeavesRecovery d file image)
+  pub left : (image ≡ file) ⊎ IsOfLine held words c (λ d. LeavesRecovery d file image)
 
 -- What a crash leaves at any moment of the call, and what one leaves after it.
-pub record Survives {D : Type 0} (clock : D → ℕ) (left_since : D → ℕ → List ℕ → Type 0) (may_leave : D → List ℕ → Type 0)
-    (held : List ℕ → Told) (words : List (List ℕ)) (file : List ℕ) (old new : D) (history : List Event) (settled : ℕ) : Type 0 where
+pub record CrashesRecover {D : Type 0} (clock : D → ℕ) (left_since : D → ℕ → List ℕ → Type 0) (may_leave : D → List ℕ → Type 0)
+    (held : List ℕ → Told) (words : List (List ℕ)) (c : Command) (file : List ℕ) (old new : D) (history : List Event) (settled : ℕ)
+    : Type 0 where
   pub moments : AtAnyMoment clock left_since old new
-      (λ image. LeavesUntold held words file history settled image
-      ⊎ IsOfLine held words (λ d. FindsSuch d image (AreOnTheWay d file history)))
-  pub behind : (image : List ℕ) → may_leave new image → LeavesUntold held words file history settled image
-      ⊎ IsOfLine held words (λ d. FindsSuch d image (AreDurable d history settled))
+      (λ image. LeavesUntold held words c file history settled image
+      ⊎ IsOfLine held words c (λ d. FindsSuch d image (AreOnTheWay d file history)))
+  pub behind : (image : List ℕ) → may_leave new image → LeavesUntold held words c file history settled image
+      ⊎ IsOfLine held words c (λ d. FindsSuch d image (AreDurable d history settled))
 
--- Of what `acc` leaves with `sched`, from a calm disk that tells its bytes, whatever the status: whatever a crash makes of it, `recover`
--- finds in it what was there before or a front of what is told, and after the call all that is told as durable.
+-- Of what `acc` leaves with `sched` or `run`, from a calm disk that tells its bytes, whatever the status: whatever a crash makes of it,
+-- `recover` finds in it what was there before or a front of what is told, and after the call all that is told as durable.
 module _ {D : Type 0} (clock : D → ℕ) (left_since : D → ℕ → List ℕ → Type 0) (told : D → Option (List ℕ)) (may_leave : D → List ℕ → Type 0)
   where
+    abbrev pub SurvivesBy : Command → (List ℕ → Told) → List (List ℕ) → (D → D → List Event → ℕ → Type 0) → Type 0
+    SurvivesBy c held words Leaves = (file : List ℕ) (old new : D) (history : List Event) (settled : ℕ)
+        → Leaves old new history settled → told old ≡ Some file → Only file (may_leave old)
+        → CrashesRecover clock left_since may_leave held words c file old new history settled
+
     abbrev pub SchedSurvives : Type 0
-    SchedSurvives = (held : List ℕ → Told) (words : List (List ℕ)) (file : List ℕ) (old new : D) (history : List Event) (settled : ℕ)
-        → RunsLine clock left_since told may_leave held words old new history settled
-        → told old ≡ Some file → Only file (may_leave old)
-        → Survives clock left_since may_leave held words file old new history settled
+    SchedSurvives = (held : List ℕ → Told) (words : List (List ℕ))
+        → SurvivesBy command.Sched held words (RunsLine clock left_since told may_leave held words)
+
+    abbrev pub RunSurvives : Type 0
+    RunSurvives = (held : List ℕ → Told) (words : List (List ℕ)) (workers : ℕ)
+        → SurvivesBy (command.Run workers) held words (WorksLine clock left_since told may_leave held words workers)

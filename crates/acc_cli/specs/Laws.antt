@@ -24,7 +24,7 @@ use Rattle.acc_cli.specs.Provings.{AreAlike}
 
 -- On a shelf that tells what stands at each name, a command line means one answer where no read fails, and, if it asks for a command over
 -- a journal, the disk tells what it holds and none of its calls fails: two such answers to it are the same, but for which certificate
--- `prove` makes.
+-- `prove` makes, and for the order of the turns of `run`.
 abbrev pub LinesMeanOne : Type 0
 LinesMeanOne = (held : List ℕ → Told) (counts one other : Counts) (disk disk_one disk_other : Seen) (words : List (List ℕ)) (a b : Reply)
     → ((name : List ℕ) → held name ≢ None) → ¬ Rose counts.faults one.faults → ¬ Rose counts.faults other.faults

@@ -1,4 +1,4 @@
--- What stands behind a certificate that `prove` prints, and what its answer leaves free.
+-- What stands behind a certificate that `prove` prints, and what answers leave free.
 use Rattle.std.specs.Prelude.{◌≡◌, ◌⊎◌, ◌∷◌, ℕ, List, [], Option, Some}
 use Rattle.std.specs.Io.KnownBytes.{Appends}
 use Rattle.acc_base.specs.declared.designs.Design.{Design}
@@ -6,7 +6,7 @@ use Rattle.acc_io.specs.Shelves.{Told}
 use Rattle.acc_formed.specs.WellFormed.{IsWellFormed}
 use Rattle.acc_parse.specs.Texts.{IsDesignText}
 use Rattle.acc_prove.specs.Provings.{IsCertified}
-use Rattle.acc_journalled.specs.declared.answers.Ending.TheVariants.{Done}
+use Rattle.acc_journalled.specs.declared.answers.Ending.TheVariants.{Done, Unbegun}
 use Rattle.acc_inputs.specs.declared.words.Command.TheVariants as command
 use Rattle.acc_inputs.specs.Words.{command_of, files_of}
 use Rattle.acc_inputs.specs.Files.{AreFiles}
@@ -33,6 +33,13 @@ pub record AreCertificates (words : List (List ℕ)) (a b : Reply) : Type 0 wher
   pub history : a.history ≡ b.history
   pub settled : a.settled ≡ b.settled
 
--- nothing differs, but for which certificate is made
+-- both are whole runs by workers, whose turns may come in more than one order
+pub record AreByWorkers (words : List (List ℕ)) (a b : Reply) : Type 0 where
+  pub workers : ℕ
+  pub is_run : command_of words ≡ Some (command.Run workers)
+  pub one_whole : (a.status ≡ Ran Done) ⊎ (a.status ≡ Ran Unbegun)
+  pub other_whole : (b.status ≡ Ran Done) ⊎ (b.status ≡ Ran Unbegun)
+
+-- nothing differs, but for which certificate is made, and for the order of the turns of workers
 abbrev pub AreAlike : List (List ℕ) → Reply → Reply → Type 0
-AreAlike words a b = (a ≡ b) ⊎ AreCertificates words a b
+AreAlike words a b = (a ≡ b) ⊎ AreCertificates words a b ⊎ AreByWorkers words a b

@@ -22,7 +22,16 @@ abbrev pub wanted_by : Command → Option Wanted
 wanted_by command.Recover = Some wanted.Counts
 wanted_by command.Dump = Some wanted.Rows
 wanted_by command.Replies = Some wanted.Replies
-wanted_by _ = None
+wanted_by command.Play = None
+wanted_by command.Rehearse = None
+wanted_by command.Print = None
+wanted_by command.Check = None
+wanted_by command.Prove = None
+wanted_by command.Init = None
+wanted_by command.Sched = None
+wanted_by (command.Run workers) = None
+wanted_by command.Help = None
+wanted_by command.Version = None
 
 -- The files spell this design, which is accepted with its certificate, and the disk held a journal of it. This is the recovered history,
 -- all of it durable: the disk holds a journal of just that now. With status 0 what is wanted of it was said; where memory ran out, the text

@@ -1,11 +1,12 @@
 //! What the definitions of the answers say by themselves.
-ghost use Rattle.acc_cli.specs.Headline.{SchedSurvives};
+ghost use Rattle.acc_cli.specs.Headline.{SchedSurvives, RunSurvives};
 ghost use Rattle.acc_cli.specs.Laws.{LinesMeanOne, AcceptedIsAnswered, ClosedIsAnswered};
 
 use acc_disk::Disk;
 
-/// On a shelf that tells what stands at each name, a command line means one status, one text and one history, where no read
-/// fails; but which certificate `prove` makes is free. So each status but that of want of memory comes exactly where its row says.
+/// On a shelf that tells what stands at each name, a command line means one status, one text and one history, where no read fails; but
+/// which certificate `prove` makes is free, and so is the order of the turns of `run`. So each status but that of want of memory comes
+/// exactly where its row says.
 pub fn lines_mean_one()
     ensures { LinesMeanOne }
 {}
@@ -27,4 +28,10 @@ pub fn closed_is_answered()
 /// all that was told as durable, so each reply of that. What it makes of them is lawful and idle, and nothing is left unfinished.
 pub fn crashes_are_recovered<D: Disk>()
     ensures { SchedSurvives D.clock D.left_since D.told D.may_leave }
+{}
+
+/// And so does what it leaves with `run`, however many workers there were and whatever they did: `recover` finds in it what was there
+/// before, or that with its compensation, or a front of the history that was told; and after the call all that was told as durable.
+pub fn crashes_of_workers_are_recovered<D: Disk>()
+    ensures { RunSurvives D.clock D.left_since D.told D.may_leave }
 {}

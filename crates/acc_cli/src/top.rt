@@ -16,7 +16,7 @@ ghost use Rattle.acc_cli.specs.Answered.{Ends, Answered};
 ghost use Rattle.acc_cli.specs.Causes.{HasCauses};
 ghost use Rattle.acc_cli.specs.Status.{IsCoded, IsBeforeJournal, code_of};
 ghost use Rattle.acc_cli.specs.Promises.{KeepsPromise};
-ghost use Rattle.acc_cli.specs.Runs.{RunsLine};
+ghost use Rattle.acc_cli.specs.Runs.{RunsLine, WorksLine};
 ghost use Rattle.acc_cli.specs.Creations.{IsCreated};
 ghost use Rattle.acc_cli.specs.Provings.{IsProved};
 ghost use Rattle.acc_cli.specs.Recoveries.{wanted_by, TellsRecovery, LeavesRefused};
@@ -26,16 +26,20 @@ ghost use Rattle.acc_journal_commands.specs.Disks.{seen, IsUntouched};
 ghost use Rattle.acc_inputs.specs.Words.{command_of, is_journalled, is_over_journal};
 ghost use Rattle.acc_inputs.specs.Requests.{command_in, texts_in};
 ghost use Rattle.acc_commands.specs.Means.{LeavesOf};
-ghost use Rattle.acc_inputs.specs.declared.words.Command.TheVariants.{Rehearse, Sched, Init, Prove};
+ghost use Rattle.acc_inputs.specs.declared.words.Command.TheVariants.{Rehearse, Sched, Run, Init, Prove};
 
 use crate::status::Status;
 use acc_base::machines::Event;
 use acc_base::sequences::Seq;
 use acc_commands::{Ended, Ending, run};
+use acc_crew::Crew;
 use acc_disk::Disk;
+use acc_engine::Engine;
 use acc_inputs::{Request, command_of, file_count, read_all};
 use acc_io::{Shelf, ShelfError, Sink, write_all};
+use acc_lift::Accepted;
 use acc_progress::Progress;
+use acc_store::MapStore;
 use std::alloc::{AllocError, Global};
 
 /// How the program ended: its status, from 0 to 10, the disk that it was handed, the events of the machine whose lines it printed, oldest
@@ -135,14 +139,17 @@ fn refusal_text(alloc: Global, name: &str, error: ShelfError) -> Result<Vec<u8>,
 }
 
 // Answers a command whose files are given.
-fn answer_command<K: Sink, D: Disk, P: Progress>(
+fn answer_command<'a, K: Sink, D: Disk, C: Crew<Engine<'a, MapStore, D>>, P: Progress>(
     alloc: Global,
     request: Request,
     out: &mut K,
     disk: D,
+    crew: &C,
+    slot: &'a mut Option<Accepted>,
     progress: &mut P,
 ) -> Closed<D>
     requires short { All (λ text. length text ≤ 2 ^ 26) (texts_in request) }
+    requires ready { C.ready crew.now }
     ensures answered { Answered (is_journalled (command_in request.entry))
         (RunsSo (command_in request.entry) (texts_in request.entry) (seen (D.told disk) (D.faults disk))
         (seen (D.told result.disk) (D.faults result.disk)))
@@ -162,7 +169,7 @@ fn answer_command<K: Sink, D: Disk, P: Progress>(
         history,
         settled,
         answer,
-    } = run(alloc, request, disk, progress);
+    } = run(alloc, request, disk, crew, slot, progress);
     let Ok(answer) = answer else {
         return lacking(disk, history, settled);
     };
@@ -175,14 +182,17 @@ fn answer_command<K: Sink, D: Disk, P: Progress>(
 }
 
 // Answers a command line.
-fn answer_line<H: Shelf, K: Sink, D: Disk, P: Progress>(
+fn answer_line<'a, H: Shelf, K: Sink, D: Disk, C: Crew<Engine<'a, MapStore, D>>, P: Progress>(
     alloc: Global,
     words: &[String],
     shelf: &mut H,
     out: &mut K,
     disk: D,
+    crew: &C,
+    slot: &'a mut Option<Accepted>,
     progress: &mut P,
 ) -> Closed<D>
+    requires { C.ready crew.now }
     ensures held { H.held shelf.new ≡ H.held shelf.old }
     ensures faults { (H.counts shelf.old).faults ≤ (H.counts shelf.new).faults }
     ensures absences { (H.counts shelf.old).absences ≤ (H.counts shelf.new).absences }
@@ -208,7 +218,7 @@ fn answer_line<H: Shelf, K: Sink, D: Disk, P: Progress>(
     match read_all(alloc, shelf, names) {
         Ok(files) => {
             let request = Request::new(command, &files);
-            answer_command(alloc, request, out, disk, progress)
+            answer_command(alloc, request, out, disk, crew, slot, progress)
         }
         Err(refusal) => {
             let text = refusal_text(alloc, refusal.name, refusal.error);
@@ -223,14 +233,22 @@ fn answer_line<H: Shelf, K: Sink, D: Disk, P: Progress>(
 /// The text is made before its first byte is written. Want of memory (status 9) may come at any time, and then nothing was printed; what a
 /// command over a journal had done before that is told all the same. How far a long command is, and what a recovery found, is told to
 /// `progress` meanwhile, and changes nothing of the answer.
-pub fn acc<H: Shelf, K: Sink, D: Disk, P: Progress>(
+///
+/// An accepted design is kept in the slot while a crew works, since its engine borrows it; nothing is read there.
+///
+/// `run` lets the crew work, and so waits for whom the crew waits; no other command asks it for anything. With a crew that waits for nobody
+/// (`Alone`) the call returns, whatever the words.
+pub fn acc<'a, H: Shelf, K: Sink, D: Disk, C: Crew<Engine<'a, MapStore, D>>, P: Progress>(
     alloc: Global,
     words: &[String],
     shelf: &mut H,
     out: &mut K,
     disk: D,
+    crew: &C,
+    slot: &'a mut Option<Accepted>,
     progress: &mut P,
 ) -> Done<D>
+    requires { C.ready crew.now }
     ensures answered { IsCoded result.status (λ status. Answered (is_over_journal (command_of (map string_bytes words.now)))
         (Meant (H.held shelf.old) (H.counts shelf.old) (H.counts shelf.new) (seen (D.told disk) (D.faults disk))
         (seen (D.told result.disk) (D.faults result.disk)) (map string_bytes words.now))
@@ -248,6 +266,12 @@ pub fn acc<H: Shelf, K: Sink, D: Disk, P: Progress>(
     // also where memory ran out. Else nothing was asked of the disk, and nothing is told.
     ensures runs { command_of (map string_bytes words.now) ≡ Some Sched
         → RunsLine D.clock D.left_since D.told D.may_leave (H.held shelf.old) (map string_bytes words.now) disk result.disk
+        result.history result.settled }
+    // What `run` ran behind the recovered history is a lawful and annotated run too, whatever its workers did, with the same law of
+    // crashes: behind where the workers left off it follows the one ending that is left. This is so with each status, also where memory
+    // ran out.
+    ensures works { (workers : ℕ) → command_of (map string_bytes words.now) ≡ Some (Run workers)
+        → WorksLine D.clock D.left_since D.told D.may_leave (H.held shelf.old) (map string_bytes words.now) workers disk result.disk
         result.history result.settled }
     // Where `init` ended with status 0, the disk holds the journal of the printed design, without an event.
     ensures created { command_of (map string_bytes words.now) ≡ Some Init → result.status ≡ 0
@@ -284,7 +308,7 @@ pub fn acc<H: Shelf, K: Sink, D: Disk, P: Progress>(
     ensures sink_faults { K.faults out.old ≤ K.faults out.new }
     ensures disk_faults { D.faults disk ≤ D.faults result.disk }
 {
-    let closed = answer_line(alloc, words, shelf, out, disk, progress);
+    let closed = answer_line(alloc, words, shelf, out, disk, crew, slot, progress);
     Done {
         status: closed.status.code(),
         disk: closed.disk,

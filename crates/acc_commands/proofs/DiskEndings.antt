@@ -7,7 +7,7 @@ use Rattle.acc_journalled.specs.declared.answers.Wanted.TheVariants.{Counts, Row
 use Rattle.acc_journalled.specs.Tellings.{Telling}
 use Rattle.acc_journal_commands.specs.Disks.{Seen}
 use Rattle.acc_commands.specs.Means.{MeansOverDisk}
-use Rattle.acc_journal_commands.proofs.JournalEndings.{EndsOverDisk, init_ends, recover_ends, run_ends}
+use Rattle.acc_journal_commands.proofs.JournalEndings.{EndsOverDisk, init_ends, recover_ends, run_ends, work_ends}
 
 pub ends_over_disk : (c : Command) (files : List (List ℕ)) (old new : Seen) (t : Telling) → MeansOverDisk c files old new t
     → EndsOverDisk (Rose old.faults new.faults) t
@@ -36,6 +36,11 @@ ends_over_disk command.Sched (design ∷ certificate ∷ script ∷ []) old new 
 ends_over_disk command.Sched (design ∷ certificate ∷ script ∷ order ∷ []) old new t h =
     run_ends old new t design certificate script order h
 ends_over_disk command.Sched (design ∷ certificate ∷ script ∷ order ∷ more ∷ rest) old new t h = absurd h
+ends_over_disk (command.Run workers) [] old new t h = absurd h
+ends_over_disk (command.Run workers) (design ∷ []) old new t h = absurd h
+ends_over_disk (command.Run workers) (design ∷ certificate ∷ []) old new t h = absurd h
+ends_over_disk (command.Run workers) (design ∷ certificate ∷ script ∷ []) old new t h = work_ends old new t design certificate script h
+ends_over_disk (command.Run workers) (design ∷ certificate ∷ script ∷ more ∷ rest) old new t h = absurd h
 ends_over_disk command.Print files old new t h = absurd h
 ends_over_disk command.Check files old new t h = absurd h
 ends_over_disk command.Prove files old new t h = absurd h

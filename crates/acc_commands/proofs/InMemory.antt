@@ -24,6 +24,7 @@ module _ {D : Type 0} (clock : D → ℕ) (left_since : D → ℕ → List ℕ �
   unfolding LeavesOf
   leaves_disk command.Init files old new history settled is same none = (let e : true ≡ false = is in absurd cc)
   leaves_disk command.Sched files old new history settled is same none = (let e : true ≡ false = is in absurd cc)
+  leaves_disk (command.Run workers) files old new history settled is same none = (let e : true ≡ false = is in absurd cc)
   leaves_disk command.Recover files old new history settled is same none = (let e : true ≡ false = is in absurd cc)
   leaves_disk command.Dump files old new history settled is same none = (let e : true ≡ false = is in absurd cc)
   leaves_disk command.Replies files old new history settled is same none = (let e : true ≡ false = is in absurd cc)

@@ -1,11 +1,13 @@
 -- What a command leaves of the file that a calm disk held, from what it leaves of the disk.
 use Rattle.std.proofs.Common.{◌≡◌, ℕ, List, [], ◌∷◌, Option, inl, inr, refl, sym, subst}
+use Rattle.acc_base.specs.declared.designs.Design.{Design}
+use Rattle.acc_base.specs.declared.machines.Call.{Call}
 use Rattle.acc_base.specs.declared.machines.Event.{Event}
 use Rattle.acc_inputs.specs.declared.words.Command.{Command}
 use Rattle.acc_inputs.specs.declared.words.Command.TheVariants as command
-use Rattle.acc_running.specs.Crashes.{LeavesRun}
+use Rattle.acc_running.specs.Crashes.{LeavesRun, WorksOver}
 use Rattle.acc_journal_commands.specs.Disks.{OrUntouched, LeavesSo}
-use Rattle.acc_journal_commands.specs.RunFiles.{RunLeaves, FilesRun}
+use Rattle.acc_journal_commands.specs.RunFiles.{RunLeaves, FilesRun, OrderRuns}
 use Rattle.acc_journal_commands.proofs.Disks.{leaves_weaker, leaves_nothing}
 use Rattle.acc_commands.specs.Means.{LeavesOfFile, LeavesDisk, LeavesOf}
 
@@ -18,31 +20,41 @@ module _ {D : Type 0} (clock : D → ℕ) (left_since : D → ℕ → List ℕ �
     leaves_untouched old new P only_now here same =
         subst (λ (x : D). LeavesSo clock left_since told may_leave P old x) (sym same) (leaves_nothing P only_now here)
 
-    -- the files' calls ran
-    files_leave : (design certificate script order : List ℕ) (old new : D) (history : List Event) (settled : ℕ)
-        → FilesRun clock left_since told may_leave design certificate script order old new history settled
+    -- the files' calls ran, and this is what they left
+    files_leave : (Runs : Design → List Call → D → D → List Event → ℕ → Type 0) (design certificate script : List ℕ) (old new : D)
+        (history : List Event) (settled : ℕ) (run : FilesRun Runs design certificate script old new history settled)
+        → LeavesSo clock left_since told may_leave (λ file. LeavesRun run.d file history) old new
         → LeavesSo clock left_since told may_leave (RunLeaves design certificate) old new
-    files_leave design certificate script order old new history settled run =
-        let over = run.runs in
-        let left : (file image : List ℕ) → LeavesRun run.d file history image → RunLeaves design certificate file image =
-        λ file image left. inr (record {
+    files_leave Runs design certificate script old new history settled run =
+        leaves_weaker (λ file. LeavesRun run.d file history) (RunLeaves design certificate)
+        (λ file image left. inr (record {
           d = run.d;
           is_text = run.is_text;
           formed = run.formed;
           accepted = run.accepted;
           left = inr (history, left);
-        }) in
-        leaves_weaker (λ file. LeavesRun run.d file history) (RunLeaves design certificate) left
-        (record { moments = over.moments; left = over.left })
+        }))
 
     run_leaves : (design certificate script order : List ℕ) (old new : D) (history : List Event) (settled : ℕ)
         → ((image : List ℕ) → left_since old (clock old) image → may_leave old image)
-        → OrUntouched (FilesRun clock left_since told may_leave design certificate script order) old new history settled
+        → OrUntouched (FilesRun (OrderRuns clock left_since told may_leave order) design certificate script) old new history settled
         → LeavesSo clock left_since told may_leave (RunLeaves design certificate) old new
     run_leaves design certificate script order old new history settled only_now (inl none) =
         leaves_untouched old new (RunLeaves design certificate) only_now (λ file. inl refl) none.0
     run_leaves design certificate script order old new history settled only_now (inr run) =
-        files_leave design certificate script order old new history settled run
+        let over = run.runs.runs.over in
+        files_leave (OrderRuns clock left_since told may_leave order) design certificate script old new history settled run
+        (record { moments = over.moments; left = over.left })
+
+    work_leaves : (design certificate script : List ℕ) (old new : D) (history : List Event) (settled : ℕ)
+        → ((image : List ℕ) → left_since old (clock old) image → may_leave old image)
+        → OrUntouched (FilesRun (WorksOver clock left_since told may_leave) design certificate script) old new history settled
+        → LeavesSo clock left_since told may_leave (RunLeaves design certificate) old new
+    work_leaves design certificate script old new history settled only_now (inl none) =
+        leaves_untouched old new (RunLeaves design certificate) only_now (λ file. inl refl) none.0
+    work_leaves design certificate script old new history settled only_now (inr run) =
+        files_leave (WorksOver clock left_since told may_leave) design certificate script old new history settled run
+        (record { moments = run.runs.moments; left = run.runs.left })
 
     -- no command over a journal, or not its files
     disk_same : (old new : D) (history : List Event) (settled : ℕ)
@@ -65,6 +77,13 @@ module _ {D : Type 0} (clock : D → ℕ) (left_since : D → ℕ → List ℕ �
     leaves_file command.Sched (design ∷ certificate ∷ script ∷ order ∷ []) old new history settled now h =
         run_leaves design certificate script order old new history settled now h
     leaves_file command.Sched (design ∷ certificate ∷ script ∷ order ∷ more ∷ rest) old new history settled now h =
+        disk_same old new history settled now h
+    leaves_file (command.Run workers) [] old new history settled now h = disk_same old new history settled now h
+    leaves_file (command.Run workers) (design ∷ []) old new history settled now h = disk_same old new history settled now h
+    leaves_file (command.Run workers) (design ∷ certificate ∷ []) old new history settled now h = disk_same old new history settled now h
+    leaves_file (command.Run workers) (design ∷ certificate ∷ script ∷ []) old new history settled now h =
+        work_leaves design certificate script old new history settled now h
+    leaves_file (command.Run workers) (design ∷ certificate ∷ script ∷ more ∷ rest) old new history settled now h =
         disk_same old new history settled now h
     leaves_file command.Recover [] old new history settled now h = disk_same old new history settled now h
     leaves_file command.Recover (design ∷ []) old new history settled now h = disk_same old new history settled now h

@@ -1,6 +1,6 @@
 -- A command says one thing of its files.
 use Rattle.std.proofs.Common.{◌≡◌, ◌<◌, ◌^◌, length, arith, ℕ, Bool, true, false, List, [], ◌∷◌, Option, None, Some}
-use Rattle.std.proofs.Common.{refl, sym, ap, subst, ◌∙◌, inl, inr}
+use Rattle.std.proofs.Common.{◌⊎◌, ⊎_elim, refl, sym, ap, subst, ◌∙◌, inl, inr}
 use Rattle.acc_base.specs.declared.designs.Design.{Design}
 use Rattle.acc_base.specs.declared.machines.Call.{Call}
 use Rattle.acc_print.specs.Designs.{printed}
@@ -26,16 +26,17 @@ use Rattle.acc_file_commands.specs.PrintFiles.{PrintsFile}
 use Rattle.acc_file_commands.specs.CheckFiles.{ChecksFiles, ending_by}
 use Rattle.acc_journal_commands.specs.InitFiles.{InitsJournal, InitsFile}
 use Rattle.acc_journal_commands.specs.RecoverFiles.{RecoversSeen, RecoversCertified, RecoversFiles}
-use Rattle.acc_commands.specs.Alike.{AreAlike}
+use Rattle.acc_commands.specs.Alike.{IsWhole, AreByWorkers, AreAlike}
 use Rattle.acc_inputs.specs.Words.{is_journalled}
 use Rattle.acc_commands.specs.Means.{MeansOfFiles, MeansOverDisk, MeansBy, Means}
 use Rattle.acc_inputs.proofs.OneDesign.{said_same, one_design, one_refusal, formed_or_refused}
 use Rattle.acc_commands.proofs.OneProving.{SaidAlike, one_prove}
 use Rattle.acc_commands.proofs.OneRun.{one_of_script, one_play, one_certificate_refusal, accepted_or_refused, one_certified}
 use Rattle.acc_commands.proofs.OneRun.{one_order_refusal, one_numbers, one_script_refusal, one_calls}
-use Rattle.acc_journal_commands.specs.RunFiles.{RunsSeen, RunsOfOrder, RunsOfScript, RunsCertified, RunsFiles}
-use Rattle.acc_running.specs.Running.{RunsJournal}
-use Rattle.acc_running.proofs.OneRun.{running_once}
+use Rattle.acc_journal_commands.specs.RunFiles.{RunsSeen, RunsOfOrder, WorksSeen, RunsOfScript, RunsCertified, RunsTexts}
+use Rattle.acc_running.specs.Engines.{ending_at}
+use Rattle.acc_running.specs.Running.{RunsJournal, WorksJournal, WorkersLeave}
+use Rattle.acc_running.proofs.OneRun.{running_once, running_or}
 
 -- ---- plays
 
@@ -105,6 +106,7 @@ one_of_files command.Prove (design ∷ []) a b h k = one_prove design a b h k
 one_of_files command.Prove (design ∷ more ∷ rest) a b h k = absurd h
 one_of_files command.Init files a b h k = absurd h
 one_of_files command.Sched files a b h k = absurd h
+one_of_files (command.Run workers) files a b h k = absurd h
 one_of_files command.Recover files a b h k = absurd h
 one_of_files command.Dump files a b h k = absurd h
 one_of_files command.Replies files a b h k = absurd h
@@ -176,73 +178,91 @@ module _ (old one other : Seen) (a b : Telling) (all : TellsAll old one other) w
       (subst (λ t. RunsJournal d calls order t one.told (Rose old.faults one.faults) a) is h)
       (subst (λ t. RunsJournal d calls order t other.told (Rose old.faults other.faults) b) is k)
 
-  one_run_order : (d : Design) (calls : List Call) (order : List ℕ) → length calls < 2 ^ 64 → RunsOfOrder d calls order old one a
-      → RunsOfOrder d calls order old other b → a ≡ b
-  one_run_order d calls order few (inl h) (inl k) =
+  one_run_order : (order : List ℕ) (d : Design) (calls : List Call) → length calls < 2 ^ 64 → RunsOfOrder order d calls old one a
+      → RunsOfOrder order d calls old other b → a ≡ b
+  one_run_order order d calls few (inl h) (inl k) =
       telling_same a b (one_order_refusal calls order (said_in a) (said_in b) few h.2 k.2) (h.0 ∙ sym k.0)
-  one_run_order d calls order few (inl h) (inr k) = absurd (h.2.none k.numbers k.is_order)
-  one_run_order d calls order few (inr h) (inl k) = absurd (k.2.none h.numbers h.is_order)
-  one_run_order d calls order few (inr h) (inr k) =
+  one_run_order order d calls few (inl h) (inr k) = absurd (h.2.none k.numbers k.is_order)
+  one_run_order order d calls few (inr h) (inl k) = absurd (k.2.none h.numbers h.is_order)
+  one_run_order order d calls few (inr h) (inr k) =
       one_running old.told d calls k.numbers refl
       (subst (λ (ns : List ℕ). RunsSeen d calls ns old one a)
       (one_numbers calls order h.numbers k.numbers few h.is_order k.is_order) h.ends)
       k.ends
 
-  one_run_script : (d : Design) (script order : List ℕ) → RunsOfScript d script order old one a → RunsOfScript d script order old other b
-      → a ≡ b
-  one_run_script d script order (inl h) (inl k) =
-      telling_same a b (one_script_refusal d script (said_in a) (said_in b) h.2 k.2) (h.0 ∙ sym k.0)
-  one_run_script d script order (inl h) (inr k) = absurd (h.2.none k.calls k.is_script)
-  one_run_script d script order (inr h) (inl k) = absurd (k.2.none h.calls h.is_script)
-  one_run_script d script order (inr h) (inr k) =
-      one_run_order d k.calls order (omega (arith, k.is_script.few))
-      (subst (λ (cs : List Call). RunsOfOrder d cs order old one a) (one_calls d script h.calls k.calls h.is_script k.is_script) h.says)
-      k.says
+  -- a whole run ends as done, or with a place unbegun
+  whole_so : (all_begun : Bool) (t : Telling) → t.ending ≡ ending_at all_begun → IsWhole t
+  whole_so true t e = inl e
+  whole_so false t e = inr e
 
-  one_run_certified : (d : Design) (certificate script order : List ℕ) → RunsCertified d certificate script order old one a
-      → RunsCertified d certificate script order old other b → a ≡ b
-  one_run_certified d certificate script order (inl h) (inl k) =
-      telling_same a b (one_certificate_refusal d certificate (said_in a) (said_in b) h.2 k.2) (h.0 ∙ sym k.0)
-  one_run_certified d certificate script order (inl h) (inr k) =
+  one_working : (told : Option (List ℕ)) (d : Design) (calls : List Call) → old.told ≡ told
+      → WorksSeen d calls old one a → WorksSeen d calls old other b → (a ≡ b) ⊎ (IsWhole a × IsWhole b)
+  one_working None d calls is h k = absurd (all.0 is)
+  one_working (Some file) d calls is h k =
+      running_or d calls [] file one.told other.told a b (IsWhole a × IsWhole b) (WorkersLeave d calls)
+      (λ x y. (whole_so x.all_begun a x.ending, whole_so y.all_begun b y.ending)) (Rose old.faults one.faults)
+      (Rose old.faults other.faults) all.1 all.2
+      (subst (λ t. WorksJournal d calls t one.told (Rose old.faults one.faults) a) is h)
+      (subst (λ t. WorksJournal d calls t other.told (Rose old.faults other.faults) b) is k)
+
+-- where one thing is said of the calls, or what they say is free
+module _ (OfCalls : Design → List Call → Seen → Seen → Telling → Type 0) (Free : Type 0) (old one other : Seen) (a b : Telling)
+    (once : (d : Design) (calls : List Call) → length calls < 2 ^ 64 → OfCalls d calls old one a → OfCalls d calls old other b
+    → (a ≡ b) ⊎ Free) where
+  one_run_script : (d : Design) (script : List ℕ) → RunsOfScript OfCalls d script old one a → RunsOfScript OfCalls d script old other b
+      → (a ≡ b) ⊎ Free
+  one_run_script d script (inl h) (inl k) =
+      inl (telling_same a b (one_script_refusal d script (said_in a) (said_in b) h.2 k.2) (h.0 ∙ sym k.0))
+  one_run_script d script (inl h) (inr k) = absurd (h.2.none k.calls k.is_script)
+  one_run_script d script (inr h) (inl k) = absurd (k.2.none h.calls h.is_script)
+  one_run_script d script (inr h) (inr k) =
+      once d k.calls (omega (arith, k.is_script.few))
+      (subst (λ (cs : List Call). OfCalls d cs old one a) (one_calls d script h.calls k.calls h.is_script k.is_script) h.says) k.says
+
+  one_run_certified : (d : Design) (certificate script : List ℕ) → RunsCertified OfCalls d certificate script old one a
+      → RunsCertified OfCalls d certificate script old other b → (a ≡ b) ⊎ Free
+  one_run_certified d certificate script (inl h) (inl k) =
+      inl (telling_same a b (one_certificate_refusal d certificate (said_in a) (said_in b) h.2 k.2) (h.0 ∙ sym k.0))
+  one_run_certified d certificate script (inl h) (inr k) =
       absurd (accepted_or_refused d certificate (said_in a) k.accepted h.2)
-  one_run_certified d certificate script order (inr h) (inl k) =
+  one_run_certified d certificate script (inr h) (inl k) =
       absurd (accepted_or_refused d certificate (said_in b) h.accepted k.2)
-  one_run_certified d certificate script order (inr h) (inr k) = one_run_script d script order h.says k.says
+  one_run_certified d certificate script (inr h) (inr k) = one_run_script d script h.says k.says
 
-  one_run_of : (design certificate script order : List ℕ) → RunsFiles design certificate script order old one a
-      → RunsFiles design certificate script order old other b → a ≡ b
-  one_run_of design certificate script order (inl h) (inl k) =
-      telling_same a b (one_refusal design (said_in a) (said_in b) h.2 k.2) (h.0 ∙ sym k.0)
-  one_run_of design certificate script order (inl h) (inr k) =
+  one_run_of : (design certificate script : List ℕ) → RunsTexts OfCalls design certificate script old one a
+      → RunsTexts OfCalls design certificate script old other b → (a ≡ b) ⊎ Free
+  one_run_of design certificate script (inl h) (inl k) =
+      inl (telling_same a b (one_refusal design (said_in a) (said_in b) h.2 k.2) (h.0 ∙ sym k.0))
+  one_run_of design certificate script (inl h) (inr k) =
       absurd (formed_or_refused design k.d (said_in a) k.is_text k.formed h.2)
-  one_run_of design certificate script order (inr h) (inl k) =
+  one_run_of design certificate script (inr h) (inl k) =
       absurd (formed_or_refused design h.d (said_in b) h.is_text h.formed k.2)
-  one_run_of design certificate script order (inr h) (inr k) =
-      one_run_certified k.d certificate script order
-      (subst (λ (d : Design). RunsCertified d certificate script order old one a) (one_design design h.d k.d h.is_text k.is_text) h.says)
+  one_run_of design certificate script (inr h) (inr k) =
+      one_run_certified k.d certificate script
+      (subst (λ (d : Design). RunsCertified OfCalls d certificate script old one a) (one_design design h.d k.d h.is_text k.is_text) h.says)
       k.says
 
 one_over_disk :
     (c : Command) (files : List (List ℕ)) (old one other : Seen) (a b : Telling) → TellsAll old one other
-    → MeansOverDisk c files old one a → MeansOverDisk c files old other b → a ≡ b
+    → MeansOverDisk c files old one a → MeansOverDisk c files old other b → (a ≡ b) ⊎ AreByWorkers c a b
 unfolding MeansOverDisk
 one_over_disk command.Init [] old one other a b all h k = absurd h
-one_over_disk command.Init (design ∷ []) old one other a b all h k = one_init old one other a b all design h k
+one_over_disk command.Init (design ∷ []) old one other a b all h k = inl (one_init old one other a b all design h k)
 one_over_disk command.Init (design ∷ more ∷ rest) old one other a b all h k = absurd h
 one_over_disk command.Recover [] old one other a b all h k = absurd h
 one_over_disk command.Recover (design ∷ []) old one other a b all h k = absurd h
 one_over_disk command.Recover (design ∷ certificate ∷ []) old one other a b all h k =
-    one_recover old one other a b all Counts design certificate h k
+    inl (one_recover old one other a b all Counts design certificate h k)
 one_over_disk command.Recover (design ∷ certificate ∷ more ∷ rest) old one other a b all h k = absurd h
 one_over_disk command.Dump [] old one other a b all h k = absurd h
 one_over_disk command.Dump (design ∷ []) old one other a b all h k = absurd h
 one_over_disk command.Dump (design ∷ certificate ∷ []) old one other a b all h k =
-    one_recover old one other a b all Rows design certificate h k
+    inl (one_recover old one other a b all Rows design certificate h k)
 one_over_disk command.Dump (design ∷ certificate ∷ more ∷ rest) old one other a b all h k = absurd h
 one_over_disk command.Replies [] old one other a b all h k = absurd h
 one_over_disk command.Replies (design ∷ []) old one other a b all h k = absurd h
 one_over_disk command.Replies (design ∷ certificate ∷ []) old one other a b all h k =
-    one_recover old one other a b all Replies design certificate h k
+    inl (one_recover old one other a b all Replies design certificate h k)
 one_over_disk command.Replies (design ∷ certificate ∷ more ∷ rest) old one other a b all h k = absurd h
 one_over_disk command.Play files old one other a b all h k = absurd h
 one_over_disk command.Rehearse files old one other a b all h k = absurd h
@@ -251,8 +271,19 @@ one_over_disk command.Sched (design ∷ []) old one other a b all h k = absurd h
 one_over_disk command.Sched (design ∷ certificate ∷ []) old one other a b all h k = absurd h
 one_over_disk command.Sched (design ∷ certificate ∷ script ∷ []) old one other a b all h k = absurd h
 one_over_disk command.Sched (design ∷ certificate ∷ script ∷ order ∷ []) old one other a b all h k =
-    one_run_of old one other a b all design certificate script order h k
+    inl (⊎_elim (λ same. same) (λ none. absurd none)
+    (one_run_of (RunsOfOrder order) ⊥ old one other a b
+    (λ d calls few x y. inl (one_run_order old one other a b all order d calls few x y)) design certificate script h k))
 one_over_disk command.Sched (design ∷ certificate ∷ script ∷ order ∷ more ∷ rest) old one other a b all h k = absurd h
+one_over_disk (command.Run workers) [] old one other a b all h k = absurd h
+one_over_disk (command.Run workers) (design ∷ []) old one other a b all h k = absurd h
+one_over_disk (command.Run workers) (design ∷ certificate ∷ []) old one other a b all h k = absurd h
+one_over_disk (command.Run workers) (design ∷ certificate ∷ script ∷ []) old one other a b all h k =
+    ⊎_elim (λ same. inl same)
+    (λ whole. inr (record { workers = workers; is_run = refl; one_whole = whole.0; other_whole = whole.1 }))
+    (one_run_of WorksSeen (IsWhole a × IsWhole b) old one other a b
+    (λ d calls few x y. one_working old one other a b all old.told d calls refl x y) design certificate script h k)
+one_over_disk (command.Run workers) (design ∷ certificate ∷ script ∷ more ∷ rest) old one other a b all h k = absurd h
 one_over_disk command.Print files old one other a b all h k = absurd h
 one_over_disk command.Check files old one other a b all h k = absurd h
 one_over_disk command.Prove files old one other a b all h k = absurd h
@@ -264,12 +295,13 @@ one_over_disk command.Version files old one other a b all h k = absurd h
 alike_telling : (c : Command) (a b : Telling) → SaidAlike c (said_in a) (said_in b) → a.settled ≡ b.settled → AreAlike c a b
 alike_telling c a b (inl same) settled = inl (telling_same a b same settled)
 alike_telling c a b (inr (is, one, other, history)) settled =
-    inr (record { is_prove = is; one_done = one; other_done = other; history = history; settled = settled })
+    inr (inl (record { is_prove = is; one_done = one; other_done = other; history = history; settled = settled }))
 
 one_by :
     (over : Bool) (c : Command) (files : List (List ℕ)) (old one other : Seen) (a b : Telling) → (over ≡ true → TellsAll old one other)
     → MeansBy over c files old one a → MeansBy over c files old other b → AreAlike c a b
-one_by true c files old one other a b all h k = inl (one_over_disk c files old one other a b (all refl) h k)
+one_by true c files old one other a b all h k =
+    ⊎_elim (λ same. inl same) (λ free. inr (inr free)) (one_over_disk c files old one other a b (all refl) h k)
 one_by false c files old one other a b all h k =
     alike_telling c a b (one_of_files c files (said_in a) (said_in b) h.2 k.2) (h.0 ∙ sym k.0)
 

@@ -5,6 +5,7 @@ use Rattle.acc_io.specs.Causes.{Rose}
 use Rattle.acc_base.specs.declared.designs.Design.{Design}
 use Rattle.acc_base.specs.declared.machines.Call.{Call}
 use Rattle.acc_base.specs.Machine.{World}
+use Rattle.acc_base.specs.Plays.{Play}
 use Rattle.acc_journalled.specs.declared.answers.Ending.TheVariants.{Done, DesignRefused, ScriptRefused, JournalRefused}
 use Rattle.acc_journalled.specs.declared.answers.Ending.TheVariants.{DiskFailed, Unbegun}
 use Rattle.acc_journalled.specs.declared.answers.Wanted.{Wanted}
@@ -19,18 +20,15 @@ use Rattle.acc_journal_commands.specs.Disks.{Seen}
 use Rattle.acc_journal_commands.specs.InitFiles.{InitsJournal, InitsFile}
 use Rattle.acc_running.specs.Engines.{ending_at}
 use Rattle.acc_schedule.specs.Schedules.{TellsScheduleFrom}
-use Rattle.acc_settling.specs.Openings.{opening_at}
-use Rattle.acc_journal_commands.specs.RunFiles.{RunsSeen, RunsOfOrder, RunsOfScript, RunsCertified, RunsFiles}
+use Rattle.acc_running.specs.Running.{RunsFrom, IsOpening, WorkersLeave}
+use Rattle.acc_journal_commands.specs.RunFiles.{RunsOfOrder, WorksSeen, RunsOfScript, RunsCertified, RunsTexts}
 use Rattle.acc_journal_commands.specs.RecoverFiles.{RecoversSeen, RecoversCertified, RecoversFiles}
 use Rattle.acc_commands.specs.Means.{MeansOverDisk}
+use Rattle.acc_commands.specs.Overs.{IsRecovering, LeavesOver, LeavesBy}
 use Rattle.acc_journal_commands.proofs.JournalEndings.{other_end, refusal_ends, making_ends, recovering_ends, unrecovered_ends}
 use Rattle.acc_journal_commands.proofs.JournalEndings.{over_unbegun}
 
 -- ---- which journal is refused
-
--- it recovers a journal
-abbrev pub IsRecovering : Command → Type 0
-IsRecovering c = (c ≡ command.Sched) ⊎ (c ≡ command.Recover) ⊎ (c ≡ command.Dump) ⊎ (c ≡ command.Replies)
 
 -- It is `init`, and a journal is there; or a command that recovers one, and nothing is recovered for some cause.
 abbrev pub RefusesOver : Command → Seen → Seen → Telling → Type 0
@@ -67,36 +65,43 @@ module _ (wanted : Wanted) (old new : Seen) (t : Telling) (so : t.ending ≡ Jou
 -- ---- of a run
 
 module _ (old new : Seen) (t : Telling) (so : t.ending ≡ JournalRefused) where
-  running_refused : (d : Design) (calls : List Call) (order : List ℕ) → RunsSeen d calls order old new t
+  running_refused : (d : Design) (calls : List Call) (order : List ℕ) (Opens : World → Play → Type 0)
+      → RunsFrom d calls order Opens old.told new.told (Rose old.faults new.faults) t
       → RefusesSo d old.told new.told (Rose old.faults new.faults) t
-  running_refused d calls order (inl h) = absurd (by h.all_begun (sym h.ending ∙ so))
+  running_refused d calls order Opens (inl h) = absurd (by h.all_begun (sym h.ending ∙ so))
     where
       by : (all_begun : Bool) → ending_at all_begun ≡ JournalRefused → ⊥
       by true e = cc
       by false e = cc
-  running_refused d calls order (inr (inl h)) = absurd (other_end DiskFailed JournalRefused t (λ e. cc) h.ending so)
-  running_refused d calls order (inr (inr h)) = h
+  running_refused d calls order Opens (inr (inl h)) = absurd (other_end DiskFailed JournalRefused t (λ e. cc) h.ending so)
+  running_refused d calls order Opens (inr (inr h)) = h
 
-  order_refused : (d : Design) (calls : List Call) (order : List ℕ) → RunsOfOrder d calls order old new t
+  order_refused : (order : List ℕ) (d : Design) (calls : List Call) → RunsOfOrder order d calls old new t
       → RefusesSo d old.told new.told (Rose old.faults new.faults) t
-  order_refused d calls order (inl h) = absurd (other_end ScriptRefused JournalRefused t (λ e. cc) h.2.says.0 so)
-  order_refused d calls order (inr h) = running_refused d calls h.numbers h.ends
+  order_refused order d calls (inl h) = absurd (other_end ScriptRefused JournalRefused t (λ e. cc) h.2.says.0 so)
+  order_refused order d calls (inr h) = running_refused d calls h.numbers (IsOpening calls) h.ends
 
-  script_refused : (d : Design) (script order : List ℕ) → RunsOfScript d script order old new t
+  workers_refused : (d : Design) (calls : List Call) → WorksSeen d calls old new t
       → RefusesSo d old.told new.told (Rose old.faults new.faults) t
-  script_refused d script order (inl h) = absurd (other_end ScriptRefused JournalRefused t (λ e. cc) h.2.says.0 so)
-  script_refused d script order (inr h) = order_refused d h.calls order h.says
+  workers_refused d calls h = running_refused d calls [] (WorkersLeave d calls) h
 
-  run_certified_refused : (d : Design) (certificate script order : List ℕ) → RunsCertified d certificate script order old new t
-      → RefusesSo d old.told new.told (Rose old.faults new.faults) t
-  run_certified_refused d certificate script order (inl h) = absurd (other_end DesignRefused JournalRefused t (λ e. cc) h.2.ending so)
-  run_certified_refused d certificate script order (inr h) = script_refused d script order h.says
+  module _ (OfCalls : Design → List Call → Seen → Seen → Telling → Type 0) (refused : (d : Design) (calls : List Call)
+      → OfCalls d calls old new t → RefusesSo d old.told new.told (Rose old.faults new.faults) t) where
+    script_refused : (d : Design) (script : List ℕ) → RunsOfScript OfCalls d script old new t
+        → RefusesSo d old.told new.told (Rose old.faults new.faults) t
+    script_refused d script (inl h) = absurd (other_end ScriptRefused JournalRefused t (λ e. cc) h.2.says.0 so)
+    script_refused d script (inr h) = refused d h.calls h.says
 
-  run_refused : (design certificate script order : List ℕ) → RunsFiles design certificate script order old new t
-      → (d : Design) × RefusesSo d old.told new.told (Rose old.faults new.faults) t
-  run_refused design certificate script order (inl h) =
-      absurd (other_end DesignRefused JournalRefused t (λ e. cc) (refusal_ends design (said_in t) h.2) so)
-  run_refused design certificate script order (inr h) = (h.d, run_certified_refused h.d certificate script order h.says)
+    run_certified_refused : (d : Design) (certificate script : List ℕ) → RunsCertified OfCalls d certificate script old new t
+        → RefusesSo d old.told new.told (Rose old.faults new.faults) t
+    run_certified_refused d certificate script (inl h) = absurd (other_end DesignRefused JournalRefused t (λ e. cc) h.2.ending so)
+    run_certified_refused d certificate script (inr h) = script_refused d script h.says
+
+    texts_refused : (design certificate script : List ℕ) → RunsTexts OfCalls design certificate script old new t
+        → (d : Design) × RefusesSo d old.told new.told (Rose old.faults new.faults) t
+    texts_refused design certificate script (inl h) =
+        absurd (other_end DesignRefused JournalRefused t (λ e. cc) (refusal_ends design (said_in t) h.2) so)
+    texts_refused design certificate script (inr h) = (h.d, run_certified_refused h.d certificate script h.says)
 
 pub refused_over : (c : Command) (files : List (List ℕ)) (old new : Seen) (t : Telling) → t.ending ≡ JournalRefused
     → MeansOverDisk c files old new t → RefusesOver c old new t
@@ -117,7 +122,7 @@ refused_over command.Dump (design ∷ certificate ∷ more ∷ rest) old new t e
 refused_over command.Replies [] old new t e h = absurd h
 refused_over command.Replies (design ∷ []) old new t e h = absurd h
 refused_over command.Replies (design ∷ certificate ∷ []) old new t e h =
-    let r = recover_refused Replies old new t e design certificate h in inr (inr (inr (inr refl)), r.0, r.1)
+    let r = recover_refused Replies old new t e design certificate h in inr (inr (inr (inr (inl refl))), r.0, r.1)
 refused_over command.Replies (design ∷ certificate ∷ more ∷ rest) old new t e h = absurd h
 refused_over command.Play files old new t e h = absurd h
 refused_over command.Rehearse files old new t e h = absurd h
@@ -126,8 +131,16 @@ refused_over command.Sched (design ∷ []) old new t e h = absurd h
 refused_over command.Sched (design ∷ certificate ∷ []) old new t e h = absurd h
 refused_over command.Sched (design ∷ certificate ∷ script ∷ []) old new t e h = absurd h
 refused_over command.Sched (design ∷ certificate ∷ script ∷ order ∷ []) old new t e h =
-    let r = run_refused old new t e design certificate script order h in inr (inl refl, r.0, r.1)
+    let r = texts_refused old new t e (RunsOfOrder order) (order_refused old new t e order) design certificate script h in
+    inr (inl refl, r.0, r.1)
 refused_over command.Sched (design ∷ certificate ∷ script ∷ order ∷ more ∷ rest) old new t e h = absurd h
+refused_over (command.Run workers) [] old new t e h = absurd h
+refused_over (command.Run workers) (design ∷ []) old new t e h = absurd h
+refused_over (command.Run workers) (design ∷ certificate ∷ []) old new t e h = absurd h
+refused_over (command.Run workers) (design ∷ certificate ∷ script ∷ []) old new t e h =
+    let r = texts_refused old new t e WorksSeen (workers_refused old new t e) design certificate script h in
+    inr (inr (inr (inr (inr (workers, refl)))), r.0, r.1)
+refused_over (command.Run workers) (design ∷ certificate ∷ script ∷ more ∷ rest) old new t e h = absurd h
 refused_over command.Print files old new t e h = absurd h
 refused_over command.Check files old new t e h = absurd h
 refused_over command.Prove files old new t e h = absurd h
@@ -136,41 +149,51 @@ refused_over command.Version files old new t e h = absurd h
 
 -- ---- which run leaves a place unbegun
 
--- a schedule from the recovered state on is told, and one of its places couldn't begin
-abbrev pub LeavesOver : Telling → Type 0
-LeavesOver t = (d : Design) × (calls : List Call) × (order : List ℕ) × (first : World)
-    × TellsScheduleFrom d calls (opening_at first calls) order t.text t.history false
-
 module _ (old new : Seen) (t : Telling) (so : t.ending ≡ Unbegun) where
-  running_unbegun : (d : Design) (calls : List Call) (order : List ℕ) → RunsSeen d calls order old new t → LeavesOver t
-  running_unbegun d calls order (inl h) = by h.all_begun (sym h.ending ∙ so) h.tells
-    where
-      by : (all_begun : Bool) → ending_at all_begun ≡ Unbegun
-          → TellsScheduleFrom d calls (opening_at h.first calls) order t.text t.history all_begun → LeavesOver t
-      by true e tells = absurd cc
-      by false e tells = (d, calls, order, h.first, tells)
-  running_unbegun d calls order (inr (inl h)) = absurd (other_end DiskFailed Unbegun t (λ e. cc) h.ending so)
-  running_unbegun d calls order (inr (inr h)) =
-      absurd (over_unbegun (Rose old.faults new.faults) t
-      (unrecovered_ends h.error d old.told (Rose old.faults new.faults) t h.cause h.says) so)
+  module _ (Opens : Design → List Call → World → Play → Type 0) where
+    running_unbegun : (d : Design) (calls : List Call) (order : List ℕ)
+        → RunsFrom d calls order (Opens d calls) old.told new.told (Rose old.faults new.faults) t → LeavesOver Opens t
+    running_unbegun d calls order (inl h) = by h.all_begun (sym h.ending ∙ so) h.tells
+      where
+        by : (all_begun : Bool) → ending_at all_begun ≡ Unbegun
+            → TellsScheduleFrom d calls h.opened order t.text t.history all_begun → LeavesOver Opens t
+        by true e tells = absurd cc
+        by false e tells = record {
+          d = d;
+          calls = calls;
+          order = order;
+          first = h.first;
+          opened = h.opened;
+          opens = h.opens;
+          tells = tells;
+        }
+    running_unbegun d calls order (inr (inl h)) = absurd (other_end DiskFailed Unbegun t (λ e. cc) h.ending so)
+    running_unbegun d calls order (inr (inr h)) =
+        absurd (over_unbegun (Rose old.faults new.faults) t
+        (unrecovered_ends h.error d old.told (Rose old.faults new.faults) t h.cause h.says) so)
 
-  order_unbegun : (d : Design) (calls : List Call) (order : List ℕ) → RunsOfOrder d calls order old new t → LeavesOver t
-  order_unbegun d calls order (inl h) = absurd (other_end ScriptRefused Unbegun t (λ e. cc) h.2.says.0 so)
-  order_unbegun d calls order (inr h) = running_unbegun d calls h.numbers h.ends
+  order_unbegun : (order : List ℕ) (d : Design) (calls : List Call) → RunsOfOrder order d calls old new t
+      → LeavesOver (λ d. IsOpening) t
+  order_unbegun order d calls (inl h) = absurd (other_end ScriptRefused Unbegun t (λ e. cc) h.2.says.0 so)
+  order_unbegun order d calls (inr h) = running_unbegun (λ d. IsOpening) d calls h.numbers h.ends
 
-  script_unbegun : (d : Design) (script order : List ℕ) → RunsOfScript d script order old new t → LeavesOver t
-  script_unbegun d script order (inl h) = absurd (other_end ScriptRefused Unbegun t (λ e. cc) h.2.says.0 so)
-  script_unbegun d script order (inr h) = order_unbegun d h.calls order h.says
+  workers_unbegun : (d : Design) (calls : List Call) → WorksSeen d calls old new t → LeavesOver WorkersLeave t
+  workers_unbegun d calls h = running_unbegun WorkersLeave d calls [] h
 
-  run_certified_unbegun : (d : Design) (certificate script order : List ℕ) → RunsCertified d certificate script order old new t
-      → LeavesOver t
-  run_certified_unbegun d certificate script order (inl h) = absurd (other_end DesignRefused Unbegun t (λ e. cc) h.2.ending so)
-  run_certified_unbegun d certificate script order (inr h) = script_unbegun d script order h.says
+  module _ (OfCalls : Design → List Call → Seen → Seen → Telling → Type 0) (Leaves : Type 0)
+      (unbegun : (d : Design) (calls : List Call) → OfCalls d calls old new t → Leaves) where
+    script_unbegun : (d : Design) (script : List ℕ) → RunsOfScript OfCalls d script old new t → Leaves
+    script_unbegun d script (inl h) = absurd (other_end ScriptRefused Unbegun t (λ e. cc) h.2.says.0 so)
+    script_unbegun d script (inr h) = unbegun d h.calls h.says
 
-  run_unbegun : (design certificate script order : List ℕ) → RunsFiles design certificate script order old new t → LeavesOver t
-  run_unbegun design certificate script order (inl h) =
-      absurd (other_end DesignRefused Unbegun t (λ e. cc) (refusal_ends design (said_in t) h.2) so)
-  run_unbegun design certificate script order (inr h) = run_certified_unbegun h.d certificate script order h.says
+    run_certified_unbegun : (d : Design) (certificate script : List ℕ) → RunsCertified OfCalls d certificate script old new t → Leaves
+    run_certified_unbegun d certificate script (inl h) = absurd (other_end DesignRefused Unbegun t (λ e. cc) h.2.ending so)
+    run_certified_unbegun d certificate script (inr h) = script_unbegun d script h.says
+
+    texts_unbegun : (design certificate script : List ℕ) → RunsTexts OfCalls design certificate script old new t → Leaves
+    texts_unbegun design certificate script (inl h) =
+        absurd (other_end DesignRefused Unbegun t (λ e. cc) (refusal_ends design (said_in t) h.2) so)
+    texts_unbegun design certificate script (inr h) = run_certified_unbegun h.d certificate script h.says
 
   init_unbegun : (design : List ℕ) → InitsFile design old new t → ⊥
   init_unbegun design (inl h) = other_end DesignRefused Unbegun t (λ e. cc) (refusal_ends design (said_in t) h.2) so
@@ -189,7 +212,7 @@ module _ (old new : Seen) (t : Telling) (so : t.ending ≡ Unbegun) where
   recover_unbegun wanted design certificate (inr h) = recover_certified_unbegun wanted h.d certificate h.says
 
 pub unbegun_over : (c : Command) (files : List (List ℕ)) (old new : Seen) (t : Telling) → t.ending ≡ Unbegun
-    → MeansOverDisk c files old new t → (c ≡ command.Sched) × LeavesOver t
+    → MeansOverDisk c files old new t → LeavesBy c t
 unfolding MeansOverDisk
 unbegun_over command.Init [] old new t e h = absurd h
 unbegun_over command.Init (design ∷ []) old new t e h = absurd (init_unbegun old new t e design h)
@@ -199,8 +222,22 @@ unbegun_over command.Sched (design ∷ []) old new t e h = absurd h
 unbegun_over command.Sched (design ∷ certificate ∷ []) old new t e h = absurd h
 unbegun_over command.Sched (design ∷ certificate ∷ script ∷ []) old new t e h = absurd h
 unbegun_over command.Sched (design ∷ certificate ∷ script ∷ order ∷ []) old new t e h =
-    (refl, run_unbegun old new t e design certificate script order h)
+    inl (
+      refl,
+      texts_unbegun old new t e (RunsOfOrder order) (LeavesOver (λ d. IsOpening) t) (order_unbegun old new t e order) design certificate
+          script h,
+    )
 unbegun_over command.Sched (design ∷ certificate ∷ script ∷ order ∷ more ∷ rest) old new t e h = absurd h
+unbegun_over (command.Run workers) [] old new t e h = absurd h
+unbegun_over (command.Run workers) (design ∷ []) old new t e h = absurd h
+unbegun_over (command.Run workers) (design ∷ certificate ∷ []) old new t e h = absurd h
+unbegun_over (command.Run workers) (design ∷ certificate ∷ script ∷ []) old new t e h =
+    inr (
+      workers,
+      refl,
+      texts_unbegun old new t e WorksSeen (LeavesOver WorkersLeave t) (workers_unbegun old new t e) design certificate script h,
+    )
+unbegun_over (command.Run workers) (design ∷ certificate ∷ script ∷ more ∷ rest) old new t e h = absurd h
 unbegun_over command.Recover [] old new t e h = absurd h
 unbegun_over command.Recover (design ∷ []) old new t e h = absurd h
 unbegun_over command.Recover (design ∷ certificate ∷ []) old new t e h = absurd (recover_unbegun old new t e Counts design certificate h)

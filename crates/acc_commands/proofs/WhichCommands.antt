@@ -24,9 +24,10 @@ use Rattle.acc_file_commands.specs.CheckFiles.{ChecksFiles, ending_by}
 use Rattle.acc_file_commands.specs.ProveFiles.{EndsProving, StaysOpen, ProvesFile}
 use Rattle.acc_inputs.specs.Words.{is_journalled}
 use Rattle.acc_commands.specs.Means.{MeansOfFiles, MeansBy, Means}
+use Rattle.acc_commands.specs.Overs.{LeavesBy}
 use Rattle.acc_journal_commands.proofs.JournalEndings.{failed_by, never_open}
 use Rattle.acc_commands.proofs.DiskEndings.{ends_over_disk}
-use Rattle.acc_commands.proofs.RefusedOvers.{RefusesOver, LeavesOver, refused_over, unbegun_over}
+use Rattle.acc_commands.proofs.RefusedOvers.{RefusesOver, refused_over, unbegun_over}
 
 -- ---- commands without a journal
 
@@ -150,6 +151,7 @@ module _ (other : Ending) (done_other : Done ≢ other) (design_other : DesignRe
   ends_scheduled command.Prove (design ∷ more ∷ rest) said e h = absurd h
   ends_scheduled command.Init files said e h = absurd h
   ends_scheduled command.Sched files said e h = absurd h
+  ends_scheduled (command.Run workers) files said e h = absurd h
   ends_scheduled command.Recover files said e h = absurd h
   ends_scheduled command.Dump files said e h = absurd h
   ends_scheduled command.Replies files said e h = absurd h
@@ -168,7 +170,7 @@ Left c t =
 
 -- or over a journal
 abbrev pub LeftAnyhow : Command → Telling → Type 0
-LeftAnyhow c t = Left c t ⊎ ((c ≡ command.Sched) × LeavesOver t)
+LeftAnyhow c t = Left c t ⊎ LeavesBy c t
 
 ending_unbegun : (all_begun : Bool) → ending_at all_begun ≡ Unbegun → all_begun ≡ false
 ending_unbegun true e = absurd (done_unbegun e)

@@ -1,3 +1,4 @@
 pub mod Means
 pub mod Alike
 pub mod Laws
+pub mod Overs

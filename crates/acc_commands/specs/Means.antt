@@ -11,6 +11,7 @@ use Rattle.acc_journalled.specs.declared.answers.Ending.TheVariants.{Done}
 use Rattle.acc_journalled.specs.declared.answers.Wanted.TheVariants.{Counts, Rows, Replies}
 use Rattle.acc_journalled.specs.Tellings.{Telling}
 use Rattle.acc_inputs.specs.Text.{Said, Says}
+use Rattle.acc_running.specs.Crashes.{WorksOver}
 use Rattle.acc_journal_commands.specs.Disks.{Seen, WithoutDisk}
 use Rattle.acc_inputs.specs.Notes.{help_text, version_text}
 use Rattle.acc_file_commands.specs.PlayFiles.{PlaysFiles}
@@ -20,7 +21,7 @@ use Rattle.acc_file_commands.specs.CheckFiles.{ChecksFiles}
 use Rattle.acc_file_commands.specs.ProveFiles.{ProvesFile}
 use Rattle.acc_journal_commands.specs.InitFiles.{InitsFile, InitLeaves, InitLeft}
 use Rattle.acc_journal_commands.specs.RecoverFiles.{RecoversFiles, RecoverLeaves, RecoverLeft}
-use Rattle.acc_journal_commands.specs.RunFiles.{RunsFiles, RunLeaves, RunLeft}
+use Rattle.acc_journal_commands.specs.RunFiles.{RunsFiles, WorksFiles, RunLeaves, OrderRuns, RunLeft}
 
 -- what a command without a journal makes of its files
 unfoldable pub MeansOfFiles : Command → List (List ℕ) → Said → Type 0
@@ -31,16 +32,41 @@ MeansOfFiles command.Check (design ∷ certificate ∷ []) = ChecksFiles design 
 MeansOfFiles command.Prove (design ∷ []) = ProvesFile design
 MeansOfFiles command.Help [] = Says Done help_text
 MeansOfFiles command.Version [] = Says Done version_text
-MeansOfFiles _ _ = λ said. ⊥
+MeansOfFiles command.Play files = λ said. ⊥
+MeansOfFiles command.Rehearse files = λ said. ⊥
+MeansOfFiles command.Print files = λ said. ⊥
+MeansOfFiles command.Check files = λ said. ⊥
+MeansOfFiles command.Prove files = λ said. ⊥
+MeansOfFiles command.Init files = λ said. ⊥
+MeansOfFiles command.Sched files = λ said. ⊥
+MeansOfFiles (command.Run workers) files = λ said. ⊥
+MeansOfFiles command.Recover files = λ said. ⊥
+MeansOfFiles command.Dump files = λ said. ⊥
+MeansOfFiles command.Replies files = λ said. ⊥
+MeansOfFiles command.Help files = λ said. ⊥
+MeansOfFiles command.Version files = λ said. ⊥
 
 -- what one over a journal makes of its files and of the disk
 unfoldable pub MeansOverDisk : Command → List (List ℕ) → Seen → Seen → Telling → Type 0
 MeansOverDisk command.Init (design ∷ []) = InitsFile design
 MeansOverDisk command.Sched (design ∷ certificate ∷ script ∷ order ∷ []) = RunsFiles design certificate script order
+MeansOverDisk (command.Run workers) (design ∷ certificate ∷ script ∷ []) = WorksFiles design certificate script
 MeansOverDisk command.Recover (design ∷ certificate ∷ []) = RecoversFiles Counts design certificate
 MeansOverDisk command.Dump (design ∷ certificate ∷ []) = RecoversFiles Rows design certificate
 MeansOverDisk command.Replies (design ∷ certificate ∷ []) = RecoversFiles Replies design certificate
-MeansOverDisk _ _ = λ old new t. ⊥
+MeansOverDisk command.Play files = λ old new t. ⊥
+MeansOverDisk command.Rehearse files = λ old new t. ⊥
+MeansOverDisk command.Print files = λ old new t. ⊥
+MeansOverDisk command.Check files = λ old new t. ⊥
+MeansOverDisk command.Prove files = λ old new t. ⊥
+MeansOverDisk command.Init files = λ old new t. ⊥
+MeansOverDisk command.Sched files = λ old new t. ⊥
+MeansOverDisk (command.Run workers) files = λ old new t. ⊥
+MeansOverDisk command.Recover files = λ old new t. ⊥
+MeansOverDisk command.Dump files = λ old new t. ⊥
+MeansOverDisk command.Replies files = λ old new t. ⊥
+MeansOverDisk command.Help files = λ old new t. ⊥
+MeansOverDisk command.Version files = λ old new t. ⊥
 
 abbrev pub MeansBy : Bool → Command → List (List ℕ) → Seen → Seen → Telling → Type 0
 MeansBy true c files old new t = MeansOverDisk c files old new t
@@ -54,10 +80,23 @@ Means c = MeansBy (is_journalled c) c
 unfoldable pub LeavesOfFile : Command → List (List ℕ) → List ℕ → List ℕ → Type 0
 LeavesOfFile command.Init (design ∷ []) = InitLeaves design
 LeavesOfFile command.Sched (design ∷ certificate ∷ script ∷ order ∷ []) = RunLeaves design certificate
+LeavesOfFile (command.Run workers) (design ∷ certificate ∷ script ∷ []) = RunLeaves design certificate
 LeavesOfFile command.Recover (design ∷ certificate ∷ []) = RecoverLeaves design certificate
 LeavesOfFile command.Dump (design ∷ certificate ∷ []) = RecoverLeaves design certificate
 LeavesOfFile command.Replies (design ∷ certificate ∷ []) = RecoverLeaves design certificate
-LeavesOfFile _ _ = λ file image. image ≡ file
+LeavesOfFile command.Play files = λ file image. image ≡ file
+LeavesOfFile command.Rehearse files = λ file image. image ≡ file
+LeavesOfFile command.Print files = λ file image. image ≡ file
+LeavesOfFile command.Check files = λ file image. image ≡ file
+LeavesOfFile command.Prove files = λ file image. image ≡ file
+LeavesOfFile command.Init files = λ file image. image ≡ file
+LeavesOfFile command.Sched files = λ file image. image ≡ file
+LeavesOfFile (command.Run workers) files = λ file image. image ≡ file
+LeavesOfFile command.Recover files = λ file image. image ≡ file
+LeavesOfFile command.Dump files = λ file image. image ≡ file
+LeavesOfFile command.Replies files = λ file image. image ≡ file
+LeavesOfFile command.Help files = λ file image. image ≡ file
+LeavesOfFile command.Version files = λ file image. image ≡ file
 
 -- nothing of the disk changes, and no event is durable
 abbrev pub LeavesDisk : {D : Type 0} → D → D → List Event → ℕ → Type 0
@@ -69,11 +108,25 @@ module _ {D : Type 0} (clock : D → ℕ) (left_since : D → ℕ → List ℕ �
     unfoldable pub LeavesOf : Command → List (List ℕ) → D → D → List Event → ℕ → Type 0
     LeavesOf command.Init (design ∷ []) = InitLeft clock left_since told may_leave design
     LeavesOf command.Sched (design ∷ certificate ∷ script ∷ order ∷ []) =
-        RunLeft clock left_since told may_leave design certificate script order
+        RunLeft (OrderRuns clock left_since told may_leave order) design certificate script
+    LeavesOf (command.Run workers) (design ∷ certificate ∷ script ∷ []) =
+        RunLeft (WorksOver clock left_since told may_leave) design certificate script
     LeavesOf command.Recover (design ∷ certificate ∷ []) = RecoverLeft clock left_since told may_leave Counts design certificate
     LeavesOf command.Dump (design ∷ certificate ∷ []) = RecoverLeft clock left_since told may_leave Rows design certificate
     LeavesOf command.Replies (design ∷ certificate ∷ []) = RecoverLeft clock left_since told may_leave Replies design certificate
-    LeavesOf _ _ = LeavesDisk
+    LeavesOf command.Play files = LeavesDisk
+    LeavesOf command.Rehearse files = LeavesDisk
+    LeavesOf command.Print files = LeavesDisk
+    LeavesOf command.Check files = LeavesDisk
+    LeavesOf command.Prove files = LeavesDisk
+    LeavesOf command.Init files = LeavesDisk
+    LeavesOf command.Sched files = LeavesDisk
+    LeavesOf (command.Run workers) files = LeavesDisk
+    LeavesOf command.Recover files = LeavesDisk
+    LeavesOf command.Dump files = LeavesDisk
+    LeavesOf command.Replies files = LeavesDisk
+    LeavesOf command.Help files = LeavesDisk
+    LeavesOf command.Version files = LeavesDisk
 
 -- what a run in memory says and tells; want of memory tells no event
 abbrev pub TellsInMemory : Result Run AllocError → Result Answer AllocError → List Event → Type 0

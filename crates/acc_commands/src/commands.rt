@@ -9,7 +9,9 @@ ghost use Rattle.acc_inputs.specs.Text.{Says};
 ghost use Rattle.acc_journalled.specs.declared.answers.Ending.TheVariants.{Done};
 ghost use Rattle.acc_inputs.specs.Answers.{said_alone};
 
+use acc_crew::Crew;
 use acc_disk::Disk;
+use acc_engine::Engine;
 use acc_file_commands::designs::{check_files, print_file};
 use acc_file_commands::memory_runs::Run;
 use acc_file_commands::plays::play_files;
@@ -18,9 +20,11 @@ use acc_file_commands::schedules::schedule_files;
 use acc_inputs::{Request, help_text, version_text};
 use acc_journal_commands::journals::init_file;
 use acc_journal_commands::recoveries::recover_files;
-use acc_journal_commands::runs::run_files;
+use acc_journal_commands::runs::{run_files, work_files};
 use acc_journalled::{Answer, Ended, Ending, Wanted, unrun};
+use acc_lift::Accepted;
 use acc_progress::Progress;
+use acc_store::MapStore;
 use std::alloc::{AllocError, Global};
 
 /// What the program can do.
@@ -60,15 +64,19 @@ fn ran<D>(alloc: Global, disk: D, run: Result<Run, AllocError>) -> Ended<D>
     }
 }
 
-/// How a command ends over its files and the disk. How far a long one is, and what a recovery found, is told while it goes on.
+/// How a command ends over its files and the disk. How far a long one is, and what a recovery found, is told while it goes on. `run` lets
+/// the crew work, and waits for whom the crew waits; no other command asks the crew for anything, or waits for anybody.
 #[tactic(auto, unfolding(crate::specs::Means::MeansOfFiles, crate::specs::Means::MeansOverDisk, crate::specs::Means::LeavesOf))]
-pub fn run<D: Disk, P: Progress>(
+pub fn run<'a, D: Disk, C: Crew<Engine<'a, MapStore, D>>, P: Progress>(
     alloc: Global,
     request: Request,
     disk: D,
+    crew: &C,
+    slot: &'a mut Option<Accepted>,
     progress: &mut P,
 ) -> Ended<D>
     requires short { All (λ text. length text ≤ 2 ^ 26) (texts_in request) }
+    requires ready { C.ready crew.now }
     ensures ends { Ends D.told D.may_leave D.faults (Means (command_in request.entry) (texts_in request.entry))
         (LeavesOf D.clock D.left_since D.told D.may_leave (command_in request.entry) (texts_in request.entry))
         disk result.disk result.answer result.history result.settled }
@@ -84,6 +92,9 @@ pub fn run<D: Disk, P: Progress>(
         Request::Prove(design) => unrun(alloc, disk, prove_file(alloc, design, progress)),
         Request::Init(design) => init_file(alloc, design, disk),
         Request::Sched(files) => run_files(alloc, files, disk, progress),
+        Request::Run(files, workers) => {
+            work_files(alloc, files, workers, disk, crew, slot, progress)
+        },
         Request::Recover(files) => recover_files(alloc, files, Wanted::Counts, disk, progress),
         Request::Dump(files) => recover_files(alloc, files, Wanted::Rows, disk, progress),
         Request::Replies(files) => recover_files(alloc, files, Wanted::Replies, disk, progress),

@@ -1,7 +1,8 @@
 //! What the definitions of the commands say by themselves.
 ghost use Rattle.acc_commands.specs.Laws.{CommandsMeanOne, ProvedIsAccepted, AcceptedIsTold, ClosedIsTold};
 
-/// Whatever its files hold, a command means one ending, one text and one history; but which certificate `prove` makes is free.
+/// Whatever its files hold, a command means one ending, one text and one history; but which certificate `prove` makes is free, and so is
+/// the order of the turns of `run`.
 pub fn commands_mean_one()
     ensures { CommandsMeanOne }
 {}

@@ -4,6 +4,9 @@ ghost use Rattle.acc_formed.specs.WellFormed.{IsWellFormed};
 use crate::journals::{push_disk, push_full, push_journal};
 use crate::obligations::{File, push_fault};
 use crate::openings::push_unproved;
+use crate::statuses::{
+    DESIGN, DISK, DONE, FILE, JOURNAL, MEMORY, OPEN, SCRIPT, SINK, UNBEGUN, USAGE,
+};
 use crate::usage::push_usage;
 use acc_base::designs::Design;
 use acc_base::sequences::Seq;
@@ -12,6 +15,7 @@ use acc_explain::{
     push_report, sink_text,
 };
 use acc_faults::{Diagnosed, Judged, diagnose, judge};
+use acc_inputs::{Command, command_of, file_names};
 use acc_io::{LONGEST, Shelf, ShelfError};
 use acc_page::Page;
 use acc_script::{ScriptError, calls, order};
@@ -71,16 +75,20 @@ fn push_order(alloc: Global, out: &mut Page, places: u64, file: File) {
     }
 }
 
-/// Says what is wrong with a script, or else with its order.
+/// Says what is wrong with a script, or else with its order, if there is one.
 fn push_script(
     alloc: Global,
     out: &mut Page,
     design: &Design,
     script: File,
-    order: File,
+    orders: &[File],
 ) -> Result<(), AllocError> {
     match calls(alloc, design, script.text) {
-        Ok(asked) => push_order(alloc, out, asked.len() as u64, order),
+        Ok(asked) => {
+            if let [order, ..] = orders {
+                push_order(alloc, out, asked.len() as u64, *order);
+            }
+        }
         Err(ScriptError::Line(line)) => {
             let spot = script_spot(alloc, design, line_at(script.text, line));
             push_report(out, script.name, script.text, line, &spot);
@@ -103,10 +111,20 @@ fn push_judged(
 {
     match (judge(alloc, d, certificate.text)?, behind) {
         (Judged::Refused(d, fault), _) => push_fault(alloc, out, &d, design, certificate, &fault),
-        (Judged::Accepted(d), [script, order]) => {
-            push_script(alloc, out, d.design(), *script, *order)
+        (Judged::Accepted(d), [script, orders @ ..]) => {
+            push_script(alloc, out, d.design(), *script, orders)
         }
-        (Judged::Accepted(_), _) => Ok(()),
+        (Judged::Accepted(_), []) => Ok(()),
+    }
+}
+
+/// Whether the file behind the design is its certificate.
+fn is_certified(command: Command) -> bool {
+    match command {
+        Command::Rehearse | Command::Check | Command::Sched | Command::Run(_) => true,
+        Command::Recover | Command::Dump | Command::Replies => true,
+        Command::Play | Command::Print | Command::Prove | Command::Init => false,
+        Command::Help | Command::Version => false,
     }
 }
 
@@ -115,17 +133,20 @@ fn push_judged(
 fn push_behind(
     alloc: Global,
     out: &mut Page,
+    command: Command,
     d: Design,
-    design: File,
-    behind: &[File],
+    files: &[File],
     printed: &[u8],
 ) -> Result<(), AllocError>
     requires { IsWellFormed d }
 {
-    match behind {
-        [script, order] => push_script(alloc, out, &d, *script, *order),
-        [certificate, rest @ ..] => push_judged(alloc, out, d, design, *certificate, rest),
-        [] => push_unproved(alloc, out, &d, design, printed),
+    match files {
+        [design] => push_unproved(alloc, out, &d, *design, printed),
+        [design, certificate, behind @ ..] if is_certified(command) => {
+            push_judged(alloc, out, d, *design, *certificate, behind)
+        }
+        [_, script, orders @ ..] => push_script(alloc, out, &d, *script, orders),
+        [] => Ok(()),
     }
 }
 
@@ -134,14 +155,15 @@ fn push_behind(
 fn push_files(
     alloc: Global,
     out: &mut Page,
+    command: Command,
     files: &[File],
     printed: &[u8],
 ) -> Result<(), AllocError> {
-    let [design, behind @ ..] = files else {
+    let [design, ..] = files else {
         return Ok(());
     };
     match diagnose(alloc, design.text)? {
-        Diagnosed::Read(d) => push_behind(alloc, out, d, *design, behind, printed),
+        Diagnosed::Read(d) => push_behind(alloc, out, command, d, files, printed),
         Diagnosed::Refused(d) => {
             push_report(out, design.name, design.text, d.line, &d.spot);
             Ok(())
@@ -165,10 +187,11 @@ fn named<'a>(
     Ok(files)
 }
 
-/// Says what is wrong with the files that these names stand for.
+/// Says what is wrong with the files of these names, which are a command's.
 fn push_names<H: Shelf>(
     alloc: Global,
     out: &mut Page,
+    command: Command,
     names: &[String],
     shelf: &mut H,
     printed: &[u8],
@@ -176,7 +199,7 @@ fn push_names<H: Shelf>(
     match read_all(alloc, out, names, shelf)? {
         Some(texts) => {
             let files = named(alloc, names, &texts)?;
-            push_files(alloc, out, &files, printed)
+            push_files(alloc, out, command, &files, printed)
         }
         None => Ok(()),
     }
@@ -193,20 +216,63 @@ fn push_if_empty(out: &mut Page, name: &str, d: &Design) {
 fn push_nothing<H: Shelf>(
     alloc: Global,
     out: &mut Page,
-    name: &str,
+    names: &[String],
     shelf: &mut H,
 ) -> Result<(), AllocError> {
-    let Ok(text) = shelf.read(alloc, name) else {
+    let [name, ..] = names else {
+        return Ok(());
+    };
+    let Ok(text) = shelf.read(alloc, name.as_str()) else {
         return Ok(());
     };
     match diagnose(alloc, &text)? {
-        Diagnosed::Read(d) => push_if_empty(out, name, &d),
+        Diagnosed::Read(d) => push_if_empty(out, name.as_str(), &d),
         Diagnosed::Refused(_) => {}
     }
     Ok(())
 }
 
-/// Says why a command line ended with this status, or what is left out where it proved a design.
+/// Says what is left out by a command that was answered.
+fn push_done<H: Shelf>(
+    alloc: Global,
+    out: &mut Page,
+    command: Command,
+    names: &[String],
+    shelf: &mut H,
+    printed: &[u8],
+) -> Result<(), AllocError> {
+    match command {
+        Command::Print if printed.is_empty() => push_nothing(alloc, out, names, shelf),
+        Command::Prove => push_names(alloc, out, command, names, shelf, printed),
+        Command::Print | Command::Play | Command::Rehearse | Command::Check => Ok(()),
+        Command::Init | Command::Sched | Command::Run(_) => Ok(()),
+        Command::Recover | Command::Dump | Command::Replies => Ok(()),
+        Command::Help | Command::Version => Ok(()),
+    }
+}
+
+/// Says why a command ended with this status, or what is left out where it was answered.
+fn push_command<H: Shelf>(
+    alloc: Global,
+    out: &mut Page,
+    status: u8,
+    command: Command,
+    names: &[String],
+    shelf: &mut H,
+    printed: &[u8],
+) -> Result<(), AllocError> {
+    match status {
+        DONE => push_done(alloc, out, command, names, shelf, printed),
+        DESIGN | SCRIPT | FILE | OPEN => push_names(alloc, out, command, names, shelf, printed),
+        DISK => {
+            push_disk(out, command);
+            Ok(())
+        }
+        _ => Ok(()),
+    }
+}
+
+/// Says why a command line ended with this status, or what is left out where it was answered.
 fn push_status<H: Shelf>(
     alloc: Global,
     out: &mut Page,
@@ -216,22 +282,18 @@ fn push_status<H: Shelf>(
     printed: &[u8],
     usage: &[u8],
 ) -> Result<(), AllocError> {
-    match (status, words) {
-        (0, [verb, name]) if verb.as_str() == "print" && printed.is_empty() => {
-            return push_nothing(alloc, out, name.as_str(), shelf);
+    match status {
+        USAGE => push_usage(out, words, usage),
+        JOURNAL => return push_journal(alloc, out, printed),
+        SINK => push_note(out, b"acc", sink_text(), b""),
+        UNBEGUN => push_full(out),
+        MEMORY => push_note(out, b"acc", memory_text(), b""),
+        _ => {
+            if let Some(command) = command_of(words) {
+                let names = file_names(words);
+                return push_command(alloc, out, status, command, names, shelf, printed);
+            }
         }
-        (0, [verb, names @ ..]) if verb.as_str() == "prove" => {
-            return push_names(alloc, out, names, shelf, printed);
-        }
-        (0, _) => {}
-        (1, _) => push_usage(out, words, usage),
-        (4, _) => return push_journal(alloc, out, printed),
-        (5, [verb, ..]) => push_disk(out, verb.as_str()),
-        (7, _) => push_note(out, b"acc", sink_text(), b""),
-        (8, _) => push_full(out),
-        (9, _) => push_note(out, b"acc", memory_text(), b""),
-        (_, [_, names @ ..]) => return push_names(alloc, out, names, shelf, printed),
-        _ => {}
     }
     Ok(())
 }

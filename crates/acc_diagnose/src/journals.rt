@@ -1,6 +1,7 @@
 //! What is told of a journal that is refused, and of a disk that failed.
 use acc_base::bounds::MOST_EVENTS;
 use acc_explain::{begin_note, end_note, push_note, push_with};
+use acc_inputs::Command;
 use acc_page::Page;
 use std::alloc::{AllocError, Global};
 
@@ -64,23 +65,25 @@ pub fn push_journal(alloc: Global, out: &mut Page, printed: &[u8]) -> Result<(),
     Ok(())
 }
 
-/// What stands on a disk that failed under a command of this verb.
-fn standing(verb: &str) -> &'static [u8] {
-    match verb {
-        "init" =>
+/// What stands on a disk that failed under this command.
+fn standing(command: Command) -> &'static [u8] {
+    match command {
+        Command::Init =>
             b"there is no journal now, or the new one, or the old file with another first byte; give the command again",
-        _ =>
+        Command::Sched | Command::Run(_) | Command::Recover | Command::Dump | Command::Replies =>
             b"what was durable is durable, and nothing half-written counts; `acc recover` brings the journal to rest",
+        Command::Play | Command::Rehearse | Command::Print | Command::Check => b"",
+        Command::Prove | Command::Help | Command::Version => b"",
     }
 }
 
-/// Says that a call of the disk failed under a command of this verb.
-pub fn push_disk(out: &mut Page, verb: &str) {
+/// Says that a call of the disk failed under this command.
+pub fn push_disk(out: &mut Page, command: Command) {
     push_note(
         out,
         b"the journal",
         b"the file can't be opened, read or written, or the device failed",
-        standing(verb),
+        standing(command),
     )
 }
 

@@ -11,6 +11,7 @@ mod openings;
 mod progress;
 mod reasons;
 mod room;
+pub mod statuses;
 mod usage;
 
 pub use damage::cut_line;

@@ -1,5 +1,6 @@
 //! What is told where the words of a command line are no command.
-use acc_explain::push_quoted;
+use acc_explain::{push_quoted, push_with};
+use acc_inputs::MOST_WORKERS;
 use acc_page::Page;
 use acc_spot::is_one_of;
 
@@ -38,10 +39,24 @@ fn push_verb(out: &mut Page, verb: &[u8], usage: &[u8]) {
     }
 }
 
+/// Says that the word in the place of the number of workers is none.
+fn push_workers(out: &mut Page, word: &[u8]) {
+    push_quoted(out, word);
+    push_with(
+        out,
+        b" is no number of workers: `run` takes 1 to ",
+        MOST_WORKERS,
+        b", in digits without a sign or a leading zero",
+    );
+}
+
 /// Says why the words of a command line are no command, and which commands there are.
 pub fn push_usage(out: &mut Page, words: &[String], usage: &[u8]) {
     out.push(b"acc: ");
     match words {
+        [verb, _, _, _, workers] if verb.as_str() == "run" => {
+            push_workers(out, workers.as_bytes())
+        }
         [verb, ..] => push_verb(out, verb.as_bytes(), usage),
         [] => out.push(b"no command is given, or one of the words isn't UTF-8"),
     }

@@ -2,7 +2,7 @@
 use Rattle.std.proofs.Common.{zero, suc, get_or, set, slice_get, ◌≡◌, ◌⊎◌, inl, inr, drop, take, Option, Some, None, Bool, true, false, ◌≤◌}
 use Rattle.std.proofs.Common.{◌<◌, ◌+◌, ◌^◌, ◌++◌, ℕ, List, [], ◌∷◌, length, Result, Ok, Err, refl, sym, ◌∙◌, ap, subst, arith}
 use Rattle.std.proofs.Common.{append_assoc, length-append}
-use Rattle.std.specs.Prelude.{OnOk, OnErr, ◌==◌, ◌≢◌, map, IsSome, IsSomeAnd}
+use Rattle.std.specs.Prelude.{OnOk, OnErr, IfErr, is_err, ◌==◌, ◌≢◌, map, IsSome, IsSomeAnd}
 use Rattle.std.specs.List.{filter_map, cons_option, count_by}
 use Rattle.std.proofs.lemmas.Bool.Decides.{nat_tests}
 use Rattle.std.proofs.lemmas.List.{append-nil, flat_map_more, drop-append-le, drop_all, take_all, take_at, get_or-set_same}
@@ -26,7 +26,9 @@ use Rattle.acc_base.specs.Lawful.{IsLawful}
 use Rattle.acc_lift.proofs.Theorem.{event_logged}
 use Rattle.acc_wal.specs.Spellings.{body, event_bytes, Fits}
 use Rattle.acc_wal.specs.Wals.{Journal}
-use Rattle.acc_wal.specs.Settling.{IsSettled, KeepsLists, Pushes}
+use Rattle.acc_wal.specs.Settling.{IsSettled, KeepsLists, FailsSo, Pushes}
+use Rattle.acc_wal.specs.declared.errors.WalError.{WalError}
+use Rattle.acc_wal.specs.declared.errors.WalError.TheVariants as wal_error
 use Rattle.acc_machine.specs.declared.errors.BeginError.{BeginError}
 use Rattle.acc_machine.specs.declared.errors.BeginError.TheVariants.{Full, Crowd, Memory}
 use Rattle.acc_machine.specs.Begun.{Begins}
@@ -87,6 +89,18 @@ module _ {D : Type 0} (d : Design) (w : World) (old new : Journal D) (found : �
   in_step_settled (Err x) s e = same_lists e
 
 -- ---- a turn
+
+-- after a settling it has failed just where the journal is spent
+pub failed_settling : {D T : Type 0} (old new : Journal D) (r : Result T WalError) (fault : Type 0) → OnOk r (IsSettled old new)
+    → IfErr r (λ error. FailsSo error old.spent new.spent fault) → (old.spent ≡ true → new ≡ old) → is_err r ≡ new.spent
+failed_settling old new (Ok x) fault ok why stays = sym ok.spent
+failed_settling {D} old new (Err wal_error.Spent) fault ok why stays = sym (ap (λ (j : Journal D). j.spent) (stays why) ∙ why)
+failed_settling old new (Err wal_error.Disk) fault ok why stays = sym why.1
+failed_settling old new (Err wal_error.Exists) fault ok why stays = absurd why
+failed_settling old new (Err wal_error.NotJournal) fault ok why stays = absurd why
+failed_settling old new (Err (wal_error.OtherVersion version)) fault ok why stays = absurd why
+failed_settling old new (Err (wal_error.Damaged place)) fault ok why stays = absurd why
+failed_settling old new (Err wal_error.Memory) fault ok why stays = absurd why
 
 pub turn_brief : (t : ℕ) (event : Event) → IsTurnEvent t event → length (event_bytes event) ≤ 14
 unfolding event_bytes

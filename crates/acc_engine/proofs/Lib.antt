@@ -3,3 +3,5 @@ pub mod Unbegun
 pub mod InSteps
 pub mod Standing
 pub mod Tails
+pub mod Turned
+pub mod Surviving

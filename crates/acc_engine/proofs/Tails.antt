@@ -46,7 +46,7 @@ begin_keeps d f w v w2 true t is h =
 begin_keeps d f w v w2 false t is h = absurd (none-some w2 h)
 
 -- one other than it turns
-set_keeps : (ts : List Transaction) (u t : ℕ) (x : Transaction) → 0 < u → (u == t) ≡ false
+pub set_keeps : (ts : List Transaction) (u t : ℕ) (x : Transaction) → 0 < u → (u == t) ≡ false
     → transaction_at t (set ts (u - 1) x) ≡ transaction_at t ts
 set_keeps ts u t x from_one other = by (t == 0) refl
   where

@@ -4,3 +4,4 @@ pub mod Calls
 pub mod Acks
 pub mod Ready
 pub mod Standing
+pub mod Surviving

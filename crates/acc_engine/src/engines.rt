@@ -10,7 +10,7 @@ use crate::places::prepare;
 use acc_base::machines::{Call, Reply, Turn};
 use acc_base::sequences::Seq;
 use acc_disk::Disk;
-use acc_machine::{BeginError, State};
+use acc_machine::{BeginError, State, TurnError};
 use acc_store::Store;
 use acc_wal::{LONGEST_TURN, Wal, WalError};
 use std::alloc::Global;
@@ -32,10 +32,12 @@ pub struct Engine<'a, S: Store, D: Disk> {
     // each place below this one is begun
     lowest: usize,
     found: usize,
+    // whether a fault of the disk ended it
+    failed: bool,
 }
 
 impl<'a, S: Store, D: Disk> Model for Engine<'a, S, D> {
-    ghost use Rattle.std.specs.Prelude.{length};
+    ghost use Rattle.std.specs.Prelude.{◌≡◌, length};
     ghost use Rattle.acc_engine.specs.Keeping.{Journalled, IsInStep};
 
     ghost Value = { Journalled D };
@@ -52,7 +54,8 @@ impl<'a, S: Store, D: Disk> Model for Engine<'a, S, D> {
       failed = e.wal.spent;
     } };
 
-    ghost invariant = { λ e. IsInStep e.state.design e.state.world e.wal.durable e.wal.tail e.found e.calls e.begun.items e.lowest };
+    ghost invariant = { λ e. IsInStep e.state.design e.state.world e.wal.durable e.wal.tail e.found e.calls e.begun.items e.lowest
+        × (e.failed ≡ e.wal.spent) };
 }
 
 impl<'a, S: Store, D: Disk> Engine<'a, S, D> {
@@ -96,6 +99,7 @@ impl<'a, S: Store, D: Disk> Engine<'a, S, D> {
             begun: Vec::new(alloc),
             lowest: 0,
             found,
+            failed: false,
         }
     }
 
@@ -137,8 +141,15 @@ impl<'a, S: Store, D: Disk> Engine<'a, S, D> {
         self.wal.durable().len()
     }
 
-    // What the engine keeps. It does nothing.
-    fn standing(&self)
+    /// Whether a fault of the disk has ended it.
+    pub fn has_failed(&self) -> bool
+        ensures { result ≡ self.now.failed }
+    {
+        self.failed
+    }
+
+    /// What the engine keeps, for a contract. It does nothing.
+    pub fn standing(&self)
         ensures { IsSound D.told self.now }
     {
         let _durable = self.wal.durable();
@@ -180,11 +191,19 @@ impl<'a, S: Store, D: Disk> Engine<'a, S, D> {
         ensures sound { IsSound D.told self.new }
     {
         let outcome = self.wal.settle();
+        self.failed = outcome.is_err();
         let count = self.wal.durable().len() as u64;
         match outcome {
             Ok(()) => Ok(count),
             Err(WalError::Spent) => Err(EngineError::Failed),
-            Err(_) => Err(EngineError::Disk),
+            Err(WalError::Disk) => Err(EngineError::Disk),
+            Err(
+                WalError::Exists
+                | WalError::NotJournal
+                | WalError::OtherVersion(_)
+                | WalError::Damaged(_)
+                | WalError::Memory,
+            ) => unreachable!(),
         }
     }
 
@@ -204,14 +223,21 @@ impl<'a, S: Store, D: Disk> Engine<'a, S, D> {
         match self.wal.reserve(LONGEST_TURN) {
             Ok(()) => (),
             Err(WalError::Spent) => return Err(EngineError::Failed),
-            Err(_) => return Err(EngineError::Memory),
+            Err(WalError::Memory) => return Err(EngineError::Memory),
+            Err(
+                WalError::Exists
+                | WalError::NotJournal
+                | WalError::OtherVersion(_)
+                | WalError::Damaged(_)
+                | WalError::Disk,
+            ) => unreachable!(),
         }
         match self.state.turn(t) {
             Ok(turn) => {
                 note(&self.state, &mut self.wal, t, turn);
                 Ok(turn)
             }
-            Err(_) => Err(EngineError::Memory),
+            Err(TurnError::Memory) => Err(EngineError::Memory),
         }
     }
 
@@ -230,7 +256,7 @@ impl<'a, S: Store, D: Disk> Engine<'a, S, D> {
         ensures sound { IsSound D.told self.new }
     {
         self.standing();
-        if self.wal.reserve(0).is_err() {
+        if self.failed {
             return Err(EngineError::Failed);
         }
         match self.state.room() {
@@ -259,7 +285,8 @@ impl<'a, S: Store, D: Disk> Engine<'a, S, D> {
                 self.begun[index] = true;
                 Ok(t)
             }
-            Err(_) => Err(EngineError::Memory),
+            Err(BeginError::Full | BeginError::Crowd) => unreachable!(),
+            Err(BeginError::Memory) => Err(EngineError::Memory),
         }
     }
 
@@ -278,7 +305,7 @@ impl<'a, S: Store, D: Disk> Engine<'a, S, D> {
         if place < self.calls.len() {
             self.lowest = place;
             self.begin_at(place as u64 + 1)
-        } else if self.wal.reserve(0).is_err() {
+        } else if self.failed {
             Err(EngineError::Failed)
         } else {
             Ok(Drawn::Empty)
@@ -299,6 +326,7 @@ impl<'a, S: Store, D: Disk> Engine<'a, S, D> {
             begun: _,
             lowest: _,
             found: _,
+            failed: _,
         } = self;
         (state, wal)
     }

@@ -13,7 +13,7 @@ use crate::marks::widen;
 use crate::noting::begin_again;
 use acc_base::machines::{Call, Event};
 use acc_disk::Disk;
-use acc_wal::{Wal, event_len};
+use acc_wal::{Wal, WalError, event_len};
 
 /// The event by which the place's call begins, with room for it in the journal and for its mark among the marks.
 pub fn prepare<D: Disk>(
@@ -40,7 +40,15 @@ pub fn prepare<D: Disk>(
     };
     match wal.reserve(event_len(&event)) {
         Ok(()) => (),
-        Err(_) => return Err(EngineError::Memory),
+        Err(WalError::Memory) => return Err(EngineError::Memory),
+        Err(
+            WalError::Exists
+            | WalError::NotJournal
+            | WalError::OtherVersion(_)
+            | WalError::Damaged(_)
+            | WalError::Disk
+            | WalError::Spent,
+        ) => unreachable!(),
     }
     match widen(begun, calls.len()) {
         Ok(()) => Ok(event),

@@ -13,6 +13,7 @@ help_text = flat_map line (
     codes "acc prove DESIGN                            makes such a certificate, or tells which obligations stay open" ∷
     codes "acc init DESIGN JOURNAL                     makes JOURNAL a journal of the design without events, if it isn't one already" ∷
     codes "acc sched DESIGN CERT SCRIPT ORDER JOURNAL  recovers the journal, and goes on as `rehearse`; each end is kept in it" ∷
+    codes "acc run DESIGN CERT SCRIPT WORKERS JOURNAL  recovers the journal, and 1 to 64 workers run the script; each end is kept in it" ∷
     codes "acc recover DESIGN CERT JOURNAL             ends what its events left unfinished, and tells how many events there are then" ∷
     codes "acc dump DESIGN CERT JOURNAL                does the same, and prints the rows that its events lead to" ∷
     codes "acc replies DESIGN CERT JOURNAL             does the same, and prints how each transaction ended, by its number" ∷

@@ -5,9 +5,10 @@ use Rattle.acc_inputs.specs.declared.words.Command.TheVariants as command
 use Rattle.acc_inputs.specs.declared.requests.PlayFiles.{PlayFiles}
 use Rattle.acc_inputs.specs.declared.requests.CertifiedFiles.{CertifiedFiles}
 use Rattle.acc_inputs.specs.declared.requests.ScheduleFiles.{ScheduleFiles}
+use Rattle.acc_inputs.specs.declared.requests.WorkerFiles.{WorkerFiles}
 use Rattle.acc_inputs.specs.declared.requests.Request.{Request}
-use Rattle.acc_inputs.specs.declared.requests.Request.TheVariants.{Play, Rehearse, Print, Check, Prove, Init, Sched, Recover, Dump, Replies}
-use Rattle.acc_inputs.specs.declared.requests.Request.TheVariants.{Help, Version}
+use Rattle.acc_inputs.specs.declared.requests.Request.TheVariants.{Play, Rehearse, Print, Check, Prove, Init, Sched, Run}
+use Rattle.acc_inputs.specs.declared.requests.Request.TheVariants.{Recover, Dump, Replies, Help, Version}
 
 abbrev pub command_in : Request → Command
 command_in (Play files) = command.Play
@@ -17,6 +18,7 @@ command_in (Check files) = command.Check
 command_in (Prove design) = command.Prove
 command_in (Init design) = command.Init
 command_in (Sched files) = command.Sched
+command_in (Run files workers) = command.Run workers
 command_in (Recover files) = command.Recover
 command_in (Dump files) = command.Dump
 command_in (Replies files) = command.Replies
@@ -32,6 +34,9 @@ certified_texts files = files.design.now ∷ files.certificate.now ∷ []
 abbrev pub scheduled_texts : ScheduleFiles → List (List ℕ)
 scheduled_texts files = files.design.now ∷ files.certificate.now ∷ files.script.now ∷ files.order.now ∷ []
 
+abbrev pub worked_texts : WorkerFiles → List (List ℕ)
+worked_texts files = files.design.now ∷ files.certificate.now ∷ files.script.now ∷ []
+
 -- the bytes of the files, in the order of the words that name them
 abbrev pub texts_in : Request → List (List ℕ)
 texts_in (Play files) = played_texts files
@@ -41,6 +46,7 @@ texts_in (Check files) = certified_texts files
 texts_in (Prove design) = design.now ∷ []
 texts_in (Init design) = design.now ∷ []
 texts_in (Sched files) = scheduled_texts files
+texts_in (Run files workers) = worked_texts files
 texts_in (Recover files) = certified_texts files
 texts_in (Dump files) = certified_texts files
 texts_in (Replies files) = certified_texts files

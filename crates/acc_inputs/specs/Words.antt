@@ -1,26 +1,31 @@
 -- The forms of the command line.
-use Rattle.std.specs.Prelude.{ℕ, List, [], ◌∷◌, length, take, drop, Bool, true, false, ◌==◌, if◌then◌else◌}
-use Rattle.std.specs.Prelude.{Option, Some, None, codes}
+use Rattle.std.specs.Prelude.{ℕ, ◌≤◌, List, [], ◌∷◌, length, take, drop, Bool, true, false, ◌==◌, if◌then◌else◌}
+use Rattle.std.specs.Prelude.{◌&&◌, nat_le, Option, Some, None, option_map, codes, decimal}
 use Rattle.std.specs.Str.{bytes_eq}
+use Rattle.std.specs.Str.Parse.{digits_value}
+use Rattle.acc_inputs.specs.declared.words.TheConstants.{MOST_WORKERS}
+use Rattle.acc_inputs.specs.declared.words.Form.{Form}
+use Rattle.acc_inputs.specs.declared.words.Form.TheVariants.{Files, Workers}
 use Rattle.acc_inputs.specs.declared.words.Command.{Command}
 use Rattle.acc_inputs.specs.declared.words.Command.TheVariants as command
 
--- the command with this verb
-unfoldable pub verb_of : List ℕ → Option Command
-verb_of verb =
-    if bytes_eq verb (codes "play") then Some command.Play else
-    (if bytes_eq verb (codes "rehearse") then Some command.Rehearse else
-    (if bytes_eq verb (codes "print") then Some command.Print else
-    (if bytes_eq verb (codes "check") then Some command.Check else
-    (if bytes_eq verb (codes "prove") then Some command.Prove else
-    (if bytes_eq verb (codes "init") then Some command.Init else
-    (if bytes_eq verb (codes "sched") then Some command.Sched else
-    (if bytes_eq verb (codes "recover") then Some command.Recover else
-    (if bytes_eq verb (codes "dump") then Some command.Dump else
-    (if bytes_eq verb (codes "replies") then Some command.Replies else
-    (if bytes_eq verb (codes "--help") then Some command.Help else
-    (if bytes_eq verb (codes "--version") then Some command.Version else
-    None)))))))))))
+-- what stands behind this verb: the names of the command's files alone, or those of the files of `run` and then the number of workers
+unfoldable pub form_of : List ℕ → Option Form
+form_of verb =
+    if bytes_eq verb (codes "play") then Some (Files command.Play) else
+    (if bytes_eq verb (codes "rehearse") then Some (Files command.Rehearse) else
+    (if bytes_eq verb (codes "print") then Some (Files command.Print) else
+    (if bytes_eq verb (codes "check") then Some (Files command.Check) else
+    (if bytes_eq verb (codes "prove") then Some (Files command.Prove) else
+    (if bytes_eq verb (codes "init") then Some (Files command.Init) else
+    (if bytes_eq verb (codes "sched") then Some (Files command.Sched) else
+    (if bytes_eq verb (codes "run") then Some Workers else
+    (if bytes_eq verb (codes "recover") then Some (Files command.Recover) else
+    (if bytes_eq verb (codes "dump") then Some (Files command.Dump) else
+    (if bytes_eq verb (codes "replies") then Some (Files command.Replies) else
+    (if bytes_eq verb (codes "--help") then Some (Files command.Help) else
+    (if bytes_eq verb (codes "--version") then Some (Files command.Version) else
+    None))))))))))))
 
 -- how many files a command reads: the first words behind the verb name them
 unfoldable pub file_count : Command → ℕ
@@ -31,6 +36,7 @@ file_count command.Check = 2
 file_count command.Prove = 1
 file_count command.Init = 1
 file_count command.Sched = 4
+file_count (command.Run workers) = 3
 file_count command.Recover = 2
 file_count command.Dump = 2
 file_count command.Replies = 2
@@ -49,28 +55,70 @@ is_journalled command.Check = false
 is_journalled command.Prove = false
 is_journalled command.Init = true
 is_journalled command.Sched = true
+is_journalled (command.Run workers) = true
 is_journalled command.Recover = true
 is_journalled command.Dump = true
 is_journalled command.Replies = true
 is_journalled command.Help = false
 is_journalled command.Version = false
 
--- the command that the words ask for: its verb, and as many words behind it as it has files
-abbrev pub with_files : Option Command → ℕ → Option Command
-with_files None count = None
-with_files (Some c) count = if count == file_count c then Some c else None
+-- there may be so many workers
+abbrev pub IsCrew : ℕ → Type 0
+IsCrew n = (1 ≤ n) × (n ≤ MOST_WORKERS)
 
+abbrev pub is_crew : ℕ → Bool
+is_crew n = nat_le 1 n && nat_le n MOST_WORKERS
+
+-- how many workers a word asks for: the number of which it is the decimal numeral, if there may be so many
+abbrev pub workers_of : List ℕ → Option ℕ
+workers_of word = let n = digits_value 10 word in if is_crew n && bytes_eq (decimal n) word then Some n else None
+
+-- the command, if so many words name its files
+abbrev pub with_files : Command → List (List ℕ) → Option Command
+with_files c names = if length names == file_count c then Some c else None
+
+-- how many workers the words ask for: there is one, and it asks for them
+abbrev pub workers_in : List (List ℕ) → Option ℕ
+workers_in [] = None
+workers_in (word ∷ []) = workers_of word
+workers_in (word ∷ other ∷ more) = None
+
+-- `run`, if three words name its files, and those behind them say how many workers there are
+abbrev pub with_workers : List (List ℕ) → Option Command
+with_workers words = option_map command.Run (workers_in (drop 3 words))
+
+-- the command, if such words stand behind its verb
+abbrev pub with_form : Option Form → List (List ℕ) → Option Command
+with_form None words = None
+with_form (Some (Files c)) words = with_files c words
+with_form (Some Workers) words = with_workers words
+
+-- the command that the words ask for: its verb, and what stands behind that
 abbrev pub command_of : List (List ℕ) → Option Command
 command_of [] = None
-command_of (verb ∷ names) = with_files (verb_of verb) (length names)
+command_of (verb ∷ words) = with_form (form_of verb) words
+
+-- the words that name the files of a command, if it is one
+abbrev pub names_of : Option Command → List (List ℕ) → List (List ℕ)
+names_of None words = []
+names_of (Some c) words = files_of c words
+
+abbrev pub file_names : List (List ℕ) → List (List ℕ)
+file_names words = names_of (command_of words) words
 
 -- whether it is a command, and one over a journal
 abbrev pub is_over_journal : Option Command → Bool
 is_over_journal None = false
 is_over_journal (Some c) = is_journalled c
 
+-- whether it is what stands behind the verb of a command over a journal
+abbrev pub is_journal_form : Option Form → Bool
+is_journal_form None = false
+is_journal_form (Some (Files c)) = is_journalled c
+is_journal_form (Some Workers) = true
+
 -- Whether the first word is the verb of a command over a journal. Then the program's own last word names the journal's file, and isn't one
 -- of the words of a form.
 abbrev pub asks_journal : List (List ℕ) → Bool
 asks_journal [] = false
-asks_journal (verb ∷ names) = is_over_journal (verb_of verb)
+asks_journal (verb ∷ words) = is_journal_form (form_of verb)

@@ -12,6 +12,6 @@ mod words;
 pub use designs::{ReadDesign, design_refused, read_design};
 pub use files::{Refusal, read_all};
 pub use notes::{help_text, version_text};
-pub use requests::{CertifiedFiles, PlayFiles, Request, ScheduleFiles};
+pub use requests::{CertifiedFiles, PlayFiles, Request, ScheduleFiles, WorkerFiles};
 pub use scripts::{ReadOrder, ReadScript, read_order, read_script};
-pub use words::{Command, asks_journal, command_of, file_count};
+pub use words::{Command, MOST_WORKERS, asks_journal, command_of, file_count, file_names};

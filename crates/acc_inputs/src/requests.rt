@@ -1,7 +1,7 @@
 //! Commands with their files.
 ghost use Rattle.std.specs.Prelude.{◌≡◌, map, length};
 ghost use Rattle.acc_inputs.specs.Words.{file_count};
-ghost use Rattle.acc_inputs.specs.Requests.{command_in, texts_in, played_texts, certified_texts, scheduled_texts};
+ghost use Rattle.acc_inputs.specs.Requests.{command_in, texts_in, certified_texts, scheduled_texts};
 
 use crate::words::Command;
 
@@ -11,19 +11,6 @@ pub struct PlayFiles<'a> {
     pub design: &'a [u8],
     pub script: &'a [u8],
     pub order: &'a [u8],
-}
-
-impl<'a> PlayFiles<'a> {
-    fn new(files: &'a [Vec<u8>]) -> Self
-        requires { length files.now ≡ 3 }
-        ensures { played_texts result ≡ map (λ v. v.items) files.now }
-    {
-        PlayFiles {
-            design: &files[0],
-            script: &files[1],
-            order: &files[2],
-        }
-    }
 }
 
 /// The bytes of a design, and of the certificate by which it is to be accepted.
@@ -68,6 +55,14 @@ impl<'a> ScheduleFiles<'a> {
     }
 }
 
+/// The bytes of a design, of its certificate, and of a script of its calls.
+#[derive(Clone, Copy)]
+pub struct WorkerFiles<'a> {
+    pub design: &'a [u8],
+    pub certificate: &'a [u8],
+    pub script: &'a [u8],
+}
+
 /// A command with the bytes of its files: of a design alone, or of one with others.
 #[derive(Clone, Copy)]
 pub enum Request<'a> {
@@ -78,6 +73,8 @@ pub enum Request<'a> {
     Prove(&'a [u8]),
     Init(&'a [u8]),
     Sched(ScheduleFiles<'a>),
+    /// With how many workers there are.
+    Run(WorkerFiles<'a>, u64),
     Recover(CertifiedFiles<'a>),
     Dump(CertifiedFiles<'a>),
     Replies(CertifiedFiles<'a>),
@@ -94,13 +91,25 @@ impl<'a> Request<'a> {
         ensures texts { texts_in result ≡ map (λ v. v.items) files.now }
     {
         match command {
-            Command::Play => Request::Play(PlayFiles::new(files)),
+            Command::Play => Request::Play(PlayFiles {
+                design: &files[0],
+                script: &files[1],
+                order: &files[2],
+            }),
             Command::Rehearse => Request::Rehearse(ScheduleFiles::new(files)),
             Command::Print => Request::Print(&files[0]),
             Command::Check => Request::Check(CertifiedFiles::new(files)),
             Command::Prove => Request::Prove(&files[0]),
             Command::Init => Request::Init(&files[0]),
             Command::Sched => Request::Sched(ScheduleFiles::new(files)),
+            Command::Run(workers) => Request::Run(
+                WorkerFiles {
+                    design: &files[0],
+                    certificate: &files[1],
+                    script: &files[2],
+                },
+                workers,
+            ),
             Command::Recover => Request::Recover(CertifiedFiles::new(files)),
             Command::Dump => Request::Dump(CertifiedFiles::new(files)),
             Command::Replies => Request::Replies(CertifiedFiles::new(files)),

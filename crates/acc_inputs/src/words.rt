@@ -1,6 +1,13 @@
 //! The forms of the command line.
-ghost use Rattle.std.specs.Prelude.{◌≡◌, ◌+◌, map, length, string_bytes, IfSome};
-ghost use Rattle.acc_inputs.specs.Words.{verb_of, command_of, file_count, is_journalled, asks_journal};
+ghost use Rattle.std.specs.Prelude.{◌≡◌, ◌≢◌, ℕ, ◌+◌, ◌≤◌, MatchOption, map, length, string_bytes, decimal, IfSome};
+ghost use Rattle.std.specs.Str.{bytes_eq};
+ghost use Rattle.acc_inputs.specs.Words.{form_of, file_count, is_journalled, IsCrew, is_crew};
+ghost use Rattle.acc_inputs.specs.Words.{with_files, with_workers, command_of, file_names, asks_journal};
+
+use itoa::Buffer;
+
+/// The most workers that `run` takes.
+pub const MOST_WORKERS: u64 = 64;
 
 /// What the program is asked to do.
 #[derive(Clone, Copy)]
@@ -19,6 +26,8 @@ pub enum Command {
     Init,
     /// `sched DESIGN CERT SCRIPT ORDER`, over a journal
     Sched,
+    /// `run DESIGN CERT SCRIPT WORKERS`, over a journal, with so many workers: from 1 to `MOST_WORKERS`
+    Run(u64),
     /// `recover DESIGN CERT`, over a journal
     Recover,
     /// `dump DESIGN CERT`, over a journal
@@ -31,24 +40,34 @@ pub enum Command {
     Version,
 }
 
-/// The command with this verb.
-#[tactic(auto, unfolding(crate::specs::Words::verb_of))]
-fn verb_of(verb: &str) -> Option<Command>
-    ensures { result ≡ verb_of verb.now }
+/// What stands behind a verb.
+#[derive(Clone, Copy)]
+enum Form {
+    /// The names of the command's files.
+    Files(Command),
+    /// The names of the files of `run`, and the number of workers.
+    Workers,
+}
+
+/// What stands behind this verb.
+#[tactic(auto, unfolding(crate::specs::Words::form_of))]
+fn form_of(verb: &str) -> Option<Form>
+    ensures { result ≡ form_of verb.now }
 {
     match verb {
-        "play" => Some(Command::Play),
-        "rehearse" => Some(Command::Rehearse),
-        "print" => Some(Command::Print),
-        "check" => Some(Command::Check),
-        "prove" => Some(Command::Prove),
-        "init" => Some(Command::Init),
-        "sched" => Some(Command::Sched),
-        "recover" => Some(Command::Recover),
-        "dump" => Some(Command::Dump),
-        "replies" => Some(Command::Replies),
-        "--help" => Some(Command::Help),
-        "--version" => Some(Command::Version),
+        "play" => Some(Form::Files(Command::Play)),
+        "rehearse" => Some(Form::Files(Command::Rehearse)),
+        "print" => Some(Form::Files(Command::Print)),
+        "check" => Some(Form::Files(Command::Check)),
+        "prove" => Some(Form::Files(Command::Prove)),
+        "init" => Some(Form::Files(Command::Init)),
+        "sched" => Some(Form::Files(Command::Sched)),
+        "run" => Some(Form::Workers),
+        "recover" => Some(Form::Files(Command::Recover)),
+        "dump" => Some(Form::Files(Command::Dump)),
+        "replies" => Some(Form::Files(Command::Replies)),
+        "--help" => Some(Form::Files(Command::Help)),
+        "--version" => Some(Form::Files(Command::Version)),
         _ => None,
     }
 }
@@ -59,7 +78,7 @@ pub fn file_count(command: Command) -> usize
     ensures { result ≡ file_count command }
 {
     match command {
-        Command::Play => 3,
+        Command::Play | Command::Run(_) => 3,
         Command::Rehearse | Command::Sched => 4,
         Command::Print | Command::Prove | Command::Init => 1,
         Command::Check | Command::Recover | Command::Dump | Command::Replies => 2,
@@ -72,24 +91,84 @@ fn is_journalled(command: Command) -> bool
     ensures { result ≡ is_journalled command }
 {
     match command {
-        Command::Init | Command::Sched => true,
+        Command::Init | Command::Sched | Command::Run(_) => true,
         Command::Recover | Command::Dump | Command::Replies => true,
         Command::Play | Command::Rehearse | Command::Print | Command::Check => false,
         Command::Prove | Command::Help | Command::Version => false,
     }
 }
 
-/// The command that the words ask for: its verb, and as many words behind it as it has files.
-pub fn command_of(words: &[String]) -> Option<Command>
-    ensures command { result ≡ command_of (map string_bytes words.now) }
-    ensures length { IfSome result (λ command. length words.now ≡ file_count command + 1) }
+/// Whether there may be so many workers.
+fn is_crew(workers: u64) -> bool
+    ensures { result ≡ is_crew workers }
 {
-    let [verb, names @ ..] = words else {
+    (1..=MOST_WORKERS).contains(&workers)
+}
+
+/// Whether a word is the numeral of a number: its decimal digits, without a sign or a leading zero.
+fn is_numeral_of(word: &str, number: u64) -> bool
+    ensures { result ≡ bytes_eq (decimal number) word.now }
+{
+    Buffer::new().format(number).as_bytes() == word.as_bytes()
+}
+
+/// The number of workers of which a word is the numeral, if there is one.
+fn workers_of(word: &str) -> Option<u64>
+    ensures { MatchOption result ((n : ℕ) → IsCrew n → word.now ≢ decimal n) (λ n. IsCrew n × (word.now ≡ decimal n)) }
+{
+    let Ok(workers) = word.parse() else {
         return None;
     };
-    match verb_of(verb.as_str()) {
-        Some(command) if names.len() == file_count(command) => Some(command),
-        Some(_) | None => None,
+    if is_crew(workers) && is_numeral_of(word, workers) {
+        Some(workers)
+    } else {
+        None
+    }
+}
+
+/// The command, if as many words stand behind its verb as it has files.
+fn with_files(command: Command, names: &[String]) -> Option<Command>
+    ensures { result ≡ with_files command (map string_bytes names.now) }
+{
+    if names.len() == file_count(command) {
+        Some(command)
+    } else {
+        None
+    }
+}
+
+/// `run`, if the names of its files and a number of workers stand behind the verb.
+fn with_workers(words: &[String]) -> Option<Command>
+    ensures command { result ≡ with_workers (map string_bytes words.now) }
+    ensures length { IfSome result (λ command. file_count command ≤ length words.now) }
+{
+    let [_design, _certificate, _script, workers] = words else {
+        return None;
+    };
+    Some(Command::Run(workers_of(workers.as_str())?))
+}
+
+/// The command that the words ask for: its verb, and behind it the names of its files, and for `run` the number of workers.
+pub fn command_of(words: &[String]) -> Option<Command>
+    ensures command { result ≡ command_of (map string_bytes words.now) }
+    ensures length { IfSome result (λ command. file_count command + 1 ≤ length words.now) }
+{
+    let [verb, behind @ ..] = words else {
+        return None;
+    };
+    match form_of(verb.as_str())? {
+        Form::Files(command) => with_files(command, behind),
+        Form::Workers => with_workers(behind),
+    }
+}
+
+/// The words that name the files of the command that the words ask for; none where they ask for no command.
+pub fn file_names(words: &[String]) -> &[String]
+    ensures { map string_bytes result.now ≡ file_names (map string_bytes words.now) }
+{
+    match command_of(words) {
+        Some(command) => &words[1..=file_count(command)],
+        None => &[],
     }
 }
 
@@ -100,8 +179,9 @@ pub fn asks_journal(words: &[String]) -> bool
     let [verb, ..] = words else {
         return false;
     };
-    match verb_of(verb.as_str()) {
-        Some(command) => is_journalled(command),
+    match form_of(verb.as_str()) {
+        Some(Form::Files(command)) => is_journalled(command),
+        Some(Form::Workers) => true,
         None => false,
     }
 }

@@ -5,6 +5,7 @@ use Rattle.acc_io.specs.Causes.{Rose}
 use Rattle.acc_base.specs.declared.designs.Design.{Design}
 use Rattle.acc_base.specs.declared.machines.Call.{Call}
 use Rattle.acc_base.specs.Machine.{World}
+use Rattle.acc_base.specs.Plays.{Play}
 use Rattle.acc_parse.specs.declared.errors.ParseError.{ParseError}
 use Rattle.acc_parse.specs.declared.errors.ParseError.TheVariants as errors
 use Rattle.acc_wal.specs.declared.errors.WalError.{WalError}
@@ -23,9 +24,9 @@ use Rattle.acc_inputs.specs.Text.{Said, said_in, IsEarly}
 use Rattle.acc_journal_commands.specs.Disks.{Seen}
 use Rattle.acc_inputs.specs.Refusals.{SaysError, RefusesDesign}
 use Rattle.acc_journal_commands.specs.InitFiles.{InitsFile}
-use Rattle.acc_running.specs.Running.{RunsJournal}
+use Rattle.acc_running.specs.Running.{RunsFrom, RunsJournal, WorksJournal, IsOpening, WorkersLeave}
 use Rattle.acc_running.specs.Engines.{ending_at}
-use Rattle.acc_journal_commands.specs.RunFiles.{RunsOfOrder, RunsOfScript, RunsCertified, RunsFiles}
+use Rattle.acc_journal_commands.specs.RunFiles.{RunsOfOrder, WorksSeen, RunsOfScript, RunsCertified, RunsTexts, RunsFiles, WorksFiles}
 use Rattle.acc_journal_commands.specs.RecoverFiles.{RecoversCertified, RecoversFiles}
 
 -- ---- the journal decides
@@ -108,15 +109,15 @@ refusal_ends design said (inr h) = h.says.0
 abbrev pub EndsRun : Type 0 → Telling → Type 0
 EndsRun fault t = EndsOver fault t ⊎ (t.ending ≡ Unbegun)
 
-running_ends : (d : Design) (calls : List Call) (order : List ℕ) (told told' : Option (List ℕ)) (fault : Type 0) (t : Telling)
-    → RunsJournal d calls order told told' fault t → EndsRun fault t
-running_ends d calls order told told' fault t (inl h) = by h.all_begun h.ending
+running_ends : (d : Design) (calls : List Call) (order : List ℕ) (Opens : World → Play → Type 0) (told told' : Option (List ℕ))
+    (fault : Type 0) (t : Telling) → RunsFrom d calls order Opens told told' fault t → EndsRun fault t
+running_ends d calls order Opens told told' fault t (inl h) = by h.all_begun h.ending
   where
     by : (all_begun : Bool) → t.ending ≡ ending_at all_begun → EndsRun fault t
     by true e = inl (inl e)
     by false e = inr e
-running_ends d calls order told told' fault t (inr (inl h)) = inl (inr (inr (h.ending, h.failed)))
-running_ends d calls order told told' fault t (inr (inr h)) = inl (unrecovered_ends h.error d told fault t h.cause h.says)
+running_ends d calls order Opens told told' fault t (inr (inl h)) = inl (inr (inr (h.ending, h.failed)))
+running_ends d calls order Opens told told' fault t (inr (inr h)) = inl (unrecovered_ends h.error d told fault t h.cause h.says)
 
 pub run_late : (fault : Type 0) (t : Telling) → EndsRun fault t → IsEarly t.ending → ⊥
 run_late fault t (inl h) early = over_late fault t h early
@@ -125,7 +126,11 @@ run_late fault t (inr is) (inr e) = other_end Unbegun ScriptRefused t (λ e. cc)
 
 pub seen_late : (d : Design) (calls : List Call) (order : List ℕ) (told told' : Option (List ℕ)) (fault : Type 0) (t : Telling)
     → RunsJournal d calls order told told' fault t → IsEarly t.ending → ⊥
-seen_late d calls order told told' fault t h = run_late fault t (running_ends d calls order told told' fault t h)
+seen_late d calls order told told' fault t h = run_late fault t (running_ends d calls order (IsOpening calls) told told' fault t h)
+
+pub works_late : (d : Design) (calls : List Call) (told told' : Option (List ℕ)) (fault : Type 0) (t : Telling)
+    → WorksJournal d calls told told' fault t → IsEarly t.ending → ⊥
+works_late d calls told told' fault t h = run_late fault t (running_ends d calls [] (WorkersLeave d calls) told told' fault t h)
 
 -- a refusal before the journal, or how it ends by that
 abbrev pub EndsOverDisk : Type 0 → Telling → Type 0
@@ -147,26 +152,40 @@ module _ (wanted : Wanted) (old new : Seen) (t : Telling) where
   recover_ends design certificate (inl h) = inl (inl (refusal_ends design (said_in t) h.2))
   recover_ends design certificate (inr h) = certified_ends h.d certificate h.says
 
+-- where it is known how what is said of the calls ends
+module _ (OfCalls : Design → List Call → Seen → Seen → Telling → Type 0) (old new : Seen) (t : Telling)
+    (calls_end : (d : Design) (calls : List Call) → OfCalls d calls old new t → EndsOverDisk (Rose old.faults new.faults) t) where
+  script_ends : (d : Design) (script : List ℕ) → RunsOfScript OfCalls d script old new t → EndsOverDisk (Rose old.faults new.faults) t
+  script_ends d script (inl h) = inl (inr h.2.says.0)
+  script_ends d script (inr h) = calls_end d h.calls h.says
+
+  run_certified_ends : (d : Design) (certificate script : List ℕ) → RunsCertified OfCalls d certificate script old new t
+      → EndsOverDisk (Rose old.faults new.faults) t
+  run_certified_ends d certificate script (inl h) = inl (inl h.2.ending)
+  run_certified_ends d certificate script (inr h) = script_ends d script h.says
+
+  texts_end : (design certificate script : List ℕ) → RunsTexts OfCalls design certificate script old new t
+      → EndsOverDisk (Rose old.faults new.faults) t
+  texts_end design certificate script (inl h) = inl (inl (refusal_ends design (said_in t) h.2))
+  texts_end design certificate script (inr h) = run_certified_ends h.d certificate script h.says
+
 module _ (old new : Seen) (t : Telling) where
-  order_ends : (d : Design) (calls : List Call) (order : List ℕ) → RunsOfOrder d calls order old new t
+  order_ends : (order : List ℕ) (d : Design) (calls : List Call) → RunsOfOrder order d calls old new t
       → EndsOverDisk (Rose old.faults new.faults) t
-  order_ends d calls order (inl h) = inl (inr h.2.says.0)
-  order_ends d calls order (inr h) = inr (running_ends d calls h.numbers old.told new.told (Rose old.faults new.faults) t h.ends)
-
-  script_ends : (d : Design) (script order : List ℕ) → RunsOfScript d script order old new t
-      → EndsOverDisk (Rose old.faults new.faults) t
-  script_ends d script order (inl h) = inl (inr h.2.says.0)
-  script_ends d script order (inr h) = order_ends d h.calls order h.says
-
-  run_certified_ends : (d : Design) (certificate script order : List ℕ) → RunsCertified d certificate script order old new t
-      → EndsOverDisk (Rose old.faults new.faults) t
-  run_certified_ends d certificate script order (inl h) = inl (inl h.2.ending)
-  run_certified_ends d certificate script order (inr h) = script_ends d script order h.says
+  order_ends order d calls (inl h) = inl (inr h.2.says.0)
+  order_ends order d calls (inr h) =
+      inr (running_ends d calls h.numbers (IsOpening calls) old.told new.told (Rose old.faults new.faults) t h.ends)
 
   pub run_ends : (design certificate script order : List ℕ) → RunsFiles design certificate script order old new t
       → EndsOverDisk (Rose old.faults new.faults) t
-  run_ends design certificate script order (inl h) = inl (inl (refusal_ends design (said_in t) h.2))
-  run_ends design certificate script order (inr h) = run_certified_ends h.d certificate script order h.says
+  run_ends design certificate script order = texts_end (RunsOfOrder order) old new t (order_ends order) design certificate script
+
+  workers_end : (d : Design) (calls : List Call) → WorksSeen d calls old new t → EndsOverDisk (Rose old.faults new.faults) t
+  workers_end d calls h = inr (running_ends d calls [] (WorkersLeave d calls) old.told new.told (Rose old.faults new.faults) t h)
+
+  pub work_ends : (design certificate script : List ℕ) → WorksFiles design certificate script old new t
+      → EndsOverDisk (Rose old.faults new.faults) t
+  work_ends = texts_end WorksSeen old new t workers_end
 
 pub over_unbegun : (fault : Type 0) (t : Telling) → EndsOver fault t → t.ending ≡ Unbegun → ⊥
 over_unbegun fault t (inl is) e = other_end Done Unbegun t (λ e. cc) is e

@@ -7,4 +7,4 @@ pub mod runs;
 
 pub use journals::init_file;
 pub use recoveries::recover_files;
-pub use runs::run_files;
+pub use runs::{run_files, work_files};

@@ -4,6 +4,7 @@ ghost use Rattle.acc_inputs.specs.Words.{asks_journal};
 
 use acc_cli::asks_journal;
 use acc_disk::{FileDisk, Opening, Trouble};
+use acc_inputs::{Command, command_of};
 use acc_wal::FIRST_BYTES;
 use std::alloc::{AllocError, Global};
 
@@ -21,9 +22,10 @@ pub fn take_journal(words: &mut Vec<String>) -> Option<String>
 
 /// How the command of these words opens its journal: `init` makes one, over no file but what an `init` that was cut short left.
 fn opening(words: &[String]) -> Opening {
-    match words {
-        [verb, ..] if verb.as_str() == "init" => Opening::Make(&FIRST_BYTES),
-        _ => Opening::Use,
+    if let Some(Command::Init) = command_of(words) {
+        Opening::Make(&FIRST_BYTES)
+    } else {
+        Opening::Use
     }
 }
 

@@ -1,6 +1,8 @@
 //! The program: makes the real shelf, sink and disk, answers the command line, and tells on standard error why one is refused.
 #![tactic(auto)]
 
+ghost use Rattle.acc_crew.specs.Works.{IsUnworked};
+
 mod journal;
 mod streams;
 mod terminal;
@@ -9,28 +11,23 @@ use crate::journal::{is_let_alone, journal_disk, take_journal, trouble_line, unl
 use crate::streams::hold_streams;
 use crate::terminal::TerminalProgress;
 use acc_cli::{acc, help_text};
+use acc_crew::{Alone, Called, Crew};
+use acc_diagnose::statuses::{DISK, FILE, JOURNAL, MEMORY, SINK};
 use acc_diagnose::{Keeping, cut_line, explain, room_line, system_reason};
-use acc_disk::{Disk, MemDisk};
+use acc_disk::{Disk, FileDisk, MemDisk};
+use acc_engine::Engine;
+use acc_inputs::{Command, command_of, file_names};
 use acc_io::{FolderShelf, StdSink};
+use acc_lift::Accepted;
+use acc_store::MapStore;
+use acc_threads::work_in_threads;
+use acc_workers::OpenGate;
 use std::alloc::AllocError;
 use std::io::{ErrorKind, Write};
 use std::process::ExitCode;
+use std::sync::Wait;
+use std::thread::Threads;
 use std::{env, io};
-
-/// The status for a journal that is refused.
-const JOURNAL: u8 = 4;
-
-/// The status for a disk that failed.
-const DISK: u8 = 5;
-
-/// The status for a file that isn't given.
-const FILE: u8 = 6;
-
-/// The status for standard output that can't be written to.
-const SINK: u8 = 7;
-
-/// The status for want of memory.
-const MEMORY: u8 = 9;
 
 /// How a command line ended: the status, the disk that was handed in, how many events the history has that is told, and what was printed.
 #[derive(Drop)]
@@ -66,8 +63,7 @@ fn tell(rt: &HostRuntime, status: u8, words: &[String], printed: &[u8]) {
 
 /// Tells on standard error the system's reason why a file isn't given, if it has one.
 fn tell_reason(rt: &HostRuntime, words: &[String]) {
-    let names = words.get(1..).unwrap_or(&[]);
-    if let Ok(reason) = system_reason(rt, rt.alloc(), names) {
+    if let Ok(reason) = system_reason(rt, rt.alloc(), file_names(words)) {
         match rt.stderr().write_all(reason.as_bytes()) {
             Ok(()) | Err(_) => {}
         }
@@ -90,12 +86,29 @@ fn tell_if_any(rt: &HostRuntime, line: Result<Option<String>, AllocError>) {
     }
 }
 
-/// Answers a command line over a disk; what was printed is kept, and the disk handed back.
-fn answer<'a, D: Disk>(rt: &'a HostRuntime, words: &[String], disk: D) -> Answered<'a, D> {
+/// Answers a command line over a disk by a crew; what was printed is kept, and the disk handed back.
+fn answer<'a, 'd, D: Disk, C: Crew<Engine<'d, MapStore, D>>>(
+    rt: &'a HostRuntime,
+    words: &[String],
+    disk: D,
+    crew: &C,
+    slot: &'d mut Option<Accepted>,
+) -> Answered<'a, D>
+    requires { C.ready crew.now }
+{
     let mut shelf = FolderShelf::new(rt);
     let mut out = Keeping::new(rt.alloc(), StdSink::new(rt));
     let mut progress = TerminalProgress::new(rt);
-    let done = acc(rt.alloc(), words, &mut shelf, &mut out, disk, &mut progress);
+    let done = acc(
+        rt.alloc(),
+        words,
+        &mut shelf,
+        &mut out,
+        disk,
+        crew,
+        slot,
+        &mut progress,
+    );
     progress.end_line();
     Answered {
         status: done.status,
@@ -105,15 +118,51 @@ fn answer<'a, D: Disk>(rt: &'a HostRuntime, words: &[String], disk: D) -> Answer
     }
 }
 
+/// Answers a command line over the journal's file by workers in threads.
+fn answer_in_threads<'a, 'd, R: Threads + Wait + Sync>(
+    rt: &'a HostRuntime,
+    threads: &R,
+    words: &[String],
+    disk: FileDisk<'a, HostRuntime>,
+    slot: &'d mut Option<Accepted>,
+) -> Answered<'a, FileDisk<'a, HostRuntime>> {
+    let crew = Called::new::<Engine<'d, MapStore, FileDisk<'a, HostRuntime>>>(
+        |alloc, engine, workers|
+            requires { IsUnworked engine }
+        { work_in_threads(threads, alloc, engine, workers, &OpenGate) },
+    );
+    answer(rt, words, disk, &crew, slot)
+}
+
+/// Answers a command line over the journal's file: `run` by threads, and any other command without, so that it waits for nobody.
+fn answer_by_crew<'a, R: Threads + Wait + Sync>(
+    rt: &'a HostRuntime,
+    threads: &R,
+    words: &[String],
+    disk: FileDisk<'a, HostRuntime>,
+) -> Answered<'a, FileDisk<'a, HostRuntime>> {
+    let mut slot = None;
+    if let Some(Command::Run(_)) = command_of(words) {
+        answer_in_threads(rt, threads, words, disk, &mut slot)
+    } else {
+        answer(rt, words, disk, &Alone, &mut slot)
+    }
+}
+
 /// Answers a command line over the journal's file, and tells on standard error why, where it isn't answered with status 0.
-fn answer_over(rt: &HostRuntime, words: &[String], path: String) -> Result<u8, AllocError> {
+fn answer_over<R: Threads + Wait + Sync>(
+    rt: &HostRuntime,
+    threads: &R,
+    words: &[String],
+    path: String,
+) -> Result<u8, AllocError> {
     let disk = journal_disk(rt, words, path.clone()?);
     let Answered {
         status,
         disk,
         events,
         out,
-    } = answer(rt, words, disk);
+    } = answer_by_crew(rt, threads, words, disk);
     if disk.is_unlocked() {
         tell_line(rt, unlocked_line(rt.alloc(), path.as_str()));
     }
@@ -138,15 +187,15 @@ fn answer_without(rt: &HostRuntime, words: &[String]) -> Result<u8, AllocError> 
     let Ok(disk) = MemDisk::new(rt.alloc(), &[], &[], None) else {
         return Err(AllocError);
     };
-    let Answered { status, out, .. } = answer(rt, words, disk);
+    let Answered { status, out, .. } = answer(rt, words, disk, &Alone, &mut None);
     tell(rt, status, words, out.kept());
     Ok(status)
 }
 
 /// Answers the command line, and gives the status.
-fn run(rt: &HostRuntime, words: &mut Vec<String>) -> u8 {
+fn run<R: Threads + Wait + Sync>(rt: &HostRuntime, threads: &R, words: &mut Vec<String>) -> u8 {
     let answered = match take_journal(words) {
-        Some(path) => answer_over(rt, words, path),
+        Some(path) => answer_over(rt, threads, words, path),
         None => answer_without(rt, words),
     };
     match answered {
@@ -168,5 +217,5 @@ fn main(rt: HostRuntime) -> ExitCode {
         // A word that is no text is no form of words.
         Err(_) => Vec::new(rt.alloc()),
     };
-    ExitCode::from(run(&rt, &mut words))
+    ExitCode::from(run(&rt, &rt, &mut words))
 }

@@ -1,17 +1,19 @@
 -- What the answers of a search show.
-use Rattle.std.proofs.Common.{◌≡◌, List, Result, Ok, Err, sym, subst}
-use Rattle.std.specs.Prelude.{⊤}
+use Rattle.std.proofs.Common.{List, Result, Ok, Err, sym, subst}
+use Rattle.std.specs.Prelude.{IfOk, IsTrue}
 use Rattle.acc_base.specs.declared.forms.Lin.{Lin}
 use Rattle.acc_base.specs.declared.designs.Design.{Design}
 use Rattle.acc_base.specs.declared.sequents.Sequent.{Sequent}
 use Rattle.acc_base.specs.TrueSequents.{SequentTrue}
 use Rattle.acc_axioms.specs.declared.nodes.Node.{Node}
+use Rattle.acc_cert_bounds.specs.InBounds.{nodes_near}
 use Rattle.acc_proof.proofs.Implied.{proofs_imply}
 use Rattle.acc_branch.specs.Courses.{Course, AnswersCourse}
 use Rattle.acc_course.specs.Searches.{course}
 use Rattle.acc_searched.specs.Courses.{IsProof}
 use Rattle.acc_searched.specs.OpenLeaves.{IsOpenLeaf}
 use Rattle.acc_searched.proofs.Ends.{ended_proof, leaf_open}
+use Rattle.acc_searched.proofs.NearNodes.{nodes_near_at_end}
 use Rattle.acc_prover.specs.declared.found.Found.{Found}
 use Rattle.acc_prover.specs.declared.found.Found.TheVariants.{Proved, Unproved}
 use Rattle.acc_prover.specs.declared.found.SearchError.{SearchError}
@@ -28,6 +30,11 @@ module _ (d : Design) (q : Sequent) where
   kind_told (Err found.Wide) end o t h = subst (λ (e : Course (List Node)). AnswersCourse e o) t h
   kind_told (Err found.Many) end o t h = subst (λ (e : Course (List Node)). AnswersCourse e o) t h
   kind_told (Err found.Memory) end o t h = tt
+
+  pub near_told : (hints : List Lin) (end : Course (List Node)) → AnswersCourse end (course d q hints)
+      → IfOk end (λ nodes. IsTrue (nodes_near nodes))
+  near_told hints (Ok nodes) h = nodes_near_at_end d q hints nodes h
+  near_told hints (Err e) h = tt
 
   pub proof_told : (hints : List Lin) (r : Result Found SearchError) (end : Course (List Node)) → Tells r end → KeepsProof d q end r
       → AnswersCourse end (course d q hints) → IfProved r (IsProof d q)

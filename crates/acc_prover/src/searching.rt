@@ -1,7 +1,7 @@
 //! The search for a proof of a sequent.
 ghost use Rattle.std.specs.Prelude.{◌≡◌, IsTrue, IfOk};
 ghost use Rattle.acc_base.specs.TrueSequents.{SequentTrue};
-ghost use Rattle.acc_cert_bounds.specs.InBounds.{nodes as are_in_bounds};
+ghost use Rattle.acc_cert_bounds.specs.InBounds.{nodes as are_in_bounds, nodes_near as are_near};
 ghost use Rattle.acc_course.specs.Searches.{course};
 ghost use Rattle.acc_searched.specs.Courses.{IsProof};
 ghost use Rattle.acc_searched.specs.OpenLeaves.{IsOpenLeaf};
@@ -21,26 +21,25 @@ use acc_proof::errors::ProofError;
 use acc_pruning::pruning::pruned;
 use std::alloc::{AllocError, Global};
 
-/// The proof that has these nodes. `AllocError` where they have a number that no certificate's file can hold.
-fn whole(nodes: Seq<Node>) -> Result<Proof, AllocError>
-    ensures nodes { IfOk result (λ p. p.nodes ≡ nodes) }
-    ensures bounds { IfOk result (λ p. IsTrue (are_in_bounds p.nodes)) }
+/// The proof that has these nodes; a certificate's file can hold its numbers.
+fn whole(nodes: Seq<Node>) -> Proof
+    requires { IsTrue (are_near nodes) }
+    ensures nodes { result.nodes ≡ nodes }
+    ensures bounds { IsTrue (are_in_bounds result.nodes) }
 {
-    if nodes.is_in_bounds() {
-        Ok(Proof { nodes })
-    } else {
-        Err(AllocError)
-    }
+    prove!(nodes.is_in_bounds());
+    Proof { nodes }
 }
 
 /// The nodes of a proof without those that nothing uses, where that is a proof too and a certificate's file can hold its numbers, and else
-/// all of them. `AllocError` where memory ran out, or where no file can hold the numbers of these either.
+/// all of them.
 fn shorter(
     alloc: Global,
     design: &Design,
     sequent: &Sequent,
     nodes: Seq<Node>,
 ) -> Result<Proof, AllocError>
+    requires { IsTrue (are_near nodes) }
     ensures proof { IsProof design.now sequent.now nodes → IfOk result (λ p. IsProof design.now sequent.now p.nodes) }
     ensures bounds { IfOk result (λ p. IsTrue (are_in_bounds p.nodes)) }
 {
@@ -49,8 +48,8 @@ fn shorter(
     let left = Proof { nodes: nodes_left };
     match proves(alloc, design, sequent, &left) {
         Ok(true) if left.is_in_bounds() => Ok(left),
-        Ok(_) => whole(nodes),
-        Err(ProofError::Wide(_)) => whole(nodes),
+        Ok(_) => Ok(whole(nodes)),
+        Err(ProofError::Wide(_)) => Ok(whole(nodes)),
         Err(ProofError::Memory) => Err(AllocError),
     }
 }
@@ -62,6 +61,7 @@ fn found(
     sequent: &Sequent,
     end: Result<Seq<Node>, Halt>,
 ) -> Result<Found, SearchError>
+    requires { IfOk end (λ nodes. IsTrue (are_near nodes)) }
     ensures kind { Tells result end }
     ensures proof { KeepsProof design.now sequent.now end result }
     ensures bounds { IfProved result (λ nodes. IsTrue (are_in_bounds nodes)) }
@@ -86,8 +86,7 @@ fn found(
 ///
 /// `Crowded` where there are over 4,096 instances or over 256 splits; `Wide` where a number is too large, and `Many` where a system has
 /// over 4,096 relations, whichever comes first. `Memory` where memory ran out, or where there are 2^32 hypotheses, variables, relations or
-/// unknowns, or values that an unknown stands under, or where the proof has a number that no certificate's file can hold, which the bounds
-/// of the elimination exclude; it says nothing of the sequent.
+/// unknowns, or values that an unknown stands under; it says nothing of the sequent.
 ///
 /// Each branch tries each instance and each axiom by eliminations, and the splits may triple the branches each.
 pub fn search(

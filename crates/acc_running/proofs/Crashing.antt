@@ -1,10 +1,8 @@
 -- What a crash leaves of a run: of its recovery, and of the engine behind it.
-use Rattle.std.proofs.Common.{◌≡◌, ◌≤◌, inl, inr, ℕ, List, [], ◌++◌, length, take, Option, false, refl, subst}
-use Rattle.std.specs.Prelude.{◌≢◌}
+use Rattle.std.proofs.Common.{◌≡◌, ◌≤◌, inl, inr, ℕ, List, [], ◌++◌, length, take, refl, subst}
 use Rattle.acc_base.specs.declared.designs.Design.{Design}
 use Rattle.acc_base.specs.declared.machines.Event.{Event}
 use Rattle.acc_base.specs.Machine.{World}
-use Rattle.acc_disk.specs.Crashes.{IsCalm}
 use Rattle.acc_disk.specs.Moments.{AtAnyMoment}
 use Rattle.acc_print.specs.Designs.{printed}
 use Rattle.acc_wal.specs.Fronts.{CountsFront}
@@ -12,11 +10,7 @@ use Rattle.acc_wal.specs.Journals.{Counts}
 use Rattle.acc_wal.proofs.Moments.{weaker, together}
 use Rattle.acc_recover.specs.Recoveries.{IsRecovery, CountsRecovered, LeavesRecovery}
 use Rattle.acc_engine.specs.Keeping.{Journalled}
-use Rattle.acc_engine.specs.Ready.{IsReady}
-use Rattle.acc_journalled.specs.declared.answers.Ending.TheVariants.{DiskFailed}
-use Rattle.acc_journalled.specs.declared.answers.Answer.{Answer}
 use Rattle.acc_running.specs.Crashes.{LeavesEvents, LeavesRun, LeavesDurable}
-use Rattle.acc_running.specs.Engines.{SaysRun}
 
 recovery_run : (d : Design) (file : List ℕ) (history : List Event) (image : List ℕ) → LeavesRecovery d file image
     → LeavesRun d file history image
@@ -86,11 +80,3 @@ module _ {D : Type 0} (clock : D → ℕ) (left_since : D → ℕ → List ℕ �
       → LeavesDurable d file [] 0 image
   left_recovery disk new may_leave now run image left =
       inl (record { none = refl; none_durable = refl; left = run.each image (now (clock disk) image run.later left) })
-
--- where the disk didn't fail, it is calm again
-pub calm_said : {D : Type 0} (told : D → Option (List ℕ)) (may_leave : D → List ℕ → Type 0) (count : D → ℕ) (d : Design)
-    (order : List ℕ) (old new : Journalled D) (s : Answer)
-    → IsReady told may_leave old → (IsReady told may_leave old → new.failed ≡ false → IsReady told may_leave new)
-    → SaysRun count d order old new s → s.ending ≢ DiskFailed → IsCalm (told new.disk) (may_leave new.disk)
-calm_said told may_leave count d order old new s ready again (inl all) sound = (again ready all.unfailed).calm
-calm_said told may_leave count d order old new s ready again (inr f) sound = absurd (sound f.says.0)

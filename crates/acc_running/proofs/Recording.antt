@@ -1,34 +1,33 @@
 -- What is recorded of an engine's run over a recovered state, and what is said of it.
-use Rattle.std.proofs.Common.{◌≡◌, ◌≤◌, inl, inr, ℕ, List, ◌++◌, length, take, drop, false, Option, Some, None, refl}
+use Rattle.std.proofs.Common.{◌≡◌, ◌≤◌, inl, inr, ℕ, List, ◌++◌, length, take, drop, true, false, Option, Some, None, refl}
 use Rattle.std.proofs.Common.{sym, ap, subst, ◌∙◌, arith}
 use Rattle.std.specs.Prelude.{IfSome, option_and_then}
 use Rattle.std.specs.List.{flat_map, range_with_len}
 use Rattle.std.proofs.lemmas.List.{take_all, drop_at}
-use Rattle.acc_io.specs.Causes.{Rose}
 use Rattle.acc_base.specs.declared.designs.Design.{Design}
 use Rattle.acc_base.specs.declared.machines.Call.{Call}
 use Rattle.acc_base.specs.declared.machines.Event.{Event}
 use Rattle.acc_base.specs.Lines.{settled_line}
-use Rattle.acc_base.specs.Machine.{World, world, reply_at}
+use Rattle.acc_base.specs.Machine.{World, start, world, reply_at}
 use Rattle.acc_base.specs.Plays.{Play}
 use Rattle.acc_lift.proofs.FormRules.{run_rules}
-use Rattle.acc_lift.proofs.Theorem.{annotated}
+use Rattle.acc_lift.proofs.Theorem.{annotated, lead_runs}
 use Rattle.acc_print.specs.Designs.{printed}
 use Rattle.acc_wal.specs.Fronts.{CountsFront}
 use Rattle.acc_wal.specs.Journals.{Counts}
 use Rattle.acc_wal.specs.Wals.{Journal, IsOpened}
 use Rattle.acc_machine.specs.Kept.{IsKept}
 use Rattle.acc_engine.specs.Keeping.{Journalled, BeginsFrom}
-use Rattle.acc_schedule.specs.Schedules.{TellsScheduleFrom}
 use Rattle.acc_schedule.proofs.Closing.{idle_between}
-use Rattle.acc_settling.specs.Openings.{opening_at, IsFresh}
-use Rattle.acc_settling.specs.Runs.{GoesOn, IsAckedButOne}
-use Rattle.acc_settling.specs.Wholes.{IsAfterSchedule, IsFrontOfSchedule, TellsDurablePart}
+use Rattle.acc_settling.specs.Openings.{IsFresh}
+use Rattle.acc_engine.specs.Surviving.{GoesOn}
+use Rattle.acc_settling.specs.Runs.{IsAckedButOne}
+use Rattle.acc_settling.specs.Wholes.{IsFrontOfSchedule, TellsDurablePart}
 use Rattle.acc_journalled.specs.declared.answers.Answer.{Answer}
 use Rattle.acc_running.specs.Engines.{SaysAll, SaysFault, SaysRun, HandsOver}
 use Rattle.acc_journalled.specs.Tellings.{telling_of}
-use Rattle.acc_running.specs.Recorded.{IsFound, IsRecorded}
-use Rattle.acc_running.specs.Running.{RunsThrough, BreaksOff, RunsJournal}
+use Rattle.acc_running.specs.Recorded.{IsFound, IsRecorded, IsDurableButOne}
+use Rattle.acc_running.specs.Running.{RunsThrough, BreaksOff, RunsFrom}
 
 -- an engine over a recovered state, as it begins
 pub record Begins {D : Type 0} (d : Design) (calls : List Call) (first : World) (e : Journalled D) : Type 0 where
@@ -44,7 +43,6 @@ pub record Ends {D : Type 0} (e : Journalled D) : Type 0 where
   pub kept : IsKept e.design e.state
   pub begins : BeginsFrom e.calls e.begun (drop e.found e.state.events)
   pub within : e.settled ≤ length e.state.events
-  pub one_end : IsAckedButOne e
 
 pub begins_so : {D : Type 0} (d : Design) (calls : List Call) (first : World) (design : Design) (wal : Journal D) (e : Journalled D)
     → design ≡ d → IsOpened (printed d) first.events wal → IsFresh e → (e.state ≡ first) × (e.design ≡ design)
@@ -93,6 +91,9 @@ module _ {D : Type 0} (d : Design) (calls : List Call) (first : World) (old new 
   pub kept : IsKept d new.state
   kept = subst (λ x. IsKept x new.state) design_is ends.kept
 
+  pub run : world d new.state.events ≡ Some new.state
+  run = lead_runs d new.state.events start new.state kept.good.lawful
+
   abbrev pub recorded : IsRecorded d calls first new.state.events new.settled
   recorded = record {
     more = on.more;
@@ -108,31 +109,21 @@ module _ {D : Type 0} (d : Design) (calls : List Call) (first : World) (old new 
     idle = idle_between d new.state kept.accepted kept.good;
     least = omega (arith, b.settled, more_settled);
     within = ends.within;
-    durable = record {
-      one = ends.one_end.last;
-      others = λ t n.
-          subst (λ x. option_and_then (reply_at t) (world x (take new.settled new.state.events)) ≡ reply_at t new.state) design_is
-          (ends.one_end.others t n);
-    };
   }
 
-  -- ---- what is said of it
+  pub durable : IsAckedButOne new → IsDurableButOne d new.state.events new.settled
+  durable one = record {
+    one = one.last;
+    others = λ t n.
+        subst (λ x. option_and_then (reply_at t) (world x (take new.settled new.state.events)) ≡ reply_at t new.state) design_is
+        (one.others t n)
+        ∙ sym (ap (option_and_then (reply_at t)) run);
+  }
 
-  -- the first events of the whole schedule, from the recovered state on
-  pub fronts : (order : List ℕ) → IsFrontOfSchedule d old.calls order (opening_at old.state old.calls) new.state.events
-      → IsFrontOfSchedule d calls order (opening_at first calls) new.state.events
-  fronts order front =
-      subst (λ (w : World). IsFrontOfSchedule d calls order (opening_at w calls) new.state.events) b.state
-      (subst (λ (cs : List Call). IsFrontOfSchedule d cs order (opening_at old.state cs) new.state.events) b.calls_are front)
+  -- ---- what is said of it, where the order's turns begin at this play
 
-  -- the whole schedule from the recovered state on is the engine's
-  whole_of : (order : List ℕ) (ended : Play) → IsAfterSchedule d calls order (opening_at first calls) ended
-      → IsAfterSchedule d old.calls order (opening_at old.state old.calls) ended
-  whole_of order ended whole =
-      subst (λ (cs : List Call). IsAfterSchedule d cs order (opening_at old.state cs) ended) (sym b.calls_are)
-      (subst (λ (w : World). IsAfterSchedule d calls order (opening_at w calls) ended) (sym b.state) whole)
-
-  module _ (order : List ℕ) (front : IsFrontOfSchedule d old.calls order (opening_at old.state old.calls) new.state.events)
+  module _ (order : List ℕ) (Opens : World → Play → Type 0) (opened : Play) (opens : Opens first opened)
+      (front : IsFrontOfSchedule d calls order opened new.state.events)
       (told told' : Option (List ℕ)) (found : IsFound d told first)
       (counts : new.failed ≡ false → (file : List ℕ) → told' ≡ Some file
       → CountsFront new.base new.state.events new.settled file) where
@@ -146,31 +137,31 @@ module _ {D : Type 0} (d : Design) (calls : List Call) (first : World) (old new 
         subst (λ (t : List ℕ). Counts file t new.state.events) (on.base ∙ b.base)
         (subst (λ (es : List Event). Counts file new.base es) events c.counts))
 
-    runs_through : (s : Answer) → SaysAll d order old new s
-        → RunsThrough d calls order told told' (telling_of s new.state.events new.settled)
+    runs_through : (s : Answer) → SaysAll d calls order opened new s
+        → RunsThrough d calls order Opens told told' (telling_of s new.state.events new.settled)
     runs_through s all = record {
       first = first;
       found = found;
       recorded = recorded;
+      opened = opened;
+      opens = opens;
       all_begun = all.all_begun;
-      tells =
-          subst (λ (w : World). TellsScheduleFrom d calls (opening_at w calls) order s.text.items new.state.events all.all_begun) b.state
-          (subst
-          (λ (cs : List Call). TellsScheduleFrom d cs (opening_at old.state cs) order s.text.items new.state.events all.all_begun)
-          b.calls_are all.tells);
+      tells = all.tells;
       ending = all.ending;
       settled = all.settled;
       holds = whole all.unfailed all.settled;
     }
 
-    breaks_off : (count : D → ℕ) (fault : Type 0) → (Rose (count old.disk) (count new.disk) → fault) → (s : Answer)
-        → SaysFault count d order old new s → BreaksOff d calls order told fault (telling_of s new.state.events new.settled)
-    breaks_off count fault so s f = record {
-      failed = so f.rose;
+    breaks_off : (fault : Type 0) → (new.failed ≡ true → fault) → (s : Answer)
+        → SaysFault d calls order opened new s → BreaksOff d calls order Opens told fault (telling_of s new.state.events new.settled)
+    breaks_off fault so s f = record {
+      failed = so f.failed;
       first = first;
       found = found;
       recorded = recorded;
-      front = fronts order front;
+      opened = opened;
+      opens = opens;
+      front = front;
       lines = f.lines;
       replies = record {
         play = f.play;
@@ -187,12 +178,12 @@ module _ {D : Type 0} (d : Design) (calls : List Call) (first : World) (old new 
       unsettled = λ ended whole.
           subst (λ x. TellsDurablePart x calls new.state.events new.settled ended f.lines) design_is
           (subst (λ (cs : List Call). TellsDurablePart new.design cs new.state.events new.settled ended f.lines) calls_are
-          (f.unsettled ended (whole_of order ended whole)));
+          (f.unsettled ended whole));
       ending = f.says.0;
       text = f.says.1;
     }
 
-    pub runs_journal : (count : D → ℕ) (fault : Type 0) → (Rose (count old.disk) (count new.disk) → fault) → (s : Answer)
-        → SaysRun count d order old new s → RunsJournal d calls order told told' fault (telling_of s new.state.events new.settled)
-    runs_journal count fault so s (inl all) = inl (runs_through s all)
-    runs_journal count fault so s (inr f) = inr (inl (breaks_off count fault so s f))
+    pub runs_from : (fault : Type 0) → (new.failed ≡ true → fault) → (s : Answer) → SaysRun d calls order opened new s
+        → RunsFrom d calls order Opens told told' fault (telling_of s new.state.events new.settled)
+    runs_from fault so s (inl all) = inl (runs_through s all)
+    runs_from fault so s (inr f) = inr (inl (breaks_off fault so s f))

@@ -6,6 +6,7 @@ use Rattle.acc_base.specs.declared.machines.Call.{Call}
 use Rattle.acc_base.specs.declared.machines.Event.{Event}
 use Rattle.acc_base.specs.Lawful.{AreLawful}
 use Rattle.acc_base.specs.Machine.{World}
+use Rattle.acc_base.specs.Plays.{Play}
 use Rattle.acc_disk.specs.Crashes.{Only}
 use Rattle.acc_disk.specs.Moments.{AtAnyMoment}
 use Rattle.acc_print.specs.Designs.{printed}
@@ -14,8 +15,8 @@ use Rattle.acc_wal.specs.Journals.{Counts}
 use Rattle.acc_recover.specs.Recoveries.{IsRecovery, LeavesRecovery}
 use Rattle.acc_recover.specs.Refusals.{RefusesRecovery, IsOfBytes}
 use Rattle.acc_recover.specs.declared.errors.RecoverError.{RecoverError}
-use Rattle.acc_running.specs.Recorded.{Records}
-use Rattle.acc_running.specs.Running.{FollowsOrder}
+use Rattle.acc_running.specs.Recorded.{Records, IsDurableButOne}
+use Rattle.acc_running.specs.Running.{Follows, IsOpening, WorkersLeave}
 
 -- a front of the history, of so many events at least
 pub record IsFrontOf (history : List Event) (least : ℕ) (events : List Event) : Type 0 where
@@ -58,10 +59,10 @@ LeavesDurable d file history settled image =
 -- What a run over a disk leaves, however it ends. Where the disk was calm, a crash at any moment of it and one after it leave a front of
 -- what is recorded.
 pub record RunsOver {D : Type 0} (clock : D → ℕ) (left_since : D → ℕ → List ℕ → Type 0) (told : D → Option (List ℕ))
-    (may_leave : D → List ℕ → Type 0) (d : Design) (calls : List Call) (order : List ℕ) (old new : D) (history : List Event) (settled : ℕ)
-    : Type 0 where
+    (may_leave : D → List ℕ → Type 0) (d : Design) (calls : List Call) (order : List ℕ) (Opens : World → Play → Type 0) (old new : D)
+    (history : List Event) (settled : ℕ) : Type 0 where
   pub recorded : Records d calls (told old) history settled
-  pub follows : FollowsOrder d calls order (told old) history
+  pub follows : Follows d calls order Opens (told old) history
   pub moments :
       (file : List ℕ) → told old ≡ Some file → Only file (may_leave old)
       → AtAnyMoment clock left_since old new (LeavesRun d file history)
@@ -69,6 +70,18 @@ pub record RunsOver {D : Type 0} (clock : D → ℕ) (left_since : D → ℕ →
   pub behind :
       (file : List ℕ) → told old ≡ Some file → Only file (may_leave old) → (image : List ℕ) → may_leave new image
       → LeavesDurable d file history settled image
+
+module _ {D : Type 0} (clock : D → ℕ) (left_since : D → ℕ → List ℕ → Type 0) (told : D → Option (List ℕ)) (may_leave : D → List ℕ → Type 0)
+  where
+    -- a run in an order, each of whose ends was made durable before the next turn
+    pub record SchedulesOver (d : Design) (calls : List Call) (order : List ℕ) (old new : D) (history : List Event) (settled : ℕ)
+        : Type 0 where
+      pub over : RunsOver clock left_since told may_leave d calls order (IsOpening calls) old new history settled
+      pub durable : IsDurableButOne d history settled
+
+    -- a run by workers; what they left was ended in their caller's passes
+    abbrev pub WorksOver : Design → List Call → D → D → List Event → ℕ → Type 0
+    WorksOver d calls = RunsOver clock left_since told may_leave d calls [] (WorkersLeave d calls)
 
 -- ---- recovery again
 

@@ -1,7 +1,7 @@
 -- What is said of an engine's run.
 use Rattle.std.specs.Prelude.{◌≡◌, ◌⊎◌, ◌++◌, ℕ, Bool, true, false, List, length, Result, Ok, Err, codes}
-use Rattle.acc_io.specs.Causes.{Rose}
 use Rattle.acc_base.specs.declared.designs.Design.{Design}
+use Rattle.acc_base.specs.declared.machines.Call.{Call}
 use Rattle.acc_base.specs.declared.machines.Event.{Event}
 use Rattle.acc_base.specs.Lines.{line}
 use Rattle.acc_base.specs.Plays.{Play}
@@ -10,7 +10,6 @@ use Rattle.acc_schedule.specs.Schedules.{TellsScheduleFrom}
 use Rattle.acc_settling.specs.declared.schedules.Scheduled.{Scheduled}
 use Rattle.acc_settling.specs.declared.schedules.Stopped.{Stopped}
 use Rattle.acc_settling.specs.declared.schedules.Stopped.TheVariants.{Disk, Memory}
-use Rattle.acc_settling.specs.Openings.{opening_at}
 use Rattle.acc_settling.specs.Stops.{AreNumbersOf, TellsSettled}
 use Rattle.acc_settling.specs.Wholes.{IsAfterSchedule, TellsDurablePart}
 use Rattle.acc_journalled.specs.declared.answers.Answer.{Answer}
@@ -32,29 +31,30 @@ SaysTold (Ok told) s = (s.ending ≡ ending_at told.all_begun) × (s.text.items 
 SaysTold (Err (Disk lines)) s = IsWithFault lines.items s
 SaysTold (Err Memory) s = ⊥
 
--- the whole schedule is said, and is durable
-pub record SaysAll {D : Type 0} (d : Design) (order : List ℕ) (old new : Journalled D) (s : Answer) : Type 0 where
-  pub all_begun : Bool
-  pub tells :
-      TellsScheduleFrom d old.calls (opening_at old.state old.calls) order s.text.items new.state.events all_begun
-  pub ending : s.ending ≡ ending_at all_begun
-  pub settled : new.settled ≡ length new.state.events
-  pub unfailed : new.failed ≡ false
+-- the whole schedule from this play on is said, and is durable
+pub record SaysAll {D : Type 0} (d : Design) (calls : List Call) (order : List ℕ) (opened : Play) (e : Journalled D) (s : Answer) : Type 0
+  where
+    pub all_begun : Bool
+    pub tells : TellsScheduleFrom d calls opened order s.text.items e.state.events all_begun
+    pub ending : s.ending ≡ ending_at all_begun
+    pub settled : e.settled ≡ length e.state.events
+    pub unfailed : e.failed ≡ false
 
 -- the disk failed, and the durable replies are said, which are those of the whole schedule
-pub record SaysFault {D : Type 0} (count : D → ℕ) (d : Design) (order : List ℕ) (old new : Journalled D) (s : Answer) : Type 0 where
-  pub rose : Rose (count old.disk) (count new.disk)
-  pub play : Play
-  pub numbers : AreNumbersOf new play.numbers
-  pub lines : List ℕ
-  pub replies : TellsSettled new play lines
-  pub unsettled :
-      (ended : Play) → IsAfterSchedule d old.calls order (opening_at old.state old.calls) ended
-      → TellsDurablePart new.design new.calls new.state.events new.settled ended lines
-  pub says : IsWithFault lines s
+pub record SaysFault {D : Type 0} (d : Design) (calls : List Call) (order : List ℕ) (opened : Play) (e : Journalled D) (s : Answer) : Type 0
+  where
+    pub failed : e.failed ≡ true
+    pub play : Play
+    pub numbers : AreNumbersOf e play.numbers
+    pub lines : List ℕ
+    pub replies : TellsSettled e play lines
+    pub unsettled :
+        (ended : Play) → IsAfterSchedule d calls order opened ended
+        → TellsDurablePart e.design e.calls e.state.events e.settled ended lines
+    pub says : IsWithFault lines s
 
-abbrev pub SaysRun : {D : Type 0} → (D → ℕ) → Design → List ℕ → Journalled D → Journalled D → Answer → Type 0
-SaysRun count d order old new s = SaysAll d order old new s ⊎ SaysFault count d order old new s
+abbrev pub SaysRun : {D : Type 0} → Design → List Call → List ℕ → Play → Journalled D → Answer → Type 0
+SaysRun d calls order opened e s = SaysAll d calls order opened e s ⊎ SaysFault d calls order opened e s
 
 -- an engine's disk, its events and how many of them are durable
 pub record HandsOver {D : Type 0} (e : Journalled D) (disk : D) (history : List Event) (settled : ℕ) : Type 0 where

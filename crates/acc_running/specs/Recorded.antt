@@ -19,15 +19,17 @@ pub record IsFound (d : Design) (told : Option (List ℕ)) (first : World) : Typ
   pub recovery : IsRecovery d found first
   pub idle : IsIdle d first.rows
 
--- each transaction's reply after the durable events is its reply now, but for one's
-pub record IsDurableButOne (d : Design) (history : List Event) (settled : ℕ) (now : World) : Type 0 where
+-- each transaction's reply after the durable events is its reply after all of them, but for one's
+pub record IsDurableButOne (d : Design) (history : List Event) (settled : ℕ) : Type 0 where
   pub one : ℕ
-  pub others : (t : ℕ) → t ≢ one → option_and_then (reply_at t) (world d (take settled history)) ≡ reply_at t now
+  pub others :
+      (t : ℕ) → t ≢ one
+      → option_and_then (reply_at t) (world d (take settled history)) ≡ option_and_then (reply_at t) (world d history)
 
--- What is promised of the events, whatever the order of turns and however the run ends. They begin with the recovered history; none of
--- those behind it is a crash, and the calls that begin there are the script's, each once at most. All of them are a lawful run: each step
--- began with its assertion true, each end keeps its promise, and whenever nothing is unfinished the state is idle. The recovered history
--- is durable at least, and each end but one at most.
+-- What is promised of the events, whoever took which turn, whatever their order and however the run ends. They begin with the recovered
+-- history; none of those behind it is a crash, and the calls that begin there are the script's, each once at most. All of them are a lawful
+-- run: each step began with its assertion true, each end keeps its promise, and whenever nothing is unfinished the state is idle. The
+-- recovered history is durable at least.
 pub record IsRecorded (d : Design) (calls : List Call) (first : World) (history : List Event) (settled : ℕ) : Type 0 where
   pub more : List Event
   pub history_is : history ≡ first.events ++ more
@@ -39,7 +41,6 @@ pub record IsRecorded (d : Design) (calls : List Call) (first : World) (history 
   pub idle : IsIdleBetween d history
   pub least : length first.events ≤ settled
   pub within : settled ≤ length history
-  pub durable : IsDurableButOne d history settled last
 
 -- nothing was recovered, and no event is told; or what was recovered, and the run behind it
 abbrev pub Records : Design → List Call → Option (List ℕ) → List Event → ℕ → Type 0

@@ -1,16 +1,19 @@
 //! Runs of an engine.
-ghost use Rattle.std.specs.Prelude.{◌≡◌, length, All, IfOk};
+ghost use Rattle.std.specs.Prelude.{◌≡◌, [], true, length, All, IfOk};
+ghost use Rattle.acc_base.specs.Plays.{Play};
 ghost use Rattle.acc_script.specs.OrderLines.{IsPlace};
 ghost use Rattle.acc_engine.specs.Standing.{IsSound};
+ghost use Rattle.acc_engine.specs.Surviving.{Survives};
 ghost use Rattle.acc_settling.specs.Openings.{opening_at, IsFresh};
 ghost use Rattle.acc_settling.specs.Runs.{RunsOn, IsAckedButOne};
 ghost use Rattle.acc_settling.specs.Wholes.{IsFrontOfSchedule};
+ghost use Rattle.acc_settling.specs.Workers.{HasBegunFirst, IsWorked};
 ghost use Rattle.acc_running.specs.Engines.{ending_at, IsWithFault, SaysTold, SaysRun, HandsOver};
 
 use acc_base::designs::Design;
 use acc_disk::Disk;
 use acc_journalled::{Answer, Ended, Ending};
-use acc_settling::{Scheduled, Settling, Stopped, schedule};
+use acc_settling::{Scheduled, Settling, Stopped, finish, schedule};
 use acc_store::Store;
 use std::alloc::{AllocError, Global};
 
@@ -61,13 +64,32 @@ pub fn say<S: Store, D: Disk>(
     requires design { player.old.design ≡ d.now }
     requires fresh { IsFresh player.old }
     requires places { All (IsPlace (length player.old.calls)) order.now }
-    ensures says { IfOk result (SaysRun D.faults d.now order.now player.old player.new) }
+    ensures says { IfOk result (SaysRun d.now player.old.calls order.now (opening_at player.old.state player.old.calls) player.new) }
     ensures front { IsFrontOfSchedule d.now player.old.calls order.now (opening_at player.old.state player.old.calls)
         player.new.state.events }
     ensures runs { RunsOn D.clock D.left_since D.told D.may_leave D.faults player.old player.new }
     ensures one_end { IsAckedButOne player.new }
 {
     let told = schedule(alloc, player, d, order);
+    answer_of(told)
+}
+
+/// Ends what workers left of an engine's calls, of which the first have begun behind so many transactions, and says what came of all.
+pub fn say_rest<S: Store, D: Disk>(
+    alloc: Global,
+    player: &mut Settling<S, D>,
+    d: &Design,
+    before: usize,
+) -> Result<Answer, AllocError>
+    requires design { player.old.design ≡ d.now }
+    requires begun { HasBegunFirst player.old }
+    ensures says { IfOk result (λ s. (p : Play) → IsWorked before player.old p → SaysRun d.now player.old.calls [] p player.new s) }
+    ensures front { (p : Play) → IsWorked before player.old p
+        → IsFrontOfSchedule d.now player.old.calls [] p player.new.state.events }
+    ensures failed { player.old.failed ≡ true → player.new ≡ player.old }
+    ensures survives { Survives D.clock D.left_since D.told D.may_leave D.faults player.old player.new }
+{
+    let told = finish(alloc, player, d, before);
     answer_of(told)
 }
 

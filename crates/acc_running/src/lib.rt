@@ -1,8 +1,8 @@
-//! A script's calls, scheduled over the journal of a disk: from its recovery to the last settling.
+//! A script's calls over the journal of a disk, scheduled in an order or worked by a crew: from its recovery to the last settling.
 #![tactic(auto)]
 
 mod engines;
 pub mod laws;
 mod runs;
 
-pub use runs::schedule_journal;
+pub use runs::{schedule_journal, work_journal};

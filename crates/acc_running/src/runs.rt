@@ -7,18 +7,20 @@ ghost use Rattle.acc_script.specs.BeginSizes.{begins_size};
 ghost use Rattle.acc_script.specs.OrderLines.{IsPlace};
 ghost use Rattle.acc_journalled.specs.declared.answers.Ending.TheVariants.{DiskFailed};
 ghost use Rattle.acc_journalled.specs.Tellings.{telling_of};
-ghost use Rattle.acc_running.specs.Running.{RunsJournal};
-ghost use Rattle.acc_running.specs.Crashes.{RunsOver};
+ghost use Rattle.acc_running.specs.Running.{RunsJournal, WorksJournal};
+ghost use Rattle.acc_running.specs.Crashes.{SchedulesOver, WorksOver};
 
-use crate::engines::{closed, say};
+use crate::engines::{closed, say, say_rest};
 use acc_base::machines::Call;
 use acc_base::sequences::Seq;
+use acc_crew::Crew;
 use acc_disk::Disk;
+use acc_engine::Engine;
 use acc_journalled::{Ended, not_recovered, unrun};
 use acc_lift::Accepted;
 use acc_progress::Progress;
 use acc_recover::{Recovered, recover};
-use acc_settling::{Settling, over_journal};
+use acc_settling::{Settling, over_journal, transactions};
 use acc_store::MapStore;
 use std::alloc::Global;
 
@@ -50,7 +52,7 @@ pub fn schedule_journal<D: Disk, P: Progress>(
     requires places { All (IsPlace (length calls)) order.now }
     ensures answer { IfOk result.answer (λ a. RunsJournal d.now calls order.now (D.told disk) (D.told result.disk)
         (Rose (D.faults disk) (D.faults result.disk)) (telling_of a result.history result.settled)) }
-    ensures runs { RunsOver D.clock D.left_since D.told D.may_leave d.now calls order.now disk result.disk result.history
+    ensures runs { SchedulesOver D.clock D.left_since D.told D.may_leave d.now calls order.now disk result.disk result.history
         result.settled }
     ensures calm { IfOk result.answer (λ a. a.ending ≢ DiskFailed → IsCalm (D.told disk) (D.may_leave disk)
         → IsCalm (D.told result.disk) (D.may_leave result.disk)) }
@@ -66,6 +68,55 @@ pub fn schedule_journal<D: Disk, P: Progress>(
             let engine = over_journal(alloc, state, wal, calls);
             let mut player = Settling { engine };
             let answer = say(alloc, &mut player, d.design(), order);
+            closed(player, answer)
+        }
+        Err((error, _, disk)) => unrun(alloc, disk, not_recovered(alloc, error)),
+    }
+}
+
+/// Recovers the journal of an accepted design, and lets so many workers of the crew draw a script's calls in their order and give each the
+/// turns that it has, in whichever order. Then what they leave unfinished is ended, and then each call that hasn't begun is begun and
+/// ended, in their order, each end made durable before the next turn.
+///
+/// It says the reply of each call in their order, and how many events there are then: nothing else depends on how many work. Where a call
+/// couldn't begin, where the disk fails and where the journal isn't recovered, it ends as `schedule_journal` does, with the same lines.
+///
+/// However it ends, the events are a lawful run that begins with the recovered history, whoever took which turn; where the workers left
+/// off, so many of the first calls had begun, each as the next transaction, and what stands behind is the ending of a schedule.
+///
+/// From a calm disk a crash leaves what one in `schedule_journal` does: a journal of some first of the events that are handed back, and
+/// after the call of all that are told as durable. The disk is calm again, unless one of its calls failed.
+pub fn work_journal<'a, D: Disk, C: Crew<Engine<'a, MapStore, D>>, P: Progress>(
+    alloc: Global,
+    d: &'a Accepted,
+    calls: Seq<Call>,
+    workers: u64,
+    disk: D,
+    crew: &C,
+    progress: &mut P,
+) -> Ended<D>
+    requires fits { CallsFit d.now calls }
+    requires few { begins_size calls < 2 ^ 31 }
+    requires ready { C.ready crew.now }
+    ensures answer { IfOk result.answer (λ a. WorksJournal d.now calls (D.told disk) (D.told result.disk)
+        (Rose (D.faults disk) (D.faults result.disk)) (telling_of a result.history result.settled)) }
+    ensures runs { WorksOver D.clock D.left_since D.told D.may_leave d.now calls disk result.disk result.history result.settled }
+    ensures calm { IfOk result.answer (λ a. a.ending ≢ DiskFailed → IsCalm (D.told disk) (D.may_leave disk)
+        → IsCalm (D.told result.disk) (D.may_leave result.disk)) }
+    ensures faults { D.faults disk ≤ D.faults result.disk }
+{
+    match recover(alloc, d, MapStore::new(alloc), disk, progress) {
+        Ok(recovered) => {
+            let Recovered {
+                state,
+                wal,
+                compensated: _,
+            } = recovered;
+            let engine = over_journal(alloc, state, wal, calls);
+            let before = transactions(&engine);
+            let engine = crew.work(alloc, engine, workers);
+            let mut player = Settling { engine };
+            let answer = say_rest(alloc, &mut player, d.design(), before);
             closed(player, answer)
         }
         Err((error, _, disk)) => unrun(alloc, disk, not_recovered(alloc, error)),

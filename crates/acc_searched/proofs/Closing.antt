@@ -49,7 +49,7 @@ decided_on rels more e (inl h) = inl (Contains-append_left rels more (facts.belo
 decided_on rels more e (inr (inl h)) = inr (inl (Contains-append_left rels more (is_zero e) h))
 decided_on rels more e (inr (inr h)) = inr (inr (Contains-append_left rels more (facts.above_zero e) h))
 
-good_if : {A : Type 0} (Q : AtLeaf) (b : Bool) (x : A) (o : Course A) (P : A → Type 0) → P x → Good Q o P
+pub good_if : {A : Type 0} (Q : AtLeaf) (b : Bool) (x : A) (o : Course A) (P : A → Type 0) → P x → Good Q o P
     → Good Q (if b then Ok x else o) P
 good_if Q true x o P p h = p
 good_if Q false x o P p h = h

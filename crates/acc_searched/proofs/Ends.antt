@@ -1,5 +1,5 @@
 -- The nodes with which the course of a search ends are a proof; an open leaf is met at its point.
-use Rattle.std.proofs.Common.{◌≡◌, Bool, true, false, List, [], ◌∷◌, ◌++◌, length, map, Result, Ok, Err, refl, ap, sym, ◌∙◌, subst}
+use Rattle.std.proofs.Common.{◌≡◌, Bool, true, false, List, [], ◌∷◌, ◌++◌, length, map, Ok, Err, refl, ap, sym, ◌∙◌, subst}
 use Rattle.std.proofs.Common.{append_assoc, append-nil, if◌then◌else◌}
 use Rattle.std.proofs.Common.{inl, inr, arith, ℤ, pos}
 use Rattle.std.specs.Prelude.{All, IsTrue, ⊤, nat_lt}

@@ -21,7 +21,7 @@ use Rattle.acc_inst.specs.declared.making.Instance.{Instance}
 use Rattle.acc_inst.specs.Making.{Chosen, rel_at, is_rel_wide, clause_at, is_clause_wide, clause_or, instance_of, is_instance_wide, IsOf}
 use Rattle.acc_inst.specs.Making.{is_wide_or}
 
-off_both : (a b : Bool) → (a || b) ≡ false → (a ≡ false) × (b ≡ false)
+pub off_both : (a b : Bool) → (a || b) ≡ false → (a ≡ false) × (b ≡ false)
 off_both true b h = absurd (cc)
 off_both false b h = (refl, h)
 

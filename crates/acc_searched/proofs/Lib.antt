@@ -8,3 +8,4 @@ pub mod Solutions
 pub mod Guards
 pub mod Clashes
 pub mod Ends
+pub mod NearNodes

@@ -3,4 +3,4 @@
 
 pub mod laws;
 
-pub use laws::{an_open_leaf_is_met, nodes_are_a_proof};
+pub use laws::{an_open_leaf_is_met, nodes_are_a_proof, nodes_are_near};

@@ -18,9 +18,9 @@ use Rattle.acc_engine.specs.Acks.{durable_reply}
 use Rattle.acc_engine.specs.Calls.{StaysBut, Begins}
 use Rattle.acc_engine.specs.Keeping.{Journalled}
 use Rattle.acc_engine.proofs.Tails.{event_keeps}
+use Rattle.acc_engine.proofs.Turned.{turn_keeps, turn_stays}
 use Rattle.acc_settling.specs.Chains.{but_one}
 use Rattle.acc_settling.specs.Runs.{IsAcked, IsAckedButOne}
-use Rattle.acc_settling.proofs.Turned.{turn_keeps, turn_stays}
 
 -- a turn that doesn't end
 abbrev pub IsUnended : Turn → Type 0

@@ -91,7 +91,7 @@ module _ {D : Type 0} (clock : D → ℕ) (left_since : D → ℕ → List ℕ �
     begun_leaves place t begins =
         let history = begin_history old new place t stays begins in
         let acked = acked_begun old new place t stays begins within in (
-          runs_stays told may_leave clock left_since count only_now old new (Begin begins.call ∷ []) stays history
+          runs_stays clock left_since told may_leave count only_now old new (Begin begins.call ∷ []) stays history
               (λ a. but_one new (acked a)),
           again_stays told may_leave old new (Begin begins.call ∷ []) stays history unfailed acked,
         )
@@ -99,7 +99,7 @@ module _ {D : Type 0} (clock : D → ℕ) (left_since : D → ℕ → List ℕ �
     same_leaves : new.state ≡ old.state → LeavesEngine clock left_since told may_leave count None old new
     same_leaves same =
         let history = ap (λ (w : World). w.events) same ∙ sym (append-nil old.state.events) in (
-          runs_stays told may_leave clock left_since count only_now old new [] stays history (one_same old new stays same within),
+          runs_stays clock left_since told may_leave count only_now old new [] stays history (one_same old new stays same within),
           again_stays told may_leave old new [] stays history unfailed (acked_same old new stays same within),
         )
 

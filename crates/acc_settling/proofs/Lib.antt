@@ -1,4 +1,3 @@
-pub mod Turned
 pub mod Acks
 pub mod Settlings
 pub mod Beginning
@@ -7,3 +6,4 @@ pub mod Boards
 pub mod BeginSizes
 pub mod Telling
 pub mod Fronts
+pub mod Working

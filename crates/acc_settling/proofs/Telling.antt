@@ -54,10 +54,10 @@ tells_settled e p text kept count text_is =
 
 pub tells_stop : {D : Type 0} (count : D → ℕ) (stop : Stop) (result : Stopped) (old new : Journalled D) (p : Play) → p.world ≡ new.state
     → Stops count stop old new → StopsSo stop new p result → TellsStop count result old new
-tells_stop count DiskFails (Disk text) old new p at why so = (why.0, why.1, (p, at, so.1, so.2))
+tells_stop count DiskFails (Disk text) old new p at why so = ((why.0, (p, at, so.1, so.2)), λ failed. why.1)
 tells_stop count NoMemory (Disk text) old new p at why so = absurd (let e = so.0 in cc)
-tells_stop count DiskFails Memory old new p at why so = λ failed. why.1
-tells_stop count NoMemory Memory old new p at why so = λ failed. absurd (let e = sym failed ∙ why in cc)
+tells_stop count DiskFails Memory old new p at why so = (tt, λ failed. why.1)
+tells_stop count NoMemory Memory old new p at why so = (tt, λ failed. absurd (let e = sym failed ∙ why in cc))
 
 -- a schedule that has run and is closed
 pub tells_from : {D : Type 0} (d : Design) (calls : List Call) (order : List ℕ) (first : Play) (w : World) (e : Journalled D)

@@ -57,11 +57,11 @@ module _ {D : Type 0} (clock : D → ℕ) (left_since : D → ℕ → List ℕ �
 
   module _ (only_now : (disk : D) (image : List ℕ) → left_since disk (clock disk) image → may_leave disk image) where
     pub leaves_none : (p : Journalled D) → p.failed ≡ false → LeavesEngine clock left_since told may_leave count None p p
-    leaves_none p ready = (runs_none told may_leave clock left_since count only_now p, again_none told may_leave p ready)
+    leaves_none p ready = (runs_none clock left_since told may_leave count only_now p, again_none told may_leave p ready)
 
     pub leaves_more : (why : Option Stop) (p q r : Journalled D) → LeavesEngine clock left_since told may_leave count None p q
         → LeavesEngine clock left_since told may_leave count why q r → LeavesEngine clock left_since told may_leave count why p r
     leaves_more None p q r a b =
-        (runs_more told may_leave clock left_since count only_now p q r a.0 a.1 b.0, again_more told may_leave p q r a.1 b.1)
+        (runs_more clock left_since told may_leave count only_now p q r a.0 a.1 b.0, again_more told may_leave p q r a.1 b.1)
     leaves_more (Some stop) p q r a b =
-        (runs_more told may_leave clock left_since count only_now p q r a.0 a.1 b.0, stops_since count stop p q r a.0.faults b.1)
+        (runs_more clock left_since told may_leave count only_now p q r a.0 a.1 b.0, stops_since count stop p q r a.0.survives.faults b.1)

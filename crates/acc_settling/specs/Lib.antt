@@ -6,3 +6,4 @@ pub mod Replies
 pub mod Stops
 pub mod Wholes
 pub mod Schedules
+pub mod Workers

@@ -32,12 +32,15 @@ abbrev pub StopsSo : {D : Type 0} → Stop → Journalled D → Play → Stopped
 StopsSo stop e p (Disk text) = (stop ≡ DiskFails) × AreNumbersOf e p.numbers × TellsSettled e p text.items
 StopsSo stop e p Memory = Unit {0}
 
--- the schedule stopped where the disk failed, and the lines of the places are told; or memory ran out, maybe behind such a fault
+-- the engine has failed, and the lines of the places are told; or memory ran out, maybe behind such a fault
+abbrev pub TellsFailed : {D : Type 0} → Journalled D → Stopped → Type 0
+TellsFailed e (Disk text) =
+    (e.failed ≡ true) × ((p : Play) × (p.world ≡ e.state) × AreNumbersOf e p.numbers × TellsSettled e p text.items)
+TellsFailed e Memory = Unit {0}
+
+-- and it has failed only where the disk's count of faults rose
 abbrev pub TellsStop : {D : Type 0} → (D → ℕ) → Stopped → Journalled D → Journalled D → Type 0
-TellsStop count (Disk text) old new =
-    (new.failed ≡ true) × Rose (count old.disk) (count new.disk)
-    × ((p : Play) × (p.world ≡ new.state) × AreNumbersOf new p.numbers × TellsSettled new p text.items)
-TellsStop count Memory old new = new.failed ≡ true → Rose (count old.disk) (count new.disk)
+TellsStop count stop old new = TellsFailed new stop × (new.failed ≡ true → Rose (count old.disk) (count new.disk))
 
 -- the lines are those of this whole schedule, as far as they are durable; want of memory tells none
 abbrev pub TellsPart : {D : Type 0} → Journalled D → Stopped → Play → Type 0

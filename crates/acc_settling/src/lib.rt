@@ -2,13 +2,17 @@
 //! the next turn; and what is told of it.
 #![tactic(auto)]
 
+mod counting;
 mod engines;
+mod finishing;
 mod openings;
 mod replies;
 mod schedules;
 mod settling;
 mod turns;
 
+pub use counting::transactions;
 pub use engines::over_journal;
+pub use finishing::finish;
 pub use schedules::{Scheduled, Stopped, schedule};
 pub use settling::Settling;

@@ -80,7 +80,7 @@ fn play_out<S: Store, D: Disk>(
 }
 
 /// What is told of a schedule that stopped.
-fn told_of<S: Store, D: Disk>(
+pub fn told_of<S: Store, D: Disk>(
     alloc: Global,
     player: &Settling<S, D>,
     board: &Board,
@@ -96,6 +96,37 @@ fn told_of<S: Store, D: Disk>(
             Ok(text) => Stopped::Disk(text),
             Err(_) => Stopped::Memory,
         },
+    }
+}
+
+/// Schedules an engine's calls from a board on, as `schedule` does from its opening.
+pub fn schedule_from<S: Store, D: Disk>(
+    alloc: Global,
+    player: &mut Settling<S, D>,
+    board: Board,
+    d: &Design,
+    order: &[u64],
+) -> Result<Scheduled, Stopped>
+    requires design { player.old.design ≡ d.now }
+    requires board { IsBoardOf player.old.calls (CanBegin player.old) board }
+    requires places { All (IsPlace (length player.old.calls)) order.now }
+    requires text { board.text.items ≡ [] }
+    requires unfailed { player.old.failed ≡ false }
+    ensures tells { IfOk result (λ s. TellsScheduleFrom d.now player.old.calls (play_of player.old.state board) order.now
+        s.text.items player.new.state.events s.all_begun) }
+    ensures settled { OnOk result ((player.new.settled ≡ length player.new.state.events) × (player.new.failed ≡ false)) }
+    ensures stops { IfErr result (λ stop. TellsStop D.faults stop player.old player.new) }
+    ensures front { IsFrontOfSchedule d.now player.old.calls order.now (play_of player.old.state board) player.new.state.events }
+    ensures unsettled { IfErr result (TellsPartOfSchedule d.now player.old.calls order.now (play_of player.old.state board) player.new) }
+    ensures runs { RunsOn D.clock D.left_since D.told D.may_leave D.faults player.old player.new }
+{
+    let mut board = board;
+    match play_out(alloc, player, &mut board, d, order) {
+        Ok(all_begun) => Ok(Scheduled {
+            text: board.text,
+            all_begun,
+        }),
+        Err(stop) => Err(told_of(alloc, player, &board, stop)),
     }
 }
 
@@ -132,15 +163,8 @@ pub fn schedule<S: Store, D: Disk>(
     ensures runs { RunsOn D.clock D.left_since D.told D.may_leave D.faults player.old player.new }
     ensures one_end { IsAckedButOne player.new }
 {
-    let mut board = match opening(alloc, player) {
-        Ok(board) => board,
-        Err(_) => return Err(Stopped::Memory),
-    };
-    match play_out(alloc, player, &mut board, d, order) {
-        Ok(all_begun) => Ok(Scheduled {
-            text: board.text,
-            all_begun,
-        }),
-        Err(stop) => Err(told_of(alloc, player, &board, stop)),
+    match opening(alloc, player) {
+        Ok(board) => schedule_from(alloc, player, board, d, order),
+        Err(_) => Err(Stopped::Memory),
     }
 }

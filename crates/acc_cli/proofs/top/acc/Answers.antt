@@ -3,7 +3,7 @@ use Rattle.acc_cli.proofs.CauseLemmas.{causes_of}
 use Rattle.acc_cli.proofs.PromiseLemmas.{promise_kept}
 use Rattle.acc_cli.proofs.CreationLemmas.{is_created}
 use Rattle.acc_cli.proofs.ProvingLemmas.{is_proved}
-use Rattle.acc_cli.proofs.LineLemmas.{leaves_line, runs_line, tells_somehow}
+use Rattle.acc_cli.proofs.LineLemmas.{leaves_line, runs_line, works_line, tells_somehow}
 use Rattle.acc_cli.proofs.RecoveryLemmas.{tells_recovery, left_refused}
 use Rattle.acc_cli.proofs.StatusLemmas.{zero_is_done, four_is_refused}
 use Rattle.acc_cli.proofs.top.acc.Goals as goal
@@ -56,6 +56,11 @@ pub returns-clause-runs : goal.returns-clause-runs
 returns-clause-runs g c is =
     runs_line g.D.Disk.clock g.D.Disk.left_since g.D.Disk.told g.D.Disk.may_leave _ _ c.args.disk c.answer_line-closed.result.disk _ _ is
     c.answer_line-closed.ensures.leaves
+
+pub returns-clause-works : goal.returns-clause-works
+returns-clause-works g c workers is =
+    works_line g.D.Disk.clock g.D.Disk.left_since g.D.Disk.told g.D.Disk.may_leave _ _ c.args.disk c.answer_line-closed.result.disk _ _
+    workers is c.answer_line-closed.ensures.leaves
 
 pub returns-clause-crash : goal.returns-clause-crash
 returns-clause-crash g c file is only =

@@ -100,6 +100,10 @@ pub returns-in-Sched-clause-ends : goal.returns-in-Sched-clause-ends
 unfolding MeansOverDisk LeavesOf
 returns-in-Sched-clause-ends g c = rw c.in-Sched.is c.run_files.ensures
 
+pub returns-in-Run-clause-ends : goal.returns-in-Run-clause-ends
+unfolding MeansOverDisk LeavesOf
+returns-in-Run-clause-ends g c = rw c.in-Run.is c.work_files.ensures
+
 pub returns-in-Recover-clause-ends : goal.returns-in-Recover-clause-ends
 unfolding MeansOverDisk LeavesOf
 returns-in-Recover-clause-ends g c = rw c.in-Recover.is c.recover_files.ensures

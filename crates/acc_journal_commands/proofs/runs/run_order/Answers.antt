@@ -28,7 +28,7 @@ returns-in-Ok-Read g c =
     (subst (ReadsOrder c.as_slice-calls.result.now c.args.file.now) c.in-Ok-Read.field-0-is c.in-Ok-Read.ensures) in
     let is_order = subst (IsOrder (length asked) c.args.file.now) (sym c.as_slice-order.ensures) read.0 in
     let run = c.schedule_journal.ensures in
-    ends_late (RunsSeen d asked numbers) (RunsOfOrder d asked c.args.file.now)
+    ends_late (RunsSeen d asked numbers) (RunsOfOrder c.args.file.now d asked)
     (λ old new t. seen_late d asked numbers old.told new.told (Rose old.faults new.faults) t)
     (λ old new t ends. inr (record { numbers = numbers; is_order = is_order; ends = ends })) run.answer
     (inr (record { numbers = numbers; is_order = is_order; runs = run.runs })) run.calm run.faults

@@ -2,16 +2,16 @@ use Rattle.std.proofs.Common.{inl, inr, refl, subst, arith}
 use Rattle.acc_base.specs.declared.designs.Design.{Design}
 use Rattle.acc_inputs.specs.declared.scripts.ReadScript.TheVariants as script
 use Rattle.acc_inputs.specs.ReadScripts.{ReadsScript}
-use Rattle.acc_journal_commands.specs.RunFiles.{OrderRuns, ScriptRuns}
+use Rattle.acc_journal_commands.specs.RunFiles.{RunsBy, ScriptRuns}
 use Rattle.acc_journal_commands.proofs.Disks.{runs_weaker, ends_untouched}
 use Rattle.acc_journal_commands.proofs.runs.run_script.Goals as goal
 
-pub run_order-requires : goal.run_order-requires
-run_order-requires g c =
+pub run_calls-requires : goal.run_calls-requires
+run_calls-requires g c =
     let read : ReadsScript c.args.accepted.now c.args.script.now (script.Read c.in-Ok-Read.asked) =
     subst (λ (d : Design). ReadsScript d c.args.script.now (script.Read c.in-Ok-Read.asked)) c.design.ensures.design
     (subst (ReadsScript c.design.result.now c.args.script.now) c.in-Ok-Read.field-0-is c.in-Ok-Read.ensures) in
-    record { fits = read.1; few = omega (arith, read.2, c.requires.short) }
+    λ lifetimes. ((refl, tt), (read.1, (omega (arith, read.2, c.requires.short), c.requires.ready)))
 
 pub returns-in-Ok-Read : goal.returns-in-Ok-Read
 returns-in-Ok-Read g c =
@@ -20,10 +20,10 @@ returns-in-Ok-Read g c =
     let read : ReadsScript c.args.accepted.now c.args.script.now (script.Read asked) =
     subst (λ (d : Design). ReadsScript d c.args.script.now (script.Read asked)) c.design.ensures.design
     (subst (ReadsScript c.design.result.now c.args.script.now) c.in-Ok-Read.field-0-is c.in-Ok-Read.ensures) in
-    runs_weaker (OrderRuns disk.clock disk.left_since disk.told disk.may_leave c.args.accepted.now asked c.args.file.now)
-    (ScriptRuns disk.clock disk.left_since disk.told disk.may_leave c.args.accepted.now c.args.script.now c.args.file.now)
+    let runs = RunsBy disk.clock disk.left_since disk.told disk.may_leave c.args.turns in
+    runs_weaker (runs c.args.accepted.now asked) (ScriptRuns runs c.args.accepted.now c.args.script.now)
     (λ old new t says. inr (record { calls = asked; is_script = read.0; says = says }))
-    (λ runs. record { calls = asked; is_script = read.0; runs = runs }) c.run_order.ensures
+    (λ runs. record { calls = asked; is_script = read.0; runs = runs }) c.run_calls.ensures
 
 pub returns-in-Ok-Refused : goal.returns-in-Ok-Refused
 returns-in-Ok-Refused g c =

@@ -1,6 +1,9 @@
 use Rattle.acc_course.specs.Searches.{course}
-use Rattle.acc_prover.proofs.Searched.{kind_told, proof_told, truth_told, leaf_told}
+use Rattle.acc_prover.proofs.Searched.{kind_told, near_told, proof_told, truth_told, leaf_told}
 use Rattle.acc_prover.proofs.searching.search.Goals as goal
+
+pub found-requires : goal.found-requires
+found-requires c = near_told c.args.design.now c.args.sequent.now c.args.hints.now c.course-end.result c.course-end.ensures
 
 pub returns : goal.returns
 returns c =

@@ -2,11 +2,12 @@ use Rattle.std.proofs.Common.{Some, inl, inr, ap, subst, sym, arith}
 use Rattle.acc_base.specs.Machine.{World}
 use Rattle.acc_machine.specs.Turns.{IsTurn}
 use Rattle.acc_player.proofs.Items.{if_stopped, if_handed}
-use Rattle.acc_settling.specs.Chains.{ready_stays, again_stays, runs_stays, runs_behind}
+use Rattle.acc_engine.proofs.Surviving.{ready_stays}
+use Rattle.acc_engine.proofs.Turned.{turn_adds}
+use Rattle.acc_settling.specs.Chains.{again_stays, runs_stays, runs_behind}
 use Rattle.acc_settling.specs.Leaving.{LeavesEngine, stops_since}
 use Rattle.acc_settling.proofs.Acks.{acked_turned, acked_unended, unended}
 use Rattle.acc_settling.proofs.Beginning.{refuses_leave}
-use Rattle.acc_settling.proofs.Turned.{turn_adds}
 use Rattle.acc_settling.proofs.turns.take.Goals as goal
 
 pub returns-in-Err-clause-stops : goal.returns-in-Err-clause-stops
@@ -29,7 +30,7 @@ returns-in-Stepped-clause-done g c =
     let turned = c.in-Ok.ensures.turn in
     let within = c.requires.sound.within in
     let more = turn_adds old.state mid.state t x c.in-Ok.ensures.adds in (
-      runs_stays g.D.Disk.told g.D.Disk.may_leave g.D.Disk.clock g.D.Disk.left_since g.D.Disk.faults g.met.D.Disk.only_now old mid more.0
+      runs_stays g.D.Disk.clock g.D.Disk.left_since g.D.Disk.told g.D.Disk.may_leave g.D.Disk.faults g.met.D.Disk.only_now old mid more.0
           stays more.1
           (acked_turned old mid more.0 stays.design stays.settled more.1 within t x c.requires.unfinished turned),
       again_stays g.D.Disk.told g.D.Disk.may_leave old mid more.0 stays more.1 c.requires.unfailed
@@ -50,8 +51,8 @@ returns-in_ok-settle-in-Ended-clause-done g c =
     c.in-Ok.ensures.turn in
     let settled = c.in_ok-settle-in-Ended.ensures in
     let ready_again = ready_stays g.D.Disk.told g.D.Disk.may_leave old mid more.0 stays more.1 in (
-      runs_behind g.D.Disk.told g.D.Disk.may_leave g.D.Disk.clock g.D.Disk.left_since g.D.Disk.faults g.met.D.Disk.only_now old mid new
-          (runs_stays g.D.Disk.told g.D.Disk.may_leave g.D.Disk.clock g.D.Disk.left_since g.D.Disk.faults g.met.D.Disk.only_now old mid
+      runs_behind g.D.Disk.clock g.D.Disk.left_since g.D.Disk.told g.D.Disk.may_leave g.D.Disk.faults g.met.D.Disk.only_now old mid new
+          (runs_stays g.D.Disk.clock g.D.Disk.left_since g.D.Disk.told g.D.Disk.may_leave g.D.Disk.faults g.met.D.Disk.only_now old mid
           more.0 stays more.1 ends) ready_again (λ acked. c.settle.ensures.one (ends acked)) settled.done.0,
       record {
         unfailed = settled.done.1.unfailed;
@@ -78,8 +79,8 @@ returns-in_err-settle-in-Ended-clause-stops g c =
     if_handed
     (λ s. LeavesEngine g.D.Disk.clock g.D.Disk.left_since g.D.Disk.told g.D.Disk.may_leave g.D.Disk.faults (Some s) old new)
     c.from_residual.result stop c.from_residual.ensures.1 (
-      runs_behind g.D.Disk.told g.D.Disk.may_leave g.D.Disk.clock g.D.Disk.left_since g.D.Disk.faults g.met.D.Disk.only_now old mid new
-          (runs_stays g.D.Disk.told g.D.Disk.may_leave g.D.Disk.clock g.D.Disk.left_since g.D.Disk.faults g.met.D.Disk.only_now old mid
+      runs_behind g.D.Disk.clock g.D.Disk.left_since g.D.Disk.told g.D.Disk.may_leave g.D.Disk.faults g.met.D.Disk.only_now old mid new
+          (runs_stays g.D.Disk.clock g.D.Disk.left_since g.D.Disk.told g.D.Disk.may_leave g.D.Disk.faults g.met.D.Disk.only_now old mid
           more.0 stays more.1 ends) (ready_stays g.D.Disk.told g.D.Disk.may_leave old mid more.0 stays more.1)
           (λ acked. c.settle.ensures.one (ends acked)) left.0,
       stops_since g.D.Disk.faults stop old mid new (omega (arith, same)) left.1,

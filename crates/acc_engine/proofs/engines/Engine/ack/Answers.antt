@@ -11,17 +11,17 @@ pub returns-then-has_turn : goal.returns-then-has_turn
 returns-then-has_turn g c =
     let s = c.self.inside.state in
     let wal = c.self.inside.wal in
-    let run = lead_runs s.design s.world.events start s.world c.self.invariant.state.good.lawful in
+    let run = lead_runs s.design s.world.events start s.world c.self.invariant.0.state.good.lawful in
     let some = ap (list_any (is_turn_of c.args.t)) (sym c.tail.ensures) ∙ sym c.has_turn.ensures ∙ c.if-has_turn.true in
     subst (λ (j : Journalled g.row.D.Denot). None ≡ durable_reply j c.args.t) c.self.view_is
-    (none_there s.design s.world wal.durable wal.tail c.args.t run c.self.invariant.same some)
+    (none_there s.design s.world wal.durable wal.tail c.args.t run c.self.invariant.0.same some)
 
 pub returns-else-has_turn : goal.returns-else-has_turn
 returns-else-has_turn g c =
     let s = c.self.inside.state in
     let wal = c.self.inside.wal in
-    let run = lead_runs s.design s.world.events start s.world c.self.invariant.state.good.lawful in
+    let run = lead_runs s.design s.world.events start s.world c.self.invariant.0.state.good.lawful in
     let none = ap (list_any (is_turn_of c.args.t)) (sym c.tail.ensures) ∙ sym c.has_turn.ensures ∙ c.if-has_turn.false in
     c.reply.ensures
     ∙ subst (λ (j : Journalled g.row.D.Denot). reply_at c.args.t s.world ≡ durable_reply j c.args.t) c.self.view_is
-    (reply_there s.design s.world wal.durable wal.tail c.args.t run c.self.invariant.same none)
+    (reply_there s.design s.world wal.durable wal.tail c.args.t run c.self.invariant.0.same none)

@@ -19,7 +19,7 @@ pub prepare-requires-clause-fits : goal.prepare-requires-clause-fits
 prepare-requires-clause-fits g c =
     let inside = c.self.inside in
     subst (λ (l : List Call). All (λ (call : Call). Fits (Begin call)) l) (sym c.as_slice.ensures)
-    (all_fields inside.state.design inside.calls c.self.invariant.state.accepted.formed c.self.invariant.fits)
+    (all_fields inside.state.design inside.calls c.self.invariant.0.state.accepted.formed c.self.invariant.0.fits)
 
 pub put-requires-clause-short : goal.put-requires-clause-short
 put-requires-clause-short g c =
@@ -41,7 +41,7 @@ put-requires-clause-short g c =
     let fresh : get_or marks p false ≡ false = c.prepare.ensures.marks p ∙ ap (λ (l : List Bool). get_or l p false) begun ∙
     c.requires.fresh in
     let wide = in_step_widened inside.state.design inside.state.world inside.wal c.prepare.new.wal inside.found inside.calls
-    inside.begun.items marks inside.lowest c.self.invariant c.prepare.ensures.lists.lists (c.prepare.ensures.same inside.calls)
+    inside.begun.items marks inside.lowest c.self.invariant.0 c.prepare.ensures.lists.lists (c.prepare.ensures.same inside.calls)
     c.prepare.ensures.marks in
     let short = begin_short inside.state.design inside.state.design inside.state.world inside.state.world c.prepare.new.wal
     c.prepare.new.wal inside.found inside.calls marks inside.lowest p found.call wide lt fresh is in
@@ -69,7 +69,7 @@ invariant_of-self-in-Ok g c =
     let fresh : get_or marks p false ≡ false = c.prepare.ensures.marks p ∙ ap (λ (l : List Bool). get_or l p false) begun ∙
     c.requires.fresh in
     let wide = in_step_widened inside.state.design inside.state.world inside.wal c.prepare.new.wal inside.found inside.calls
-    inside.begun.items marks inside.lowest c.self.invariant c.prepare.ensures.lists.lists (c.prepare.ensures.same inside.calls)
+    inside.begun.items marks inside.lowest c.self.invariant.0 c.prepare.ensures.lists.lists (c.prepare.ensures.same inside.calls)
     c.prepare.ensures.marks in
     let call = c.index-as_slice-index.result in
     let again : slice_get inside.calls p ≡ Some call =
@@ -77,11 +77,13 @@ invariant_of-self-in-Ok g c =
     c.index-as_slice-index.is in
     let same : found.call ≡ call = same_Some found.call call (sym is ∙ again) in
     let event : c.in_ok-event.event ≡ Begin call = found.event_is ∙ ap (λ (x : Call). Begin x) same in
-    let answer = c.in-Ok.ensures.answer in
-    in_step_begun inside.state.design c.begin.new.self.design inside.state.world c.begin.new.self.world c.prepare.new.wal c.put.new.wal
-    inside.found inside.calls marks inside.lowest p call wide lt fresh again
-    (record { leave = answer.2; event = answer.1 }) c.begin.ensures.design
-    (subst (λ (e : Event). Pushes e c.prepare.new.wal c.put.new.wal) event c.put.ensures)
+    let answer = c.in-Ok.ensures.answer in (
+      in_step_begun inside.state.design c.begin.new.self.design inside.state.world c.begin.new.self.world c.prepare.new.wal c.put.new.wal
+          inside.found inside.calls marks inside.lowest p call wide lt fresh again
+          (record { leave = answer.2; event = answer.1 }) c.begin.ensures.design
+          (subst (λ (e : Event). Pushes e c.prepare.new.wal c.put.new.wal) event c.put.ensures),
+      c.self.invariant.1 ∙ ap (λ (j : Journalled g.row.D.Denot). j.failed) c.self.view_is ∙ c.requires.unfailed ∙ sym c.put.ensures.spent,
+    )
 
 pub returns-in-Ok-clause-ok : goal.returns-in-Ok-clause-ok
 returns-in-Ok-clause-ok g c =
@@ -120,16 +122,18 @@ returns-in-Ok-clause-ok g c =
           (λ (l : List Bool). get_or l q false) begun;
     }
 
-pub invariant_of-self-in-Err : goal.invariant_of-self-in-Err
-invariant_of-self-in-Err g c =
+pub invariant_of-self-in-Err-Memory-2 : goal.invariant_of-self-in-Err-Memory-2
+invariant_of-self-in-Err-Memory-2 g c =
     let inside = c.self.inside in
     let old = inside.state in
     let now = c.begin.new.self in
     let wal = c.prepare.new.wal in
     let marks = c.prepare.new.begun.items in
     let wide =
-    in_step_widened old.design old.world inside.wal wal inside.found inside.calls inside.begun.items marks inside.lowest c.self.invariant
-    c.prepare.ensures.lists.lists (c.prepare.ensures.same inside.calls) c.prepare.ensures.marks in
-    in_step_same old.design now.design old.world now.world wal.durable wal.tail inside.found inside.calls marks inside.lowest wide
-    c.begin.ensures.design
-    (same_world old.design old.world now.world c.index-as_slice-index.result c.in-Err.field-0 c.in-Err.ensures.answer)
+    in_step_widened old.design old.world inside.wal wal inside.found inside.calls inside.begun.items marks inside.lowest c.self.invariant.0
+    c.prepare.ensures.lists.lists (c.prepare.ensures.same inside.calls) c.prepare.ensures.marks in (
+      in_step_same old.design now.design old.world now.world wal.durable wal.tail inside.found inside.calls marks inside.lowest wide
+          c.begin.ensures.design
+          (same_world old.design old.world now.world c.index-as_slice-index.result c.in-Err-Memory.field-0 c.in-Err-Memory.ensures.answer),
+      c.self.invariant.1 ∙ sym c.prepare.ensures.lists.spent,
+    )

@@ -1,23 +1,31 @@
 use Rattle.std.proofs.Common.{◌≡◌, List, ℕ, length, false, Some, inl, sym, ◌∙◌, ap, subst}
 use Rattle.acc_base.specs.declared.machines.Event.{Event}
-use Rattle.acc_disk.specs.Crashes.{Only}
+use Rattle.std.proofs.lemmas.Result.{IfOk-at_ok}
+use Rattle.acc_io.specs.Causes.{Rose}
+use Rattle.acc_disk.specs.Crashes.{Only, IsCalm}
 use Rattle.acc_disk.specs.Moments.{AtAnyMoment}
 use Rattle.acc_wal.specs.Fronts.{CountsFront}
+use Rattle.acc_wal.specs.Settling.{IsSettled}
 use Rattle.acc_wal.proofs.FrontLemmas.{front_of_either}
 use Rattle.acc_wal.proofs.Moments.{weaker}
 use Rattle.acc_engine.specs.Keeping.{Journalled}
 use Rattle.acc_engine.specs.Ready.{IsReady}
 use Rattle.acc_engine.specs.Standing.{CountsDurableOrAll}
-use Rattle.acc_engine.proofs.InSteps.{in_step_settled}
+use Rattle.acc_engine.proofs.InSteps.{in_step_settled, failed_settling}
 use Rattle.acc_engine.proofs.Standing.{durable_or_all, sound_in_step}
 use Rattle.acc_engine.proofs.engines.Engine.settle.Goals as goal
-use Rattle.acc_engine.proofs.engines.Engine.settle.Goals.{in-Ok, in-Err-Spent, in-Err}
+use Rattle.acc_engine.proofs.engines.Engine.settle.Goals.{in-Ok, in-Err-Spent, in-Err-Disk}
 
 pub invariant_of-self : goal.invariant_of-self
 invariant_of-self g c =
-    let old = c.self.inside in
-    in_step_settled old.state.design old.state.world old.wal c.settle-outcome.new.self old.found old.calls old.begun.items old.lowest
-    c.self.invariant c.settle-outcome.result c.settle-outcome.ensures.ok c.settle-outcome.ensures.err
+    let old = c.self.inside in (
+      in_step_settled old.state.design old.state.world old.wal c.settle-outcome.new.self old.found old.calls old.begun.items old.lowest
+          c.self.invariant.0 c.settle-outcome.result c.settle-outcome.ensures.ok c.settle-outcome.ensures.err,
+      c.is_err-self-inside.ensures.value
+          ∙ failed_settling old.wal c.settle-outcome.new.self c.settle-outcome.result
+          (Rose (g.D.Disk.faults old.wal.disk) (g.D.Disk.faults c.settle-outcome.new.self.disk)) c.settle-outcome.ensures.ok
+          c.settle-outcome.ensures.why (λ spent. (c.settle-outcome.ensures.spent spent).1),
+    )
 
 pub returns-clause-moments : goal.returns-clause-moments
 returns-clause-moments g c unfailed =
@@ -30,7 +38,7 @@ returns-clause-moments g c unfailed =
     subst P c.self.view_is
     (λ file told only.
     weaker g.D.Disk.clock g.D.Disk.left_since _ _ _ _
-    (λ image either. durable_or_all wal.base image wal.durable wal.tail inside.state.world.events c.self.invariant.same either)
+    (λ image either. durable_or_all wal.base image wal.durable wal.tail inside.state.world.events c.self.invariant.0.same either)
     (c.settle-outcome.ensures.moments unspent file told only))
 
 pub returns-clause-ready : goal.returns-clause-ready
@@ -39,19 +47,22 @@ returns-clause-ready g c ready =
     let new = c.settle-outcome.new.self in
     let was = subst (IsReady g.D.Disk.told g.D.Disk.may_leave) (sym c.self.view_is) ready in
     let kept = in_step_settled inside.state.design inside.state.world inside.wal new inside.found inside.calls inside.begun.items
-    inside.lowest c.self.invariant c.settle-outcome.result c.settle-outcome.ensures.ok c.settle-outcome.ensures.err in
+    inside.lowest c.self.invariant.0 c.settle-outcome.result c.settle-outcome.ensures.ok c.settle-outcome.ensures.err in
     elim c.match-outcome.branch [
       | in-Ok w ↦
+          let ok = IfOk-at_ok (λ _. IsSettled inside.wal new) w.in-Ok.is c.settle-outcome.ensures.ok in
           rw w.result-is
           (record {
-            unfailed = w.in-Ok.ensures.ok.spent;
-            calm = w.in-Ok.ensures.calm was.calm;
+            unfailed = ok.spent;
+            calm =
+                IfOk-at_ok (λ _. IsCalm (g.D.Disk.told new.disk) (g.D.Disk.may_leave new.disk)) w.in-Ok.is
+                (c.settle-outcome.ensures.calm was.calm);
             counts = λ file told.
                 subst (λ (h : List Event). CountsFront new.base h (length new.durable) file) kept.same
-                (front_of_either new.base file new.durable new.tail (inl (c.durable.ensures.counts w.in-Ok.ensures.ok.spent file told)));
+                (front_of_either new.base file new.durable new.tail (inl (c.durable.ensures.counts ok.spent file told)));
           })
       | in-Err-Spent w ↦ rw w.result-is tt
-      | in-Err w ↦ rw w.result-is tt
+      | in-Err-Disk w ↦ rw w.result-is tt
     ]
 
 pub returns-clause-sound : goal.returns-clause-sound
@@ -60,5 +71,5 @@ returns-clause-sound g c =
     let new = c.settle-outcome.new.self in
     sound_in_step g.D.Disk.told inside.state.design inside.state.world new inside.found inside.calls inside.begun.items inside.lowest
     (in_step_settled inside.state.design inside.state.world inside.wal new inside.found inside.calls inside.begun.items inside.lowest
-    c.self.invariant c.settle-outcome.result c.settle-outcome.ensures.ok c.settle-outcome.ensures.err)
+    c.self.invariant.0 c.settle-outcome.result c.settle-outcome.ensures.ok c.settle-outcome.ensures.err)
     c.durable.ensures.counts

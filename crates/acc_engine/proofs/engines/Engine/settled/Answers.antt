@@ -11,4 +11,4 @@ returns-clause-counts g c =
     let P : Journalled g.row.D.Denot → Type 0 = λ j. j.failed ≡ false → (file : List ℕ) → g.D.Disk.told j.disk ≡ Some file →
     CountsFront j.base j.state.events j.settled file in
     subst P c.self.view_is (λ unfailed file told. subst (λ (h : List Event). CountsFront wal.base h (length wal.durable) file)
-    c.self.invariant.same (front_of_either wal.base file wal.durable wal.tail (inl (c.durable.ensures.counts unfailed file told))))
+    c.self.invariant.0.same (front_of_either wal.base file wal.durable wal.tail (inl (c.durable.ensures.counts unfailed file told))))

@@ -10,18 +10,20 @@ use Rattle.acc_engine.proofs.engines.Engine.turn.Goals as goal
 pub note-requires-clause-number : goal.note-requires-clause-number
 note-requires-clause-number g c =
     let old = c.self.inside.state in
-    small_number old.design old.world c.args.t c.self.invariant.state
+    small_number old.design old.world c.args.t c.self.invariant.0.state
     (subst (λ (w : World). IsUnfinished c.args.t w) (sym (ap (λ (j : Journalled g.row.D.Denot). j.state) c.self.view_is))
     c.requires.unfinished)
 
 pub invariant_of-self-in-Ok-turn : goal.invariant_of-self-in-Ok-turn
 invariant_of-self-in-Ok-turn g c =
     let old = c.self.inside in
-    let now = c.turn.new.self in
-    in_step_turned old.state.design now.design old.state.world now.world old.wal c.reserve.new.self c.note.new.wal old.found old.calls
-    old.begun.items old.lowest c.self.invariant c.reserve.ensures.same.lists
-    c.args.t (adds_or c.args.t c.in-Ok-turn.turn old.state.world now.world c.in-Ok-turn.ensures.adds) c.turn.ensures.design
-    c.note.ensures.kept c.note.ensures.up
+    let now = c.turn.new.self in (
+      in_step_turned old.state.design now.design old.state.world now.world old.wal c.reserve.new.self c.note.new.wal old.found old.calls
+          old.begun.items old.lowest c.self.invariant.0 c.reserve.ensures.same.lists
+          c.args.t (adds_or c.args.t c.in-Ok-turn.turn old.state.world now.world c.in-Ok-turn.ensures.adds) c.turn.ensures.design
+          c.note.ensures.kept c.note.ensures.up,
+      c.self.invariant.1 ∙ sym (c.note.ensures.up.spent ∙ c.reserve.ensures.same.spent),
+    )
 
 pub returns-in-Ok-turn-clause-sound : goal.returns-in-Ok-turn-clause-sound
 returns-in-Ok-turn-clause-sound g c =
@@ -29,18 +31,18 @@ returns-in-Ok-turn-clause-sound g c =
     let now = c.turn.new.self in
     let adds = adds_or c.args.t c.in-Ok-turn.turn old.state.world now.world c.in-Ok-turn.ensures.adds in
     let step = in_step_turned old.state.design now.design old.state.world now.world old.wal c.reserve.new.self c.note.new.wal old.found
-    old.calls old.begun.items old.lowest c.self.invariant c.reserve.ensures.same.lists c.args.t adds c.turn.ensures.design
+    old.calls old.begun.items old.lowest c.self.invariant.0 c.reserve.ensures.same.lists c.args.t adds c.turn.ensures.design
     c.note.ensures.kept c.note.ensures.up in
     sound_turned g.D.Disk.told old.state.design now.design old.state.world now.world old.wal c.reserve.new.self c.note.new.wal old.found
     old.calls old.begun.items old.lowest c.reserve.ensures.same c.note.ensures.up c.turn.ensures.design step
     (subst (IsSound g.D.Disk.told) (sym c.self.view_is) c.standing.ensures) c.args.t adds
 
-pub returns-in-Err-turn-clause-sound : goal.returns-in-Err-turn-clause-sound
-returns-in-Err-turn-clause-sound g c =
+pub returns-in-Err-Memory-turn-clause-sound : goal.returns-in-Err-Memory-turn-clause-sound
+returns-in-Err-Memory-turn-clause-sound g c =
     let old = c.self.inside in
     let now = c.turn.new.self in
     subst (IsSound g.D.Disk.told)
     (sym
     (seen_again old.state.design now.design old.state.world now.world old.wal c.reserve.new.self old.found old.calls old.begun.items
-    c.turn.ensures.design c.in-Err-turn.ensures.err c.reserve.ensures.same ∙ c.self.view_is))
+    c.turn.ensures.design c.in-Err-Memory-turn.ensures.err c.reserve.ensures.same ∙ c.self.view_is))
     c.standing.ensures

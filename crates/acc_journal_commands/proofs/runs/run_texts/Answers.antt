@@ -1,8 +1,8 @@
 use Rattle.std.proofs.Common.{inl, inr, refl, subst}
 use Rattle.acc_inputs.specs.ReadDesigns.{IsRead, Reads}
-use Rattle.acc_journal_commands.specs.RunFiles.{AcceptedRuns, FilesRun}
+use Rattle.acc_journal_commands.specs.RunFiles.{RunsBy, AcceptedRuns, FilesRun}
 use Rattle.acc_journal_commands.proofs.Disks.{runs_weaker, ends_untouched}
-use Rattle.acc_journal_commands.proofs.runs.run_files.Goals as goal
+use Rattle.acc_journal_commands.proofs.runs.run_texts.Goals as goal
 
 pub returns-in-Ok-Read : goal.returns-in-Ok-Read
 returns-in-Ok-Read g c =
@@ -10,8 +10,9 @@ returns-in-Ok-Read g c =
     let files = c.args.files in
     let d = c.in-Ok-Read.d in
     let read : IsRead files.design.now d = subst (Reads files.design.now) c.in-Ok-Read.field-0-is c.in-Ok-Read.ensures in
-    runs_weaker (AcceptedRuns disk.clock disk.left_since disk.told disk.may_leave d files.certificate.now files.script.now files.order.now)
-    (FilesRun disk.clock disk.left_since disk.told disk.may_leave files.design.now files.certificate.now files.script.now files.order.now)
+    let script = c.args.script.now in
+    let runs = RunsBy disk.clock disk.left_since disk.told disk.may_leave c.args.turns in
+    runs_weaker (AcceptedRuns runs d files.certificate.now script) (FilesRun runs files.design.now files.certificate.now script)
     (λ old new t says. inr (record { d = d; is_text = read.is_text; formed = read.formed; says = says }))
     (λ by. record {
       d = d;
@@ -20,9 +21,7 @@ returns-in-Ok-Read g c =
       accepted = by.accepted;
       calls = by.runs.calls;
       is_script = by.runs.is_script;
-      numbers = by.runs.runs.numbers;
-      is_order = by.runs.runs.is_order;
-      runs = by.runs.runs.runs;
+      runs = by.runs.runs;
     }) c.run_design.ensures
 
 pub returns-in-Ok-Refused : goal.returns-in-Ok-Refused

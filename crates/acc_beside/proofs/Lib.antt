@@ -1,0 +1,4 @@
+pub mod Growing
+pub mod Calling
+pub mod Beside
+pub mod Settling

@@ -1,0 +1,31 @@
+-- Which commands go over a recovered journal, and which run over one leaves a place unbegun.
+use Rattle.std.specs.Prelude.{◌≡◌, ◌⊎◌, ℕ, false, List}
+use Rattle.acc_base.specs.declared.designs.Design.{Design}
+use Rattle.acc_base.specs.declared.machines.Call.{Call}
+use Rattle.acc_base.specs.Machine.{World}
+use Rattle.acc_base.specs.Plays.{Play}
+use Rattle.acc_schedule.specs.Schedules.{TellsScheduleFrom}
+use Rattle.acc_running.specs.Running.{IsOpening, WorkersLeave}
+use Rattle.acc_inputs.specs.declared.words.Command.{Command}
+use Rattle.acc_inputs.specs.declared.words.Command.TheVariants as command
+use Rattle.acc_journalled.specs.Tellings.{Telling}
+
+-- it recovers a journal
+abbrev pub IsRecovering : Command → Type 0
+IsRecovering c =
+    (c ≡ command.Sched) ⊎ (c ≡ command.Recover) ⊎ (c ≡ command.Dump) ⊎ (c ≡ command.Replies) ⊎ ((workers : ℕ) × (c ≡ command.Run workers))
+
+-- a schedule from where the turns begin behind a recovered state is told, and one of its places couldn't begin, since the history is full
+pub record LeavesOver (Opens : Design → List Call → World → Play → Type 0) (t : Telling) : Type 0 where
+  pub d : Design
+  pub calls : List Call
+  pub order : List ℕ
+  pub first : World
+  pub opened : Play
+  pub opens : Opens d calls first opened
+  pub tells : TellsScheduleFrom d calls opened order t.text t.history false
+
+-- it is `sched`, whose turns begin at the recovered state; or `run`, where they begin behind those of the workers
+abbrev pub LeavesBy : Command → Telling → Type 0
+LeavesBy c t = ((c ≡ command.Sched) × LeavesOver (λ d. IsOpening) t)
+    ⊎ ((workers : ℕ) × (c ≡ command.Run workers) × LeavesOver WorkersLeave t)

@@ -1,0 +1,3 @@
+pub mod Works
+pub mod Idle
+pub mod Calls

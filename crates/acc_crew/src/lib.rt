@@ -1,0 +1,6 @@
+//! Who works an engine's calls before their caller ends what is left.
+#![tactic(auto)]
+
+mod crews;
+
+pub use crews::{Alone, Called, Crew, Workable};

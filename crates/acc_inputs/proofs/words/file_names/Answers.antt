@@ -1,0 +1,10 @@
+use Rattle.std.proofs.Common.{List, ℕ, sym, ap, ◌∙◌, map, string_bytes}
+use Rattle.acc_inputs.specs.Words.{names_of}
+use Rattle.acc_inputs.proofs.FileNames.{names_are}
+use Rattle.acc_inputs.proofs.words.file_names.Goals as goal
+
+pub returns-in-Some : goal.returns-in-Some
+returns-in-Some c =
+    let words : List (List ℕ) = map string_bytes c.args.words.now in
+    names_are string_bytes c.args.words.now c.file_count.result c.in-Some.command c.file_count.ensures
+    ∙ sym (ap (λ o. names_of o words) (sym c.command_of.ensures.command ∙ c.in-Some.is))

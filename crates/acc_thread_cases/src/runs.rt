@@ -1,0 +1,135 @@
+//! Runs by worker threads.
+ghost use Rattle.acc_crew.specs.Works.{IsUnworked};
+
+use crate::answers::{Answered, answer, answer_alone};
+use acc_case_commands::memory;
+use acc_case_commands::texts::first_word;
+use acc_crew::Called;
+use acc_disk::MemDisk;
+use acc_engine::Engine;
+use acc_lift::Accepted;
+use acc_store::MapStore;
+use acc_threads::work_in_threads;
+use acc_workers::OpenGate;
+use std::alloc::AllocError;
+use std::fs::File;
+use std::io;
+use std::rt::Files;
+use std::sync::Wait;
+use std::thread::Threads;
+
+/// A run: how many work, the call of the disk from which on all fail, and the names of the files.
+#[derive(Clone, Copy)]
+struct Case<'a> {
+    workers: &'a str,
+    from: &'a str,
+    design: &'a str,
+    certificate: &'a str,
+    first: &'a str,
+    script: &'a str,
+}
+
+/// The run that is written `WORKERS FROM DESIGN CERT FIRST SCRIPT`.
+fn case_of(text: &str) -> Case<'_> {
+    let (workers, rest) = first_word(text);
+    let (from, rest) = first_word(rest);
+    let (design, rest) = first_word(rest);
+    let (certificate, rest) = first_word(rest);
+    let (first, script) = first_word(rest);
+    Case {
+        workers,
+        from,
+        design,
+        certificate,
+        first,
+        script,
+    }
+}
+
+/// The journal with which a run begins.
+fn journal_of<R: Files<File = File> + AllocGlobal>(
+    rt: &R,
+    case: Case<'_>,
+) -> Result<Vec<u8>, AllocError> {
+    let Case {
+        design,
+        certificate,
+        first,
+        ..
+    } = case;
+    let init = format!(in rt.alloc(); "init {design}")?;
+    let made = answer_alone(rt, init.as_str(), &[])?;
+    let run = format!(in rt.alloc(); "run {design} {certificate} {first} 1")?;
+    let begun = answer_alone(rt, run.as_str(), made.disk.bytes())?;
+    begun.disk.bytes().to_vec(rt.alloc())
+}
+
+/// Answers a command line over a disk by workers in threads.
+fn answer_in_threads<'d, R: Files<File = File> + AllocGlobal, T: Threads + Wait + Sync>(
+    rt: &R,
+    threads: &T,
+    line: &str,
+    disk: MemDisk,
+    slot: &'d mut Option<Accepted>,
+) -> Result<Answered, AllocError> {
+    let crew = Called::new::<Engine<'d, MapStore, MemDisk>>(
+        |alloc, engine, workers|
+            requires { IsUnworked engine }
+        { work_in_threads(threads, alloc, engine, workers, &OpenGate) },
+    );
+    answer(rt, line, disk, &crew, slot)
+}
+
+/// Answers the run of a case.
+fn run<R: Files<File = File> + AllocGlobal, T: Threads + Wait + Sync>(
+    rt: &R,
+    threads: &T,
+    case: Case<'_>,
+) -> Result<Answered, AllocError> {
+    let journal = journal_of(rt, case)?;
+    let disk = memory::disk(rt.alloc(), &journal, &[], case.from.parse().ok())?;
+    let Case {
+        workers,
+        design,
+        certificate,
+        script,
+        ..
+    } = case;
+    let line = format!(in rt.alloc(); "run {design} {certificate} {script} {workers}")?;
+    answer_in_threads(rt, threads, line.as_str(), disk, &mut None)
+}
+
+/// Tells what a command line printed, and its status.
+fn tell_answer<R: Print>(rt: &R, answered: &Answered) -> io::Result<()> {
+    println!(rt; "{:?}, status {}", answered.text.as_str(), answered.status)
+}
+
+/// Tells what a command over the journal answers over the bytes that a run left.
+fn tell_left<R: Files<File = File> + Print + AllocGlobal>(
+    rt: &R,
+    verb: &str,
+    case: Case<'_>,
+    bytes: &[u8],
+) -> io::Result<()> {
+    let Case {
+        design,
+        certificate,
+        ..
+    } = case;
+    let line = format!(in rt.alloc(); "{verb} {design} {certificate}")?;
+    let answered = answer_alone(rt, line.as_str(), bytes)?;
+    tell_answer(rt, &answered)
+}
+
+/// Tells of the run of a case, and of what it left.
+pub fn tell<R: Files<File = File> + Print + AllocGlobal, T: Threads + Wait + Sync>(
+    rt: &R,
+    threads: &T,
+    text: &str,
+) -> io::Result<()> {
+    let case = case_of(text);
+    let answered = run(rt, threads, case)?;
+    tell_answer(rt, &answered)?;
+    tell_left(rt, "recover", case, answered.disk.bytes())?;
+    tell_left(rt, "dump", case, answered.disk.bytes())
+}
