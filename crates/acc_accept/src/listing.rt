@@ -1,13 +1,13 @@
 //! The obligations of a design.
 ghost use Rattle.acc_formed.specs.WellFormed.{IsWellFormed};
 ghost use Rattle.acc_oblig.specs.Laws.{drafts_of};
-ghost use Rattle.acc_goals.specs.Causes.{Adds};
+ghost use Rattle.acc_path_rules.specs.Causes.{Adds};
 ghost use Rattle.acc_accept.specs.Obligations.{AreObligations};
 
 use acc_base::designs::Design;
 use acc_base::sequences::Seq;
 use acc_base::sequents::Sequent;
-use acc_goals::ObligError;
+use acc_path_rules::ObligError;
 use acc_path_rules::always::add_always;
 use acc_path_rules::promises::add_promises;
 use acc_path_rules::spares::add_spares;

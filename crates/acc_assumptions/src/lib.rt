@@ -6,6 +6,9 @@ mod guards;
 pub mod reads;
 pub mod settings;
 
+pub use acc_named::forms::{alone, lin_form, negated_form};
+pub use acc_named::naming::{named_lin, own_naming};
+pub use acc_places::places::PathPlace;
 pub use extremes::{add_read_hyps, guarded, own_name};
 pub use reads::add_read_rels;
 pub use settings::{

@@ -1,8 +1,8 @@
 -- Parts of a search, any of which may end it, and what a call's answer tells of a part.
 use Rattle.std.specs.Prelude.{◌≡◌, Bool, true, false, Option, Some, None, Result, Ok, Err}
 use Rattle.acc_base.specs.Computing.{StopsBy, Answers, Leaves}
-use Rattle.acc_decisions.specs.declared.verdicts.ElimError.{ElimError}
-use Rattle.acc_decisions.specs.declared.verdicts.ElimError.TheVariants as stopped
+use Rattle.acc_elim.specs.ElimError.{ElimError}
+use Rattle.acc_elim.specs.ElimError.TheVariants as stopped
 use Rattle.acc_branch.specs.declared.halts.Halt.{Halt}
 use Rattle.acc_branch.specs.declared.halts.Halt.TheVariants.{Open, Crowded, Wide, Many, Memory}
 

@@ -4,9 +4,9 @@ use Rattle.acc_base.specs.declared.forms.Form.{Form}
 use Rattle.acc_base.specs.declared.forms.Rel.{Rel}
 use Rattle.acc_base.specs.Computing.{chain}
 use Rattle.acc_farkas.specs.declared.refuting.Mults.{Mults}
-use Rattle.acc_decisions.specs.declared.verdicts.Verdict.{Verdict}
-use Rattle.acc_decisions.specs.declared.verdicts.Verdict.TheVariants.{Refuted, Solved}
-use Rattle.acc_decisions.specs.Decisions.{decision}
+use Rattle.acc_elim.specs.Verdict.{Verdict}
+use Rattle.acc_elim.specs.Verdict.TheVariants.{Refuted, Solved}
+use Rattle.acc_elim.specs.Decisions.{decision}
 use Rattle.acc_axioms.specs.declared.nodes.Node.{Node}
 use Rattle.acc_axioms.specs.declared.nodes.Schema.{Schema}
 use Rattle.acc_proof.specs.Facts.{below_zero, is_below_wide, above_zero, is_above_wide}

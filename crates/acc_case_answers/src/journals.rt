@@ -2,9 +2,8 @@
 use crate::faults::sink;
 use crate::folders::hold_files;
 use acc_case_commands::disks::{base, disk, file, spelled_behind};
-use acc_case_commands::memory;
 use acc_case_commands::texts::first_word;
-use acc_cli::Done;
+use acc_case_commands::{Done, memory};
 use acc_disk::MemDisk;
 use acc_io::{MemShelf, MemSink};
 use std::alloc::{AllocError, Global};

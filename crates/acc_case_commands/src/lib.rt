@@ -6,3 +6,5 @@ pub mod disks;
 pub mod memory;
 pub mod proofs;
 pub mod texts;
+
+pub use acc_cli::{Done, acc, asks_journal, help_text};

@@ -1,6 +1,5 @@
 //! Command lines over a shelf and a disk in memory.
-use acc_cli::{Done, acc};
-use acc_crew::Alone;
+use acc_cli::{Alone, Done, acc};
 use acc_disk::MemDisk;
 use acc_io::{MemShelf, MemSink, Sink};
 use acc_progress::Silent;

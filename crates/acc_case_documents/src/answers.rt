@@ -1,7 +1,6 @@
 //! What the program answers to commands and to texts.
 use crate::journals::Journals;
-use acc_case_commands::memory;
-use acc_cli::{acc, asks_journal};
+use acc_case_commands::{acc, asks_journal, memory};
 use acc_crew::Alone;
 use acc_disk::MemDisk;
 use acc_io::{FolderShelf, Shelf};

@@ -13,19 +13,19 @@ use Rattle.acc_io.specs.Shelves.{Told}
 use Rattle.acc_io.specs.Sinks.{WritesFront}
 use Rattle.acc_io.specs.declared.counts.Counts.{Counts}
 use Rattle.acc_io.specs.declared.shelf.ShelfError.{ShelfError}
-use Rattle.acc_inputs.specs.declared.words.Command.{Command}
-use Rattle.acc_inputs.specs.Words.{command_of, file_count, files_of, is_journalled, is_over_journal}
-use Rattle.acc_inputs.specs.Files.{AreFiles, IsFirstRefused, SaysRefused}
-use Rattle.acc_inputs.specs.Requests.{command_in, texts_in}
-use Rattle.acc_inputs.specs.Text.{IsEarly}
-use Rattle.acc_inputs.specs.declared.requests.Request.{Request}
-use Rattle.acc_inputs.specs.declared.requests.Request.TheVariants.{Play, Rehearse, Print, Check, Prove, Init, Sched, Run, Recover, Dump, Replies}
-use Rattle.acc_inputs.specs.declared.requests.Request.TheVariants.{Help, Version}
+use Rattle.acc_commands.specs.Command.{Command}
+use Rattle.acc_commands.specs.Words.{command_of, file_count, files_of, is_journalled, is_over_journal}
+use Rattle.acc_commands.specs.Files.{AreFiles, IsFirstRefused, SaysRefused}
+use Rattle.acc_commands.specs.Requests.{command_in, texts_in}
+use Rattle.acc_commands.specs.Text.{IsEarly}
+use Rattle.acc_commands.specs.Request.{Request}
+use Rattle.acc_commands.specs.Request.TheVariants.{Play, Rehearse, Print, Check, Prove, Init, Sched, Run, Recover, Dump, Replies}
+use Rattle.acc_commands.specs.Request.TheVariants.{Help, Version}
 use Rattle.acc_journalled.specs.declared.answers.Answer.{Answer}
 use Rattle.acc_journalled.specs.declared.answers.Ending.{Ending}
 use Rattle.acc_journalled.specs.declared.answers.Ending.TheVariants.{Done, DiskFailed}
 use Rattle.acc_journalled.specs.Tellings.{telling_of}
-use Rattle.acc_journal_commands.specs.Disks.{Seen}
+use Rattle.acc_commands.specs.Disks.{Seen}
 use Rattle.acc_commands.specs.Means.{Means}
 use Rattle.acc_cli.specs.declared.status.Status.{Status}
 use Rattle.acc_cli.specs.declared.status.Status.TheVariants.{Usage, File, Sink, Memory, Ran}

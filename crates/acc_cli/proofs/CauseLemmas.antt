@@ -5,14 +5,14 @@ use Rattle.acc_base.specs.declared.machines.Event.{Event}
 use Rattle.acc_io.specs.Causes.{Rose}
 use Rattle.acc_io.specs.Shelves.{Told}
 use Rattle.acc_io.specs.declared.counts.Counts.{Counts}
-use Rattle.acc_inputs.specs.declared.words.Command.{Command}
+use Rattle.acc_commands.specs.Command.{Command}
 use Rattle.acc_journalled.specs.declared.answers.Ending.{Ending}
 use Rattle.acc_journalled.specs.declared.answers.Ending.TheVariants.{Done, JournalRefused, DiskFailed, Unbegun, Open}
 use Rattle.acc_cli.specs.declared.status.Status.{Status}
 use Rattle.acc_cli.specs.declared.status.Status.TheVariants.{Usage, File, Sink, Memory, Ran}
 use Rattle.acc_cli.specs.Replies.{Reply}
-use Rattle.acc_journal_commands.specs.Disks.{Seen}
-use Rattle.acc_inputs.specs.Words.{command_of, files_of}
+use Rattle.acc_commands.specs.Disks.{Seen}
+use Rattle.acc_commands.specs.Words.{command_of, files_of}
 use Rattle.acc_cli.specs.Meant.{Runs, MeansForm, Meant}
 use Rattle.acc_cli.specs.Answered.{Answered}
 use Rattle.acc_cli.specs.Causes.{EndsSo, LeavesInMemory, LeavesUnbegun, FindsJournal, RefusesRecovering, RefusesJournal}

@@ -6,17 +6,17 @@ use Rattle.acc_base.specs.Lines.{line}
 use Rattle.acc_formed.specs.WellFormed.{IsWellFormed}
 use Rattle.acc_oblig.specs.Laws.{drafts_of, sequents_of}
 use Rattle.acc_goals.specs.Causes.{first_wide}
-use Rattle.acc_parse.specs.Texts.{IsDesignText}
-use Rattle.acc_check.specs.Admissions.{IsAcceptedWith}
-use Rattle.acc_prove.specs.Provings.{AllClose, IsCertified}
+use Rattle.acc_commands.specs.Texts.{IsDesignText}
+use Rattle.acc_commands.specs.Admissions.{IsAcceptedWith}
+use Rattle.acc_commands.specs.Provings.{AllClose, IsCertified}
 use Rattle.acc_io.specs.Shelves.{Told}
 use Rattle.acc_io.specs.declared.counts.Counts.{Counts}
 use Rattle.acc_journalled.specs.declared.answers.Ending.TheVariants.{Done}
-use Rattle.acc_inputs.specs.declared.words.Command.{Command}
-use Rattle.acc_inputs.specs.declared.words.Command.TheVariants.{Check, Prove}
-use Rattle.acc_inputs.specs.Text.{Said}
-use Rattle.acc_inputs.specs.Words.{files_of}
-use Rattle.acc_journal_commands.specs.Disks.{Seen}
+use Rattle.acc_commands.specs.Command.{Command}
+use Rattle.acc_commands.specs.Command.TheVariants.{Check, Prove}
+use Rattle.acc_commands.specs.Text.{Said}
+use Rattle.acc_commands.specs.Words.{files_of}
+use Rattle.acc_commands.specs.Disks.{Seen}
 use Rattle.acc_commands.specs.Means.{MeansOfFiles}
 use Rattle.acc_commands.proofs.Completeness.{accepted_is_told, closed_is_told}
 use Rattle.acc_cli.specs.declared.status.Status.TheVariants.{Ran}

@@ -6,8 +6,8 @@ use Rattle.acc_io.specs.Shelves.{Told}
 use Rattle.acc_journalled.specs.declared.answers.Ending.{Ending}
 use Rattle.acc_journalled.specs.declared.answers.Ending.TheVariants.{Done, DesignRefused, ScriptRefused, JournalRefused}
 use Rattle.acc_journalled.specs.declared.answers.Ending.TheVariants.{DiskFailed, Unbegun, Open}
-use Rattle.acc_inputs.specs.Text.{IsEarly}
-use Rattle.acc_inputs.specs.Files.{AreFiles}
+use Rattle.acc_commands.specs.Text.{IsEarly}
+use Rattle.acc_commands.specs.Files.{AreFiles}
 use Rattle.acc_cli.specs.declared.status.Status.TheVariants.{Ran}
 use Rattle.acc_cli.specs.Status.{code_of, IsBeforeJournal}
 

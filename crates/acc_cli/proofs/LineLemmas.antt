@@ -6,13 +6,13 @@ use Rattle.acc_base.specs.declared.machines.Event.{Event}
 use Rattle.acc_io.specs.Shelves.{Told}
 use Rattle.acc_journalled.specs.declared.answers.Wanted.{Wanted}
 use Rattle.acc_journalled.specs.declared.answers.Wanted.TheVariants as wanted
-use Rattle.acc_inputs.specs.declared.words.Command.{Command}
-use Rattle.acc_inputs.specs.declared.words.Command.TheVariants as command
-use Rattle.acc_inputs.specs.Words.{command_of, file_count, files_of}
-use Rattle.acc_inputs.specs.Files.{AreFiles}
-use Rattle.acc_journal_commands.specs.Disks.{LeavesSo}
-use Rattle.acc_journal_commands.specs.RecoverFiles.{TellsDesign, TellsNoneOr}
-use Rattle.acc_journal_commands.proofs.Disks.{leaves_weaker}
+use Rattle.acc_commands.specs.Command.{Command}
+use Rattle.acc_commands.specs.Command.TheVariants as command
+use Rattle.acc_commands.specs.Words.{command_of, file_count, files_of}
+use Rattle.acc_commands.specs.Files.{AreFiles}
+use Rattle.acc_commands.specs.Disks.{LeavesSo}
+use Rattle.acc_commands.specs.RecoverFiles.{TellsDesign, TellsNoneOr}
+use Rattle.acc_commands.proofs.Disks.{leaves_weaker}
 use Rattle.acc_commands.specs.Means.{LeavesOfFile, LeavesOf}
 use Rattle.acc_commands.proofs.LeavesFiles.{leaves_untouched, leaves_file}
 use Rattle.acc_cli.specs.Leavings.{LeavesLine}

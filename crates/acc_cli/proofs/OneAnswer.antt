@@ -8,14 +8,14 @@ use Rattle.acc_io.specs.Shelves.{Told, IsFile, IsRefused}
 use Rattle.acc_io.specs.declared.counts.Counts.{Counts}
 use Rattle.acc_io.specs.declared.shelf.ShelfError.{ShelfError}
 use Rattle.acc_io.specs.declared.shelf.ShelfError.TheVariants.{Failed, Absent, Long, Memory}
-use Rattle.acc_inputs.specs.declared.words.Command.{Command}
+use Rattle.acc_commands.specs.Command.{Command}
 use Rattle.acc_journalled.specs.declared.answers.Ending.{Ending}
 use Rattle.acc_cli.specs.declared.status.Status.TheVariants.{Ran}
 use Rattle.acc_journalled.specs.Tellings.{Telling}
-use Rattle.acc_journal_commands.specs.Disks.{Seen, TellsAll}
+use Rattle.acc_commands.specs.Disks.{Seen, TellsAll}
 use Rattle.acc_cli.specs.Replies.{Reply}
-use Rattle.acc_inputs.specs.Words.{command_of, files_of, is_journalled, is_over_journal}
-use Rattle.acc_inputs.specs.Files.{AreFiles, SaysRefused}
+use Rattle.acc_commands.specs.Words.{command_of, files_of, is_journalled, is_over_journal}
+use Rattle.acc_commands.specs.Files.{AreFiles, SaysRefused}
 use Rattle.acc_commands.specs.Means.{Means}
 use Rattle.acc_commands.specs.Alike.{AreAlike as Alike}
 use Rattle.acc_cli.specs.Meant.{RefusesFile, Runs, MeansForm, Meant}

@@ -7,20 +7,20 @@ use Rattle.acc_base.specs.declared.machines.Event.{Event}
 use Rattle.acc_base.specs.Machine.{World}
 use Rattle.acc_io.specs.Shelves.{Told}
 use Rattle.acc_io.specs.declared.counts.Counts.{Counts}
-use Rattle.acc_parse.specs.declared.errors.ParseError.{ParseError}
-use Rattle.acc_parse.specs.declared.errors.ParseError.TheVariants as errors
-use Rattle.acc_schedule.specs.Schedules.{EndsWell}
-use Rattle.acc_inputs.specs.declared.words.Command.{Command}
-use Rattle.acc_inputs.specs.declared.words.Command.TheVariants as command
+use Rattle.acc_commands.specs.ParseError.{ParseError}
+use Rattle.acc_commands.specs.ParseError.TheVariants as errors
+use Rattle.acc_commands.specs.Schedules.{EndsWell}
+use Rattle.acc_commands.specs.Command.{Command}
+use Rattle.acc_commands.specs.Command.TheVariants as command
 use Rattle.acc_cli.specs.declared.status.Status.{Status}
-use Rattle.acc_inputs.specs.Text.{Said}
+use Rattle.acc_commands.specs.Text.{Said}
 use Rattle.acc_cli.specs.Replies.{Reply}
-use Rattle.acc_inputs.specs.Words.{command_of, files_of, is_over_journal}
-use Rattle.acc_inputs.specs.Files.{AreFiles}
-use Rattle.acc_inputs.specs.Refusals.{SaysError, RefusesDesign}
-use Rattle.acc_inputs.specs.Scripts.{SaysOfScript, SaysOfOrder}
-use Rattle.acc_file_commands.specs.ScheduleFiles.{SaysSchedule, SchedulesAccepted, SaysOfCertificate, SchedulesFiles}
-use Rattle.acc_journal_commands.specs.Disks.{Seen}
+use Rattle.acc_commands.specs.Words.{command_of, files_of, is_over_journal}
+use Rattle.acc_commands.specs.Files.{AreFiles}
+use Rattle.acc_commands.specs.Refusals.{SaysError, RefusesDesign}
+use Rattle.acc_commands.specs.Scripts.{SaysOfScript, SaysOfOrder}
+use Rattle.acc_commands.specs.ScheduleFiles.{SaysSchedule, SchedulesAccepted, SaysOfCertificate, SchedulesFiles}
+use Rattle.acc_commands.specs.Disks.{Seen}
 use Rattle.acc_commands.specs.Means.{MeansOfFiles}
 use Rattle.acc_cli.specs.Meant.{MeansForm, Meant}
 use Rattle.acc_cli.specs.Answered.{Answered}

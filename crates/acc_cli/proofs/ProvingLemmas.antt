@@ -5,16 +5,16 @@ use Rattle.std.specs.Io.KnownBytes.{Appends}
 use Rattle.acc_base.specs.declared.machines.Event.{Event}
 use Rattle.acc_io.specs.Shelves.{Told}
 use Rattle.acc_io.specs.declared.counts.Counts.{Counts}
-use Rattle.acc_inputs.specs.declared.words.Command.{Command}
-use Rattle.acc_inputs.specs.declared.words.Command.TheVariants as command
+use Rattle.acc_commands.specs.Command.{Command}
+use Rattle.acc_commands.specs.Command.TheVariants as command
 use Rattle.acc_journalled.specs.declared.answers.Ending.TheVariants.{Done, DesignRefused, Open}
-use Rattle.acc_inputs.specs.Text.{Said}
-use Rattle.acc_journal_commands.specs.Disks.{Seen}
-use Rattle.acc_inputs.specs.Words.{command_of, files_of}
-use Rattle.acc_inputs.specs.Files.{AreFiles}
-use Rattle.acc_file_commands.specs.ProveFiles.{EndsProving, ProvesFile}
+use Rattle.acc_commands.specs.Text.{Said}
+use Rattle.acc_commands.specs.Disks.{Seen}
+use Rattle.acc_commands.specs.Words.{command_of, files_of}
+use Rattle.acc_commands.specs.Files.{AreFiles}
+use Rattle.acc_commands.specs.ProveFiles.{EndsProving, ProvesFile}
 use Rattle.acc_commands.specs.Means.{MeansOfFiles}
-use Rattle.acc_journal_commands.proofs.JournalEndings.{refusal_ends}
+use Rattle.acc_commands.proofs.JournalEndings.{refusal_ends}
 use Rattle.acc_cli.specs.declared.status.Status.{Status}
 use Rattle.acc_cli.specs.declared.status.Status.TheVariants.{File, Sink, Memory, Ran}
 use Rattle.acc_cli.specs.Replies.{Reply}

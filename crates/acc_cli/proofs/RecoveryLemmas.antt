@@ -8,8 +8,8 @@ use Rattle.acc_io.specs.Causes.{Rose}
 use Rattle.acc_io.specs.Shelves.{Told}
 use Rattle.acc_io.specs.declared.counts.Counts.{Counts}
 use Rattle.acc_base.proofs.Leasts.{some_weaker}
-use Rattle.acc_check.specs.Admissions.{IsAcceptedWith}
-use Rattle.acc_parse.specs.Texts.{IsDesignText}
+use Rattle.acc_commands.specs.Admissions.{IsAcceptedWith}
+use Rattle.acc_commands.specs.Texts.{IsDesignText}
 use Rattle.acc_print.specs.Designs.{printed}
 use Rattle.acc_wal.specs.declared.errors.WalError.{WalError}
 use Rattle.acc_wal.specs.declared.errors.WalError.TheVariants as wal
@@ -22,15 +22,15 @@ use Rattle.acc_journalled.specs.declared.answers.Wanted.{Wanted}
 use Rattle.acc_journalled.specs.declared.answers.Wanted.TheVariants as wanted
 use Rattle.acc_journalled.specs.Recovering.{SaysNotRead, SaysNotRecovered, RecoversJournal, text_of}
 use Rattle.acc_journalled.specs.Tellings.{Telling}
-use Rattle.acc_inputs.specs.declared.words.Command.{Command}
-use Rattle.acc_inputs.specs.declared.words.Command.TheVariants as command
-use Rattle.acc_inputs.specs.Text.{said_in}
-use Rattle.acc_journal_commands.specs.Disks.{Seen}
-use Rattle.acc_inputs.specs.Words.{command_of, files_of}
-use Rattle.acc_inputs.specs.Files.{AreFiles}
-use Rattle.acc_journal_commands.specs.RecoverFiles.{RecoversCertified, RecoversFiles}
+use Rattle.acc_commands.specs.Command.{Command}
+use Rattle.acc_commands.specs.Command.TheVariants as command
+use Rattle.acc_commands.specs.Text.{said_in}
+use Rattle.acc_commands.specs.Disks.{Seen}
+use Rattle.acc_commands.specs.Words.{command_of, files_of}
+use Rattle.acc_commands.specs.Files.{AreFiles}
+use Rattle.acc_commands.specs.RecoverFiles.{RecoversCertified, RecoversFiles}
 use Rattle.acc_commands.specs.Means.{MeansOverDisk, Means}
-use Rattle.acc_journal_commands.proofs.JournalEndings.{refusal_ends, refusal_tells_none}
+use Rattle.acc_commands.proofs.JournalEndings.{refusal_ends, refusal_tells_none}
 use Rattle.acc_cli.specs.declared.status.Status.{Status}
 use Rattle.acc_cli.specs.declared.status.Status.TheVariants.{File, Sink, Memory, Ran}
 use Rattle.acc_cli.specs.Replies.{Reply}

@@ -15,8 +15,8 @@ use Rattle.acc_base.specs.Machine.{World, start, world, after_events, reply_at}
 use Rattle.acc_disk.specs.Crashes.{Only}
 use Rattle.acc_io.specs.Causes.{Rose}
 use Rattle.acc_io.specs.Shelves.{Told}
-use Rattle.acc_engine.specs.Acks.{is_turn_of}
-use Rattle.acc_engine.proofs.Tails.{between, events_keep, events_open}
+use Rattle.acc_commands.specs.Acks.{is_turn_of}
+use Rattle.acc_commands.proofs.Tails.{between, events_keep, events_open}
 use Rattle.acc_formed.proofs.Runs.{well_formed_runs}
 use Rattle.acc_lift.specs.Acceptance.{IsAccepted}
 use Rattle.acc_lift.proofs.Theorem.{lead_runs}
@@ -30,18 +30,18 @@ use Rattle.acc_wal.proofs.Moments.{started, weaker}
 use Rattle.acc_journalled.specs.Recovering.{SaysNotRecovered, RecoversJournal}
 use Rattle.acc_journalled.specs.Tellings.{Telling}
 use Rattle.acc_journalled.proofs.Numbered.{none_unfinished}
-use Rattle.acc_running.specs.Crashes.{IsRecoveredPart, LeavesEvents, LeavesRun, LeavesDurable, IsRecoverable, IsFrontOf, RunsOver}
-use Rattle.acc_running.specs.Running.{IsOpening, WorkersLeave}
-use Rattle.acc_running.specs.Recorded.{IsFound, Records}
-use Rattle.acc_running.proofs.Again.{recovered_leads, crash_recovers, end_recovers}
-use Rattle.acc_journal_commands.specs.Disks.{IsUntouched}
-use Rattle.acc_parse.specs.Texts.{IsDesignText}
+use Rattle.acc_commands.specs.Crashes.{IsRecoveredPart, LeavesEvents, LeavesRun, LeavesDurable, IsRecoverable, IsFrontOf, RunsOver}
+use Rattle.acc_commands.specs.Running.{IsOpening, WorkersLeave}
+use Rattle.acc_commands.specs.Recorded.{IsFound, Records}
+use Rattle.acc_commands.proofs.Again.{recovered_leads, crash_recovers, end_recovers}
+use Rattle.acc_commands.specs.Disks.{IsUntouched}
+use Rattle.acc_commands.specs.Texts.{IsDesignText}
 use Rattle.acc_formed.specs.WellFormed.{IsWellFormed}
-use Rattle.acc_check.specs.Admissions.{IsAcceptedWith}
-use Rattle.acc_inputs.specs.declared.words.Command.{Command}
-use Rattle.acc_inputs.specs.declared.words.Command.TheVariants as command
-use Rattle.acc_inputs.specs.Words.{files_of}
-use Rattle.acc_inputs.specs.Files.{AreFiles}
+use Rattle.acc_commands.specs.Admissions.{IsAcceptedWith}
+use Rattle.acc_commands.specs.Command.{Command}
+use Rattle.acc_commands.specs.Command.TheVariants as command
+use Rattle.acc_commands.specs.Words.{files_of}
+use Rattle.acc_commands.specs.Files.{AreFiles}
 use Rattle.acc_cli.specs.Headline.{KeepsReplies, RecoversTo, Finds, IsOfLine, FindsSuch, AreOnTheWay, AreDurable, LeavesUntold}
 use Rattle.acc_cli.specs.Headline.{CrashesRecover, SchedSurvives, RunSurvives}
 

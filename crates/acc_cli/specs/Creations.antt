@@ -5,13 +5,13 @@ use Rattle.acc_base.specs.declared.designs.Design.{Design}
 use Rattle.acc_base.specs.Lines.{line}
 use Rattle.acc_io.specs.Shelves.{Told}
 use Rattle.acc_formed.specs.WellFormed.{IsWellFormed}
-use Rattle.acc_parse.specs.Texts.{IsDesignText}
+use Rattle.acc_commands.specs.Texts.{IsDesignText}
 use Rattle.acc_print.specs.Designs.{printed}
 use Rattle.acc_wal.specs.Creating.{rest_of, IsThere}
 use Rattle.acc_wal.specs.Journals.{Counts}
-use Rattle.acc_inputs.specs.declared.words.Command.TheVariants as command
-use Rattle.acc_inputs.specs.Words.{files_of}
-use Rattle.acc_inputs.specs.Files.{AreFiles}
+use Rattle.acc_commands.specs.Command.TheVariants as command
+use Rattle.acc_commands.specs.Words.{files_of}
+use Rattle.acc_commands.specs.Files.{AreFiles}
 
 -- The file spells this design, which is well-formed. There was no journal, and now the disk holds one of the printed design without an
 -- event, byte for byte; and that is what was said.

@@ -6,24 +6,24 @@ use Rattle.acc_base.specs.declared.machines.Reply.{Reply}
 use Rattle.acc_base.specs.Annotated.{IsIdle}
 use Rattle.acc_base.specs.Lawful.{AreLawful}
 use Rattle.acc_base.specs.Machine.{World, world, reply_at, unfinished}
-use Rattle.acc_check.specs.Admissions.{IsAcceptedWith}
+use Rattle.acc_commands.specs.Admissions.{IsAcceptedWith}
 use Rattle.acc_disk.specs.Crashes.{Only}
 use Rattle.acc_disk.specs.Moments.{AtAnyMoment}
 use Rattle.acc_io.specs.Causes.{Rose}
 use Rattle.acc_io.specs.Shelves.{Told}
-use Rattle.acc_parse.specs.Texts.{IsDesignText}
+use Rattle.acc_commands.specs.Texts.{IsDesignText}
 use Rattle.acc_print.specs.Designs.{printed}
 use Rattle.acc_recover.specs.Recoveries.{IsRecovery, LeavesRecovery}
 use Rattle.acc_wal.specs.Journals.{Counts}
 use Rattle.acc_journalled.specs.declared.answers.Ending.TheVariants.{Done}
 use Rattle.acc_journalled.specs.Recovering.{RecoversJournal}
 use Rattle.acc_journalled.specs.Tellings.{Telling}
-use Rattle.acc_running.specs.Crashes.{IsFrontOf}
-use Rattle.acc_running.specs.Recorded.{IsFound}
-use Rattle.acc_inputs.specs.declared.words.Command.{Command}
-use Rattle.acc_inputs.specs.declared.words.Command.TheVariants as command
-use Rattle.acc_inputs.specs.Words.{files_of}
-use Rattle.acc_inputs.specs.Files.{AreFiles}
+use Rattle.acc_commands.specs.Crashes.{IsFrontOf}
+use Rattle.acc_commands.specs.Recorded.{IsFound}
+use Rattle.acc_commands.specs.Command.{Command}
+use Rattle.acc_commands.specs.Command.TheVariants as command
+use Rattle.acc_commands.specs.Words.{files_of}
+use Rattle.acc_commands.specs.Files.{AreFiles}
 use Rattle.acc_cli.specs.Runs.{RunsLine, WorksLine}
 
 -- whoever has a reply after the earlier events has the same one after the later

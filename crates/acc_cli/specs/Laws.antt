@@ -5,18 +5,18 @@ use Rattle.acc_base.specs.Lines.{line}
 use Rattle.acc_formed.specs.WellFormed.{IsWellFormed}
 use Rattle.acc_oblig.specs.Laws.{drafts_of, sequents_of}
 use Rattle.acc_goals.specs.Causes.{first_wide}
-use Rattle.acc_parse.specs.Texts.{IsDesignText}
-use Rattle.acc_check.specs.Admissions.{IsAcceptedWith}
-use Rattle.acc_prove.specs.Provings.{AllClose, IsCertified}
+use Rattle.acc_commands.specs.Texts.{IsDesignText}
+use Rattle.acc_commands.specs.Admissions.{IsAcceptedWith}
+use Rattle.acc_commands.specs.Provings.{AllClose, IsCertified}
 use Rattle.acc_io.specs.Causes.{Rose}
 use Rattle.acc_io.specs.Shelves.{Told}
 use Rattle.acc_io.specs.declared.counts.Counts.{Counts}
 use Rattle.acc_journalled.specs.declared.answers.Ending.TheVariants.{Done}
-use Rattle.acc_inputs.specs.declared.words.Command.{Command}
-use Rattle.acc_inputs.specs.declared.words.Command.TheVariants.{Check, Prove}
-use Rattle.acc_inputs.specs.Files.{AreFiles}
-use Rattle.acc_inputs.specs.Words.{command_of, files_of, is_over_journal}
-use Rattle.acc_journal_commands.specs.Disks.{Seen, TellsAll}
+use Rattle.acc_commands.specs.Command.{Command}
+use Rattle.acc_commands.specs.Command.TheVariants.{Check, Prove}
+use Rattle.acc_commands.specs.Files.{AreFiles}
+use Rattle.acc_commands.specs.Words.{command_of, files_of, is_over_journal}
+use Rattle.acc_commands.specs.Disks.{Seen, TellsAll}
 use Rattle.acc_cli.specs.declared.status.Status.TheVariants.{Ran}
 use Rattle.acc_cli.specs.Replies.{Reply}
 use Rattle.acc_cli.specs.Meant.{Meant}

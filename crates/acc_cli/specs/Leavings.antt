@@ -3,10 +3,10 @@
 use Rattle.std.specs.Prelude.{◌≡◌, ℕ, List, length, Option, Some}
 use Rattle.acc_base.specs.declared.machines.Event.{Event}
 use Rattle.acc_io.specs.Shelves.{Told}
-use Rattle.acc_inputs.specs.declared.words.Command.{Command}
-use Rattle.acc_inputs.specs.Words.{command_of, file_count, files_of}
-use Rattle.acc_inputs.specs.Files.{AreFiles}
-use Rattle.acc_journal_commands.specs.Disks.{OrUntouched}
+use Rattle.acc_commands.specs.Command.{Command}
+use Rattle.acc_commands.specs.Words.{command_of, file_count, files_of}
+use Rattle.acc_commands.specs.Files.{AreFiles}
+use Rattle.acc_commands.specs.Disks.{OrUntouched}
 use Rattle.acc_commands.specs.Means.{LeavesOf}
 
 module _ {D : Type 0} (clock : D → ℕ) (left_since : D → ℕ → List ℕ → Type 0) (told : D → Option (List ℕ)) (may_leave : D → List ℕ → Type 0)

@@ -4,15 +4,15 @@ use Rattle.acc_io.specs.Counted.{after_files}
 use Rattle.acc_io.specs.Shelves.{Told}
 use Rattle.acc_io.specs.declared.counts.Counts.{Counts}
 use Rattle.acc_io.specs.declared.shelf.ShelfError.{ShelfError}
-use Rattle.acc_inputs.specs.declared.words.Command.{Command}
+use Rattle.acc_commands.specs.Command.{Command}
 use Rattle.acc_journalled.specs.declared.answers.Ending.{Ending}
 use Rattle.acc_cli.specs.declared.status.Status.TheVariants.{Usage, File, Ran}
 use Rattle.acc_base.specs.Lines.{line}
 use Rattle.acc_cli.specs.Replies.{Reply}
-use Rattle.acc_inputs.specs.Words.{command_of, files_of}
-use Rattle.acc_journal_commands.specs.Disks.{Seen}
+use Rattle.acc_commands.specs.Words.{command_of, files_of}
+use Rattle.acc_commands.specs.Disks.{Seen}
 use Rattle.acc_commands.specs.Means.{Means, LeavesOfFile}
-use Rattle.acc_inputs.specs.Files.{AreFiles, IsFirstRefused, SaysRefused}
+use Rattle.acc_commands.specs.Files.{AreFiles, IsFirstRefused, SaysRefused}
 
 -- no machine ran, and the disk is as before
 abbrev pub RunsNothing : Seen → Seen → Reply → Type 0

@@ -4,12 +4,12 @@ use Rattle.acc_base.specs.declared.designs.Design.{Design}
 use Rattle.acc_base.specs.declared.machines.Event.{Event}
 use Rattle.acc_base.specs.Machine.{World}
 use Rattle.acc_io.specs.Shelves.{Told}
-use Rattle.acc_parse.specs.Texts.{IsDesignText}
-use Rattle.acc_check.specs.Admissions.{IsAcceptedWith}
-use Rattle.acc_schedule.specs.Schedules.{EndsWell}
-use Rattle.acc_inputs.specs.declared.words.Command.TheVariants as command
-use Rattle.acc_inputs.specs.Files.{AreFiles}
-use Rattle.acc_inputs.specs.Words.{files_of}
+use Rattle.acc_commands.specs.Texts.{IsDesignText}
+use Rattle.acc_commands.specs.Admissions.{IsAcceptedWith}
+use Rattle.acc_commands.specs.Schedules.{EndsWell}
+use Rattle.acc_commands.specs.Command.TheVariants as command
+use Rattle.acc_commands.specs.Files.{AreFiles}
+use Rattle.acc_commands.specs.Words.{files_of}
 
 -- They are a run of the design that the first file spells, which is accepted with the second. The run is lawful and annotated, it is idle
 -- whenever nothing is unfinished, and nothing is left unfinished.

@@ -4,12 +4,12 @@ use Rattle.std.specs.Io.KnownBytes.{Appends}
 use Rattle.acc_base.specs.declared.designs.Design.{Design}
 use Rattle.acc_io.specs.Shelves.{Told}
 use Rattle.acc_formed.specs.WellFormed.{IsWellFormed}
-use Rattle.acc_parse.specs.Texts.{IsDesignText}
-use Rattle.acc_prove.specs.Provings.{IsCertified}
+use Rattle.acc_commands.specs.Texts.{IsDesignText}
+use Rattle.acc_commands.specs.Provings.{IsCertified}
 use Rattle.acc_journalled.specs.declared.answers.Ending.TheVariants.{Done, Unbegun}
-use Rattle.acc_inputs.specs.declared.words.Command.TheVariants as command
-use Rattle.acc_inputs.specs.Words.{command_of, files_of}
-use Rattle.acc_inputs.specs.Files.{AreFiles}
+use Rattle.acc_commands.specs.Command.TheVariants as command
+use Rattle.acc_commands.specs.Words.{command_of, files_of}
+use Rattle.acc_commands.specs.Files.{AreFiles}
 use Rattle.acc_cli.specs.declared.status.Status.TheVariants.{Ran}
 use Rattle.acc_cli.specs.Replies.{Reply}
 

@@ -2,12 +2,12 @@
 use Rattle.std.specs.Prelude.{ℕ, List, [], ◌∷◌, Option}
 use Rattle.acc_base.specs.declared.machines.Event.{Event}
 use Rattle.acc_io.specs.Shelves.{Told}
-use Rattle.acc_inputs.specs.declared.words.Command.TheVariants as command
-use Rattle.acc_inputs.specs.Words.{files_of}
-use Rattle.acc_inputs.specs.Files.{AreFiles}
-use Rattle.acc_running.specs.Crashes.{WorksOver}
-use Rattle.acc_journal_commands.specs.Disks.{OrUntouched}
-use Rattle.acc_journal_commands.specs.RunFiles.{FilesRun, OrderRuns}
+use Rattle.acc_commands.specs.Command.TheVariants as command
+use Rattle.acc_commands.specs.Words.{files_of}
+use Rattle.acc_commands.specs.Files.{AreFiles}
+use Rattle.acc_commands.specs.Crashes.{WorksOver}
+use Rattle.acc_commands.specs.Disks.{OrUntouched}
+use Rattle.acc_commands.specs.RunFiles.{FilesRun, OrderRuns}
 
 module _ {D : Type 0} (clock : D → ℕ) (left_since : D → ℕ → List ℕ → Type 0) (told : D → Option (List ℕ)) (may_leave : D → List ℕ → Type 0)
     (held : List ℕ → Told) (words : List (List ℕ)) where

@@ -5,10 +5,10 @@ use Rattle.std.specs.declared.alloc.AllocError.{AllocError}
 use Rattle.std.proofs.lemmas.Result.{IfOk-weaker}
 use Rattle.acc_base.specs.declared.machines.Event.{Event}
 use Rattle.acc_disk.specs.Crashes.{IsCalm}
-use Rattle.acc_inputs.specs.declared.words.Command.{Command}
-use Rattle.acc_inputs.specs.declared.words.Command.TheVariants as command
-use Rattle.acc_inputs.specs.Answers.{said_of, said_alone}
-use Rattle.acc_inputs.specs.Words.{is_journalled}
+use Rattle.acc_journal_commands.specs.Command.{Command}
+use Rattle.acc_journal_commands.specs.Command.TheVariants as command
+use Rattle.acc_journal_commands.specs.Answers.{said_of, said_alone}
+use Rattle.acc_journal_commands.specs.Words.{is_journalled}
 use Rattle.acc_journalled.specs.declared.answers.Answer.{Answer}
 use Rattle.acc_journalled.specs.Tellings.{telling_of}
 use Rattle.acc_file_commands.specs.declared.memory_runs.Run.{Run}

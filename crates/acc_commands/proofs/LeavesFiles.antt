@@ -3,9 +3,9 @@ use Rattle.std.proofs.Common.{◌≡◌, ℕ, List, [], ◌∷◌, Option, inl, 
 use Rattle.acc_base.specs.declared.designs.Design.{Design}
 use Rattle.acc_base.specs.declared.machines.Call.{Call}
 use Rattle.acc_base.specs.declared.machines.Event.{Event}
-use Rattle.acc_inputs.specs.declared.words.Command.{Command}
-use Rattle.acc_inputs.specs.declared.words.Command.TheVariants as command
-use Rattle.acc_running.specs.Crashes.{LeavesRun, WorksOver}
+use Rattle.acc_journal_commands.specs.Command.{Command}
+use Rattle.acc_journal_commands.specs.Command.TheVariants as command
+use Rattle.acc_journal_commands.specs.Crashes.{LeavesRun, WorksOver}
 use Rattle.acc_journal_commands.specs.Disks.{OrUntouched, LeavesSo}
 use Rattle.acc_journal_commands.specs.RunFiles.{RunLeaves, FilesRun, OrderRuns}
 use Rattle.acc_journal_commands.proofs.Disks.{leaves_weaker, leaves_nothing}

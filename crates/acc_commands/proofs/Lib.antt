@@ -1,3 +1,7 @@
+pub use Rattle.acc_journal_commands.proofs.Again
+pub use Rattle.acc_journal_commands.proofs.Disks
+pub use Rattle.acc_journal_commands.proofs.JournalEndings
+pub use Rattle.acc_journal_commands.proofs.Tails
 pub mod OneRun
 pub mod OneProving
 pub mod Completeness

@@ -4,10 +4,10 @@ use Rattle.std.proofs.Common.{◌⊎◌, ⊎_elim, refl, sym, ap, subst, ◌∙�
 use Rattle.acc_base.specs.declared.designs.Design.{Design}
 use Rattle.acc_base.specs.declared.machines.Call.{Call}
 use Rattle.acc_print.specs.Designs.{printed}
-use Rattle.acc_check.proofs.OneReported.{reports_once}
-use Rattle.acc_check.specs.Reports.{Reports}
-use Rattle.acc_inputs.specs.declared.words.Command.{Command}
-use Rattle.acc_inputs.specs.declared.words.Command.TheVariants as command
+use Rattle.acc_journal_commands.proofs.OneReported.{reports_once}
+use Rattle.acc_journal_commands.specs.Reports.{Reports}
+use Rattle.acc_journal_commands.specs.Command.{Command}
+use Rattle.acc_journal_commands.specs.Command.TheVariants as command
 use Rattle.acc_io.specs.Causes.{Rose}
 use Rattle.acc_journalled.specs.declared.answers.Ending.TheVariants.{Done}
 use Rattle.acc_journalled.specs.declared.answers.Wanted.{Wanted}
@@ -16,10 +16,10 @@ use Rattle.acc_journalled.specs.Making.{MakesJournal}
 use Rattle.acc_journalled.specs.Recovering.{RecoversJournal, text_of}
 use Rattle.acc_journalled.specs.Tellings.{Telling}
 use Rattle.acc_journalled.proofs.Once.{making_once, recovering_once}
-use Rattle.acc_inputs.specs.Text.{Said, said_in}
+use Rattle.acc_journal_commands.specs.Text.{Said, said_in}
 use Rattle.acc_journal_commands.specs.Disks.{Seen, TellsAll}
-use Rattle.acc_inputs.specs.Notes.{help_text, version_text}
-use Rattle.acc_inputs.specs.Scripts.{SaysOfScript}
+use Rattle.acc_journal_commands.specs.Notes.{help_text, version_text}
+use Rattle.acc_journal_commands.specs.Scripts.{SaysOfScript}
 use Rattle.acc_file_commands.specs.PlayFiles.{SaysPlay, PlaysFiles}
 use Rattle.acc_file_commands.specs.ScheduleFiles.{SaysOfCertificate, SchedulesFiles}
 use Rattle.acc_file_commands.specs.PrintFiles.{PrintsFile}
@@ -27,16 +27,16 @@ use Rattle.acc_file_commands.specs.CheckFiles.{ChecksFiles, ending_by}
 use Rattle.acc_journal_commands.specs.InitFiles.{InitsJournal, InitsFile}
 use Rattle.acc_journal_commands.specs.RecoverFiles.{RecoversSeen, RecoversCertified, RecoversFiles}
 use Rattle.acc_commands.specs.Alike.{IsWhole, AreByWorkers, AreAlike}
-use Rattle.acc_inputs.specs.Words.{is_journalled}
+use Rattle.acc_journal_commands.specs.Words.{is_journalled}
 use Rattle.acc_commands.specs.Means.{MeansOfFiles, MeansOverDisk, MeansBy, Means}
-use Rattle.acc_inputs.proofs.OneDesign.{said_same, one_design, one_refusal, formed_or_refused}
+use Rattle.acc_journal_commands.proofs.OneDesign.{said_same, one_design, one_refusal, formed_or_refused}
 use Rattle.acc_commands.proofs.OneProving.{SaidAlike, one_prove}
 use Rattle.acc_commands.proofs.OneRun.{one_of_script, one_play, one_certificate_refusal, accepted_or_refused, one_certified}
 use Rattle.acc_commands.proofs.OneRun.{one_order_refusal, one_numbers, one_script_refusal, one_calls}
 use Rattle.acc_journal_commands.specs.RunFiles.{RunsSeen, RunsOfOrder, WorksSeen, RunsOfScript, RunsCertified, RunsTexts}
-use Rattle.acc_running.specs.Engines.{ending_at}
-use Rattle.acc_running.specs.Running.{RunsJournal, WorksJournal, WorkersLeave}
-use Rattle.acc_running.proofs.OneRun.{running_once, running_or}
+use Rattle.acc_journal_commands.specs.Engines.{ending_at}
+use Rattle.acc_journal_commands.specs.Running.{RunsJournal, WorksJournal, WorkersLeave}
+use Rattle.acc_journal_commands.proofs.OneRun.{running_once, running_or}
 
 -- ---- plays
 

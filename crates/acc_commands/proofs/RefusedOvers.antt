@@ -13,14 +13,14 @@ use Rattle.acc_journalled.specs.declared.answers.Wanted.TheVariants.{Counts, Row
 use Rattle.acc_journalled.specs.Making.{FindsOne}
 use Rattle.acc_journalled.specs.Recovering.{RefusesSo, text_of}
 use Rattle.acc_journalled.specs.Tellings.{Telling}
-use Rattle.acc_inputs.specs.declared.words.Command.{Command}
-use Rattle.acc_inputs.specs.declared.words.Command.TheVariants as command
-use Rattle.acc_inputs.specs.Text.{said_in}
+use Rattle.acc_journal_commands.specs.Command.{Command}
+use Rattle.acc_journal_commands.specs.Command.TheVariants as command
+use Rattle.acc_journal_commands.specs.Text.{said_in}
 use Rattle.acc_journal_commands.specs.Disks.{Seen}
 use Rattle.acc_journal_commands.specs.InitFiles.{InitsJournal, InitsFile}
-use Rattle.acc_running.specs.Engines.{ending_at}
-use Rattle.acc_schedule.specs.Schedules.{TellsScheduleFrom}
-use Rattle.acc_running.specs.Running.{RunsFrom, IsOpening, WorkersLeave}
+use Rattle.acc_journal_commands.specs.Engines.{ending_at}
+use Rattle.acc_file_commands.specs.Schedules.{TellsScheduleFrom}
+use Rattle.acc_journal_commands.specs.Running.{RunsFrom, IsOpening, WorkersLeave}
 use Rattle.acc_journal_commands.specs.RunFiles.{RunsOfOrder, WorksSeen, RunsOfScript, RunsCertified, RunsTexts}
 use Rattle.acc_journal_commands.specs.RecoverFiles.{RecoversSeen, RecoversCertified, RecoversFiles}
 use Rattle.acc_commands.specs.Means.{MeansOverDisk}

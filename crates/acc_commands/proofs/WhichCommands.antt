@@ -4,25 +4,25 @@ use Rattle.std.specs.Prelude.{◌≢◌, ◌⊎◌}
 use Rattle.acc_io.specs.Causes.{Rose}
 use Rattle.acc_base.specs.declared.designs.Design.{Design}
 use Rattle.acc_base.specs.declared.machines.Call.{Call}
-use Rattle.acc_parse.specs.declared.errors.ParseError.{ParseError}
-use Rattle.acc_parse.specs.declared.errors.ParseError.TheVariants as errors
-use Rattle.acc_schedule.specs.Schedules.{TellsSchedule}
-use Rattle.acc_inputs.specs.declared.words.Command.{Command}
-use Rattle.acc_inputs.specs.declared.words.Command.TheVariants as command
+use Rattle.acc_journal_commands.specs.ParseError.{ParseError}
+use Rattle.acc_journal_commands.specs.ParseError.TheVariants as errors
+use Rattle.acc_file_commands.specs.Schedules.{TellsSchedule}
+use Rattle.acc_journal_commands.specs.Command.{Command}
+use Rattle.acc_journal_commands.specs.Command.TheVariants as command
 use Rattle.acc_journalled.specs.declared.answers.Ending.{Ending}
 use Rattle.acc_journalled.specs.declared.answers.Ending.TheVariants.{Done, DesignRefused, ScriptRefused, JournalRefused, DiskFailed}
 use Rattle.acc_journalled.specs.declared.answers.Ending.TheVariants.{Unbegun, Open}
 use Rattle.acc_journalled.specs.Tellings.{Telling}
-use Rattle.acc_inputs.specs.Text.{Said, said_in}
+use Rattle.acc_journal_commands.specs.Text.{Said, said_in}
 use Rattle.acc_journal_commands.specs.Disks.{Seen}
-use Rattle.acc_inputs.specs.Refusals.{SaysError, RefusesDesign}
-use Rattle.acc_inputs.specs.Scripts.{SaysOfOrder, SaysOfScript}
+use Rattle.acc_journal_commands.specs.Refusals.{SaysError, RefusesDesign}
+use Rattle.acc_journal_commands.specs.Scripts.{SaysOfOrder, SaysOfScript}
 use Rattle.acc_file_commands.specs.PlayFiles.{SaysPlay, PlaysFiles}
 use Rattle.acc_file_commands.specs.ScheduleFiles.{SaysSchedule, SaysOfCertificate, SchedulesFiles, ending_at}
 use Rattle.acc_file_commands.specs.PrintFiles.{PrintsFile}
 use Rattle.acc_file_commands.specs.CheckFiles.{ChecksFiles, ending_by}
 use Rattle.acc_file_commands.specs.ProveFiles.{EndsProving, StaysOpen, ProvesFile}
-use Rattle.acc_inputs.specs.Words.{is_journalled}
+use Rattle.acc_journal_commands.specs.Words.{is_journalled}
 use Rattle.acc_commands.specs.Means.{MeansOfFiles, MeansBy, Means}
 use Rattle.acc_commands.specs.Overs.{LeavesBy}
 use Rattle.acc_journal_commands.proofs.JournalEndings.{failed_by, never_open}

@@ -5,17 +5,17 @@ use Rattle.acc_base.specs.Lines.{line}
 use Rattle.acc_formed.specs.WellFormed.{IsWellFormed}
 use Rattle.acc_oblig.specs.Laws.{drafts_of, sequents_of}
 use Rattle.acc_goals.specs.Causes.{first_wide}
-use Rattle.acc_parse.specs.Texts.{IsDesignText}
-use Rattle.acc_check.specs.Admissions.{IsAcceptedWith}
-use Rattle.acc_prove.specs.Provings.{AllClose, IsCertified}
+use Rattle.acc_journal_commands.specs.Texts.{IsDesignText}
+use Rattle.acc_journal_commands.specs.Admissions.{IsAcceptedWith}
+use Rattle.acc_file_commands.specs.Provings.{AllClose, IsCertified}
 use Rattle.acc_journalled.specs.declared.answers.Ending.TheVariants.{Done}
 use Rattle.acc_journalled.specs.Tellings.{Telling}
-use Rattle.acc_inputs.specs.declared.words.Command.{Command}
-use Rattle.acc_inputs.specs.Text.{Said, Says}
+use Rattle.acc_journal_commands.specs.Command.{Command}
+use Rattle.acc_journal_commands.specs.Text.{Said, Says}
 use Rattle.acc_journal_commands.specs.Disks.{Seen, TellsAll}
 use Rattle.acc_file_commands.specs.CheckFiles.{ChecksFiles}
 use Rattle.acc_file_commands.specs.ProveFiles.{ProvesFile}
-use Rattle.acc_inputs.specs.Words.{is_journalled}
+use Rattle.acc_journal_commands.specs.Words.{is_journalled}
 use Rattle.acc_commands.specs.Means.{Means}
 use Rattle.acc_commands.specs.Alike.{AreAlike}
 

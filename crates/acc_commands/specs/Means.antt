@@ -2,18 +2,18 @@
 use Rattle.std.specs.Prelude.{◌≡◌, ℕ, Bool, true, false, List, [], ◌∷◌, Option, Result, Ok, Err}
 use Rattle.std.specs.declared.alloc.AllocError.{AllocError}
 use Rattle.acc_base.specs.declared.machines.Event.{Event}
-use Rattle.acc_inputs.specs.declared.words.Command.{Command}
-use Rattle.acc_inputs.specs.declared.words.Command.TheVariants as command
-use Rattle.acc_inputs.specs.Words.{is_journalled}
+use Rattle.acc_journal_commands.specs.Command.{Command}
+use Rattle.acc_journal_commands.specs.Command.TheVariants as command
+use Rattle.acc_journal_commands.specs.Words.{is_journalled}
 use Rattle.acc_file_commands.specs.declared.memory_runs.Run.{Run}
 use Rattle.acc_journalled.specs.declared.answers.Answer.{Answer}
 use Rattle.acc_journalled.specs.declared.answers.Ending.TheVariants.{Done}
 use Rattle.acc_journalled.specs.declared.answers.Wanted.TheVariants.{Counts, Rows, Replies}
 use Rattle.acc_journalled.specs.Tellings.{Telling}
-use Rattle.acc_inputs.specs.Text.{Said, Says}
-use Rattle.acc_running.specs.Crashes.{WorksOver}
+use Rattle.acc_journal_commands.specs.Text.{Said, Says}
+use Rattle.acc_journal_commands.specs.Crashes.{WorksOver}
 use Rattle.acc_journal_commands.specs.Disks.{Seen, WithoutDisk}
-use Rattle.acc_inputs.specs.Notes.{help_text, version_text}
+use Rattle.acc_journal_commands.specs.Notes.{help_text, version_text}
 use Rattle.acc_file_commands.specs.PlayFiles.{PlaysFiles}
 use Rattle.acc_file_commands.specs.ScheduleFiles.{SchedulesFiles}
 use Rattle.acc_file_commands.specs.PrintFiles.{PrintsFile}

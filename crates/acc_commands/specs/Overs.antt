@@ -4,10 +4,10 @@ use Rattle.acc_base.specs.declared.designs.Design.{Design}
 use Rattle.acc_base.specs.declared.machines.Call.{Call}
 use Rattle.acc_base.specs.Machine.{World}
 use Rattle.acc_base.specs.Plays.{Play}
-use Rattle.acc_schedule.specs.Schedules.{TellsScheduleFrom}
-use Rattle.acc_running.specs.Running.{IsOpening, WorkersLeave}
-use Rattle.acc_inputs.specs.declared.words.Command.{Command}
-use Rattle.acc_inputs.specs.declared.words.Command.TheVariants as command
+use Rattle.acc_file_commands.specs.Schedules.{TellsScheduleFrom}
+use Rattle.acc_journal_commands.specs.Running.{IsOpening, WorkersLeave}
+use Rattle.acc_journal_commands.specs.Command.{Command}
+use Rattle.acc_journal_commands.specs.Command.TheVariants as command
 use Rattle.acc_journalled.specs.Tellings.{Telling}
 
 -- it recovers a journal

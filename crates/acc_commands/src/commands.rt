@@ -1,26 +1,24 @@
 //! What each command makes of its files.
 ghost use Rattle.std.specs.Prelude.{◌≡◌, ◌≤◌, ◌^◌, [], false, All, length, IfOk, IfErr};
-ghost use Rattle.acc_inputs.specs.Words.{is_journalled};
-ghost use Rattle.acc_inputs.specs.Requests.{command_in, texts_in};
+ghost use Rattle.acc_journal_commands.specs.Words.{is_journalled};
+ghost use Rattle.acc_journal_commands.specs.Requests.{command_in, texts_in};
 ghost use Rattle.acc_commands.specs.Means.{Means, LeavesOf, TellsInMemory};
 ghost use Rattle.acc_journal_commands.specs.Disks.{Ends};
-ghost use Rattle.acc_inputs.specs.Notes.{help_text, version_text};
-ghost use Rattle.acc_inputs.specs.Text.{Says};
+ghost use Rattle.acc_journal_commands.specs.Notes.{help_text, version_text};
+ghost use Rattle.acc_journal_commands.specs.Text.{Says};
 ghost use Rattle.acc_journalled.specs.declared.answers.Ending.TheVariants.{Done};
-ghost use Rattle.acc_inputs.specs.Answers.{said_alone};
+ghost use Rattle.acc_journal_commands.specs.Answers.{said_alone};
 
-use acc_crew::Crew;
 use acc_disk::Disk;
-use acc_engine::Engine;
 use acc_file_commands::designs::{check_files, print_file};
 use acc_file_commands::memory_runs::Run;
 use acc_file_commands::plays::play_files;
 use acc_file_commands::provings::prove_file;
 use acc_file_commands::schedules::schedule_files;
-use acc_inputs::{Request, help_text, version_text};
 use acc_journal_commands::journals::init_file;
 use acc_journal_commands::recoveries::recover_files;
 use acc_journal_commands::runs::{run_files, work_files};
+use acc_journal_commands::{Crew, Engine, Request, help_text, version_text};
 use acc_journalled::{Answer, Ended, Ending, Wanted, unrun};
 use acc_lift::Accepted;
 use acc_progress::Progress;

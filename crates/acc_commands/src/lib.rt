@@ -4,5 +4,9 @@
 mod commands;
 pub mod laws;
 
+pub use acc_journal_commands::{
+    Alone, Command, Crew, Engine, Request, asks_journal, command_of, file_count, help_text,
+    read_all,
+};
 pub use acc_journalled::{Answer, Ended, Ending};
 pub use commands::run;

@@ -6,8 +6,8 @@ use Rattle.acc_base.specs.declared.forms.Rel.{Rel}
 use Rattle.acc_base.specs.declared.designs.Design.{Design}
 use Rattle.acc_base.specs.declared.sequents.Sequent.{Sequent}
 use Rattle.acc_points.specs.Points.{Point}
-use Rattle.acc_decisions.specs.declared.verdicts.Verdict.{Verdict}
-use Rattle.acc_decisions.specs.declared.verdicts.Verdict.TheVariants.{Refuted, Solved}
+use Rattle.acc_branch.specs.Verdict.{Verdict}
+use Rattle.acc_branch.specs.Verdict.TheVariants.{Refuted, Solved}
 use Rattle.acc_axioms.specs.declared.nodes.Node.{Node}
 use Rattle.acc_axioms.specs.declared.nodes.Node.TheVariants.{Split, Leaf}
 use Rattle.acc_base.specs.Forms.{is_zero}

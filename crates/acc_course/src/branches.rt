@@ -16,9 +16,8 @@ use acc_base::sequences::{Seq, copied};
 use acc_base::sequents::Sequent;
 use acc_branch::halts::Halt;
 use acc_branch::known::{Branch, try_above_zero, try_below_zero, verdict};
+use acc_branch::{Solver, Verdict};
 use acc_candidates::copies::{copied_numbers, copied_rels, copied_schemas};
-use acc_decisions::verdicts::Verdict;
-use acc_elim::solver::Solver;
 use acc_inst::making::Instance;
 use std::alloc::{AllocError, Global};
 

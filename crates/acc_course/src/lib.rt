@@ -5,4 +5,5 @@ mod branches;
 pub mod courses;
 mod passes;
 
+pub use acc_branch::halts::Halt;
 pub use courses::course;

@@ -3,4 +3,5 @@
 
 mod crews;
 
+pub use acc_engine::Engine;
 pub use crews::{Alone, Called, Crew, Workable};

@@ -12,8 +12,7 @@ use acc_goals::ObligError;
 use acc_openings::{push_cure, push_unspoken, push_values};
 use acc_origins::origins::push_origin;
 use acc_page::Page;
-use acc_prove::searched;
-use acc_prover::found::{Found, SearchError};
+use acc_prove::{Found, SearchError, searched};
 use acc_systems::MOST_RELATIONS;
 use std::alloc::{AllocError, Global};
 

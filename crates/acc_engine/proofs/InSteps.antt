@@ -21,7 +21,7 @@ use Rattle.acc_base.specs.declared.machines.Turn.TheVariants.{Stepped, Blocked, 
 use Rattle.acc_base.specs.declared.machines.Transaction.{Transaction}
 use Rattle.acc_base.specs.Machine.{World, transaction_at, frame_in}
 use Rattle.acc_lift.proofs.Transactions.{at_within}
-use Rattle.acc_plain.specs.Turned.{IsUnfinished}
+use Rattle.acc_machine.specs.Turned.{IsUnfinished}
 use Rattle.acc_base.specs.Lawful.{IsLawful}
 use Rattle.acc_lift.proofs.Theorem.{event_logged}
 use Rattle.acc_wal.specs.Spellings.{body, event_bytes, Fits}

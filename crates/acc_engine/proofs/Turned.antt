@@ -22,7 +22,7 @@ use Rattle.acc_base.specs.Machine.{World, transaction_at, frame_in, reply_in, re
 use Rattle.acc_base.specs.Machine.{after_events, begun, next_number, with_begun, call_fits}
 use Rattle.acc_base.specs.Turns.{next_event, standing, said, said_of, turn_of}
 use Rattle.acc_lift.proofs.Transactions.{set_new, at_within, at_from}
-use Rattle.acc_plain.specs.Turned.{IsUnfinished}
+use Rattle.acc_machine.specs.Turned.{IsUnfinished}
 use Rattle.acc_machine.specs.Turns.{IsTurn, goes, victim, blocked, AddsBy}
 use Rattle.acc_engine.specs.Acks.{is_turn_of}
 use Rattle.acc_engine.proofs.Tails.{set_keeps, events_keep, events_open}

@@ -1,3 +1,4 @@
+pub use Rattle.acc_machine.specs.Kept
 pub mod Keeping
 pub mod Lags
 pub mod Calls

@@ -67,7 +67,7 @@ impl<'a, S: Store, D: Disk> Engine<'a, S, D> {
     ghost use Rattle.acc_wal.specs.Fronts.{CountsFront};
     ghost use Rattle.acc_wal.specs.Spellings.{body};
     ghost use Rattle.acc_machine.specs.Begun.{HasRoom};
-    ghost use Rattle.acc_plain.specs.Turned.{IsUnfinished};
+    ghost use Rattle.acc_machine.specs.Turned.{IsUnfinished};
     ghost use Rattle.acc_machine.specs.Kept.{IsKept};
     ghost use Rattle.acc_machine.specs.Turns.{IsTurn, AddsBy};
     ghost use Rattle.acc_engine.specs.Keeping.{CallsFit, begin_of, BeginsFrom, is_begun};

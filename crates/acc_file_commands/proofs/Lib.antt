@@ -1,0 +1,2 @@
+pub use Rattle.acc_play.proofs.OneTold
+pub use Rattle.acc_schedule.proofs.OneSchedule

@@ -2,8 +2,8 @@
 use Rattle.std.specs.Prelude.{◌≡◌, ◌⊎◌, ℕ, Bool, if◌then◌else◌, List, []}
 use Rattle.acc_base.specs.declared.designs.Design.{Design}
 use Rattle.acc_formed.specs.WellFormed.{IsWellFormed}
-use Rattle.acc_parse.specs.Texts.{IsDesignText}
-use Rattle.acc_check.specs.Reports.{Reports}
+use Rattle.acc_inputs.specs.Texts.{IsDesignText}
+use Rattle.acc_inputs.specs.Reports.{Reports}
 use Rattle.acc_journalled.specs.declared.answers.Ending.{Ending}
 use Rattle.acc_journalled.specs.declared.answers.Ending.TheVariants.{Done, DesignRefused}
 use Rattle.acc_inputs.specs.Text.{Said}

@@ -1,3 +1,5 @@
+pub use Rattle.acc_prove.specs.Provings
+pub use Rattle.acc_schedule.specs.Schedules
 pub mod PlayFiles
 pub mod ScheduleFiles
 pub mod PrintFiles

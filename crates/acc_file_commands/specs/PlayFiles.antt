@@ -2,7 +2,7 @@
 use Rattle.std.specs.Prelude.{◌≡◌, ◌⊎◌, ℕ, List}
 use Rattle.acc_base.specs.declared.designs.Design.{Design}
 use Rattle.acc_base.specs.declared.machines.Call.{Call}
-use Rattle.acc_parse.specs.Texts.{IsDesignText}
+use Rattle.acc_inputs.specs.Texts.{IsDesignText}
 use Rattle.acc_formed.specs.WellFormed.{IsWellFormed}
 use Rattle.acc_play.specs.Tells.{Tells}
 use Rattle.acc_journalled.specs.declared.answers.Ending.TheVariants.{Done}

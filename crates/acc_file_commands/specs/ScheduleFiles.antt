@@ -3,9 +3,9 @@
 use Rattle.std.specs.Prelude.{◌≡◌, ◌⊎◌, ℕ, Bool, if◌then◌else◌, List}
 use Rattle.acc_base.specs.declared.designs.Design.{Design}
 use Rattle.acc_base.specs.declared.machines.Call.{Call}
-use Rattle.acc_check.specs.Admissions.{IsAcceptedWith}
+use Rattle.acc_inputs.specs.Admissions.{IsAcceptedWith}
 use Rattle.acc_formed.specs.WellFormed.{IsWellFormed}
-use Rattle.acc_parse.specs.Texts.{IsDesignText}
+use Rattle.acc_inputs.specs.Texts.{IsDesignText}
 use Rattle.acc_schedule.specs.Schedules.{TellsSchedule}
 use Rattle.acc_journalled.specs.declared.answers.Ending.{Ending}
 use Rattle.acc_journalled.specs.declared.answers.Ending.TheVariants.{Done, Unbegun}

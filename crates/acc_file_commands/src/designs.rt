@@ -4,8 +4,7 @@ ghost use Rattle.acc_inputs.specs.Answers.{said_alone};
 ghost use Rattle.acc_file_commands.specs.PrintFiles.{PrintsFile};
 ghost use Rattle.acc_file_commands.specs.CheckFiles.{ChecksFiles, ending_by};
 
-use acc_check::{Report, check};
-use acc_inputs::{CertifiedFiles, ReadDesign, read_design};
+use acc_inputs::{CertifiedFiles, ReadDesign, Report, check, read_design};
 use acc_journalled::{Answer, Ending};
 use acc_print::{PrintError, print};
 use std::alloc::{AllocError, Global};

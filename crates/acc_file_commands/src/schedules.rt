@@ -8,10 +8,9 @@ ghost use Rattle.acc_file_commands.specs.ScheduleFiles.{SchedulesFiles, SaysOfCe
 use crate::memory_runs::{Run, unplayed};
 use acc_base::designs::Design;
 use acc_base::machines::Call;
-use acc_check::{Admission, admit};
 use acc_inputs::{
-    ReadDesign, ReadOrder, ReadScript, ScheduleFiles, design_refused, read_design, read_order,
-    read_script,
+    Admission, ReadDesign, ReadOrder, ReadScript, ScheduleFiles, admit, design_refused,
+    read_design, read_order, read_script,
 };
 use acc_journalled::{Answer, Ending};
 use acc_lift::Accepted;

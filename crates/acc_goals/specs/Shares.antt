@@ -2,7 +2,7 @@
 use Rattle.std.specs.Prelude.{◌++◌, List, map}
 use Rattle.acc_base.specs.declared.forms.Clause.{Clause}
 use Rattle.acc_base.specs.declared.steps.Action.{Action}
-use Rattle.acc_preconditions.specs.Preconditions.{wp_of}
+use Rattle.acc_oblig.specs.Preconditions.{wp_of}
 use Rattle.acc_oblig.specs.declared.naming.Naming.{Naming}
 use Rattle.acc_oblig.specs.Naming.{named_rel}
 use Rattle.acc_oblig.specs.Drafts.{Draft, goal_drafts, goals_of, is_clause_wide}

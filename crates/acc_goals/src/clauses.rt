@@ -1,7 +1,7 @@
 //! Clauses after actions, as relations and goals.
 ghost use Rattle.std.specs.Prelude.{◌≡◌, ◌++◌, map, IfOk, OnOk};
 ghost use Rattle.std.specs.List.{list_any};
-ghost use Rattle.acc_preconditions.specs.Preconditions.{wp_of, is_wp_wide};
+ghost use Rattle.acc_oblig.specs.Preconditions.{wp_of, is_wp_wide};
 ghost use Rattle.acc_wp.specs.Causes.{TellsWide};
 ghost use Rattle.acc_oblig.specs.Naming.{named_rel};
 ghost use Rattle.acc_oblig.specs.Drafts.{goals_of, is_clause_wide};

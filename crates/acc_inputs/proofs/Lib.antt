@@ -1,3 +1,7 @@
+pub use Rattle.acc_check.proofs.Admitting
+pub use Rattle.acc_check.proofs.OneReported
+pub use Rattle.acc_readback.proofs.ReadBack
+pub use Rattle.acc_readback.proofs.ShortDesigns
 pub mod Workers
 pub mod FileNames
 pub mod FilesLemmas

@@ -6,18 +6,18 @@ use Rattle.acc_base.specs.declared.designs.Design.{Design}
 use Rattle.acc_base.specs.Lines.{line}
 use Rattle.acc_base.specs.Numbering.{form_rule_number, limit_number}
 use Rattle.acc_lex.proofs.WholeTexts.{one_reading}
-use Rattle.acc_designs.proofs.WholeLaws.{one_tree}
+use Rattle.acc_readback.proofs.WholeLaws.{one_tree}
 use Rattle.acc_statements.specs.Lines.{first_lines, IsLineOf}
 use Rattle.acc_statements.proofs.FirstLines.{later_lines}
 use Rattle.acc_statements.proofs.OneLine.{one_line_of}
-use Rattle.acc_names.specs.Faults.{first_fault_of}
+use Rattle.acc_readback.specs.NamesFaults.{first_fault_of}
 use Rattle.acc_base.specs.declared.limits.Limit.{Limit}
-use Rattle.acc_meaning.specs.Designs.{design_of}
-use Rattle.acc_parse.specs.Texts.{IsGrammatical, IsDesignText, past_limits}
-use Rattle.acc_parse.specs.Syntax.{IsWrongAt}
-use Rattle.acc_parse.specs.Faults.{Refuses, IsNameFaultAt, IsLimitAt}
-use Rattle.acc_parse.specs.declared.errors.ParseError.{ParseError}
-use Rattle.acc_parse.specs.declared.errors.ParseError.TheVariants as errors
+use Rattle.acc_readback.specs.Designs.{design_of}
+use Rattle.acc_readback.specs.Texts.{IsGrammatical, IsDesignText, past_limits}
+use Rattle.acc_readback.specs.Syntax.{IsWrongAt}
+use Rattle.acc_readback.specs.Faults.{Refuses, IsNameFaultAt, IsLimitAt}
+use Rattle.acc_readback.specs.ParseError.{ParseError}
+use Rattle.acc_readback.specs.ParseError.TheVariants as errors
 use Rattle.acc_form.specs.Faults.{form_faults, is_before}
 use Rattle.acc_base.specs.Leasts.{IsLeast}
 use Rattle.acc_formed.specs.WellFormed.{IsWellFormed}

@@ -1,7 +1,7 @@
 -- What comes of reading a design.
 use Rattle.std.specs.Prelude.{List, ℕ}
 use Rattle.acc_base.specs.declared.designs.Design.{Design}
-use Rattle.acc_parse.specs.Texts.{IsDesignText}
+use Rattle.acc_readback.specs.Texts.{IsDesignText}
 use Rattle.acc_formed.specs.WellFormed.{IsWellFormed}
 use Rattle.acc_inputs.specs.declared.designs.ReadDesign.{ReadDesign}
 use Rattle.acc_inputs.specs.declared.designs.ReadDesign.TheVariants.{Read, Refused}

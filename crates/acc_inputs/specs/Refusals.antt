@@ -7,10 +7,10 @@ use Rattle.acc_base.specs.Numbering.{form_rule_number, limit_number}
 use Rattle.acc_base.specs.Lines.{line}
 use Rattle.acc_statements.specs.Lines.{IsLineOf, first_lines}
 use Rattle.acc_print.specs.Designs.{printed}
-use Rattle.acc_parse.specs.declared.errors.ParseError.{ParseError}
-use Rattle.acc_parse.specs.declared.errors.ParseError.TheVariants as errors
-use Rattle.acc_parse.specs.Texts.{IsDesignText}
-use Rattle.acc_parse.specs.Faults.{Refuses}
+use Rattle.acc_readback.specs.ParseError.{ParseError}
+use Rattle.acc_readback.specs.ParseError.TheVariants as errors
+use Rattle.acc_readback.specs.Texts.{IsDesignText}
+use Rattle.acc_readback.specs.Faults.{Refuses}
 use Rattle.acc_check.specs.Reports.{Reports}
 use Rattle.acc_form.specs.Faults.{form_faults, is_before}
 use Rattle.acc_base.specs.Leasts.{IsLeast}

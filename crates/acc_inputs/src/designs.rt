@@ -9,7 +9,7 @@ use acc_base::designs::Design;
 use acc_base::rules::FormRule;
 use acc_form::{FormError, well_formed};
 use acc_journalled::{Answer, Ending, one_line};
-use acc_parse::{ParseError, parse};
+use acc_readback::{ParseError, parse};
 use std::alloc::{AllocError, Global};
 
 /// A design that was read, or what is answered where it is refused.

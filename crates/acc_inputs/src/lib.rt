@@ -9,6 +9,7 @@ mod requests;
 mod scripts;
 mod words;
 
+pub use acc_check::{Admission, Report, admit, check};
 pub use designs::{ReadDesign, design_refused, read_design};
 pub use files::{Refusal, read_all};
 pub use notes::{help_text, version_text};

@@ -6,13 +6,13 @@ use Rattle.acc_base.specs.declared.designs.Design.{Design}
 use Rattle.acc_base.specs.declared.machines.Call.{Call}
 use Rattle.acc_base.specs.Machine.{World}
 use Rattle.acc_base.specs.Plays.{Play}
-use Rattle.acc_parse.specs.declared.errors.ParseError.{ParseError}
-use Rattle.acc_parse.specs.declared.errors.ParseError.TheVariants as errors
+use Rattle.acc_inputs.specs.ParseError.{ParseError}
+use Rattle.acc_inputs.specs.ParseError.TheVariants as errors
 use Rattle.acc_wal.specs.declared.errors.WalError.{WalError}
 use Rattle.acc_wal.specs.declared.errors.WalError.TheVariants as wal
-use Rattle.acc_recover.specs.Refusals.{RefusesRecovery}
-use Rattle.acc_recover.specs.declared.errors.RecoverError.{RecoverError}
-use Rattle.acc_recover.specs.declared.errors.RecoverError.TheVariants as recovery
+use Rattle.acc_journalled.specs.Refusals.{RefusesRecovery}
+use Rattle.acc_journalled.specs.RecoverError.{RecoverError}
+use Rattle.acc_journalled.specs.RecoverError.TheVariants as recovery
 use Rattle.acc_journalled.specs.declared.answers.Ending.{Ending}
 use Rattle.acc_journalled.specs.declared.answers.Ending.TheVariants.{Done, DesignRefused, ScriptRefused, JournalRefused}
 use Rattle.acc_journalled.specs.declared.answers.Ending.TheVariants.{DiskFailed, Unbegun, Open}

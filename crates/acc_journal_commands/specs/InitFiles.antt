@@ -4,7 +4,7 @@ use Rattle.acc_base.specs.declared.designs.Design.{Design}
 use Rattle.acc_base.specs.declared.machines.Event.{Event}
 use Rattle.acc_io.specs.Causes.{Rose}
 use Rattle.acc_formed.specs.WellFormed.{IsWellFormed}
-use Rattle.acc_parse.specs.Texts.{IsDesignText}
+use Rattle.acc_inputs.specs.Texts.{IsDesignText}
 use Rattle.acc_print.specs.Designs.{printed}
 use Rattle.acc_wal.specs.Creating.{LeavesNew}
 use Rattle.acc_journalled.specs.Making.{MakesJournal}

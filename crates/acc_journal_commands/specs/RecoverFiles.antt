@@ -4,10 +4,10 @@ use Rattle.std.specs.Prelude.{◌≡◌, ◌⊎◌, ℕ, List, [], Option}
 use Rattle.acc_base.specs.declared.designs.Design.{Design}
 use Rattle.acc_base.specs.declared.machines.Event.{Event}
 use Rattle.acc_io.specs.Causes.{Rose}
-use Rattle.acc_check.specs.Admissions.{IsAcceptedWith}
+use Rattle.acc_inputs.specs.Admissions.{IsAcceptedWith}
 use Rattle.acc_formed.specs.WellFormed.{IsWellFormed}
-use Rattle.acc_parse.specs.Texts.{IsDesignText}
-use Rattle.acc_recover.specs.Recoveries.{LeavesRecovery}
+use Rattle.acc_inputs.specs.Texts.{IsDesignText}
+use Rattle.acc_journalled.specs.Recoveries.{LeavesRecovery}
 use Rattle.acc_journalled.specs.declared.answers.Wanted.{Wanted}
 use Rattle.acc_journalled.specs.Recovering.{Recovers, RecoversJournal, text_of, done_with}
 use Rattle.acc_journalled.specs.Tellings.{Telling}

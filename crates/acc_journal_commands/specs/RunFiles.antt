@@ -5,9 +5,9 @@ use Rattle.acc_base.specs.declared.designs.Design.{Design}
 use Rattle.acc_base.specs.declared.machines.Call.{Call}
 use Rattle.acc_base.specs.declared.machines.Event.{Event}
 use Rattle.acc_io.specs.Causes.{Rose}
-use Rattle.acc_check.specs.Admissions.{IsAcceptedWith}
+use Rattle.acc_inputs.specs.Admissions.{IsAcceptedWith}
 use Rattle.acc_formed.specs.WellFormed.{IsWellFormed}
-use Rattle.acc_parse.specs.Texts.{IsDesignText}
+use Rattle.acc_inputs.specs.Texts.{IsDesignText}
 use Rattle.acc_script.specs.CallLines.{IsScript}
 use Rattle.acc_script.specs.OrderLines.{IsOrder}
 use Rattle.acc_journalled.specs.Tellings.{Telling}

@@ -3,9 +3,8 @@ ghost use Rattle.acc_journal_commands.specs.Disks.{Ends};
 ghost use Rattle.acc_journal_commands.specs.RecoverFiles.{RecoversCertified, RecoversFiles, AcceptedLeft, RecoverLeft};
 
 use acc_base::designs::Design;
-use acc_check::{Admission, admit};
 use acc_disk::Disk;
-use acc_inputs::{CertifiedFiles, ReadDesign, design_refused, read_design};
+use acc_inputs::{Admission, CertifiedFiles, ReadDesign, admit, design_refused, read_design};
 use acc_journalled::{Ended, Wanted, recover_journal, unrun};
 use acc_progress::Progress;
 use std::alloc::Global;

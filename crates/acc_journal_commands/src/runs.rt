@@ -1,6 +1,6 @@
 //! Running a script over a journal.
 ghost use Rattle.std.specs.Prelude.{◌≤◌, ◌<◌, ◌^◌, length};
-ghost use Rattle.acc_engine.specs.Keeping.{CallsFit};
+ghost use Rattle.acc_running.specs.Keeping.{CallsFit};
 ghost use Rattle.acc_script.specs.BeginSizes.{begins_size};
 ghost use Rattle.acc_running.specs.Crashes.{WorksOver};
 ghost use Rattle.acc_journal_commands.specs.Disks.{Ends, OrUntouched};
@@ -11,18 +11,15 @@ ghost use Rattle.acc_journal_commands.specs.RunFiles.{OrderRuns, RunsBy, ScriptR
 use acc_base::designs::Design;
 use acc_base::machines::Call;
 use acc_base::sequences::Seq;
-use acc_check::{Admission, admit};
-use acc_crew::{Alone, Crew};
 use acc_disk::Disk;
-use acc_engine::Engine;
 use acc_inputs::{
-    CertifiedFiles, ReadDesign, ReadOrder, ReadScript, ScheduleFiles, WorkerFiles, design_refused,
-    read_design, read_order, read_script,
+    Admission, CertifiedFiles, ReadDesign, ReadOrder, ReadScript, ScheduleFiles, WorkerFiles,
+    admit, design_refused, read_design, read_order, read_script,
 };
 use acc_journalled::{Ended, unrun};
 use acc_lift::Accepted;
 use acc_progress::Progress;
-use acc_running::{schedule_journal, work_journal};
+use acc_running::{Alone, Crew, Engine, schedule_journal, work_journal};
 use acc_store::MapStore;
 use std::alloc::Global;
 

@@ -6,8 +6,8 @@ use Rattle.acc_base.specs.declared.machines.Event.{Event}
 use Rattle.acc_base.specs.Lawful.{IsLawful, LeadLawfully}
 use Rattle.acc_base.specs.Machine.{World}
 use Rattle.acc_lift.proofs.Theorem.{lead_runs}
-use Rattle.acc_machine.specs.Replays.{IsFirstUnlawful}
-use Rattle.acc_machine.specs.Takes.{CanCome}
+use Rattle.acc_recover.specs.Replays.{IsFirstUnlawful}
+use Rattle.acc_recover.specs.Takes.{CanCome}
 
 pub lead_once : (d : Design) (events : List Event) (w a b : World) → LeadLawfully d w events a → LeadLawfully d w events b → a ≡ b
 lead_once d events w a b h k = same_Some a b (sym (lead_runs d events w a h) ∙ lead_runs d events w b k)

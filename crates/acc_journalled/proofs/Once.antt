@@ -4,7 +4,7 @@ use Rattle.acc_base.specs.declared.designs.Design.{Design}
 use Rattle.acc_base.specs.declared.machines.Event.{Event}
 use Rattle.acc_base.specs.Lawful.{LeadLawfully}
 use Rattle.acc_base.specs.Machine.{World, start, unfinished}
-use Rattle.acc_machine.specs.Replays.{IsFirstUnlawful}
+use Rattle.acc_recover.specs.Replays.{IsFirstUnlawful}
 use Rattle.acc_print.specs.Designs.{printed}
 use Rattle.acc_wal.specs.Attaching.{CountedAs}
 use Rattle.acc_wal.specs.Journals.{Counts}

@@ -3,7 +3,7 @@ ghost use Rattle.std.specs.Prelude.{◌≡◌, [], IfOk};
 ghost use Rattle.acc_base.specs.Machine.{unfinished};
 ghost use Rattle.acc_journalled.specs.Recovering.{replies_of};
 
-use acc_machine::State;
+use acc_recover::State;
 use acc_script::push_reply;
 use acc_store::MapStore;
 use std::alloc::{AllocError, Global};

@@ -11,8 +11,8 @@ use Rattle.acc_base.specs.Reads.{Reading}
 use Rattle.acc_base.specs.Effects.{Effect, Goes, Refuses, OutOfRange, effect_of}
 use Rattle.acc_base.specs.Machine.{World, unfinished}
 use Rattle.acc_base.specs.Entries.{Forbids}
-use Rattle.acc_step.specs.declared.looks.Outlook.{Outlook}
-use Rattle.acc_step.specs.Outlooks.{outlook_of}
+use Rattle.acc_plain.specs.Outlook.{Outlook}
+use Rattle.acc_plain.specs.Outlooks.{outlook_of}
 use Rattle.acc_base.specs.Locks.{frame_at, point_at, ClashesAfter, BlocksEffect, IsBlockedBy, IsUnblocked}
 use Rattle.acc_base.specs.Invariant.{IsSteady}
 use Rattle.acc_lift.proofs.Becoming.{stands_at}

@@ -12,7 +12,7 @@ use Rattle.acc_base.specs.Machine.{World, start, frame_in, unfinished}
 use Rattle.acc_base.specs.Runnable.{IsSmallFrame}
 use Rattle.acc_base.specs.Tables.{IsInOrder}
 use Rattle.acc_store.specs.Bounds.{AreWithin}
-use Rattle.acc_step.specs.Outlooks.{outlook_of}
+use Rattle.acc_plain.specs.Outlooks.{outlook_of}
 use Rattle.acc_plain.specs.Reached.{IsReached}
 use Rattle.acc_plain.proofs.Ready.{ready}
 use Rattle.acc_base.specs.Annotated.{IsAnnotated, IsIdle}

@@ -8,8 +8,8 @@ use Rattle.acc_base.specs.declared.steps.Target.TheVariants.{Point as ToPoint, C
 use Rattle.acc_base.specs.Entries.{Forbids}
 use Rattle.acc_base.specs.Locks.{point_at, ClashesEither}
 use Rattle.acc_table.specs.Entries.{IsPointOf}
-use Rattle.acc_step.specs.declared.looks.Outlook.{Outlook}
-use Rattle.acc_step.specs.declared.looks.Outlook.TheVariants.{Range, Refused, Goes as Leads}
+use Rattle.acc_plain.specs.Outlook.{Outlook}
+use Rattle.acc_plain.specs.Outlook.TheVariants.{Range, Refused, Goes as Leads}
 
 -- the lower of two numbers, where there are any
 abbrev pub lower : Option ℕ → Option ℕ → Option ℕ

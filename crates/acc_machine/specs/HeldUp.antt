@@ -6,9 +6,9 @@ use Rattle.acc_base.specs.declared.designs.Side.TheVariants.{Next}
 use Rattle.acc_base.specs.declared.machines.Frame.{Frame}
 use Rattle.acc_base.specs.Effects.{Effect, Goes, Refuses, OutOfRange, effect_of}
 use Rattle.acc_base.specs.Machine.{is_asked, stop_of}
-use Rattle.acc_step.specs.declared.looks.Outlook.{Outlook}
-use Rattle.acc_step.specs.declared.looks.Outlook.TheVariants.{Range, Refused, Goes as Leads}
-use Rattle.acc_step.specs.Outlooks.{outlook_of}
+use Rattle.acc_plain.specs.Outlook.{Outlook}
+use Rattle.acc_plain.specs.Outlook.TheVariants.{Range, Refused, Goes as Leads}
+use Rattle.acc_plain.specs.Outlooks.{outlook_of}
 use Rattle.acc_machine.specs.Blocked.{LetsPass, IsFirstBlocker}
 
 abbrev pub leads_on : Outlook → Bool

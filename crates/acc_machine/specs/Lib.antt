@@ -1,3 +1,5 @@
+pub use Rattle.acc_plain.specs.Running
+pub use Rattle.acc_plain.specs.Turned
 pub mod Kept
 pub mod Begun
 pub mod Blocked

@@ -7,7 +7,7 @@ ghost use Rattle.acc_machine.specs.Blocked.{lower, ClashesAt, Blocks, LeadsTo, L
 use acc_base::designs::{At, Design, Side};
 use acc_base::machines::Frame;
 use acc_base::steps::Target;
-use acc_step::Outlook;
+use acc_plain::Outlook;
 use acc_table::entries::{compatible, forbids};
 
 /// The lower of two numbers, where there are any.

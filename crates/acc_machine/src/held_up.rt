@@ -12,8 +12,7 @@ use crate::blocked::blocker;
 use acc_base::bounds::{LARGEST_SUM, MOST_LOCALS};
 use acc_base::designs::{Design, Side};
 use acc_base::machines::Frame;
-use acc_plain::{is_asked, limit_of};
-use acc_step::{Outlook, look};
+use acc_plain::{Outlook, is_asked, limit_of, look};
 use acc_store::Store;
 
 /// Whether a step goes on or ends.

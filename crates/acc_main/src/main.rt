@@ -1,7 +1,7 @@
 //! The program: makes the real shelf, sink and disk, answers the command line, and tells on standard error why one is refused.
 #![tactic(auto)]
 
-ghost use Rattle.acc_crew.specs.Works.{IsUnworked};
+ghost use Rattle.acc_threads.specs.Works.{IsUnworked};
 
 mod journal;
 mod streams;
@@ -11,16 +11,14 @@ use crate::journal::{is_let_alone, journal_disk, take_journal, trouble_line, unl
 use crate::streams::hold_streams;
 use crate::terminal::TerminalProgress;
 use acc_cli::{acc, help_text};
-use acc_crew::{Alone, Called, Crew};
 use acc_diagnose::statuses::{DISK, FILE, JOURNAL, MEMORY, SINK};
 use acc_diagnose::{Keeping, cut_line, explain, room_line, system_reason};
 use acc_disk::{Disk, FileDisk, MemDisk};
-use acc_engine::Engine;
 use acc_inputs::{Command, command_of, file_names};
 use acc_io::{FolderShelf, StdSink};
 use acc_lift::Accepted;
 use acc_store::MapStore;
-use acc_threads::work_in_threads;
+use acc_threads::{Alone, Called, Crew, Engine, work_in_threads};
 use acc_workers::OpenGate;
 use std::alloc::AllocError;
 use std::io::{ErrorKind, Write};

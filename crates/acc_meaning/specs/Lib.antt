@@ -1,3 +1,7 @@
+pub use Rattle.acc_clauses.specs.Forms
+pub use Rattle.acc_clauses.specs.Scopes
+pub use Rattle.acc_clauses.specs.Sizes as ClausesSizes
+pub use Rattle.acc_clauses.specs.Values
 pub mod Steps
 pub mod Types
 pub mod Designs

@@ -1,3 +1,5 @@
+pub use Rattle.acc_formed.proofs.InRange
+pub use Rattle.acc_formed.proofs.Runs
 pub mod Counting
 pub mod Names
 pub mod Reading

@@ -1,3 +1,7 @@
+pub use Rattle.acc_formed.specs.Ranges as FormedRanges
+pub use Rattle.acc_formed.specs.Sizes
+pub use Rattle.acc_formed.specs.WellFormed
+pub use Rattle.acc_preconditions.specs.Preconditions
 pub mod Naming
 pub mod Relations
 pub mod Settings

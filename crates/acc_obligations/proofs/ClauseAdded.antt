@@ -6,9 +6,9 @@ use Rattle.acc_base.specs.declared.forms.Clause.{Clause}
 use Rattle.acc_base.specs.declared.steps.Action.{Action}
 use Rattle.acc_base.specs.declared.sequents.Origin.{Origin}
 use Rattle.acc_base.specs.declared.sequents.Sequent.{Sequent}
-use Rattle.acc_oblig.specs.declared.naming.Naming.{Naming}
-use Rattle.acc_oblig.specs.Naming.{own_naming}
-use Rattle.acc_oblig.specs.Drafts.{clause_drafts}
+use Rattle.acc_assumptions.specs.Naming.{Naming}
+use Rattle.acc_assumptions.specs.ObligNaming.{own_naming}
+use Rattle.acc_assumptions.specs.Drafts.{clause_drafts}
 use Rattle.acc_goals.specs.declared.errors.ObligError.{ObligError}
 use Rattle.acc_goals.specs.Causes.{Adds, at_case}
 use Rattle.acc_goals.specs.Shares.{after_drafts}

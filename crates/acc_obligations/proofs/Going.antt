@@ -7,11 +7,11 @@ use Rattle.std.proofs.lemmas.List.{map-append, drop_all}
 use Rattle.std.proofs.Math.Seq.{drop-cons}
 use Rattle.acc_base.specs.declared.sequents.Origin.{Origin}
 use Rattle.acc_base.specs.declared.sequents.Sequent.{Sequent}
-use Rattle.acc_oblig.specs.Drafts.{Draft, each_from, each_number}
+use Rattle.acc_assumptions.specs.Drafts.{Draft, each_from, each_number}
 use Rattle.acc_goals.specs.declared.errors.ObligError.{ObligError}
 use Rattle.acc_goals.specs.declared.errors.ObligError.TheVariants.{Wide, Memory}
 use Rattle.acc_goals.specs.Causes.{sequents, first_wide, Adds}
-use Rattle.acc_places.specs.DesignPlaces.{joined}
+use Rattle.acc_assumptions.specs.DesignPlaces.{joined}
 
 -- ---- the first obligation with a number that is too large, in a part or behind it
 

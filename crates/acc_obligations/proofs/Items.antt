@@ -5,15 +5,15 @@ use Rattle.acc_base.specs.declared.sequents.Sequent.{Sequent}
 use Rattle.acc_base.specs.declared.designs.Point.{Point}
 use Rattle.acc_base.specs.declared.designs.TxType.{TxType}
 use Rattle.acc_base.specs.declared.designs.Design.{Design}
-use Rattle.acc_oblig.specs.Drafts.{Draft, each_number}
-use Rattle.acc_oblig.specs.PointRules.{each_point}
+use Rattle.acc_assumptions.specs.Drafts.{Draft, each_number}
+use Rattle.acc_assumptions.specs.PointRules.{each_point}
 use Rattle.acc_goals.specs.declared.errors.ObligError.{ObligError}
 use Rattle.acc_goals.specs.declared.errors.ObligError.TheVariants.{Wide, Memory}
 use Rattle.acc_goals.specs.Causes.{Adds}
-use Rattle.acc_places.specs.declared.places.PointPlace.{PointPlace}
-use Rattle.acc_places.specs.SeenPlaces.{point_place}
-use Rattle.acc_places.specs.DesignPlaces.{joined, at_point_place, point_places}
-use Rattle.acc_places.proofs.EachPath.{each_point_is}
+use Rattle.acc_assumptions.specs.PointPlace.{PointPlace}
+use Rattle.acc_assumptions.specs.SeenPlaces.{point_place}
+use Rattle.acc_assumptions.specs.DesignPlaces.{joined, at_point_place, point_places}
+use Rattle.acc_assumptions.proofs.EachPath.{each_point_is}
 use Rattle.acc_obligations.proofs.Going.{Going}
 
 -- what holds of each item of a list holds of the one that a loop over it is at

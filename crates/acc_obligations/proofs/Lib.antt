@@ -1,3 +1,4 @@
+pub use Rattle.acc_assumptions.proofs.Counted
 pub mod ClauseAdded
 pub mod Going
 pub mod PathAdded

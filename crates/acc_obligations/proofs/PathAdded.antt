@@ -11,15 +11,15 @@ use Rattle.acc_base.specs.declared.designs.Design.{Design}
 use Rattle.acc_base.specs.declared.sequents.Origin.{Origin}
 use Rattle.acc_base.specs.declared.sequents.Sequent.{Sequent}
 use Rattle.acc_base.specs.declared.sequents.Rule.{Rule}
-use Rattle.acc_oblig.specs.Settings.{Setting, step_vars, step_hyps, path_actions}
-use Rattle.acc_oblig.specs.Drafts.{Draft, Place, clause_drafts, each_path, path_origin, path_rels}
+use Rattle.acc_assumptions.specs.Settings.{Setting, step_vars, step_hyps, path_actions}
+use Rattle.acc_assumptions.specs.Drafts.{Draft, Place, clause_drafts, each_path, path_origin, path_rels}
 use Rattle.acc_goals.specs.declared.errors.ObligError.{ObligError}
 use Rattle.acc_goals.specs.Causes.{Adds}
-use Rattle.acc_places.specs.declared.places.PathPlace.{PathPlace}
+use Rattle.acc_assumptions.specs.PathPlace.{PathPlace}
 use Rattle.acc_obligations.specs.PathClauses.{path_clause_drafts}
-use Rattle.acc_places.specs.SeenPlaces.{path_place}
-use Rattle.acc_places.specs.DesignPlaces.{joined, at_path_place, path_places}
-use Rattle.acc_places.proofs.EachPath.{each_path_is}
+use Rattle.acc_assumptions.specs.SeenPlaces.{path_place}
+use Rattle.acc_assumptions.specs.DesignPlaces.{joined, at_path_place, path_places}
+use Rattle.acc_assumptions.proofs.EachPath.{each_path_is}
 
 module _ (r : Result (Unit {0}) ObligError) (old new : List Sequent) (rule : Rule) (held : Option At) (k : ℕ) (w : Place) (s : Setting)
     (names : List ℕ) (c : Clause) where

@@ -2,8 +2,8 @@
 use Rattle.std.specs.Prelude.{ℕ, List}
 use Rattle.acc_base.specs.declared.forms.Clause.{Clause}
 use Rattle.acc_base.specs.declared.sequents.Origin.{Origin}
-use Rattle.acc_oblig.specs.Settings.{Setting, step_vars, step_hyps, path_actions}
-use Rattle.acc_oblig.specs.Drafts.{Draft, clause_drafts, path_rels}
+use Rattle.acc_assumptions.specs.Settings.{Setting, step_vars, step_hyps, path_actions}
+use Rattle.acc_assumptions.specs.Drafts.{Draft, clause_drafts, path_rels}
 use Rattle.acc_goals.specs.Causes.{at_case}
 
 abbrev pub path_clause_drafts : Origin → Setting → List ℕ → Clause → List Draft

@@ -1,13 +1,14 @@
 //! The obligations of a clause after a path.
 ghost use Rattle.std.specs.Prelude.{◌≡◌, ◌+◌, ◌<◌, ◌^◌, take};
-ghost use Rattle.acc_oblig.specs.Drafts.{path_origin, setting_of};
+ghost use Rattle.acc_assumptions.specs.Drafts.{path_origin, setting_of};
 ghost use Rattle.acc_goals.specs.Causes.{Adds};
-ghost use Rattle.acc_places.specs.Rooms.{HasFewVars, IsSmallDesign, IsSmallPathPlace};
+ghost use Rattle.acc_assumptions.specs.Rooms.{HasFewVars, IsSmallDesign, IsSmallPathPlace};
 ghost use Rattle.acc_obligations.specs.PathClauses.{path_clause_drafts};
 ghost use Rattle.acc_assumptions.specs.Seen.{seen, HasRoom};
-ghost use Rattle.acc_places.specs.SeenPlaces.{path_place};
+ghost use Rattle.acc_assumptions.specs.SeenPlaces.{path_place};
 
 use acc_assumptions::settings::{Setting, path_actions, path_rels, step_hyps, step_vars};
+use acc_assumptions::{PathPlace, own_naming};
 use acc_base::designs::{At, Design};
 use acc_base::forms::Clause;
 use acc_base::sequences::Seq;
@@ -15,8 +16,6 @@ use acc_base::sequents::{Origin, Rule, Sequent};
 use acc_base::steps::Path;
 use acc_goals::errors::ObligError;
 use acc_goals::sequents::{Shared, add_clause};
-use acc_named::naming::own_naming;
-use acc_places::places::PathPlace;
 use std::alloc::Global;
 
 /// The paths before the one with a number.

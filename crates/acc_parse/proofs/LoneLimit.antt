@@ -31,15 +31,15 @@ use Rattle.acc_base.specs.declared.limits.Limit.{Limit}
 use Rattle.acc_base.specs.declared.limits.Limit.TheVariants as limit
 use Rattle.acc_limits.specs.Marks.{Mark, Past, End, ending, past}
 use Rattle.acc_limits.specs.Faults.{placed}
-use Rattle.acc_clauses.specs.Scopes.{Variables, Scope}
-use Rattle.acc_clauses.specs.Values.{terms_of, lin_rel_terms, all_sums, all_rels}
-use Rattle.acc_clauses.specs.Forms.{rel_terms, all_form_rels, clause_scope}
+use Rattle.acc_meaning.specs.Scopes.{Variables, Scope}
+use Rattle.acc_meaning.specs.Values.{terms_of, lin_rel_terms, all_sums, all_rels}
+use Rattle.acc_meaning.specs.Forms.{rel_terms, all_form_rels, clause_scope}
 use Rattle.acc_meaning.specs.Steps.{all_paths}
 use Rattle.acc_meaning.specs.Types.{type_scope}
 use Rattle.acc_meaning.specs.Designs.{outside, variables_at}
-use Rattle.acc_clauses.specs.Sizes.{size_mark, term_sizes, terms_sizes, sum_sizes, sums_sizes, values_sizes, lin_rel_sizes, guard_sizes}
-use Rattle.acc_clauses.specs.Sizes.{place_sizes, operand_sizes, form_term_sizes, signed_form_term_sizes, form_sizes, rel_sizes}
-use Rattle.acc_clauses.specs.Sizes.{clause_sizes, clause_statement_sizes}
+use Rattle.acc_meaning.specs.ClausesSizes.{size_mark, term_sizes, terms_sizes, sum_sizes, sums_sizes, values_sizes, lin_rel_sizes, guard_sizes}
+use Rattle.acc_meaning.specs.ClausesSizes.{place_sizes, operand_sizes, form_term_sizes, signed_form_term_sizes, form_sizes, rel_sizes}
+use Rattle.acc_meaning.specs.ClausesSizes.{clause_sizes, clause_statement_sizes}
 use Rattle.acc_meaning.specs.Sizes.{read_words_sizes, read_sizes, action_words_sizes, action_sizes}
 use Rattle.acc_meaning.specs.Sizes.{path_sizes, step_sizes, variant_sizes, point_sizes, names_sizes, type_sizes, table_sizes, entry_sizes}
 use Rattle.acc_meaning.specs.Sizes.{hint_sizes, design_sizes, size_faults}

@@ -1,3 +1,4 @@
+pub use Rattle.acc_obligations.proofs.Going
 pub mod Rows
 pub mod Kept
 pub mod Promised

@@ -1,3 +1,5 @@
+pub use Rattle.acc_goals.specs.Causes
+pub use Rattle.acc_goals.specs.declared.errors.ObligError
 pub mod Rows
 pub mod Openings
 pub mod Orders

@@ -3,14 +3,14 @@ ghost use Rattle.std.specs.Prelude.{◌≡◌, ⊤, [], ◌∷◌, ◌++◌, map
 ghost use Rattle.acc_oblig.specs.Settings.{last_now};
 ghost use Rattle.acc_oblig.specs.Spares.{is_for, entry_for, pair_lin, pairs_differ};
 ghost use Rattle.acc_places.specs.Rooms.{HasFewLocals, IsSmallEntry};
-ghost use Rattle.acc_assumptions.specs.Seen.{seen, HasRoom};
+ghost use Rattle.acc_obligations.specs.Seen.{seen, HasRoom};
 ghost use Rattle.acc_path_rules.specs.Openings.{judged_among, open_by};
 
-use acc_assumptions::settings::{Setting, last_names, step_vars};
 use acc_base::designs::{At, Entry, Side};
 use acc_base::forms::{Lin, Rel};
 use acc_base::sequences::Seq;
-use acc_named::forms::not_all_none;
+use acc_goals::not_all_none;
+use acc_obligations::{Setting, last_names, step_vars};
 use acc_places::places::PathPlace;
 use std::alloc::{AllocError, Global};
 

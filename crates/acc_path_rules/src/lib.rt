@@ -10,6 +10,7 @@ pub mod spares;
 mod tables;
 pub mod there;
 
+pub use acc_goals::ObligError;
 pub use always::add_always;
 pub use promises::add_promises;
 pub use spares::add_spares;

@@ -1,10 +1,10 @@
 //! The names that clauses have after the reads of a step.
 ghost use Rattle.std.specs.Prelude.{◌≡◌, [], ◌∷◌, ◌++◌, IfOk};
 ghost use Rattle.acc_oblig.specs.Settings.{last_now};
-ghost use Rattle.acc_assumptions.specs.Seen.{seen, HasRoom};
+ghost use Rattle.acc_obligations.specs.Seen.{seen, HasRoom};
 
-use acc_assumptions::settings::{Setting, behind, last_names};
 use acc_base::sequences::Seq;
+use acc_obligations::{Setting, behind, last_names};
 use std::alloc::{AllocError, Global};
 
 /// The variables of the locals after a step's reads, and behind them that of `self`.

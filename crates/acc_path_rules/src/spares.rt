@@ -7,7 +7,7 @@ ghost use Rattle.acc_oblig.specs.Settings.{step_vars, step_hyps, step_rels, step
 ghost use Rattle.acc_oblig.specs.Spares.{held_names, spare_drafts, spare_at, held_drafts, all_spare_drafts};
 ghost use Rattle.acc_goals.specs.Causes.{Adds, at_case};
 ghost use Rattle.acc_places.specs.Rooms.{HasFewVars, IsSmallDesign, IsSmallPathPlace, IsSmallPointPlace};
-ghost use Rattle.acc_assumptions.specs.Seen.{seen, HasRoom};
+ghost use Rattle.acc_obligations.specs.Seen.{seen, HasRoom};
 ghost use Rattle.acc_places.specs.SeenPlaces.{point_place, path_place};
 ghost use Rattle.acc_places.specs.DesignPlaces.{joined, at_path_place, at_point_place, path_places};
 ghost use Rattle.acc_path_rules.specs.Helds.{ordered_of};
@@ -15,18 +15,17 @@ ghost use Rattle.acc_path_rules.specs.Helds.{ordered_of};
 use crate::entries::open_by;
 use crate::orders::{Ordered, add_clause};
 use crate::tables::clause_names;
-use acc_assumptions::settings::{
-    Setting, add_frame_bounds, add_own_clauses, add_step_rels, numbers_from, path_actions,
-    step_bounds, step_hyps, step_vars,
-};
 use acc_base::designs::Design;
 use acc_base::forms::{Clause, Rel};
 use acc_base::sequences::Seq;
 use acc_base::sequents::{Origin, Rule, Sequent};
 use acc_goals::errors::ObligError;
-use acc_named::forms::is_less;
-use acc_named::naming::own_naming;
+use acc_goals::{is_less, own_naming};
 use acc_obligations::paths::{Cause, path_origin, path_setting};
+use acc_obligations::{
+    Setting, add_frame_bounds, add_own_clauses, add_step_rels, numbers_from, path_actions,
+    step_bounds, step_hyps, step_vars,
+};
 use acc_places::places::{PathPlace, PointPlace, all_paths, points_of};
 use std::alloc::{AllocError, Global};
 

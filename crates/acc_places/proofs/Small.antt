@@ -15,11 +15,11 @@ use Rattle.acc_base.specs.declared.designs.TxType.{TxType}
 use Rattle.acc_base.specs.declared.designs.Entry.{Entry}
 use Rattle.acc_base.specs.declared.designs.Design.{Design}
 use Rattle.acc_base.specs.Effects.{step_at}
-use Rattle.acc_formed.specs.Ranges.{locals_of}
-use Rattle.acc_formed.specs.Sizes.{is_short, rel_small, clause_small, table_small}
-use Rattle.acc_formed.specs.WellFormed.{AreClausesFormed, IsStepFormed, IsPointFormed, IsTypeFormed, IsWellFormed}
-use Rattle.acc_formed.proofs.InRange.{design_range}
-use Rattle.acc_formed.proofs.Runs.{table_is_small}
+use Rattle.acc_oblig.specs.FormedRanges.{locals_of}
+use Rattle.acc_oblig.specs.Sizes.{is_short, rel_small, clause_small, table_small}
+use Rattle.acc_oblig.specs.WellFormed.{AreClausesFormed, IsStepFormed, IsPointFormed, IsTypeFormed, IsWellFormed}
+use Rattle.acc_oblig.proofs.InRange.{design_range}
+use Rattle.acc_oblig.proofs.Runs.{table_is_small}
 use Rattle.acc_oblig.specs.Drafts.{each_from, each, step_paths}
 use Rattle.acc_oblig.proofs.OnPath.{numbered_at}
 use Rattle.acc_places.specs.Rooms.{HasFewVars, IsSmallEntry, IsSmallStep, IsSmallTable, IsSmallDesign, IsSmallPoint, IsSmallType}

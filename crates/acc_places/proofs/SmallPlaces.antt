@@ -5,7 +5,7 @@ use Rattle.std.specs.List.{AllByRecursion}
 use Rattle.std.proofs.lemmas.List.Elements.{All-from_recursion, recursion_from_All}
 use Rattle.acc_base.specs.declared.designs.TxType.{TxType}
 use Rattle.acc_base.specs.declared.designs.Design.{Design}
-use Rattle.acc_formed.specs.WellFormed.{IsWellFormed}
+use Rattle.acc_oblig.specs.WellFormed.{IsWellFormed}
 use Rattle.acc_places.specs.declared.places.PointPlace.{PointPlace}
 use Rattle.acc_places.specs.declared.places.PathPlace.{PathPlace}
 use Rattle.acc_places.specs.Rooms.{IsSmallPointPlace, IsSmallPathPlace}

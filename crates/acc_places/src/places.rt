@@ -1,7 +1,7 @@
 //! The points and the paths of a design, each with where it stands.
 ghost use Rattle.std.specs.Prelude.{◌≡◌, ◌++◌, ◌≤◌, length, map, All, IfOk, OnOk};
 ghost use Rattle.acc_base.specs.declared.bounds.TheConstants.{MOST_TYPES, MOST_POINTS, MOST_PATHS};
-ghost use Rattle.acc_formed.specs.WellFormed.{IsWellFormed};
+ghost use Rattle.acc_oblig.specs.WellFormed.{IsWellFormed};
 ghost use Rattle.acc_oblig.specs.Drafts.{each, step_paths};
 ghost use Rattle.acc_places.specs.Rooms.{IsSmallPathPlace, IsSmallPointPlace};
 ghost use Rattle.acc_places.specs.SeenPlaces.{point_place, path_place};

@@ -1,3 +1,5 @@
+pub use Rattle.acc_step.specs.Outlooks
+pub use Rattle.acc_step.specs.declared.looks.Outlook
 pub mod Running
 pub mod Reached
 pub mod Change

@@ -8,5 +8,6 @@ mod machines;
 mod takes;
 mod transactions;
 
+pub use acc_step::{Outlook, look};
 pub use changes::{PlainError, is_asked, limit_of};
 pub use machines::Machine;

@@ -8,11 +8,10 @@ ghost use Rattle.acc_oblig.specs.PathPromises.{point_clauses};
 ghost use Rattle.acc_oblig.specs.PointRules.{begin_at, begin_drafts, begin_origin, begin_rels, zeros};
 ghost use Rattle.acc_goals.specs.Causes.{Adds};
 ghost use Rattle.acc_places.specs.Rooms.{HasFewVars, IsSmallDesign, IsSmallType};
-ghost use Rattle.acc_assumptions.specs.Seen.{seen, HasRoom};
+ghost use Rattle.acc_obligations.specs.Seen.{seen, HasRoom};
 ghost use Rattle.acc_point_rules.specs.OneClause.{begin_clause_drafts};
 
 use crate::resting::resting;
-use acc_assumptions::settings::{Setting, behind, numbers_from, step_bounds, step_hyps, step_vars};
 use acc_base::bounds::MOST_CLAUSES;
 use acc_base::designs::{At, Design, Side, TxType};
 use acc_base::forms::{Clause, Rel};
@@ -20,8 +19,8 @@ use acc_base::sequences::Seq;
 use acc_base::sequents::{Origin, Rule, Sequent};
 use acc_goals::errors::ObligError;
 use acc_goals::sequents::{Shared, add_clause};
-use acc_named::forms::is_nothing;
-use acc_named::naming::own_naming;
+use acc_goals::{is_nothing, own_naming};
+use acc_obligations::{Setting, behind, numbers_from, step_bounds, step_hyps, step_vars};
 use std::alloc::{AllocError, Global};
 
 /// Where the first obligation of a clause of a type's start comes from.

@@ -13,8 +13,6 @@ ghost use Rattle.acc_places.specs.SeenPlaces.{path_place};
 ghost use Rattle.acc_places.specs.DesignPlaces.{joined, at_path_place};
 ghost use Rattle.acc_point_rules.specs.Clears.{path_clears};
 
-use acc_assumptions::extremes::own_name;
-use acc_assumptions::settings::{behind, last_names};
 use acc_base::designs::{Design, TxType};
 use acc_base::forms::{Atom, Clause, Lin};
 use acc_base::sequences::{Seq, Text};
@@ -22,8 +20,9 @@ use acc_base::sequents::{Rule, Sequent};
 use acc_base::steps::{Action, Step, Target};
 use acc_base::tables::Table;
 use acc_goals::errors::ObligError;
-use acc_named::forms::{alone, is_zero, one_term, times};
+use acc_goals::{alone, is_zero, one_term, times};
 use acc_obligations::paths::{Cause, add_path_clause, path_origin, path_setting};
+use acc_obligations::{behind, last_names, own_name};
 use acc_places::places::{PathPlace, all_paths};
 use std::alloc::{AllocError, Global};
 

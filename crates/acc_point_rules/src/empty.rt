@@ -11,8 +11,8 @@ use acc_base::forms::Clause;
 use acc_base::sequences::Seq;
 use acc_base::sequents::{Origin, Rule, Sequent};
 use acc_goals::errors::ObligError;
+use acc_goals::own_naming;
 use acc_goals::sequents::{Shared, add_clause};
-use acc_named::naming::own_naming;
 use std::alloc::Global;
 
 /// Where the first obligation of a clause comes from.

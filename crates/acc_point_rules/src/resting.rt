@@ -2,11 +2,11 @@
 ghost use Rattle.std.specs.Prelude.{◌≡◌, All};
 ghost use Rattle.acc_oblig.specs.PointRules.{resting};
 ghost use Rattle.acc_places.specs.Rooms.{HasFewVars, IsSmallDesign, IsSmallType};
-ghost use Rattle.acc_assumptions.specs.Seen.{seen, HasRoom};
+ghost use Rattle.acc_obligations.specs.Seen.{seen, HasRoom};
 
-use acc_assumptions::settings::Setting;
 use acc_base::designs::{Design, TxType};
 use acc_base::forms::Clause;
+use acc_obligations::Setting;
 
 /// The setting of a transaction that rests where these clauses hold.
 pub fn resting<'a>(d: &'a Design, ty: &'a TxType, clauses: &'a [Clause]) -> Setting<'a>

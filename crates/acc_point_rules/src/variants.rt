@@ -10,15 +10,12 @@ ghost use Rattle.acc_oblig.specs.Drafts.{setting_of, goal_drafts};
 ghost use Rattle.acc_oblig.specs.PointRules.{rest_origin, fall_in, fall_drafts, fall_at, point_at, variant_drafts};
 ghost use Rattle.acc_goals.specs.Causes.{Adds, TellsClause, at_case};
 ghost use Rattle.acc_places.specs.Rooms.{IsSmallDesign, IsSmallPointPlace, IsSmallPathPlace};
-ghost use Rattle.acc_assumptions.specs.Seen.{seen, HasRoom};
+ghost use Rattle.acc_obligations.specs.Seen.{seen, HasRoom};
 ghost use Rattle.acc_places.specs.SeenPlaces.{point_place, path_place};
 ghost use Rattle.acc_places.specs.DesignPlaces.{joined, at_point_place, at_path_place};
 ghost use Rattle.acc_point_rules.specs.Bounds.{bound_clause, bound_goal, bound_drafts, fall_form, is_fall_wide, target_falls, both_bounds};
 
 use crate::resting::resting;
-use acc_assumptions::settings::{
-    Setting, last_names, numbers_from, path_rels, step_hyps, step_vars, with_self,
-};
 use acc_base::bounds::LARGEST_VARIANT;
 use acc_base::designs::{At, Design, Point, Side, TxType};
 use acc_base::forms::{Form, Lin};
@@ -29,9 +26,11 @@ use acc_base::sums::FormSum;
 use acc_goals::errors::ObligError;
 use acc_goals::sequents::Shared;
 use acc_goals::small_goals::add_goal;
-use acc_named::forms::{lin_form, negated_form};
-use acc_named::naming::named_lin;
+use acc_goals::{lin_form, named_lin, negated_form};
 use acc_obligations::paths::{Cause, path_origin, path_setting};
+use acc_obligations::{
+    Setting, last_names, numbers_from, path_rels, step_hyps, step_vars, with_self,
+};
 use acc_places::places::{PathPlace, PointPlace, all_paths, points_of};
 use std::alloc::{AllocError, Global};
 

@@ -12,13 +12,13 @@ use Rattle.acc_base.specs.declared.sequents.Sequent.{Sequent}
 use Rattle.acc_axioms.specs.declared.nodes.Node.{Node}
 use Rattle.acc_axioms.specs.declared.nodes.Proof.{Proof}
 use Rattle.acc_cert_bounds.specs.InBounds.{nodes as are_in_bounds}
-use Rattle.acc_branch.specs.Courses.{Course}
-use Rattle.acc_branch.specs.declared.halts.Halt.{Halt}
+use Rattle.acc_prover.specs.BranchCourses.{Course}
+use Rattle.acc_prover.specs.Halt.{Halt}
 use Rattle.acc_prover.specs.declared.found.Found.{Found}
 use Rattle.acc_prover.specs.declared.found.Found.TheVariants.{Proved, Unproved}
 use Rattle.acc_prover.specs.declared.found.SearchError.{SearchError}
 use Rattle.acc_prover.specs.declared.found.SearchError.TheVariants.{Crowded, Wide, Many, Memory}
-use Rattle.acc_searched.specs.Courses.{IsProof}
+use Rattle.acc_prover.specs.Courses.{IsProof}
 use Rattle.acc_prover.specs.Tellings.{Closes, Tells, IfProved}
 use Rattle.acc_page.specs.Written.{Written, Adds, Owes}
 use Rattle.acc_prove.specs.declared.proving.Proving.{Proving}

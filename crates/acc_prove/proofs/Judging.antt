@@ -11,13 +11,13 @@ use Rattle.acc_axioms.specs.declared.nodes.Proof.{Proof}
 use Rattle.acc_axioms.specs.declared.nodes.Cert.{Cert}
 use Rattle.acc_axioms.proofs.Tests.{both_true}
 use Rattle.acc_cert_bounds.specs.InBounds.{proof as is_in_bounds, cert as is_cert_in_bounds}
-use Rattle.acc_branch.specs.Courses.{Course}
+use Rattle.acc_prover.specs.BranchCourses.{Course}
 use Rattle.acc_formed.specs.WellFormed.{IsWellFormed}
 use Rattle.acc_oblig.specs.Laws.{drafts_of, sequents_of}
-use Rattle.acc_goals.specs.Causes.{first_wide}
+use Rattle.acc_accept.specs.Causes.{first_wide}
 use Rattle.acc_accept.specs.Accepting.{IsProved, AreProved, Accepts}
 use Rattle.acc_accept.proofs.Soundness.{accepted_is_sound}
-use Rattle.acc_searched.specs.Courses.{IsProof}
+use Rattle.acc_prover.specs.Courses.{IsProof}
 use Rattle.acc_prover.specs.Tellings.{Closes}
 use Rattle.acc_prove.specs.declared.proving.Proving.{Proving}
 use Rattle.acc_prove.specs.declared.proving.Proving.TheVariants.{Proved, Open, Wide}

@@ -7,12 +7,12 @@ use Rattle.acc_axioms.specs.declared.nodes.Node.{Node}
 use Rattle.acc_axioms.specs.declared.nodes.Proof.{Proof}
 use Rattle.acc_axioms.specs.declared.nodes.Cert.{Cert}
 use Rattle.acc_cert_bounds.specs.InBounds.{proof as is_in_bounds, cert as is_cert_in_bounds}
-use Rattle.acc_branch.specs.Courses.{Course}
+use Rattle.acc_prover.specs.BranchCourses.{Course}
 use Rattle.acc_prover.specs.declared.found.Found.{Found}
 use Rattle.acc_prover.specs.declared.found.Found.TheVariants.{Proved, Unproved}
 use Rattle.acc_prover.specs.declared.found.SearchError.{SearchError}
 use Rattle.acc_prover.specs.declared.found.SearchError.TheVariants.{Crowded, Wide, Many, Memory}
-use Rattle.acc_searched.specs.Courses.{IsProof}
+use Rattle.acc_prover.specs.Courses.{IsProof}
 use Rattle.acc_prove.specs.declared.proving.Proving.{Proving}
 use Rattle.acc_prove.specs.declared.proving.Proving.TheVariants as proving
 use Rattle.acc_prove.specs.Lines.{searched, point_text, line_of, open_lines}

@@ -4,8 +4,8 @@ use Rattle.acc_base.specs.declared.forms.Rel.{Rel}
 use Rattle.acc_base.specs.declared.designs.Design.{Design}
 use Rattle.acc_base.specs.declared.sequents.Sequent.{Sequent}
 use Rattle.acc_points.specs.Points.{Point}
-use Rattle.acc_branch.specs.declared.halts.Halt.TheVariants as halt
-use Rattle.acc_searched.specs.OpenLeaves.{IsOpenLeaf}
+use Rattle.acc_prover.specs.Halt.TheVariants as halt
+use Rattle.acc_prover.specs.OpenLeaves.{IsOpenLeaf}
 use Rattle.acc_prove.specs.declared.proving.Proving.{Proving}
 use Rattle.acc_prove.specs.declared.proving.Proving.TheVariants.{Proved, Open, Wide}
 use Rattle.acc_hints.specs.Hints.{hints_of}

@@ -9,10 +9,10 @@ use Rattle.acc_base.specs.Lines.{line}
 use Rattle.acc_points.specs.Fractions.{Fraction}
 use Rattle.acc_points.specs.Points.{Point}
 use Rattle.acc_axioms.specs.declared.nodes.Node.{Node}
-use Rattle.acc_branch.specs.declared.halts.Halt.{Halt}
-use Rattle.acc_branch.specs.declared.halts.Halt.TheVariants.{Open, Crowded, Wide, Many, Memory}
-use Rattle.acc_branch.specs.Courses.{Course}
-use Rattle.acc_course.specs.Searches.{course}
+use Rattle.acc_prover.specs.Halt.{Halt}
+use Rattle.acc_prover.specs.Halt.TheVariants.{Open, Crowded, Wide, Many, Memory}
+use Rattle.acc_prover.specs.BranchCourses.{Course}
+use Rattle.acc_prover.specs.Searches.{course}
 use Rattle.acc_origins.specs.Origins.{origin_text}
 use Rattle.acc_hints.specs.Hints.{hints_of}
 

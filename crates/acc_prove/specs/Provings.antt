@@ -11,7 +11,7 @@ use Rattle.acc_cert_read.specs.Parts.{Good}
 use Rattle.acc_cert_read.specs.Certificates.{cert_in}
 use Rattle.acc_cert.specs.SpelledNodes.{cert}
 use Rattle.acc_oblig.specs.Laws.{drafts_of, sequents_of}
-use Rattle.acc_goals.specs.Causes.{first_wide}
+use Rattle.acc_accept.specs.Causes.{first_wide}
 use Rattle.acc_accept.specs.Accepting.{Accepts}
 use Rattle.acc_prover.specs.Tellings.{Closes}
 use Rattle.acc_origins.specs.Origins.{origin_text}

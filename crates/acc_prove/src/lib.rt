@@ -5,6 +5,7 @@ pub mod laws;
 pub mod lines;
 mod proving;
 
+pub use acc_prover::found::{Found, SearchError};
 pub use laws::{points_meet_leaves, proved_once};
 pub use lines::{push_ended, push_point};
 pub use proving::{Proving, prove, searched};

@@ -5,7 +5,7 @@ ghost use Rattle.acc_cert_bounds.specs.InBounds.{nodes as are_in_bounds, cert as
 ghost use Rattle.acc_formed.specs.WellFormed.{IsWellFormed};
 ghost use Rattle.acc_page.specs.Written.{Adds};
 ghost use Rattle.acc_prover.specs.declared.found.SearchError.TheVariants.{Memory as OutOfMemory};
-ghost use Rattle.acc_searched.specs.Courses.{IsProof};
+ghost use Rattle.acc_prover.specs.Courses.{IsProof};
 ghost use Rattle.acc_prover.specs.Tellings.{Tells, IfProved};
 ghost use Rattle.acc_origins.specs.Origins.{origin_text};
 ghost use Rattle.acc_prove.specs.Lines.{searched, open_line, open_lines};
@@ -13,14 +13,13 @@ ghost use Rattle.acc_prove.specs.Provings.{IsWritten, Proves};
 ghost use Rattle.acc_prove.specs.Founds.{found_line, found_proofs, AddsProofs, Ends, ProvesAll};
 
 use crate::lines::{push_ended, push_point};
-use acc_accept::obligations;
+use acc_accept::{ObligError, obligations};
 use acc_axioms::nodes::{Cert, Proof};
 use acc_base::designs::Design;
 use acc_base::sequences::Seq;
 use acc_base::sequents::{Origin, Sequent};
 use acc_cert::write;
 use acc_cert_read::errors::CertError;
-use acc_goals::ObligError;
 use acc_hints::hints::hints_of;
 use acc_origins::origins::push_origin;
 use acc_page::Page;

@@ -8,8 +8,8 @@ use Rattle.acc_base.specs.TrueSequents.{SequentTrue}
 use Rattle.acc_axioms.specs.declared.nodes.Node.{Node}
 use Rattle.acc_cert_bounds.specs.InBounds.{nodes_near}
 use Rattle.acc_proof.proofs.Implied.{proofs_imply}
-use Rattle.acc_branch.specs.Courses.{Course, AnswersCourse}
-use Rattle.acc_course.specs.Searches.{course}
+use Rattle.acc_searched.specs.BranchCourses.{Course, AnswersCourse}
+use Rattle.acc_searched.specs.Searches.{course}
 use Rattle.acc_searched.specs.Courses.{IsProof}
 use Rattle.acc_searched.specs.OpenLeaves.{IsOpenLeaf}
 use Rattle.acc_searched.proofs.Ends.{ended_proof, leaf_open}

@@ -2,7 +2,7 @@
 ghost use Rattle.std.specs.Prelude.{◌≡◌, IsTrue, IfOk};
 ghost use Rattle.acc_base.specs.TrueSequents.{SequentTrue};
 ghost use Rattle.acc_cert_bounds.specs.InBounds.{nodes as are_in_bounds, nodes_near as are_near};
-ghost use Rattle.acc_course.specs.Searches.{course};
+ghost use Rattle.acc_searched.specs.Searches.{course};
 ghost use Rattle.acc_searched.specs.Courses.{IsProof};
 ghost use Rattle.acc_searched.specs.OpenLeaves.{IsOpenLeaf};
 ghost use Rattle.acc_prover.specs.Tellings.{Tells, IfProved, IfUnproved, KeepsProof};
@@ -13,12 +13,11 @@ use acc_base::designs::Design;
 use acc_base::forms::Lin;
 use acc_base::sequences::Seq;
 use acc_base::sequents::Sequent;
-use acc_branch::halts::Halt;
 use acc_cert_bounds::bounded::Bounded;
-use acc_course::courses::course;
 use acc_proof::checks::proves;
 use acc_proof::errors::ProofError;
 use acc_pruning::pruning::pruned;
+use acc_searched::{Halt, course};
 use std::alloc::{AllocError, Global};
 
 /// The proof that has these nodes; a certificate's file can hold its numbers.

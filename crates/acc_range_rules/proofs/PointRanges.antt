@@ -15,8 +15,8 @@ use Rattle.acc_oblig.specs.Settings.{Setting, step_vars}
 use Rattle.acc_oblig.specs.Drafts.{Draft, Place, each_from, each, of_some, setting_of}
 use Rattle.acc_oblig.specs.Ranges.{ReadNumber, reads_setting, setting_numbers, read_range_in, action_range_in, numbers_of, path_range_at}
 use Rattle.acc_oblig.specs.Ranges.{range_at}
-use Rattle.acc_goals.specs.declared.errors.ObligError.{ObligError}
-use Rattle.acc_goals.specs.Causes.{Adds}
+use Rattle.acc_obligations.specs.ObligError.{ObligError}
+use Rattle.acc_obligations.specs.Causes.{Adds}
 use Rattle.acc_range_rules.specs.PathRanges.{path_range, undo_ranges}
 
 module _ {T U : Type 0} where

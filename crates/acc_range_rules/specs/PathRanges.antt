@@ -12,7 +12,7 @@ use Rattle.acc_oblig.specs.Relations.{lin_form}
 use Rattle.acc_oblig.specs.Settings.{Setting, after_naming, step_vars, step_hyps}
 use Rattle.acc_oblig.specs.Drafts.{Draft, Place, of_some, step_paths, goal_drafts, path_rels, setting_of}
 use Rattle.acc_oblig.specs.Ranges.{ActionNumber, within, action_range_in, numbers_of}
-use Rattle.acc_goals.specs.Causes.{at_case}
+use Rattle.acc_obligations.specs.Causes.{at_case}
 use Rattle.acc_places.specs.DesignPlaces.{PointPlace}
 
 -- of a number, from the first one's place

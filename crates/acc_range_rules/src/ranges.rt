@@ -7,9 +7,9 @@ ghost use Rattle.acc_oblig.specs.Settings.{step_vars};
 ghost use Rattle.acc_oblig.specs.Drafts.{each_number};
 ghost use Rattle.acc_oblig.specs.PointRules.{each_point};
 ghost use Rattle.acc_oblig.specs.Ranges.{within, read_origin, reads_setting, read_range_in, range_at, range_drafts};
-ghost use Rattle.acc_goals.specs.Causes.{Adds};
+ghost use Rattle.acc_obligations.specs.Causes.{Adds};
 ghost use Rattle.acc_places.specs.Rooms.{IsSmallDesign, IsSmallPointPlace, IsSmallPathPlace};
-ghost use Rattle.acc_assumptions.specs.Seen.{seen, HasRoom};
+ghost use Rattle.acc_obligations.specs.Seen.{seen, HasRoom};
 ghost use Rattle.acc_places.specs.SeenPlaces.{point_place, path_place};
 ghost use Rattle.acc_places.specs.DesignPlaces.{joined, at_point_place, at_path_place};
 ghost use Rattle.acc_range_rules.specs.Numbers.{seen_read, seen_action};
@@ -18,20 +18,16 @@ ghost use Rattle.acc_range_rules.specs.PathRanges.{action_range, path_range, und
 use crate::action_numbers::{ActionNumber, action_number};
 use crate::found::Found;
 use crate::read_numbers::{ReadNumber, among_reads};
-use acc_assumptions::settings::{
-    Setting, add_step_rels, after_naming, path_rels, step_bounds, step_hyps, step_vars,
-};
 use acc_base::bounds::{LARGEST_NUMBER, MOST_ACTIONS, MOST_COLUMNS, MOST_KEY_PARTS, MOST_READS};
 use acc_base::designs::{At, Design, Side};
 use acc_base::forms::{Form, Lin};
 use acc_base::sequences::Seq;
 use acc_base::sequents::{Origin, Rule, Sequent};
-use acc_goals::errors::ObligError;
-use acc_goals::sequents::Shared;
-use acc_goals::small_goals::add_small_goals;
-use acc_named::forms::{lin_form, negated_form};
-use acc_named::naming::named_lin;
 use acc_obligations::paths::{Cause, path_origin, path_setting};
+use acc_obligations::{
+    ObligError, Setting, Shared, add_small_goals, add_step_rels, after_naming, lin_form, named_lin,
+    negated_form, path_rels, step_bounds, step_hyps, step_vars,
+};
 use acc_places::places::{PathPlace, PointPlace, points_of};
 use std::alloc::{AllocError, Global};
 

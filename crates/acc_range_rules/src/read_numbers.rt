@@ -4,16 +4,14 @@ ghost use Rattle.acc_base.specs.declared.bounds.TheConstants.{MOST_READS};
 ghost use Rattle.acc_base.specs.Reads.{read_key};
 ghost use Rattle.acc_oblig.specs.Settings.{step_vars};
 ghost use Rattle.acc_oblig.specs.Ranges.{value_asked, setting_numbers};
-ghost use Rattle.acc_assumptions.specs.Seen.{seen, HasRoom};
+ghost use Rattle.acc_obligations.specs.Seen.{seen, HasRoom};
 ghost use Rattle.acc_range_rules.specs.Numbers.{one_read_numbers, seen_read, StandsAt, IsFewBounded};
 
 use crate::found::Found;
-use acc_assumptions::settings::{Setting, numbers_from, step_vars, with_name, with_self};
 use acc_base::forms::Lin;
 use acc_base::steps::Read;
-use acc_named::forms::alone;
-use acc_named::naming::named_lin;
 use acc_oblig::naming::Naming;
+use acc_obligations::{Setting, alone, named_lin, numbers_from, step_vars, with_name, with_self};
 use std::alloc::{AllocError, Global};
 
 /// A number of a step's reads, by an obligation's variables: its value, how many of the reads are bounded before it, and whether it

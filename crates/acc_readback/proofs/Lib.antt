@@ -1,3 +1,4 @@
+pub use Rattle.acc_parse.proofs.WholeLaws
 pub mod Rests
 pub mod Tokens
 pub mod SumParts

@@ -18,12 +18,12 @@ use Rattle.acc_syntax.specs.declared.trees.TypeTree.{TypeTree}
 use Rattle.acc_names.specs.Scopes.{point_names, type_named}
 use Rattle.acc_clauses.specs.Scopes.{Variables, number_of}
 use Rattle.acc_clauses.specs.Forms.{clause_of}
-use Rattle.acc_meaning.specs.Types.{type_of}
-use Rattle.acc_meaning.specs.Designs.{table_of, outside as outside_trees, type_names, points_or_none, at_of, side_of, variables_or_none}
-use Rattle.acc_meaning.specs.Designs.{variables_at, pair_of, all_pairs, entry_of, hint_of, design_of}
+use Rattle.acc_parse.specs.Types.{type_of}
+use Rattle.acc_parse.specs.Designs.{table_of, outside as outside_trees, type_names, points_or_none, at_of, side_of, variables_or_none}
+use Rattle.acc_parse.specs.Designs.{variables_at, pair_of, all_pairs, entry_of, hint_of, design_of}
 use Rattle.acc_clauses.specs.Sizes.{clause_statement_sizes, sum_sizes}
-use Rattle.acc_meaning.specs.Sizes.{type_sizes, table_sizes, entry_sizes, hint_sizes, design_sizes}
-use Rattle.acc_meaning.specs.Sizes.{size_faults}
+use Rattle.acc_parse.specs.Sizes.{type_sizes, table_sizes, entry_sizes, hint_sizes, design_sizes}
+use Rattle.acc_parse.specs.Sizes.{size_faults}
 use Rattle.acc_print.specs.Names.{within, inside, outside}
 use Rattle.acc_print.specs.Designs.{scope_at}
 use Rattle.acc_readback.specs.Trees.{lin_tree, clause_tree}

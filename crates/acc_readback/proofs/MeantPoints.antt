@@ -7,9 +7,9 @@ use Rattle.acc_base.specs.declared.designs.Point.{Point}
 use Rattle.acc_limits.specs.Marks.{ending}
 use Rattle.acc_clauses.specs.Scopes.{Scope as Surroundings}
 use Rattle.acc_clauses.specs.Forms.{clause_of}
-use Rattle.acc_meaning.specs.Types.{zero_lin, variant_of, point_of}
+use Rattle.acc_parse.specs.Types.{zero_lin, variant_of, point_of}
 use Rattle.acc_clauses.specs.Sizes.{clause_statement_sizes}
-use Rattle.acc_meaning.specs.Sizes.{step_sizes, variant_sizes, point_sizes}
+use Rattle.acc_parse.specs.Sizes.{step_sizes, variant_sizes, point_sizes}
 use Rattle.acc_print.specs.Types.{is_zero}
 use Rattle.acc_print.specs.Names.{Scope}
 use Rattle.acc_readback.specs.Trees.{clause_tree}

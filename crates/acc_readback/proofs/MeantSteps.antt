@@ -15,9 +15,9 @@ use Rattle.acc_base.specs.declared.steps.Step.{Step}
 use Rattle.acc_base.specs.declared.designs.Point.{Point}
 use Rattle.acc_clauses.specs.Scopes.{Scope as Surroundings, number_of, variable_of}
 use Rattle.acc_clauses.specs.Values.{kept}
-use Rattle.acc_meaning.specs.Steps.{read_of, action_of, target_of, path_of, step_of}
+use Rattle.acc_parse.specs.Steps.{read_of, action_of, target_of, path_of, step_of}
 use Rattle.acc_clauses.specs.Sizes.{guard_sizes}
-use Rattle.acc_meaning.specs.Sizes.{read_sizes, action_sizes, path_sizes, step_sizes}
+use Rattle.acc_parse.specs.Sizes.{read_sizes, action_sizes, path_sizes, step_sizes}
 use Rattle.acc_limits.specs.Marks.{ending}
 use Rattle.acc_print.specs.Sums.{is_negative}
 use Rattle.acc_print.specs.Names.{Scope, name_at}

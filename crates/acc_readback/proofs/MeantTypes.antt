@@ -14,9 +14,9 @@ use Rattle.acc_names.specs.Scopes.{locals_of, points_in, point_names}
 use Rattle.acc_limits.specs.Marks.{ending}
 use Rattle.acc_clauses.specs.Scopes.{Scope as Surroundings, fitted, number_of}
 use Rattle.acc_clauses.specs.Forms.{clause_of}
-use Rattle.acc_meaning.specs.Types.{type_variables, type_scope, returned_of, type_of}
+use Rattle.acc_parse.specs.Types.{type_variables, type_scope, returned_of, type_of}
 use Rattle.acc_clauses.specs.Sizes.{clause_statement_sizes}
-use Rattle.acc_meaning.specs.Sizes.{point_sizes, names_sizes, type_sizes}
+use Rattle.acc_parse.specs.Sizes.{point_sizes, names_sizes, type_sizes}
 use Rattle.acc_print.specs.Names.{name_at, names_within, within}
 use Rattle.acc_readback.specs.Trees.{names_tree, clause_tree}
 use Rattle.acc_readback.specs.TypeTrees.{table_tree, type_tree}

@@ -9,7 +9,7 @@ use Rattle.acc_lex.specs.declared.words.Sign.{Sign}
 use Rattle.acc_lex.specs.declared.words.Sign.TheVariants as sign
 use Rattle.acc_lex.specs.declared.words.Word.{Word}
 use Rattle.acc_lex.specs.declared.words.Word.TheVariants as word
-use Rattle.acc_designs.specs.OwnWords.{OwnInTypes}
+use Rattle.acc_parse.specs.OwnWords.{OwnInTypes}
 use Rattle.acc_syntax.proofs.Following.{is_own}
 
 -- ---- other words

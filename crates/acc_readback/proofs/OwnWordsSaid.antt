@@ -19,8 +19,8 @@ use Rattle.acc_syntax.specs.declared.trees.EntryTree.{EntryTree}
 use Rattle.acc_syntax.specs.declared.trees.HintTree.{HintTree}
 use Rattle.acc_syntax.specs.Spelling.{just, name, number, variable, sum, clause_statement, side_sign, pair, pairs, entry, hint, table}
 use Rattle.acc_syntax.specs.Spelling.{type_words, spelled_design}
-use Rattle.acc_designs.specs.OwnWords.{OwnInTypes}
-use Rattle.acc_designs.specs.Texts.{IsSpelling}
+use Rattle.acc_parse.specs.OwnWords.{OwnInTypes}
+use Rattle.acc_parse.specs.DesignsTexts.{IsSpelling}
 use Rattle.acc_syntax.proofs.Following.{is_own}
 use Rattle.acc_print.specs.Names.{name_at, outside, with_own}
 use Rattle.acc_print.specs.Designs.{scope_at}

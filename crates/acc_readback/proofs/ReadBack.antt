@@ -3,7 +3,7 @@ use Rattle.std.proofs.Common.{◌≡◌, ℕ, List, [], ◌++◌, sym, ap, ◌�
 use Rattle.acc_base.specs.declared.designs.Design.{Design}
 use Rattle.acc_base.specs.declared.limits.Limit.{Limit}
 use Rattle.acc_syntax.specs.Spelling.{spelled_design}
-use Rattle.acc_meaning.specs.Sizes.{size_faults}
+use Rattle.acc_parse.specs.Sizes.{size_faults}
 use Rattle.acc_print.specs.Designs.{printed}
 use Rattle.acc_parse.specs.Texts.{IsDesignText, past_limits}
 use Rattle.acc_readback.specs.TypeTrees.{tree_of}

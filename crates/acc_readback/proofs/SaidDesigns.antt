@@ -12,7 +12,7 @@ use Rattle.acc_lex.proofs.WholeTexts.{can_spell}
 use Rattle.acc_syntax.specs.declared.trees.TableTree.{TableTree}
 use Rattle.acc_syntax.specs.declared.trees.TypeTree.{TypeTree}
 use Rattle.acc_syntax.specs.declared.trees.DesignTree.{DesignTree}
-use Rattle.acc_designs.specs.OwnWords.{OwnInTypes}
+use Rattle.acc_parse.specs.OwnWords.{OwnInTypes}
 use Rattle.acc_syntax.specs.Spelling.{type_words}
 use Rattle.acc_names.specs.Names.{stands_in, defines_again}
 use Rattle.acc_names.specs.Faults.{clause_fault, tables_faults, type_faults, types_faults, entry_fault, hint_fault}
@@ -22,10 +22,10 @@ use Rattle.acc_limits.specs.Marks.{limited}
 use Rattle.acc_limits.specs.Statements.{table_marks, clause_statement_marks, type_marks, entry_marks, hint_marks, design_marks}
 use Rattle.acc_limits.specs.Faults.{limit_faults}
 use Rattle.acc_clauses.specs.Forms.{clause_of}
-use Rattle.acc_meaning.specs.Types.{type_of}
-use Rattle.acc_meaning.specs.Designs.{table_of, outside, entry_of, hint_of, design_of}
+use Rattle.acc_parse.specs.Types.{type_of}
+use Rattle.acc_parse.specs.Designs.{table_of, outside, entry_of, hint_of, design_of}
 use Rattle.acc_clauses.specs.Sizes.{clause_statement_sizes}
-use Rattle.acc_meaning.specs.Sizes.{type_sizes, table_sizes, entry_sizes, hint_sizes, design_sizes, size_faults}
+use Rattle.acc_parse.specs.Sizes.{type_sizes, table_sizes, entry_sizes, hint_sizes, design_sizes, size_faults}
 use Rattle.acc_parse.specs.Texts.{IsDesignText}
 use Rattle.acc_readback.specs.PrintableTypes.{IsTypeSaid, IsSaid}
 use Rattle.acc_readback.proofs.OnlyEnds.{AreEnds, IsEnd}

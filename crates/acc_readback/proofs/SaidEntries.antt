@@ -15,9 +15,9 @@ use Rattle.acc_names.specs.Faults.{variable_fault, sum_fault, point_name_fault, 
 use Rattle.acc_limits.specs.Marks.{ending}
 use Rattle.acc_limits.specs.Words.{variable_marks, sum_marks, point_name_marks, pair_marks, pairs_marks}
 use Rattle.acc_limits.specs.Statements.{entry_marks, hint_marks}
-use Rattle.acc_meaning.specs.Designs.{variables_at, pair_of, all_pairs, entry_of, hint_of, design_of}
+use Rattle.acc_parse.specs.Designs.{variables_at, pair_of, all_pairs, entry_of, hint_of, design_of}
 use Rattle.acc_clauses.specs.Sizes.{sum_sizes}
-use Rattle.acc_meaning.specs.Sizes.{hint_sizes}
+use Rattle.acc_parse.specs.Sizes.{hint_sizes}
 use Rattle.acc_readback.specs.PrintableTypes.{IsPairSaid, IsEntrySaid, IsHintSaid}
 use Rattle.acc_readback.proofs.OnlyEnds.{AreEnds, IsEnd}
 use Rattle.acc_readback.proofs.Faultless.{IsFalse}

@@ -9,12 +9,12 @@ use Rattle.acc_lex.specs.declared.words.Word.{Word}
 use Rattle.acc_lex.specs.declared.words.Word.TheVariants as word
 use Rattle.acc_lex.specs.declared.words.Sign.TheVariants as sign
 use Rattle.acc_lex.specs.Words.{CanSpell}
-use Rattle.acc_designs.specs.OwnWords.{EndsInTypes, OwnInTypes}
+use Rattle.acc_parse.specs.OwnWords.{EndsInTypes, OwnInTypes}
 use Rattle.acc_syntax.specs.declared.trees.EntryTree.{EntryTree}
 use Rattle.acc_syntax.specs.declared.trees.HintTree.{HintTree}
 use Rattle.acc_syntax.specs.declared.trees.DesignTree.{DesignTree}
 use Rattle.acc_syntax.specs.Spelling.{clause_statement, table, type_words, entry, hint, spelled_design}
-use Rattle.acc_designs.proofs.OwnWords.{has, contains_has}
+use Rattle.acc_parse.proofs.OwnWords.{has, contains_has}
 use Rattle.acc_readback.proofs.SaidParts.{all_parts, all_by_two, all_weaker}
 use Rattle.acc_readback.proofs.SaidNames.{is_oneself, IsHeard, AreHeard}
 use Rattle.acc_readback.proofs.SaidWords.{IsInner, AreInner, tables_inner, clauses_inner}

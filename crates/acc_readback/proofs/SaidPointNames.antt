@@ -19,8 +19,8 @@ use Rattle.acc_names.specs.Scopes.{locals_of, points_in, point_names, type_named
 use Rattle.acc_names.specs.Faults.{point_of_type_fault, point_name_fault, locals_or_none, locals_at}
 use Rattle.acc_limits.specs.Words.{name_marks, point_name_marks}
 use Rattle.acc_clauses.specs.Scopes.{number_of}
-use Rattle.acc_meaning.specs.Types.{type_scope, type_of}
-use Rattle.acc_meaning.specs.Designs.{type_names, points_or_none, at_of, variables_or_none, variables_at, design_of}
+use Rattle.acc_parse.specs.Types.{type_scope, type_of}
+use Rattle.acc_parse.specs.Designs.{type_names, points_or_none, at_of, variables_or_none, variables_at, design_of}
 use Rattle.acc_print.specs.Names.{names_within, inside}
 use Rattle.acc_print.specs.Designs.{scope_at}
 use Rattle.acc_readback.specs.Printable.{IsName}

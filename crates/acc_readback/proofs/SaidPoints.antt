@@ -17,9 +17,9 @@ use Rattle.acc_limits.specs.Words.{name_marks, sum_marks}
 use Rattle.acc_limits.specs.Statements.{clause_statement_marks, variant_marks, step_marks, point_marks}
 use Rattle.acc_clauses.specs.Scopes.{Scope as MeantScope}
 use Rattle.acc_clauses.specs.Forms.{clause_of}
-use Rattle.acc_meaning.specs.Types.{variant_of, point_of}
+use Rattle.acc_parse.specs.Types.{variant_of, point_of}
 use Rattle.acc_clauses.specs.Sizes.{sum_sizes, clause_statement_sizes}
-use Rattle.acc_meaning.specs.Sizes.{variant_sizes, step_sizes, point_sizes}
+use Rattle.acc_parse.specs.Sizes.{variant_sizes, step_sizes, point_sizes}
 use Rattle.acc_readback.specs.Printable.{IsLinSaid}
 use Rattle.acc_readback.specs.PrintableTypes.{IsPointSaid}
 use Rattle.acc_readback.proofs.OnlyEnds.{AreEnds, IsEnd}

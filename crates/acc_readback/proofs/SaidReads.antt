@@ -19,9 +19,9 @@ use Rattle.acc_base.specs.declared.limits.Limit.TheVariants as limit
 use Rattle.acc_limits.specs.Words.{number_marks, variable_marks, sum_marks, place_marks, cell_marks}
 use Rattle.acc_limits.specs.Statements.{read_words_marks, values_marks, action_words_marks}
 use Rattle.acc_clauses.specs.Values.{kept, values_of}
-use Rattle.acc_meaning.specs.Steps.{read_of, action_of}
+use Rattle.acc_parse.specs.Steps.{read_of, action_of}
 use Rattle.acc_clauses.specs.Sizes.{sum_sizes, values_sizes, place_sizes}
-use Rattle.acc_meaning.specs.Sizes.{read_words_sizes, action_words_sizes}
+use Rattle.acc_parse.specs.Sizes.{read_words_sizes, action_words_sizes}
 use Rattle.acc_print.specs.Sums.{is_negative}
 use Rattle.acc_readback.specs.Printable.{IsLinSaid}
 use Rattle.acc_readback.specs.PrintableTypes.{IsReadSaid, IsActionSaid}

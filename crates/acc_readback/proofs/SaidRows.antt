@@ -28,7 +28,7 @@ use Rattle.acc_limits.specs.Words.{name_marks, sum_marks, sums_marks, place_mark
 use Rattle.acc_clauses.specs.Scopes.{Scope as MeantScope, table_names, table_in, column_in, number_of}
 use Rattle.acc_clauses.specs.Values.{parts_of, compared, lin_of, lins_of, all_sums, lin_rel_of, guard_of}
 use Rattle.acc_clauses.specs.Rows.{key_in}
-use Rattle.acc_meaning.specs.Designs.{table_of}
+use Rattle.acc_parse.specs.Designs.{table_of}
 use Rattle.acc_clauses.specs.Sizes.{sum_sizes, sums_sizes, place_sizes, lin_rel_sizes, guard_sizes}
 use Rattle.acc_print.specs.Names.{Scope, name_at, table_name, column_name}
 use Rattle.acc_readback.specs.Printable.{IsName, IsVariable, IsLinSaid, IsRowSaid, IsCellSaid, IsLinRelSaid}

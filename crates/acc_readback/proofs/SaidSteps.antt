@@ -25,9 +25,9 @@ use Rattle.acc_limits.specs.Words.{guard_marks}
 use Rattle.acc_limits.specs.Statements.{read_words_marks, read_marks, action_words_marks, action_marks, target_words_marks, target_marks}
 use Rattle.acc_limits.specs.Statements.{path_marks, step_marks}
 use Rattle.acc_clauses.specs.Scopes.{number_of}
-use Rattle.acc_meaning.specs.Steps.{read_of, action_of, target_of, path_of, all_paths, step_of}
+use Rattle.acc_parse.specs.Steps.{read_of, action_of, target_of, path_of, all_paths, step_of}
 use Rattle.acc_clauses.specs.Sizes.{guard_sizes}
-use Rattle.acc_meaning.specs.Sizes.{read_words_sizes, read_sizes, action_words_sizes, action_sizes, path_sizes, step_sizes}
+use Rattle.acc_parse.specs.Sizes.{read_words_sizes, read_sizes, action_words_sizes, action_sizes, path_sizes, step_sizes}
 use Rattle.acc_readback.specs.Printable.{IsName}
 use Rattle.acc_readback.specs.PrintableTypes.{IsCount, IsReadSaid, IsActionSaid, IsTargetSaid, IsPathSaid, IsStepSaid}
 use Rattle.acc_readback.proofs.OnlyEnds.{AreEnds, IsEnd}

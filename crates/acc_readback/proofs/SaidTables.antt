@@ -15,7 +15,7 @@ use Rattle.acc_base.specs.declared.limits.Limit.TheVariants as limit
 use Rattle.acc_limits.specs.Marks.{past, ending}
 use Rattle.acc_limits.specs.Words.{name_marks, number_marks}
 use Rattle.acc_limits.specs.Statements.{table_marks}
-use Rattle.acc_meaning.specs.Designs.{table_of}
+use Rattle.acc_parse.specs.Designs.{table_of}
 use Rattle.acc_readback.specs.PrintableTypes.{IsTableSaid}
 use Rattle.acc_readback.proofs.OnlyEnds.{AreEnds, IsEnd}
 use Rattle.acc_readback.proofs.Faultless.{IsFalse, neither}

@@ -20,10 +20,10 @@ use Rattle.acc_limits.specs.Marks.{past, ending, limited}
 use Rattle.acc_limits.specs.Words.{name_marks, small_number_marks}
 use Rattle.acc_limits.specs.Statements.{clause_statement_marks, returns_marks, locals_marks, point_marks, head_marks, type_marks}
 use Rattle.acc_clauses.specs.Forms.{clause_of}
-use Rattle.acc_meaning.specs.Types.{point_of, type_of}
-use Rattle.acc_meaning.specs.Designs.{table_of}
+use Rattle.acc_parse.specs.Types.{point_of, type_of}
+use Rattle.acc_parse.specs.Designs.{table_of}
 use Rattle.acc_clauses.specs.Sizes.{clause_statement_sizes}
-use Rattle.acc_meaning.specs.Sizes.{names_sizes, point_sizes, type_sizes}
+use Rattle.acc_parse.specs.Sizes.{names_sizes, point_sizes, type_sizes}
 use Rattle.acc_readback.specs.Printable.{IsName}
 use Rattle.acc_readback.specs.PrintableTypes.{IsCount, IsPointSaid, IsTypeSaid}
 use Rattle.acc_readback.proofs.OnlyEnds.{AreEnds, IsEnd}

@@ -14,15 +14,15 @@ use Rattle.acc_syntax.specs.declared.trees.TableTree.{TableTree}
 use Rattle.acc_syntax.specs.declared.trees.PointTree.{PointTree}
 use Rattle.acc_syntax.specs.declared.trees.TypeTree.{TypeTree}
 use Rattle.acc_syntax.specs.declared.trees.DesignTree.{DesignTree}
-use Rattle.acc_designs.specs.OwnWords.{OwnInTypes}
+use Rattle.acc_parse.specs.OwnWords.{OwnInTypes}
 use Rattle.acc_syntax.specs.Spelling.{just, name, number, clause_statement, table, type_words, entry, hint, spelled_design}
 use Rattle.acc_names.specs.Scopes.{points_in}
 use Rattle.acc_names.specs.Faults.{clause_fault, tables_faults, types_faults, entry_fault, hint_fault, outside as known_outside}
 use Rattle.acc_names.specs.Faults.{statement_faults}
 use Rattle.acc_clauses.specs.Scopes.{fitted}
 use Rattle.acc_clauses.specs.Forms.{clause_of}
-use Rattle.acc_meaning.specs.Types.{type_scope, point_of, type_of}
-use Rattle.acc_meaning.specs.Designs.{table_of, outside, entry_of, hint_of, design_of}
+use Rattle.acc_parse.specs.Types.{type_scope, point_of, type_of}
+use Rattle.acc_parse.specs.Designs.{table_of, outside, entry_of, hint_of, design_of}
 use Rattle.acc_parse.specs.Texts.{IsDesignText}
 use Rattle.acc_print.specs.Lists.{spaced}
 use Rattle.acc_print.specs.Names.{outside as shown_outside}

@@ -20,7 +20,7 @@ use Rattle.acc_syntax.specs.Spelling.{just, variable, further, sum, side_sign, p
 use Rattle.acc_names.specs.Faults.{variable_fault, sum_fault, point_name_fault, locals_at, pair_fault, pairs_fault, entry_fault, hint_fault}
 use Rattle.acc_clauses.specs.Scopes.{variable_of}
 use Rattle.acc_clauses.specs.Values.{lin_of}
-use Rattle.acc_meaning.specs.Designs.{at_of, side_of, pair_of, all_pairs, entry_of, hint_of, design_of}
+use Rattle.acc_parse.specs.Designs.{at_of, side_of, pair_of, all_pairs, entry_of, hint_of, design_of}
 use Rattle.acc_print.specs.Lists.{spaced, listed}
 use Rattle.acc_print.specs.Names.{name_at}
 use Rattle.acc_print.specs.Values.{lin_text}

@@ -13,7 +13,7 @@ use Rattle.acc_names.specs.Names.{stands_in}
 use Rattle.acc_names.specs.Scopes.{columns_of}
 use Rattle.acc_names.specs.Faults.{variable_fault, column_fault}
 use Rattle.acc_clauses.specs.Scopes.{variable_of, table_names, number_of}
-use Rattle.acc_meaning.specs.Designs.{table_of}
+use Rattle.acc_parse.specs.Designs.{table_of}
 use Rattle.acc_print.specs.Names.{name_at, table_name, column_name}
 use Rattle.acc_readback.proofs.SaidPlaces.{named_there, found_numbered, found_has, some_found}
 use Rattle.acc_readback.proofs.SaidNames.{AreHeard, Setting, variables_of, written, name_again, stands_true}

@@ -13,8 +13,8 @@ use Rattle.acc_syntax.specs.Spelling.{just, name, sum, clause_statement, variant
 use Rattle.acc_names.specs.Faults.{clause_fault, variant_faults, step_faults, point_faults}
 use Rattle.acc_clauses.specs.Values.{lin_of}
 use Rattle.acc_clauses.specs.Forms.{clause_of}
-use Rattle.acc_meaning.specs.Steps.{step_of}
-use Rattle.acc_meaning.specs.Types.{variant_of, point_of}
+use Rattle.acc_parse.specs.Steps.{step_of}
+use Rattle.acc_parse.specs.Types.{variant_of, point_of}
 use Rattle.acc_print.specs.Values.{lin_text}
 use Rattle.acc_print.specs.Clauses.{clause_line}
 use Rattle.acc_print.specs.Steps.{step_lines}

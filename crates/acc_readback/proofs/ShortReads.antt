@@ -19,7 +19,7 @@ use Rattle.acc_names.specs.Faults.{variable_fault, sum_fault, values_fault, plac
 use Rattle.acc_clauses.specs.Scopes.{variable_of, table_in, column_in}
 use Rattle.acc_clauses.specs.Values.{kept, lin_of, values_of}
 use Rattle.acc_clauses.specs.Rows.{key_in}
-use Rattle.acc_meaning.specs.Steps.{read_of, action_of}
+use Rattle.acc_parse.specs.Steps.{read_of, action_of}
 use Rattle.acc_print.specs.Lists.{spaced, listed}
 use Rattle.acc_print.specs.Names.{name_at}
 use Rattle.acc_print.specs.Values.{lin_text, row_text, cell_text}

@@ -15,7 +15,7 @@ use Rattle.acc_syntax.specs.Spelling.{just, guard, read_statement, action_statem
 use Rattle.acc_names.specs.Faults.{read_fault, action_fault, target_fault, path_faults, step_faults}
 use Rattle.acc_clauses.specs.Scopes.{fitted, number_of}
 use Rattle.acc_clauses.specs.Values.{guard_of}
-use Rattle.acc_meaning.specs.Steps.{read_of, action_of, target_of, path_of, step_of, all_paths}
+use Rattle.acc_parse.specs.Steps.{read_of, action_of, target_of, path_of, step_of, all_paths}
 use Rattle.acc_print.specs.Lists.{listed}
 use Rattle.acc_print.specs.Values.{lin_rel_text}
 use Rattle.acc_print.specs.Steps.{read_line, action_line, target_text, path_lines, step_lines}

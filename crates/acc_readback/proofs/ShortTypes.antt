@@ -20,8 +20,8 @@ use Rattle.acc_names.specs.Scopes.{locals_of, points_in, point_names}
 use Rattle.acc_names.specs.Faults.{clause_fault, returns_faults, locals_faults, head_faults, point_faults, points_faults, type_faults}
 use Rattle.acc_clauses.specs.Scopes.{fitted, number_of}
 use Rattle.acc_clauses.specs.Forms.{clause_of}
-use Rattle.acc_meaning.specs.Types.{point_of, returned_of, type_of}
-use Rattle.acc_meaning.specs.Designs.{table_of}
+use Rattle.acc_parse.specs.Types.{point_of, returned_of, type_of}
+use Rattle.acc_parse.specs.Designs.{table_of}
 use Rattle.acc_print.specs.Lists.{spaced}
 use Rattle.acc_print.specs.Names.{name_at}
 use Rattle.acc_print.specs.Clauses.{clause_line}

@@ -10,7 +10,7 @@ use Rattle.acc_base.specs.Machine.{World}
 use Rattle.acc_print.specs.Designs.{printed}
 use Rattle.acc_disk.specs.Crashes.{Only, IsCalm}
 use Rattle.acc_disk.specs.Moments.{AtAnyMoment}
-use Rattle.acc_plain.specs.Running.{Running}
+use Rattle.acc_machine.specs.Running.{Running}
 use Rattle.acc_wal.specs.Journals.{Counts}
 use Rattle.acc_wal.specs.Wals.{Journal, CountsEither}
 use Rattle.acc_wal.proofs.Moments.{weaker, together}

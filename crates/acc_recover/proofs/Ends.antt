@@ -14,7 +14,7 @@ use Rattle.acc_lift.specs.Acceptance.{IsAccepted}
 use Rattle.acc_lift.proofs.FormRules.{run_rules}
 use Rattle.acc_lift.proofs.Theorem.{event_logged, good_start, good_run, idle}
 use Rattle.acc_print.specs.Designs.{printed}
-use Rattle.acc_plain.specs.Running.{Running}
+use Rattle.acc_machine.specs.Running.{Running}
 use Rattle.acc_wal.specs.Journals.{Counts}
 use Rattle.acc_wal.specs.Wals.{Journal, IsOpened}
 use Rattle.acc_machine.specs.Kept.{IsKept}

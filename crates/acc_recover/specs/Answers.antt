@@ -5,7 +5,7 @@ use Rattle.acc_base.specs.declared.machines.Event.{Event}
 use Rattle.acc_base.specs.Machine.{World, start}
 use Rattle.acc_base.specs.Lawful.{LeadLawfully}
 use Rattle.acc_print.specs.Designs.{printed}
-use Rattle.acc_plain.specs.Running.{Running}
+use Rattle.acc_machine.specs.Running.{Running}
 use Rattle.acc_wal.specs.Journals.{Counts}
 use Rattle.acc_machine.specs.Kept.{IsKept}
 use Rattle.acc_wal.specs.Wals.{Journal, IsOpened}

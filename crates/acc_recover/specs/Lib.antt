@@ -1,3 +1,5 @@
+pub use Rattle.acc_machine.specs.Replays
+pub use Rattle.acc_machine.specs.Takes
 pub mod Endings
 pub mod Recoveries
 pub mod Steps

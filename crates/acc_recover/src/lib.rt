@@ -7,5 +7,6 @@ pub mod laws;
 mod recovered;
 mod tellings;
 
+pub use acc_machine::State;
 pub use errors::RecoverError;
 pub use recovered::{Recovered, recover};

@@ -1,3 +1,4 @@
+pub use Rattle.acc_engine.proofs.Tails
 mod Saying
 mod Recording
 mod Crashing

@@ -16,7 +16,7 @@ use Rattle.acc_print.specs.Designs.{printed}
 use Rattle.acc_wal.specs.Fronts.{CountsFront}
 use Rattle.acc_wal.specs.Journals.{Counts}
 use Rattle.acc_wal.specs.Wals.{Journal, IsOpened}
-use Rattle.acc_machine.specs.Kept.{IsKept}
+use Rattle.acc_engine.specs.Kept.{IsKept}
 use Rattle.acc_engine.specs.Keeping.{Journalled, BeginsFrom}
 use Rattle.acc_schedule.proofs.Closing.{idle_between}
 use Rattle.acc_settling.specs.Openings.{IsFresh}

@@ -5,4 +5,6 @@ mod engines;
 pub mod laws;
 mod runs;
 
+pub use acc_crew::{Alone, Crew};
+pub use acc_engine::Engine;
 pub use runs::{schedule_journal, work_journal};

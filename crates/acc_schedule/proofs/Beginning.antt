@@ -3,8 +3,8 @@ use Rattle.std.proofs.Common.{◌≡◌, ◌-◌, ◌<◌, ℕ, Some, None, Ok, 
 use Rattle.std.specs.Prelude.{slice_get}
 use Rattle.acc_base.specs.declared.machines.Call.{Call}
 use Rattle.acc_base.specs.Machine.{World}
-use Rattle.acc_machine.specs.Begun.{Begins}
-use Rattle.acc_machine.specs.declared.errors.BeginError.TheVariants.{Full, Crowd}
+use Rattle.acc_lock_rules.specs.Begun.{Begins}
+use Rattle.acc_lock_rules.specs.BeginError.TheVariants.{Full, Crowd}
 use Rattle.acc_player.specs.Players.{BeginsAt}
 use Rattle.acc_player.proofs.Items.{item_is}
 use Rattle.acc_lock_rules.specs.LockRules.{with_locks}

@@ -15,7 +15,7 @@ use Rattle.acc_base.specs.Machine.{World, call_fits, unfinished, next_number, re
 use Rattle.acc_base.specs.Plays.{Play, Told, IsOver, IsFull, number_of, with_place, told_turn, Goes, Mentions, PlaysOn, play_after}
 use Rattle.acc_base.proofs.Items.{at_slice_get}
 use Rattle.acc_script.specs.OrderLines.{IsPlace}
-use Rattle.acc_machine.specs.Kept.{IsKept}
+use Rattle.acc_lock_rules.specs.Kept.{IsKept}
 use Rattle.acc_player.specs.Endings.{after_turn, TurnsEach, none, turns, unfinished_numbers, EndsAll, ended, pass, EndsPlace, EndsPlaces}
 use Rattle.acc_player.specs.Endings.{most_ever}
 use Rattle.acc_player.specs.Playing.{AllFit}

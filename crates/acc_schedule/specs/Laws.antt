@@ -5,7 +5,7 @@ use Rattle.acc_base.specs.declared.machines.Call.{Call}
 use Rattle.acc_base.specs.declared.machines.Event.{Event}
 use Rattle.acc_base.specs.Plays.{Play}
 use Rattle.acc_script.specs.OrderLines.{IsPlace}
-use Rattle.acc_machine.specs.Kept.{IsKept}
+use Rattle.acc_lock_rules.specs.Kept.{IsKept}
 use Rattle.acc_player.specs.Playing.{AllFit}
 use Rattle.acc_player.specs.Schedules.{IsAfterSchedule}
 use Rattle.acc_lock_rules.specs.LockRules.{with_locks}

@@ -2,7 +2,7 @@
 ghost use Rattle.std.specs.Prelude.{◌≡◌};
 
 use acc_base::machines::{Call, Frame, Reply, Turn};
-use acc_machine::{BeginError, State, TurnError};
+use acc_lock_rules::{BeginError, State, TurnError};
 use acc_player::{Ender, Player, Stop};
 use acc_store::MapStore;
 use std::marker::Model;

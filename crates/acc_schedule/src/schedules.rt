@@ -12,7 +12,7 @@ use crate::locked::Locked;
 use acc_base::machines::{Call, Event};
 use acc_base::sequences::Seq;
 use acc_lift::Accepted;
-use acc_machine::State;
+use acc_lock_rules::State;
 use acc_player::{Board, all_begun, push_replies, run};
 use acc_script::push_events;
 use acc_store::MapStore;

@@ -26,15 +26,15 @@ use Rattle.acc_proof.specs.Facts as facts
 use Rattle.acc_proof.specs.Facts.{refuted, used_up, all_shown}
 use Rattle.acc_proof.specs.Proofs.{node_of, sure, after_facts}
 use Rattle.acc_inst.specs.declared.making.Instance.{Instance}
-use Rattle.acc_branch.specs.declared.halts.Halt.TheVariants.{Wide}
+use Rattle.acc_course.specs.Halt.TheVariants.{Wide}
 use Rattle.acc_axioms.specs.declared.kinds.AxiomKind.{AxiomKind}
 use Rattle.acc_base.specs.Computing.{chain, steps}
-use Rattle.acc_branch.specs.Courses.{Course}
-use Rattle.acc_branch.specs.Known.{State, verdict, shows_all}
+use Rattle.acc_course.specs.Courses.{Course}
+use Rattle.acc_course.specs.Known.{State, verdict, shows_all}
 use Rattle.acc_candidates.specs.Candidates.{candidates}
 use Rattle.acc_candidates.specs.Kinds.{kinds}
 use Rattle.acc_axioms.specs.SchemaEquality.{schema_eq}
-use Rattle.acc_branch.specs.AxiomPasses.{with_axiom, try_demand, try_axiom, try_kind, axioms_pass}
+use Rattle.acc_course.specs.AxiomPasses.{with_axiom, try_demand, try_axiom, try_kind, axioms_pass}
 use Rattle.acc_course.specs.Passes.{is_place, with_instance, try_instance, try_next, instances_pass, passes}
 use Rattle.acc_course.specs.Searches.{knowing, ended, leaf_end, split_end, three, tried, closing_by, closing, branch}
 use Rattle.acc_searched.specs.OpenLeaves.{Begins, IsDecided}

@@ -28,9 +28,9 @@ use Rattle.acc_choices.specs.Parts.{Listing}
 use Rattle.acc_inst.specs.Instances.{instances_of}
 use Rattle.acc_inst.specs.Lists.{splits_of, listed, lists_of}
 use Rattle.acc_inst.proofs.OfHypotheses.{listed_are_of}
-use Rattle.acc_branch.specs.declared.halts.Halt.TheVariants.{Wide, Open}
+use Rattle.acc_course.specs.Halt.TheVariants.{Wide, Open}
 use Rattle.acc_base.specs.Computing.{chain}
-use Rattle.acc_branch.specs.Courses.{Course}
+use Rattle.acc_course.specs.Courses.{Course}
 use Rattle.acc_course.specs.Searches.{branch, of_lists, starting, started, course}
 use Rattle.acc_searched.specs.OpenLeaves.{Begins, IsDecided, splits_in, instances_in, IsHad, IsOpenLeaf}
 use Rattle.acc_searched.specs.Courses.{IsProof}

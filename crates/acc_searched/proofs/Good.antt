@@ -2,10 +2,10 @@
 use Rattle.std.proofs.Common.{List, [], ◌∷◌, Ok, Err}
 use Rattle.acc_base.specs.declared.forms.Rel.{Rel}
 use Rattle.acc_points.specs.Points.{Point}
-use Rattle.acc_branch.specs.declared.halts.Halt.{Halt}
-use Rattle.acc_branch.specs.declared.halts.Halt.TheVariants.{Open, Crowded, Wide, Many, Memory}
+use Rattle.acc_course.specs.Halt.{Halt}
+use Rattle.acc_course.specs.Halt.TheVariants.{Open, Crowded, Wide, Many, Memory}
 use Rattle.acc_base.specs.Computing.{chain, steps}
-use Rattle.acc_branch.specs.Courses.{Course}
+use Rattle.acc_course.specs.Courses.{Course}
 
 abbrev pub Leaf : Type 1
 Leaf = List Rel → Point → Type 0

@@ -36,11 +36,11 @@ use Rattle.acc_inst.specs.Making.{instance_of}
 use Rattle.acc_inst.specs.Lists.{lists_of}
 use Rattle.acc_candidates.specs.Candidates.{candidates}
 use Rattle.acc_candidates.specs.Kinds.{kinds}
-use Rattle.acc_branch.specs.declared.halts.Halt.TheVariants.{Open, Crowded, Wide, Many, Memory}
-use Rattle.acc_branch.specs.Courses.{Course}
-use Rattle.acc_branch.specs.Known.{State, try_above_zero, verdict, multipliers_in, refuting, with_next, if_shown, excludes, shows_at_most}
-use Rattle.acc_branch.specs.Known.{shows_at_least, shows_rest, shows, shows_all}
-use Rattle.acc_branch.specs.AxiomPasses.{with_axiom, try_demand, try_axiom, try_kind, axioms_pass}
+use Rattle.acc_course.specs.Halt.TheVariants.{Open, Crowded, Wide, Many, Memory}
+use Rattle.acc_course.specs.Courses.{Course}
+use Rattle.acc_course.specs.Known.{State, try_above_zero, verdict, multipliers_in, refuting, with_next, if_shown, excludes, shows_at_most}
+use Rattle.acc_course.specs.Known.{shows_at_least, shows_rest, shows, shows_all}
+use Rattle.acc_course.specs.AxiomPasses.{with_axiom, try_demand, try_axiom, try_kind, axioms_pass}
 use Rattle.acc_course.specs.declared.branches.Sign.{Sign}
 use Rattle.acc_course.specs.declared.branches.Sign.TheVariants.{Below, Zero, Above}
 use Rattle.acc_course.specs.Passes.{is_place, with_instance, try_instance, try_next, instances_pass, passes}

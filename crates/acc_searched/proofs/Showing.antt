@@ -20,11 +20,11 @@ use Rattle.acc_proof.specs.Checked.{Checked, Gives, Fails, TooWide, and_then}
 use Rattle.acc_proof.specs.Facts as facts
 use Rattle.acc_proof.specs.Facts.{refuted, excluded, at_most_shown, at_least_shown, all_shown}
 use Rattle.acc_proof.specs.Proofs.{sure}
-use Rattle.acc_branch.specs.declared.halts.Halt.TheVariants.{Wide}
+use Rattle.acc_course.specs.Halt.TheVariants.{Wide}
 use Rattle.acc_base.specs.Computing.{chain}
-use Rattle.acc_branch.specs.Courses.{of_elimination}
-use Rattle.acc_branch.specs.Known.{verdict, multipliers_in, refuting, with_next, if_shown, excludes, shows_at_most}
-use Rattle.acc_branch.specs.Known.{shows_at_least, shows_rest, shows, shows_all}
+use Rattle.acc_course.specs.Courses.{of_elimination}
+use Rattle.acc_course.specs.Known.{verdict, multipliers_in, refuting, with_next, if_shown, excludes, shows_at_most}
+use Rattle.acc_course.specs.Known.{shows_at_least, shows_rest, shows, shows_all}
 use Rattle.acc_searched.proofs.Good.{Leaf, Good, good_chain, good_weaker}
 
 taken : (wide holds : Bool) (x : Checked (List Mults)) → holds ≡ true → wide ≡ false

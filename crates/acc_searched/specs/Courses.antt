@@ -8,7 +8,7 @@ use Rattle.acc_points.specs.Points.{Point}
 use Rattle.acc_axioms.specs.declared.nodes.Node.{Node}
 use Rattle.acc_cert_bounds.specs.InBounds.{nodes_near}
 use Rattle.acc_proof.specs.Proofs as proofs
-use Rattle.acc_branch.specs.declared.halts.Halt.TheVariants.{Open}
+use Rattle.acc_course.specs.Halt.TheVariants.{Open}
 use Rattle.acc_course.specs.Searches.{course}
 use Rattle.acc_searched.specs.OpenLeaves.{IsOpenLeaf}
 

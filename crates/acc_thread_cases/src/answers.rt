@@ -1,6 +1,5 @@
 //! Command lines over the folder's files and a disk in memory.
-use acc_case_commands::memory;
-use acc_cli::acc;
+use acc_case_commands::{acc, memory};
 use acc_crew::{Alone, Crew};
 use acc_disk::MemDisk;
 use acc_engine::Engine;

@@ -2,12 +2,12 @@ use Rattle.std.proofs.Common.{◌≡◌, refl, subst, Result}
 use Rattle.std.specs.Prelude.{◌≢◌, IfOk}
 use Rattle.std.specs.declared.alloc.AllocError.{AllocError}
 use Rattle.acc_disk.specs.Crashes.{IsCalm}
-use Rattle.acc_inputs.specs.Requests.{command_in, texts_in}
-use Rattle.acc_inputs.specs.Text.{IsEarly}
-use Rattle.acc_inputs.specs.Words.{is_journalled}
+use Rattle.acc_commands.specs.Requests.{command_in, texts_in}
+use Rattle.acc_commands.specs.Text.{IsEarly}
+use Rattle.acc_commands.specs.Words.{is_journalled}
 use Rattle.acc_journalled.specs.declared.answers.Answer.{Answer}
 use Rattle.acc_journalled.specs.declared.answers.Ending.TheVariants.{DiskFailed}
-use Rattle.acc_journal_commands.specs.Disks.{seen}
+use Rattle.acc_commands.specs.Disks.{seen}
 use Rattle.acc_cli.specs.declared.status.Status.TheVariants.{Ran}
 use Rattle.acc_cli.proofs.AnswerLemmas.{ends_printed, command_answered, command_lacking, refused_by, unfailed_by}
 use Rattle.acc_cli.proofs.top.answer_command.Goals as goal

@@ -1,9 +1,9 @@
 use Rattle.std.proofs.Common.{rules, refl, inr, ◌≡◌, ◌∙◌, List, ℕ, map, Some, string_bytes, sym, ap, subst, Vec, Global}
 use Rattle.acc_io.specs.Counted.{after_files}
-use Rattle.acc_inputs.specs.Requests.{command_in, texts_in}
-use Rattle.acc_inputs.specs.Words.{command_of, file_count, files_of, is_journalled, is_over_journal}
-use Rattle.acc_inputs.specs.Files.{AreFiles, IsFirstRefused}
-use Rattle.acc_journal_commands.specs.Disks.{Seen, seen}
+use Rattle.acc_commands.specs.Requests.{command_in, texts_in}
+use Rattle.acc_commands.specs.Words.{command_of, file_count, files_of, is_journalled, is_over_journal}
+use Rattle.acc_commands.specs.Files.{AreFiles, IsFirstRefused}
+use Rattle.acc_commands.specs.Disks.{Seen, seen}
 use Rattle.acc_cli.specs.declared.status.Status.TheVariants.{Usage, File}
 use Rattle.acc_cli.specs.Meant.{Meant}
 use Rattle.acc_cli.proofs.AnswerLemmas.{refusal_answered, answered_weaker, usage_means, file_means, command_means, over_same}

@@ -1,7 +1,7 @@
 use Rattle.std.proofs.Common.{inr, refl, subst}
 use Rattle.acc_inputs.specs.ReadDesigns.{IsRead, Reads}
-use Rattle.acc_readback.proofs.ReadBack.{text_reads_back}
-use Rattle.acc_readback.proofs.ShortDesigns.{printed_is_short}
+use Rattle.acc_inputs.proofs.ReadBack.{text_reads_back}
+use Rattle.acc_inputs.proofs.ShortDesigns.{printed_is_short}
 use Rattle.acc_file_commands.proofs.designs.print_file.Goals as goal
 
 pub returns-in-Ok : goal.returns-in-Ok

@@ -1,6 +1,6 @@
 use Rattle.std.proofs.Common.{◌≡◌, ◌++◌, take, drop, map}
 use Rattle.std.specs.List.{list_any}
-use Rattle.acc_preconditions.specs.Preconditions.{wp_of, is_wp_wide}
+use Rattle.acc_oblig.specs.Preconditions.{wp_of, is_wp_wide}
 use Rattle.acc_oblig.specs.Naming.{named_rel}
 use Rattle.acc_goals.proofs.clauses.add_rels_after.Given as goal
 

@@ -1,7 +1,7 @@
 use Rattle.std.proofs.Common.{inl, inr, refl, subst, arith}
 use Rattle.acc_io.specs.Causes.{Rose}
 use Rattle.acc_print.specs.Designs.{printed}
-use Rattle.acc_readback.proofs.ShortDesigns.{printed_is_short}
+use Rattle.acc_inputs.proofs.ShortDesigns.{printed_is_short}
 use Rattle.acc_wal.specs.Creating.{LeavesNew}
 use Rattle.acc_inputs.specs.ReadDesigns.{IsRead, Reads}
 use Rattle.acc_journal_commands.specs.InitFiles.{InitsJournal, InitsFile, InitLeaves}

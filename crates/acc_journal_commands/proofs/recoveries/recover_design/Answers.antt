@@ -1,8 +1,8 @@
 use Rattle.std.proofs.Common.{◌≡◌, inl, inr, ⊎_elim, refl, sym, subst}
 use Rattle.acc_io.specs.Causes.{Rose}
 use Rattle.acc_base.specs.declared.designs.Design.{Design}
-use Rattle.acc_check.specs.Admissions.{Admits, IsAcceptedWith}
-use Rattle.acc_recover.specs.Recoveries.{LeavesRecovery}
+use Rattle.acc_inputs.specs.Admissions.{Admits, IsAcceptedWith}
+use Rattle.acc_journalled.specs.Recoveries.{LeavesRecovery}
 use Rattle.acc_journalled.specs.Recovering.{text_of}
 use Rattle.acc_inputs.specs.Refusals.{RefusesCertificate}
 use Rattle.acc_journal_commands.specs.Disks.{Ends}

@@ -1,6 +1,6 @@
 use Rattle.std.proofs.Common.{◌≡◌, ◌∙◌, inl, inr, refl, sym, subst}
 use Rattle.acc_base.specs.declared.designs.Design.{Design}
-use Rattle.acc_check.specs.Admissions.{Admits, IsAcceptedWith}
+use Rattle.acc_inputs.specs.Admissions.{Admits, IsAcceptedWith}
 use Rattle.acc_inputs.specs.Refusals.{RefusesCertificate}
 use Rattle.acc_journal_commands.specs.Disks.{Ends, OrUntouched}
 use Rattle.acc_journal_commands.specs.RunFiles.{SaysBy, RunsBy, RunsCertified, ScriptRuns, AcceptedRuns}

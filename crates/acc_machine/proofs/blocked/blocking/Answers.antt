@@ -14,7 +14,7 @@ returns-in-Goes c =
     let locals = c.args.locals.now in
     let h = c.args.h.now in
     subst (λ o. TellsLowest (Blocks d f locals h o) c.lower.result) (sym c.in-Goes.is)
-    (subst (TellsLowest (Blocks d f locals h (Rattle.acc_step.specs.declared.looks.Outlook.TheVariants.Goes c.in-Goes.to)))
+    (subst (TellsLowest (Blocks d f locals h (Rattle.acc_plain.specs.Outlook.TheVariants.Goes c.in-Goes.to)))
     (sym c.lower.ensures) (lower_tells (Forbids d (point_at h.ty h.point) h.locals (point_at f.ty f.point) Next locals)
     (λ n. ClashesAt d f locals h n c.in-Goes.to) c.forbids-in-Goes.result c.clash.result
     (subst (λ at. TellsLowest (Forbids d (point_at h.ty h.point) h.locals at Next locals) c.forbids-in-Goes.result) c.at-here.ensures

@@ -1,7 +1,7 @@
 use Rattle.std.proofs.Common.{◌+◌, ap, ◌∙◌}
-use Rattle.acc_oblig.specs.Naming.{own_naming}
-use Rattle.acc_oblig.specs.Settings.{step_vars, step_hyps, path_actions}
-use Rattle.acc_oblig.specs.Drafts.{path_rels}
+use Rattle.acc_assumptions.specs.ObligNaming.{own_naming}
+use Rattle.acc_assumptions.specs.Settings.{step_vars, step_hyps, path_actions}
+use Rattle.acc_assumptions.specs.Drafts.{path_rels}
 use Rattle.acc_assumptions.specs.Seen.{seen}
 use Rattle.acc_obligations.proofs.ClauseAdded.{clause_added}
 use Rattle.acc_obligations.proofs.paths.add_path_clause.Goals as goal

@@ -3,7 +3,7 @@ use Rattle.std.specs.Prelude.{None}
 use Rattle.acc_base.specs.declared.steps.Action.{Action}
 use Rattle.acc_base.specs.declared.sequents.Rule.TheVariants.{Always}
 use Rattle.acc_oblig.specs.PathPromises.{clause_names}
-use Rattle.acc_assumptions.specs.Seen.{seen}
+use Rattle.acc_obligations.specs.Seen.{seen}
 use Rattle.acc_places.specs.SeenPlaces.{path_place}
 use Rattle.acc_obligations.proofs.PathAdded.{path_added}
 use Rattle.acc_path_rules.proofs.Kept.{setting_at, always_added}

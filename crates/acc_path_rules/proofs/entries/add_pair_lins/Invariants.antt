@@ -1,6 +1,6 @@
 use Rattle.std.proofs.Common.{◌≡◌, ◌++◌, take, map}
 use Rattle.acc_oblig.specs.Spares.{pair_lin}
-use Rattle.acc_assumptions.specs.Seen.{seen}
+use Rattle.acc_obligations.specs.Seen.{seen}
 use Rattle.acc_path_rules.proofs.entries.add_pair_lins.Given as goal
 
 abbrev pub invariant-loop-pair : goal.invariant-loop-pair

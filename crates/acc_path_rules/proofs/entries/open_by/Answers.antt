@@ -3,7 +3,7 @@ use Rattle.std.specs.Prelude.{Some, Option}
 use Rattle.std.proofs.lemmas.Result.{IfOk-weaker}
 use Rattle.acc_base.specs.declared.forms.Rel.{Rel}
 use Rattle.acc_oblig.specs.Spares.{entry_for}
-use Rattle.acc_assumptions.specs.Seen.{seen}
+use Rattle.acc_obligations.specs.Seen.{seen}
 use Rattle.acc_path_rules.specs.Openings.{open_by}
 use Rattle.acc_path_rules.proofs.entries.open_by.Goals as goal
 

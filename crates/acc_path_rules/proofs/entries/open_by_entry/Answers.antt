@@ -2,7 +2,7 @@ use Rattle.std.proofs.Common.{◌≡◌, true, List, [], ◌∷◌, ℕ, ap, sym
 use Rattle.std.specs.Prelude.{Some, None, if◌then◌else◌}
 use Rattle.std.specs.List.{list_any}
 use Rattle.acc_oblig.specs.Spares.{pairs_differ}
-use Rattle.acc_assumptions.specs.Seen.{seen}
+use Rattle.acc_obligations.specs.Seen.{seen}
 use Rattle.acc_path_rules.proofs.Kept.{some_pairs}
 use Rattle.acc_path_rules.proofs.entries.open_by_entry.Goals as goal
 

@@ -2,7 +2,7 @@ use Rattle.std.proofs.Common.{◌+◌, length, ap, ◌∙◌}
 use Rattle.acc_oblig.specs.Naming.{own_naming}
 use Rattle.acc_oblig.specs.Settings.{step_vars}
 use Rattle.acc_oblig.specs.Spares.{held_names}
-use Rattle.acc_assumptions.specs.Seen.{seen}
+use Rattle.acc_obligations.specs.Seen.{seen}
 use Rattle.acc_places.specs.SeenPlaces.{point_place}
 use Rattle.acc_path_rules.proofs.Helds.{spare_added}
 use Rattle.acc_path_rules.proofs.spares.add_spare.Goals as goal

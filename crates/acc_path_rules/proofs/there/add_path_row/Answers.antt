@@ -3,7 +3,7 @@ use Rattle.std.specs.Prelude.{Some, None}
 use Rattle.acc_base.specs.declared.steps.Action.{Action}
 use Rattle.acc_base.specs.declared.sequents.Rule.TheVariants.{There}
 use Rattle.acc_oblig.specs.Settings.{Setting, last_now}
-use Rattle.acc_assumptions.specs.Seen.{seen}
+use Rattle.acc_obligations.specs.Seen.{seen}
 use Rattle.acc_places.specs.SeenPlaces.{path_place}
 use Rattle.acc_obligations.proofs.PathAdded.{path_added}
 use Rattle.acc_path_rules.specs.Rows.{needed_at}

@@ -1,6 +1,6 @@
 use Rattle.std.proofs.Common.{[], ◌∷◌, ◌++◌, ap, ◌∙◌}
 use Rattle.acc_base.specs.declared.forms.Rel.{Rel}
-use Rattle.acc_assumptions.proofs.Counted.{grown_by}
+use Rattle.acc_obligations.proofs.Counted.{grown_by}
 use Rattle.acc_point_rules.proofs.CountedVariables.{zeros_more}
 use Rattle.acc_point_rules.proofs.begins.add_zeros.Goals as goal
 

@@ -1,6 +1,6 @@
 use Rattle.std.proofs.Common.{[], ◌∷◌, ◌++◌, ap, ◌∙◌}
 use Rattle.acc_base.specs.declared.forms.Lin.{Lin}
-use Rattle.acc_assumptions.proofs.Counted.{grown_by}
+use Rattle.acc_obligations.proofs.Counted.{grown_by}
 use Rattle.acc_point_rules.proofs.CountedVariables.{alone_more}
 use Rattle.acc_point_rules.proofs.clears.add_alone.Goals as goal
 

@@ -4,7 +4,7 @@ use Rattle.acc_base.specs.declared.sequents.Rule.TheVariants.{Clears}
 use Rattle.acc_oblig.specs.Settings.{Setting, last_now}
 use Rattle.acc_oblig.specs.Drafts.{setting_of}
 use Rattle.acc_oblig.specs.PointRules.{none_of}
-use Rattle.acc_assumptions.specs.Seen.{seen}
+use Rattle.acc_obligations.specs.Seen.{seen}
 use Rattle.acc_places.specs.SeenPlaces.{path_place}
 use Rattle.acc_obligations.proofs.PathAdded.{path_added}
 use Rattle.acc_point_rules.proofs.clears.add_clear.Goals as goal

@@ -1,6 +1,6 @@
 use Rattle.std.proofs.Common.{ℕ, List, [], ◌∷◌, ◌++◌, ap, ◌∙◌}
 use Rattle.std.specs.Prelude.{codes}
-use Rattle.acc_assumptions.proofs.Counted.{grown_by}
+use Rattle.acc_obligations.proofs.Counted.{grown_by}
 use Rattle.acc_point_rules.proofs.CountedVariables.{one_more}
 use Rattle.acc_point_rules.proofs.clears.add_own_names.Goals as goal
 

@@ -2,7 +2,7 @@ use Rattle.acc_base.specs.declared.forms.Form.{Form}
 use Rattle.acc_oblig.specs.Settings.{Setting, step_vars}
 use Rattle.acc_oblig.specs.Drafts.{setting_of}
 use Rattle.acc_oblig.specs.PointRules.{fall_in}
-use Rattle.acc_assumptions.specs.Seen.{seen}
+use Rattle.acc_obligations.specs.Seen.{seen}
 use Rattle.acc_places.specs.SeenPlaces.{path_place}
 use Rattle.acc_point_rules.specs.Bounds.{is_fall_wide}
 use Rattle.acc_point_rules.proofs.Assembled.{fall_added, fall_wide, clause_refused}

@@ -4,7 +4,7 @@ use Rattle.acc_oblig.specs.Naming.{named_lin}
 use Rattle.acc_oblig.specs.Relations.{lin_form}
 use Rattle.acc_oblig.specs.Settings.{step_naming}
 use Rattle.acc_oblig.specs.PointRules.{resting, rest_origin}
-use Rattle.acc_assumptions.specs.Seen.{seen}
+use Rattle.acc_obligations.specs.Seen.{seen}
 use Rattle.acc_point_rules.specs.Bounds.{bound_goal}
 use Rattle.acc_point_rules.proofs.Assembled.{bound_added}
 use Rattle.acc_point_rules.proofs.variants.add_point_bound.Goals as goal

@@ -8,7 +8,7 @@ use Rattle.acc_oblig.specs.Naming.{named_lin}
 use Rattle.acc_oblig.specs.Relations.{lin_form, plus_number}
 use Rattle.acc_oblig.specs.Settings.{Setting, first_now, last_now, step_vars, step_naming}
 use Rattle.acc_goals.specs.Causes.{TellsClause}
-use Rattle.acc_assumptions.specs.Seen.{seen}
+use Rattle.acc_obligations.specs.Seen.{seen}
 use Rattle.acc_point_rules.specs.Bounds.{fall_form}
 use Rattle.acc_point_rules.proofs.variants.path_fall.Goals as goal
 

@@ -2,7 +2,7 @@ use Rattle.std.proofs.Common.{◌≡◌, ◌+◌, length, rules}
 use Rattle.std.specs.Prelude.{slice_get, Some}
 use Rattle.acc_oblig.specs.Settings.{step_vars}
 use Rattle.acc_oblig.specs.Ranges.{setting_numbers}
-use Rattle.acc_assumptions.specs.Seen.{seen}
+use Rattle.acc_obligations.specs.Seen.{seen}
 use Rattle.acc_places.specs.SeenPlaces.{point_place}
 use Rattle.acc_range_rules.specs.Numbers.{seen_read}
 use Rattle.acc_range_rules.proofs.PointRanges.{read_added, paths_behind_added}

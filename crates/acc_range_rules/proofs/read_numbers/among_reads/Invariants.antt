@@ -1,7 +1,7 @@
 use Rattle.std.proofs.Common.{◌≡◌, ◌+◌, drop}
 use Rattle.acc_oblig.specs.Settings.{step_vars}
 use Rattle.acc_oblig.specs.Ranges.{read_numbers, setting_numbers}
-use Rattle.acc_assumptions.specs.Seen.{seen}
+use Rattle.acc_obligations.specs.Seen.{seen}
 use Rattle.acc_range_rules.specs.declared.found.Found.{Found}
 use Rattle.acc_range_rules.specs.declared.read_numbers.ReadNumber.{ReadNumber}
 use Rattle.acc_range_rules.specs.Numbers.{StandsAt, seen_read}

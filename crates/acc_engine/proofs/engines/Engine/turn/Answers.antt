@@ -1,6 +1,6 @@
 use Rattle.std.proofs.Common.{sym, ap, subst, ◌∙◌}
 use Rattle.acc_base.specs.Machine.{World}
-use Rattle.acc_plain.specs.Turned.{IsUnfinished}
+use Rattle.acc_machine.specs.Turned.{IsUnfinished}
 use Rattle.acc_engine.specs.Keeping.{Journalled}
 use Rattle.acc_engine.specs.Standing.{IsSound}
 use Rattle.acc_engine.proofs.InSteps.{in_step_turned, adds_or, small_number}

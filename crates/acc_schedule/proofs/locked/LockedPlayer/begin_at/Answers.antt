@@ -1,7 +1,7 @@
 use Rattle.std.proofs.Common.{◌≡◌, ◌<◌, ◌-◌, ℕ, Some, None, length, ap, subst, arith, refl, rules}
 use Rattle.std.specs.Prelude.{slice_get}
 use Rattle.std.proofs.lemmas.Option.{slice_get_read}
-use Rattle.acc_machine.specs.Begun.{HasRoom}
+use Rattle.acc_lock_rules.specs.Begun.{HasRoom}
 use Rattle.acc_lock_rules.specs.LockRules.{with_locks}
 use Rattle.acc_player.specs.Players.{BeginsAt}
 use Rattle.acc_schedule.proofs.Beginning.{begins_so, full_so, crowd_so}
