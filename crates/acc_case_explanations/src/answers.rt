@@ -1,7 +1,7 @@
 //! The cases by their verbs.
 use crate::commands::{SCRIPT, check, journal, play, run};
 use crate::journals::{cut, room};
-use crate::progress::{found, replay};
+use crate::progress::{found, replay, work};
 use acc_case_commands::memory;
 use acc_case_commands::texts::{self, first_word};
 use acc_diagnose::system_reason;
@@ -54,6 +54,7 @@ fn answer(alloc: Global, base: &str, verb: &str, rest: &str) -> Result<String, A
         "certificate" => check(alloc, base, rest),
         "replay" => replay(alloc, rest),
         "found" => found(alloc, rest),
+        "work" => work(alloc, rest),
         "room" => room(alloc, rest),
         "cut" => cut(alloc, rest),
         _ => answer_line(alloc, base, verb, rest),

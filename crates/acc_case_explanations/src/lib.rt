@@ -5,8 +5,9 @@
 //! WORDS` and `fails WORDS` are command lines, the second over files that can't be read, the third over a sink that fails. `journal BYTES
 //! WORDS` is one over a disk with these bytes, two digits each, and `broken BYTES WORDS` over one that fails; there `cert` is `[]`.
 //! `reason NAMES` tells why the system doesn't give a file of the program's folder. `replay DONE EVENTS` is the line of a replay, spelled,
-//! and `found EVENTS UNFINISHED COMPENSATED` that of a recovery; `room EVENTS` tells how many events a journal of so many has left, and
-//! `cut PATH WHY` how to go on with one that is refused for that. In each a `\t` stands for a tab.
+//! `work ENDED RATE UNDER_WAY` that of workers, and `found EVENTS UNFINISHED COMPENSATED` that of a recovery; `room EVENTS` tells how
+//! many events a journal of so many has left, and `cut PATH WHY` how to go on with one that is refused for that. In each a `\t` stands for
+//! a tab.
 #![tactic(auto)]
 
 mod answers;

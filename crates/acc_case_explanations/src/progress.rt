@@ -1,5 +1,5 @@
 //! The lines of long calls.
-use acc_diagnose::{found_line, replay_line};
+use acc_diagnose::{found_line, replay_line, work_line};
 use acc_progress::Found;
 use std::alloc::{AllocError, Global};
 
@@ -12,6 +12,15 @@ fn number(word: Option<&str>) -> u64 {
 pub fn replay(alloc: Global, rest: &str) -> Result<String, AllocError> {
     let mut words = rest.split_whitespace();
     let line = replay_line(alloc, number(words.next()), number(words.next()))?;
+    format!(in alloc; "{:?}\n", line.as_str())
+}
+
+/// The line of workers, spelled: so many transactions have ended, so many of them in the last second, and so many are under way.
+pub fn work(alloc: Global, rest: &str) -> Result<String, AllocError> {
+    let mut words = rest.split_whitespace();
+    let ended = number(words.next());
+    let a_second = number(words.next());
+    let line = work_line(alloc, ended, a_second, number(words.next()))?;
     format!(in alloc; "{:?}\n", line.as_str())
 }
 

@@ -1,14 +1,15 @@
 //! Causes by name.
 use acc_base::machines::Cause;
 
-/// The cause of a word, and the number of a refusal.
-pub fn cause(word: &str, number: u32) -> Cause {
+/// The cause that a word names, if it names one, with the number of a refusal.
+pub fn cause(word: &str, number: u32) -> Option<Cause> {
     match word {
-        "refused" => Cause::Refused(number),
-        "range" => Cause::Range,
-        "limit" => Cause::Limit,
-        "asked" => Cause::Asked,
-        "victim" => Cause::Victim,
-        _ => Cause::Crash,
+        "refused" => Some(Cause::Refused(number)),
+        "range" => Some(Cause::Range),
+        "limit" => Some(Cause::Limit),
+        "asked" => Some(Cause::Asked),
+        "victim" => Some(Cause::Victim),
+        "crash" => Some(Cause::Crash),
+        _ => None,
     }
 }

@@ -23,8 +23,8 @@ fn event_of(words: &[&str]) -> Option<Event> {
     match words {
         ["step", t] => Some(Event::Step(number(t))),
         ["undo", t] => Some(Event::Undo(number(t))),
-        ["abort", t, of] => Some(Event::Abort(number(t), cause(of, 0))),
-        ["abort", t, of, by] => Some(Event::Abort(number(t), cause(of, small(by)))),
+        ["abort", t, of] => Some(Event::Abort(number(t), cause(of, 0)?)),
+        ["abort", t, of, by] => Some(Event::Abort(number(t), cause(of, small(by))?)),
         _ => None,
     }
 }

@@ -195,7 +195,7 @@ fn answer_in_threads<R: Files<File = File> + Print + AllocGlobal, T: Threads + W
     line: &str,
 ) -> io::Result<()> {
     rt.println(line)?;
-    acc_thread_cases::tell(rt, threads, first_word(line).1)
+    acc_thread_cases::tell(rt, threads, line)
 }
 
 /// Prints a case, and what it answers.
@@ -206,7 +206,7 @@ pub fn answer<R: Files<File = File> + Print + AllocGlobal, T: Threads + Wait + S
     line: &str,
 ) -> io::Result<()> {
     match first_word(line).0 {
-        "threads" => answer_in_threads(rt, threads, line),
+        "threads" | "interleaves" => answer_in_threads(rt, threads, line),
         "device" | "journal" | "relation" => kinds::tell(rt, kinds, line),
         "machine" | "text" | "search" => kinds::tell_or_take(rt, kinds, line),
         "state" | "engine" => kinds::tell_or_accept(rt, kinds, line),

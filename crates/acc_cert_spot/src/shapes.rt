@@ -1,5 +1,7 @@
 //! The shapes of a certificate's parts, and what each is in words.
 use acc_axioms::{Arguments, AxiomKind};
+use acc_base::atoms::AtomKind;
+use acc_cert_read::words::{NodeWord, atom_word};
 use acc_explain::push_with;
 use acc_page::Page;
 
@@ -55,27 +57,31 @@ fn arguments_of(axiom: u64) -> Arguments {
     }
 }
 
-/// The item of a node that begins with this word, as it stands in the file.
-fn of_node(word: &[u8], axiom: u64, number: u64) -> Shape {
-    if word == b"\"split\"".as_slice() {
-        one_of(&[Shape::NodeWord, Shape::Form], number)
-    } else if word == b"\"inst\"".as_slice() {
-        one_of(
+/// The word between the quotes of a string, as it stands in the file; none of what is no string.
+fn unquoted(string: &[u8]) -> Option<&str> {
+    let behind = string.strip_prefix(b"\"")?;
+    str::from_utf8(behind.strip_suffix(b"\"")?).ok()
+}
+
+/// The item of a node that begins with this word; none is no node's.
+fn of_node(word: Option<NodeWord>, axiom: u64, number: u64) -> Shape {
+    match word {
+        Some(NodeWord::Split) => one_of(&[Shape::NodeWord, Shape::Form], number),
+        Some(NodeWord::Inst) => one_of(
             &[Shape::NodeWord, Shape::Index, Shape::Key, Shape::Lists],
             number,
-        )
-    } else if word == b"\"axiom\"".as_slice() {
-        let shapes = [
-            Shape::NodeWord,
-            Shape::AxiomNumber,
-            Shape::Arguments(arguments_of(axiom)),
-            Shape::Lists,
-        ];
-        one_of(&shapes, number)
-    } else if word == b"\"leaf\"".as_slice() {
-        one_of(&[Shape::NodeWord, Shape::Mults], number)
-    } else {
-        Shape::NodeWord
+        ),
+        Some(NodeWord::Axiom) => {
+            let shapes = [
+                Shape::NodeWord,
+                Shape::AxiomNumber,
+                Shape::Arguments(arguments_of(axiom)),
+                Shape::Lists,
+            ];
+            one_of(&shapes, number)
+        }
+        Some(NodeWord::Leaf) => one_of(&[Shape::NodeWord, Shape::Mults], number),
+        None => Shape::NodeWord,
     }
 }
 
@@ -92,33 +98,32 @@ fn of_arguments(arguments: Arguments, number: u64) -> Shape {
     }
 }
 
-/// The item of an atom that begins with this word, as it stands in the file.
-fn of_atom(word: &[u8], number: u64) -> Shape {
-    if word == b"\"one\"".as_slice() {
-        one_of(&[Shape::AtomWord], number)
-    } else if word == b"\"var\"".as_slice() {
-        one_of(&[Shape::AtomWord, Shape::Index], number)
-    } else if word == b"\"has\"".as_slice() || word == b"\"count\"".as_slice() {
-        one_of(&[Shape::AtomWord, Shape::Index, Shape::Key], number)
-    } else if word == b"\"col\"".as_slice() || word == b"\"sum\"".as_slice() {
-        one_of(
+/// The item of an atom that begins with the word of this kind; none is no atom's.
+fn of_atom(kind: Option<AtomKind>, number: u64) -> Shape {
+    match kind {
+        Some(AtomKind::One) => one_of(&[Shape::AtomWord], number),
+        Some(AtomKind::Var) => one_of(&[Shape::AtomWord, Shape::Index], number),
+        Some(AtomKind::Has | AtomKind::Count) => {
+            one_of(&[Shape::AtomWord, Shape::Index, Shape::Key], number)
+        }
+        Some(AtomKind::Col | AtomKind::Sum) => one_of(
             &[Shape::AtomWord, Shape::Index, Shape::Key, Shape::Index],
             number,
-        )
-    } else {
-        Shape::AtomWord
+        ),
+        None => Shape::AtomWord,
     }
 }
 
-/// The item with this number of a part of this shape, which begins with this word and has this axiom's number, where it is a node.
+/// The item with this number of a part of this shape, which begins with this word, as it stands in the file, and has this axiom's number,
+/// where it is a node.
 pub fn item_shape(shape: Shape, word: &[u8], axiom: u64, number: u64) -> Shape {
     match shape {
         Shape::Certificate => Shape::Proof,
         Shape::Proof => Shape::Node,
-        Shape::Node => of_node(word, axiom, number),
+        Shape::Node => of_node(unquoted(word).and_then(NodeWord::named), axiom, number),
         Shape::Arguments(arguments) => of_arguments(arguments, number),
         Shape::Unknown => one_of(&[Shape::Key, Shape::Atom], number),
-        Shape::Atom => of_atom(word, number),
+        Shape::Atom => of_atom(unquoted(word).and_then(atom_word), number),
         Shape::Form => one_of(&[Shape::Terms, Shape::Wide], number),
         Shape::Terms => Shape::Term,
         Shape::Term => one_of(&[Shape::Unknown, Shape::Wide], number),

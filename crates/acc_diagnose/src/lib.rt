@@ -17,6 +17,6 @@ mod usage;
 pub use damage::cut_line;
 pub use explained::explain;
 pub use keeping::Keeping;
-pub use progress::{found_line, replay_line, search_line};
+pub use progress::{found_line, replay_line, search_line, work_line};
 pub use reasons::system_reason;
 pub use room::room_line;

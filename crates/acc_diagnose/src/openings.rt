@@ -100,7 +100,9 @@ fn hint_of(
                 point.as_slice(),
             )?;
         }
-        Ok(Found::Proved(_)) | Err(_) => push_cure(alloc, &mut hint, d, origin, &[], &[])?,
+        Ok(Found::Proved(_)) | Err(SearchError::Crowded | SearchError::Wide | SearchError::Many) =>
+            { push_cure(alloc, &mut hint, d, origin, &[], &[])? }
+        Err(SearchError::Memory) => return Err(AllocError),
     }
     if hint.is_empty() {
         hint.push(obligation_hint(origin.rule));

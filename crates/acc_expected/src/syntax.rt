@@ -136,11 +136,19 @@ fn front_of<'a>(text: &'a [u8], line: u64) -> &'a [u8] {
     &text[..end.min(text.len())]
 }
 
+/// The words of a text, if it is words.
+fn words_in(alloc: Global, text: &[u8]) -> Result<Option<Seq<Word>>, AllocError> {
+    match words(alloc, text) {
+        Ok(words) => Ok(Some(words)),
+        Err(LexError::Bad(_)) => Ok(None),
+        Err(LexError::Memory) => Err(AllocError),
+    }
+}
+
 /// The spot of the first word of a text, which is words, with which no design goes on.
 fn spot_in_words(alloc: Global, text: &[u8], tokens: &[Token]) -> Result<Option<Spot>, AllocError> {
-    let mut words = match words(alloc, text) {
-        Ok(words) => words,
-        Err(_) => return Ok(None),
+    let Some(mut words) = words_in(alloc, text)? else {
+        return Ok(None);
     };
     let place = good_words(alloc, words.as_slice())?;
     match token_at(tokens, place) {
@@ -159,7 +167,7 @@ fn spot_before(
     tokens: &[Token],
     line: u64,
 ) -> Result<Option<Spot>, AllocError> {
-    let Ok(words) = words(alloc, front) else {
+    let Some(words) = words_in(alloc, front)? else {
         return Ok(None);
     };
     let place = good_words(alloc, words.as_slice())?;
@@ -175,8 +183,10 @@ fn spot_before(
 fn spot_of_bad(alloc: Global, text: &[u8], line: u64, bad: u64) -> Result<Spot, AllocError> {
     let refused = line_at(text, line);
     let front = front_of(text, bad);
-    let Ok(tokens) = lex(alloc, front) else {
-        return Ok(byte_spot(alloc, refused, Around::nothing()));
+    let tokens = match lex(alloc, front) {
+        Ok(tokens) => tokens,
+        Err(LexError::Bad(_)) => return Ok(byte_spot(alloc, refused, Around::nothing())),
+        Err(LexError::Memory) => return Err(AllocError),
     };
     match spot_before(alloc, front, tokens.as_slice(), line)? {
         Some(spot) => Ok(spot),

@@ -6,16 +6,14 @@ ghost use Rattle.acc_parse.specs.Texts.{IsDesignText};
 ghost use Rattle.acc_parse.specs.Faults.{Refuses};
 ghost use Rattle.acc_faults.specs.Refusals.{IsRefused, IsDiagnosed};
 
-use crate::forms::source_line;
+use crate::forms::{source_line, tree_in, words_in};
 use crate::tokens::tokens_of;
 use acc_base::designs::Design;
 use acc_base::limits::Limit;
 use acc_base::rules::FormRule;
-use acc_designs::syntax;
 use acc_expected::syntax_spot;
 use acc_explain::{Spot, push_rule, rule_hint};
 use acc_form::{FormError, well_formed};
-use acc_lex::texts::words;
 use acc_names::names_of;
 use acc_parse::{ParseError, parse};
 use acc_spot::{limit_spot, name_spot, statement_spot};
@@ -53,12 +51,8 @@ pub enum Diagnosed {
 
 /// The number of a text's first statement with a fault of names, if there is one.
 fn name_fault(alloc: Global, text: &[u8]) -> Result<u64, AllocError> {
-    let Ok(words) = words(alloc, text) else {
-        return Err(AllocError);
-    };
-    let Ok(tree) = syntax(alloc, words.as_slice()) else {
-        return Err(AllocError);
-    };
+    let words = words_in(alloc, text)?;
+    let tree = tree_in(alloc, words.as_slice())?;
     let names = names_of(alloc, &tree)?;
     Ok(names.first_fault.unwrap_or(0))
 }

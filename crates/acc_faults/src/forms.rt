@@ -14,7 +14,8 @@ ghost use Rattle.acc_faults.specs.Refusals.{IsFormFaultAt};
 use acc_base::designs::Design;
 use acc_base::rules::FormRule;
 use acc_base::sequences::Seq;
-use acc_designs::syntax;
+use acc_designs::{SyntaxError, syntax};
+use acc_lex::LexError;
 use acc_lex::texts::words;
 use acc_lex::words::Word;
 use acc_sources::source_of;
@@ -30,23 +31,23 @@ pub struct SourceLine {
 }
 
 /// The words of a text that has some.
-fn words_in(alloc: Global, text: &[u8]) -> Result<Seq<Word>, AllocError>
+pub fn words_in(alloc: Global, text: &[u8]) -> Result<Seq<Word>, AllocError>
     ensures words { IfOk result (IsLexed text.now) }
     ensures only { (words : List WordValue) → IsLexed text.now words → IfOk result (λ found. found ≡ words) }
 {
     match words(alloc, text) {
         Ok(words) => Ok(words),
-        Err(_) => Err(AllocError),
+        Err(LexError::Bad(_) | LexError::Memory) => Err(AllocError),
     }
 }
 
 /// The tree that words spell that spell one.
-fn tree_in(alloc: Global, words: &[Word]) -> Result<DesignTree, AllocError>
+pub fn tree_in(alloc: Global, words: &[Word]) -> Result<DesignTree, AllocError>
     ensures { (t : TreeValue) → IsSpelling words.now t → IfOk result (λ found. found ≡ t) }
 {
     match syntax(alloc, words) {
         Ok(tree) => Ok(tree),
-        Err(_) => Err(AllocError),
+        Err(SyntaxError::At(_) | SyntaxError::Memory) => Err(AllocError),
     }
 }
 

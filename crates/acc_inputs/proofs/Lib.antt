@@ -7,3 +7,4 @@ pub mod FileNames
 pub mod FilesLemmas
 pub mod SaidLemmas
 pub mod OneDesign
+pub mod VerbLemmas

@@ -12,3 +12,4 @@ pub mod Scripts
 pub mod Answers
 pub mod ReadScripts
 pub mod Requests
+pub mod Verbs

@@ -4,8 +4,8 @@ use Rattle.std.specs.List.{flat_map}
 use Rattle.acc_base.specs.Lines.{line}
 
 -- each command, and where the documents are
-unfoldable pub help_text : List ℕ
-help_text = flat_map line (
+unfoldable pub help_lines : List (List ℕ)
+help_lines =
     codes "acc play DESIGN SCRIPT ORDER                plays the script in the order's turns, and prints the turns and the replies" ∷
     codes "acc rehearse DESIGN CERT SCRIPT ORDER       the same by the rules of locks, if the certificate proves it sound; ends the rest" ∷
     codes "acc print DESIGN                            prints the design in its one spelling" ∷
@@ -20,7 +20,10 @@ help_text = flat_map line (
     codes "acc --help                                  prints these lines" ∷
     codes "acc --version                               prints the version of acc, and of the toolchain that proved it" ∷
     codes "README.md tells what acc is for, and docs/DESIGN-LANGUAGE.md how a design is written and how to mend one that is refused." ∷
-    [])
+    []
+
+unfoldable pub help_text : List ℕ
+help_text = flat_map line help_lines
 
 -- the version of the program, and the line by which the toolchain names itself
 unfoldable pub version_text : List ℕ

@@ -4,6 +4,7 @@
 
 mod designs;
 mod files;
+pub mod laws;
 mod notes;
 mod requests;
 mod scripts;

@@ -5,7 +5,7 @@ ghost use Rattle.acc_inputs.specs.Notes.{help_text, version_text};
 use std::alloc::{AllocError, Global};
 
 /// Each command, and where the documents are. Each line ends with a line feed.
-#[tactic(auto, unfolding(crate::specs::Notes::help_text))]
+#[tactic(auto, unfolding(crate::specs::Notes::help_text, crate::specs::Notes::help_lines))]
 pub fn help_text(alloc: Global) -> Result<Vec<u8>, AllocError>
     ensures { IfOk result (λ text. text.items ≡ help_text) }
 {

@@ -27,8 +27,8 @@ fn blocked(words: &str) -> Turn {
     Turn::Blocked(number(t), small(entry))
 }
 
-/// The cause of a word, and of the number of a refusal behind it.
-fn cause_of(words: &str) -> Cause {
+/// The cause that a word names, if it names one, with the number of a refusal behind it.
+fn cause_of(words: &str) -> Option<Cause> {
     let (of, by) = parted(words, " ");
     cause(of, small(by))
 }
@@ -39,33 +39,19 @@ fn turn(word: &str, rest: &str) -> Option<Turn> {
         "stepped" => Some(Turn::Stepped(at(rest))),
         "back" => Some(Turn::Back(at(rest))),
         "blocked" => Some(blocked(rest)),
-        "turned" => Some(Turn::Turned(cause_of(rest))),
+        "turned" => Some(Turn::Turned(cause_of(rest)?)),
         "ended" => Some(Turn::Ended),
         _ => None,
     }
 }
 
 /// The outcome of a word and of those behind it.
-fn outcome(alloc: Global, word: &str, rest: &str) -> Result<Outcome, AllocError> {
-    if word == "compensated" {
-        return Ok(Outcome::Compensated(cause_of(rest)));
+fn outcome(alloc: Global, word: &str, rest: &str) -> Result<Option<Outcome>, AllocError> {
+    match word {
+        "committed" => Ok(Some(Outcome::Committed(Seq::from_vec(list(alloc, rest)?)))),
+        "compensated" => Ok(cause_of(rest).map(Outcome::Compensated)),
+        _ => Ok(None),
     }
-    Ok(Outcome::Committed(Seq::from_vec(list(alloc, rest)?)))
-}
-
-/// Pushes the reply line of a place.
-fn push_outcome(
-    alloc: Global,
-    out: &mut Vec<u8>,
-    place: u64,
-    word: &str,
-    rest: &str,
-) -> Result<(), AllocError> {
-    let reply = Reply {
-        t: place,
-        outcome: outcome(alloc, word, rest)?,
-    };
-    push_reply(out, place, &reply)
 }
 
 fn push_plain(out: &mut Vec<u8>, word: &str, place: u64) -> Result<(), AllocError> {
@@ -76,7 +62,8 @@ fn push_plain(out: &mut Vec<u8>, word: &str, place: u64) -> Result<(), AllocErro
         "full" => push_full(out, place),
         "unsettled" => push_unsettled(out, place),
         "unfinished" => push_unfinished(out, place),
-        _ => push_events(out, place),
+        "events" => push_events(out, place),
+        _ => out.extend_from_slice(b"no line"),
     }
 }
 
@@ -92,9 +79,9 @@ fn push_line(
     if let Some(turn) = turn(word, rest) {
         return push_turn(out, design, &PLACES, place, turn);
     }
-    match word {
-        "committed" | "compensated" => push_outcome(alloc, out, place, word, rest),
-        _ => push_plain(out, word, place),
+    match outcome(alloc, word, rest)? {
+        Some(outcome) => push_reply(out, place, &Reply { t: place, outcome }),
+        None => push_plain(out, word, place),
     }
 }
 

@@ -22,10 +22,12 @@ pub fn take_journal(words: &mut Vec<String>) -> Option<String>
 
 /// How the command of these words opens its journal: `init` makes one, over no file but what an `init` that was cut short left.
 fn opening(words: &[String]) -> Opening {
-    if let Some(Command::Init) = command_of(words) {
-        Opening::Make(&FIRST_BYTES)
-    } else {
-        Opening::Use
+    match command_of(words) {
+        Some(Command::Init) => Opening::Make(&FIRST_BYTES),
+        Some(Command::Sched | Command::Run(_)) => Opening::Use,
+        Some(Command::Recover | Command::Dump | Command::Replies) => Opening::Use,
+        Some(Command::Play | Command::Rehearse | Command::Print | Command::Check) => Opening::Use,
+        Some(Command::Prove | Command::Help | Command::Version) | None => Opening::Use,
     }
 }
 

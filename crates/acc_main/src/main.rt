@@ -6,10 +6,12 @@ ghost use Rattle.acc_threads.specs.Works.{IsUnworked};
 mod journal;
 mod streams;
 mod terminal;
+mod work;
 
 use crate::journal::{is_let_alone, journal_disk, take_journal, trouble_line, unlocked_line};
-use crate::streams::hold_streams;
+use crate::streams::{hold_streams, write_error};
 use crate::terminal::TerminalProgress;
+use crate::work::TerminalGate;
 use acc_cli::{acc, help_text};
 use acc_diagnose::statuses::{DISK, FILE, JOURNAL, MEMORY, SINK};
 use acc_diagnose::{Keeping, cut_line, explain, room_line, system_reason};
@@ -19,9 +21,8 @@ use acc_io::{FolderShelf, StdSink};
 use acc_lift::Accepted;
 use acc_store::MapStore;
 use acc_threads::{Alone, Called, Crew, Engine, work_in_threads};
-use acc_workers::OpenGate;
 use std::alloc::AllocError;
-use std::io::{ErrorKind, Write};
+use std::io::ErrorKind;
 use std::process::ExitCode;
 use std::sync::Wait;
 use std::thread::Threads;
@@ -51,9 +52,7 @@ fn tell(rt: &HostRuntime, status: u8, words: &[String], printed: &[u8]) {
     };
     let mut shelf = FolderShelf::new(rt);
     let told = explain(rt.alloc(), status, words, &mut shelf, printed, &usage);
-    match rt.stderr().write_all(&told) {
-        Ok(()) | Err(_) => {}
-    }
+    write_error(rt, &told);
     if status == FILE {
         tell_reason(rt, words);
     }
@@ -62,18 +61,14 @@ fn tell(rt: &HostRuntime, status: u8, words: &[String], printed: &[u8]) {
 /// Tells on standard error the system's reason why a file isn't given, if it has one.
 fn tell_reason(rt: &HostRuntime, words: &[String]) {
     if let Ok(reason) = system_reason(rt, rt.alloc(), file_names(words)) {
-        match rt.stderr().write_all(reason.as_bytes()) {
-            Ok(()) | Err(_) => {}
-        }
+        write_error(rt, reason.as_bytes());
     }
 }
 
 /// Writes a line to standard error, if memory lasted to make it.
 fn tell_line(rt: &HostRuntime, line: Result<String, AllocError>) {
     if let Ok(line) = line {
-        match rt.stderr().write_all(line.as_bytes()) {
-            Ok(()) | Err(_) => {}
-        }
+        write_error(rt, line.as_bytes());
     }
 }
 
@@ -116,7 +111,7 @@ fn answer<'a, 'd, D: Disk, C: Crew<Engine<'d, MapStore, D>>>(
     }
 }
 
-/// Answers a command line over the journal's file by workers in threads.
+/// Answers a command line over the journal's file by workers in threads, of which a terminal is told meanwhile.
 fn answer_in_threads<'a, 'd, R: Threads + Wait + Sync>(
     rt: &'a HostRuntime,
     threads: &R,
@@ -127,9 +122,25 @@ fn answer_in_threads<'a, 'd, R: Threads + Wait + Sync>(
     let crew = Called::new::<Engine<'d, MapStore, FileDisk<'a, HostRuntime>>>(
         |alloc, engine, workers|
             requires { IsUnworked engine }
-        { work_in_threads(threads, alloc, engine, workers, &OpenGate) },
+        {
+            let gate = TerminalGate::new(rt);
+            let engine = work_in_threads(threads, alloc, engine, workers, &gate);
+            gate.end_line();
+            engine
+        },
     );
     answer(rt, words, disk, &crew, slot)
+}
+
+/// Whether workers do the command of these words.
+fn is_by_crew(words: &[String]) -> bool {
+    match command_of(words) {
+        Some(Command::Run(_)) => true,
+        Some(Command::Init | Command::Sched) => false,
+        Some(Command::Recover | Command::Dump | Command::Replies) => false,
+        Some(Command::Play | Command::Rehearse | Command::Print | Command::Check) => false,
+        Some(Command::Prove | Command::Help | Command::Version) | None => false,
+    }
 }
 
 /// Answers a command line over the journal's file: `run` by threads, and any other command without, so that it waits for nobody.
@@ -140,7 +151,7 @@ fn answer_by_crew<'a, R: Threads + Wait + Sync>(
     disk: FileDisk<'a, HostRuntime>,
 ) -> Answered<'a, FileDisk<'a, HostRuntime>> {
     let mut slot = None;
-    if let Some(Command::Run(_)) = command_of(words) {
+    if is_by_crew(words) {
         answer_in_threads(rt, threads, words, disk, &mut slot)
     } else {
         answer(rt, words, disk, &Alone, &mut slot)

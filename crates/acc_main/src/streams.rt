@@ -1,5 +1,6 @@
-//! The descriptors of the standard streams.
+//! The standard streams: their descriptors, and what is written to standard error.
 use std::fs::File;
+use std::io::Write;
 use std::os::fd::AsRawFd;
 use std::{fs, io};
 
@@ -21,4 +22,11 @@ pub fn hold_streams(rt: &HostRuntime) -> io::Result<Vec<File>> {
         held.push(file)?;
     }
     Ok(held)
+}
+
+/// Writes to standard error. What fails there changes nothing else.
+pub fn write_error(rt: &HostRuntime, text: &[u8]) {
+    match rt.stderr().write_all(text) {
+        Ok(()) | Err(_) => {}
+    }
 }

@@ -1,8 +1,9 @@
 //! How far a long call is, on standard error, where that is a terminal.
+use crate::streams::write_error;
 use acc_diagnose::{found_line, replay_line, search_line};
 use acc_progress::{Found, Progress};
 use std::alloc::AllocError;
-use std::io::{IsTerminal, Write};
+use std::io::IsTerminal;
 use std::time::Instant;
 
 /// A replay of fewer events isn't told of.
@@ -38,14 +39,8 @@ impl<'a> TerminalProgress<'a> {
     /// Ends the line that tells how far the call is, if one stands there.
     pub fn end_line(&mut self) {
         if self.has_line {
-            self.write(b"\n");
+            write_error(self.rt, b"\n");
             self.has_line = false;
-        }
-    }
-
-    fn write(&self, text: &[u8]) {
-        match self.rt.stderr().write_all(text) {
-            Ok(()) | Err(_) => {}
         }
     }
 
@@ -67,7 +62,7 @@ impl<'a> TerminalProgress<'a> {
     /// Writes a line in the place of the one that stands there.
     fn put_line(&mut self, line: Result<String, AllocError>) {
         if let Ok(line) = line {
-            self.write(line.as_bytes());
+            write_error(self.rt, line.as_bytes());
             self.has_line = true;
         }
     }
@@ -84,7 +79,7 @@ impl Progress for TerminalProgress<'_> {
         if self.is_terminal {
             self.end_line();
             if let Ok(line) = found_line(self.rt.alloc(), found) {
-                self.write(line.as_bytes());
+                write_error(self.rt, line.as_bytes());
             }
         }
     }

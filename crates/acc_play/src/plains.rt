@@ -28,15 +28,11 @@ impl<'a> Model for Plain<'a> {
     ghost invariant = { λ p. HasFit (playing p.machine p.calls.now) };
 }
 
-fn as_stop(error: PlainError) -> Stop {
-    match error {
-        PlainError::Memory => Stop::Memory,
-    }
-}
-
 impl<'a> Player for Plain<'a> {
-    ghost use Rattle.std.specs.Prelude.{◌≡◌};
+    ghost use Rattle.std.specs.Prelude.{◌≡◌, IfSome};
+    ghost use Rattle.std.proofs.Common.{refl};
     ghost use Rattle.acc_base.specs.Plays.{plain};
+    ghost use Rattle.acc_player.specs.declared.stops.Stop.TheVariants.{Memory};
     ghost use Rattle.acc_player.proofs.Orderly.{plain_is_orderly};
 
     ghost design = { λ p. p.design };
@@ -51,7 +47,7 @@ impl<'a> Player for Plain<'a> {
 
     ghost can_begin = { λ p at. Unit {0} };
 
-    ghost leaves = { λ why p q. Unit {0} };
+    ghost leaves = { λ why p q. IfSome why (λ stop. stop ≡ Memory) };
 
     fn begin_at(&mut self, place: u64) -> Result<Option<u64>, Stop> {
         if self.machine.events().len() >= MANY {
@@ -60,7 +56,7 @@ impl<'a> Player for Plain<'a> {
         let calls = self.calls;
         match self.machine.begin(&calls[(place - 1) as usize]) {
             Ok(t) => Ok(Some(t)),
-            Err(error) => Err(as_stop(error)),
+            Err(PlainError::Memory) => Err(Stop::Memory),
         }
     }
 
@@ -70,7 +66,7 @@ impl<'a> Player for Plain<'a> {
         }
         match self.machine.turn(t) {
             Ok(turn) => Ok(turn),
-            Err(error) => Err(as_stop(error)),
+            Err(PlainError::Memory) => Err(Stop::Memory),
         }
     }
 
@@ -88,7 +84,7 @@ impl<'a> Player for Plain<'a> {
 
     ghost leaves_ready = { λ p q a. tt };
 
-    ghost leaves_more = { λ why p q r a b. tt };
+    ghost leaves_more = { λ why p q r a b. b };
 
-    ghost leaves_want = { λ p q a. tt };
+    ghost leaves_want = { λ p q a. refl };
 }

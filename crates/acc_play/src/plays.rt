@@ -10,7 +10,7 @@ use acc_base::designs::Design;
 use acc_base::machines::{Call, Event};
 use acc_base::sequences::Seq;
 use acc_plain::Machine;
-use acc_player::{Board, mention_all, push_replies};
+use acc_player::{Board, Stop, mention_all, push_replies};
 use acc_script::push_events;
 use acc_store::MapStore;
 use std::alloc::{AllocError, Global};
@@ -43,7 +43,9 @@ pub fn play(
     let mut board = Board::open(alloc, calls.len(), 0)?;
     match mention_all(&mut player, &mut board, d, order) {
         Ok(()) => (),
-        Err(_) => return Err(AllocError),
+        Err(Stop::Memory) => return Err(AllocError),
+        // such a player has no disk
+        Err(Stop::Disk) => unreachable!(),
     }
     push_replies(&player, board.numbers.as_slice(), &mut board.text)?;
     let Plain { machine, calls: _ } = player;

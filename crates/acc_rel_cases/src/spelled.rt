@@ -1,4 +1,4 @@
-//! What the words of a line spell. A word that is no number counts as 0.
+//! What the words of a line spell. A word that is no number counts as 0, and a name of no atom as `v0`.
 use acc_base::forms::{Atom, Form, Lin, Rel, Unknown};
 use acc_base::sequences::Seq;
 use acc_base::steps::Action;
@@ -51,13 +51,15 @@ fn lins(alloc: Global, list: &str, end: &str) -> Result<Seq<Lin>, AllocError> {
     Ok(lins)
 }
 
-/// Whether the row of that key is there, or what it holds; or how many rows are under it, or their sum.
-fn row_atom(kind: &str, key: Seq<Lin>) -> Atom {
-    match kind {
-        "has" => Atom::Has(0, key),
-        "col" => Atom::Col(0, key, 0),
-        "count" => Atom::Count(0, key),
-        _ => Atom::Sum(0, key, 0),
+/// Whether the row of that key is there, or what it holds; or how many rows are under it, or their sum. None of
+/// another name.
+fn row_atom(name: &str, key: Seq<Lin>) -> Option<Atom> {
+    match name {
+        "has" => Some(Atom::Has(0, key)),
+        "col" => Some(Atom::Col(0, key, 0)),
+        "count" => Some(Atom::Count(0, key)),
+        "sum" => Some(Atom::Sum(0, key, 0)),
+        _ => None,
     }
 }
 
@@ -65,10 +67,10 @@ fn atom(alloc: Global, word: &str) -> Result<Atom, AllocError> {
     if word == "one" {
         return Ok(Atom::One);
     }
-    match word.split_once('[') {
-        Some((kind, list)) => Ok(row_atom(kind, lins(alloc, list, "]")?)),
-        None => Ok(Atom::Var(variable(word))),
-    }
+    let Some((name, list)) = word.split_once('[') else {
+        return Ok(Atom::Var(variable(word)));
+    };
+    Ok(row_atom(name, lins(alloc, list, "]")?).unwrap_or(Atom::Var(0)))
 }
 
 /// What has to be 0 for a term to count.

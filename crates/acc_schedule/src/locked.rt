@@ -26,8 +26,10 @@ impl<'a> Model for Locked<'a> {
 }
 
 impl<'a> Player for Locked<'a> {
-    ghost use Rattle.std.specs.Prelude.{◌≡◌};
+    ghost use Rattle.std.specs.Prelude.{◌≡◌, IfSome};
+    ghost use Rattle.std.proofs.Common.{refl};
     ghost use Rattle.acc_lock_rules.specs.LockRules.{with_locks};
+    ghost use Rattle.acc_player.specs.declared.stops.Stop.TheVariants.{Memory};
     ghost use Rattle.acc_lock_rules.proofs.Orderly.{locks_are_orderly};
 
     ghost design = { λ p. p.design };
@@ -42,7 +44,7 @@ impl<'a> Player for Locked<'a> {
 
     ghost can_begin = { λ p at. Unit {0} };
 
-    ghost leaves = { λ why p q. Unit {0} };
+    ghost leaves = { λ why p q. IfSome why (λ stop. stop ≡ Memory) };
 
     fn begin_at(&mut self, place: u64) -> Result<Option<u64>, Stop> {
         let calls = self.calls;
@@ -76,9 +78,9 @@ impl<'a> Player for Locked<'a> {
 
     ghost leaves_ready = { λ p q a. tt };
 
-    ghost leaves_more = { λ why p q r a b. tt };
+    ghost leaves_more = { λ why p q r a b. b };
 
-    ghost leaves_want = { λ p q a. tt };
+    ghost leaves_want = { λ p q a. refl };
 }
 
 impl<'a> Ender for Locked<'a> {

@@ -13,7 +13,7 @@ use acc_base::machines::{Call, Event};
 use acc_base::sequences::Seq;
 use acc_lift::Accepted;
 use acc_lock_rules::State;
-use acc_player::{Board, all_begun, push_replies, run};
+use acc_player::{Board, Stop, all_begun, push_replies, run};
 use acc_script::push_events;
 use acc_store::MapStore;
 use std::alloc::{AllocError, Global};
@@ -66,6 +66,8 @@ pub fn schedule(
     let mut board = Board::open(alloc, calls.len(), 0)?;
     match run(alloc, &mut player, &mut board, accepted.design(), order) {
         Ok(()) => close(player, board),
-        Err(_) => Err(AllocError),
+        Err(Stop::Memory) => Err(AllocError),
+        // such a player has no disk
+        Err(Stop::Disk) => unreachable!(),
     }
 }

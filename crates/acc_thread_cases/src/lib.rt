@@ -1,12 +1,17 @@
 //! Runs by worker threads over a journal on a disk in memory. What is told of them is the same however the machine lets the threads run.
 //!
-//! `WORKERS FROM DESIGN CERT FIRST SCRIPT` is a run of the script by so many workers. The journal is the one that `init` makes of the
-//! design, and behind that a run of the script FIRST without threads; a script without lines leaves it as `init` made it. The calls of the
-//! disk from the number FROM on fail, counted from the begin of the workers' run; a `-` is none. Three lines are told, each with what was
-//! printed and the status: the run's, and what `recover` and then `dump` answer over the bytes that the disk held afterwards.
+//! Both kinds have the words `WORKERS FROM DESIGN CERT FIRST SCRIPT`, for a run of the script by so many workers. The journal is the one
+//! that `init` makes of the design, and behind that a run of the script FIRST without threads; a script without lines leaves it as `init`
+//! made it. The calls of the disk from the number FROM on fail, counted from the begin of the workers' run; a `-` is none.
+//!
+//! Behind `threads` three lines are told, each with what was printed and the status: the run's, and what `recover` and then `dump` answer
+//! over the bytes that the disk held afterwards. Behind `interleaves` one word is told, of the transactions 3 and 4, each of which waits
+//! ahead of its second turn until the other one is there: `interleaved`, or `missed` where one has waited in vain, as it does where each
+//! transaction is taken whole before the next.
 #![tactic(auto)]
 
 mod answers;
+mod meetings;
 mod runs;
 
 pub use runs::tell;

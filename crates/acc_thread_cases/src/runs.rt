@@ -2,6 +2,7 @@
 ghost use Rattle.acc_crew.specs.Works.{IsUnworked};
 
 use crate::answers::{Answered, answer, answer_alone};
+use crate::meetings::Meeting;
 use acc_case_commands::memory;
 use acc_case_commands::texts::first_word;
 use acc_crew::Called;
@@ -10,13 +11,16 @@ use acc_engine::Engine;
 use acc_lift::Accepted;
 use acc_store::MapStore;
 use acc_threads::work_in_threads;
-use acc_workers::OpenGate;
+use acc_workers::{Gate, OpenGate};
 use std::alloc::AllocError;
 use std::fs::File;
 use std::io;
 use std::rt::Files;
 use std::sync::Wait;
 use std::thread::Threads;
+
+/// The numbers of the two that meet: before them come two of the script FIRST.
+const MEET: (u64, u64) = (3, 4);
 
 /// A run: how many work, the call of the disk from which on all fail, and the names of the files.
 #[derive(Clone, Copy)]
@@ -64,10 +68,16 @@ fn journal_of<R: Files<File = File> + AllocGlobal>(
     begun.disk.bytes().to_vec(rt.alloc())
 }
 
-/// Answers a command line over a disk by workers in threads.
-fn answer_in_threads<'d, R: Files<File = File> + AllocGlobal, T: Threads + Wait + Sync>(
+/// Answers a command line over a disk by workers in threads, with a gate between their turns.
+fn answer_in_threads<
+    'd,
+    R: Files<File = File> + AllocGlobal,
+    T: Threads + Wait + Sync,
+    G: Gate + Sync,
+>(
     rt: &R,
     threads: &T,
+    gate: &G,
     line: &str,
     disk: MemDisk,
     slot: &'d mut Option<Accepted>,
@@ -75,15 +85,16 @@ fn answer_in_threads<'d, R: Files<File = File> + AllocGlobal, T: Threads + Wait 
     let crew = Called::new::<Engine<'d, MapStore, MemDisk>>(
         |alloc, engine, workers|
             requires { IsUnworked engine }
-        { work_in_threads(threads, alloc, engine, workers, &OpenGate) },
+        { work_in_threads(threads, alloc, engine, workers, gate) },
     );
     answer(rt, line, disk, &crew, slot)
 }
 
-/// Answers the run of a case.
-fn run<R: Files<File = File> + AllocGlobal, T: Threads + Wait + Sync>(
+/// Answers the run of a case, with a gate between its turns.
+fn run<R: Files<File = File> + AllocGlobal, T: Threads + Wait + Sync, G: Gate + Sync>(
     rt: &R,
     threads: &T,
+    gate: &G,
     case: Case<'_>,
 ) -> Result<Answered, AllocError> {
     let journal = journal_of(rt, case)?;
@@ -96,7 +107,7 @@ fn run<R: Files<File = File> + AllocGlobal, T: Threads + Wait + Sync>(
         ..
     } = case;
     let line = format!(in rt.alloc(); "run {design} {certificate} {script} {workers}")?;
-    answer_in_threads(rt, threads, line.as_str(), disk, &mut None)
+    answer_in_threads(rt, threads, gate, line.as_str(), disk, &mut None)
 }
 
 /// Tells what a command line printed, and its status.
@@ -122,14 +133,42 @@ fn tell_left<R: Files<File = File> + Print + AllocGlobal>(
 }
 
 /// Tells of the run of a case, and of what it left.
-pub fn tell<R: Files<File = File> + Print + AllocGlobal, T: Threads + Wait + Sync>(
+fn tell_run<R: Files<File = File> + Print + AllocGlobal, T: Threads + Wait + Sync>(
     rt: &R,
     threads: &T,
-    text: &str,
+    case: Case<'_>,
 ) -> io::Result<()> {
-    let case = case_of(text);
-    let answered = run(rt, threads, case)?;
+    let answered = run(rt, threads, &OpenGate, case)?;
     tell_answer(rt, &answered)?;
     tell_left(rt, "recover", case, answered.disk.bytes())?;
     tell_left(rt, "dump", case, answered.disk.bytes())
+}
+
+/// Tells whether two transactions of the run of a case met between their steps.
+fn tell_meeting<R: Files<File = File> + Print + AllocGlobal, T: Threads + Wait + Sync>(
+    rt: &R,
+    threads: &T,
+    case: Case<'_>,
+) -> io::Result<()> {
+    let meeting = Meeting::new(MEET.0, MEET.1);
+    run(rt, threads, &meeting, case)?;
+    rt.println(if meeting.took_place() {
+        "interleaved"
+    } else {
+        "missed"
+    })
+}
+
+/// Tells of the run that a line asks for.
+pub fn tell<R: Files<File = File> + Print + AllocGlobal, T: Threads + Wait + Sync>(
+    rt: &R,
+    threads: &T,
+    line: &str,
+) -> io::Result<()> {
+    let (verb, rest) = first_word(line);
+    let case = case_of(rest);
+    match verb {
+        "interleaves" => tell_meeting(rt, threads, case),
+        _ => tell_run(rt, threads, case),
+    }
 }

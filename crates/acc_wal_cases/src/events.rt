@@ -12,17 +12,18 @@ fn small(word: &str) -> u32 {
     word.parse().unwrap_or(0)
 }
 
-/// The cause of a word, and the number of a refusal.
-fn cause(word: &str, number: u32) -> Cause
-    ensures { cause_number result < 2 ^ 32 }
+/// The cause that a word names, if it names one, with the number of a refusal.
+fn cause(word: &str, number: u32) -> Option<Cause>
+    ensures { IfSome result (λ cause. cause_number cause < 2 ^ 32) }
 {
     match word {
-        "refused" => Cause::Refused(number),
-        "range" => Cause::Range,
-        "limit" => Cause::Limit,
-        "asked" => Cause::Asked,
-        "victim" => Cause::Victim,
-        _ => Cause::Crash,
+        "refused" => Some(Cause::Refused(number)),
+        "range" => Some(Cause::Range),
+        "limit" => Some(Cause::Limit),
+        "asked" => Some(Cause::Asked),
+        "victim" => Some(Cause::Victim),
+        "crash" => Some(Cause::Crash),
+        _ => None,
     }
 }
 
@@ -57,6 +58,14 @@ fn call(alloc: Global, ty: u16, param: i64, tape: i64, ask: Option<u32>) -> Resu
     })
 }
 
+/// The abort of a transaction for the cause of a word and the number of a refusal, if the word is a cause's.
+#[tactic(auto, unfolding(acc_wal::specs::Spellings::Fits))]
+fn abort(t: &str, of: &str, by: &str) -> Option<Event>
+    ensures { IfSome result Fits }
+{
+    Some(Event::Abort(small(t) as u64, cause(of, small(by))?))
+}
+
 /// The event of those words, if they are one's.
 #[tactic(auto, unfolding(acc_wal::specs::Spellings::Fits))]
 pub fn event(alloc: Global, words: &[&str]) -> Result<Option<Event>, AllocError>
@@ -70,7 +79,7 @@ pub fn event(alloc: Global, words: &[&str]) -> Result<Option<Event>, AllocError>
         }
         ["step", t] => Some(Event::Step(small(t) as u64)),
         ["undo", t] => Some(Event::Undo(small(t) as u64)),
-        ["abort", t, of, by] => Some(Event::Abort(small(t) as u64, cause(of, small(by)))),
+        ["abort", t, of, by] => abort(t, of, by),
         _ => None,
     })
 }

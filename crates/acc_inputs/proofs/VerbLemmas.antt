@@ -1,0 +1,69 @@
+-- Each command has a verb and a line of the help.
+use Rattle.std.proofs.Common.{◌≡◌, ◌<◌, ℕ, Bool, true, List, [], ◌∷◌, ◌++◌, length, get_or, take, drop, refl, sym, ap, ◌∙◌, arith, eq-eqb}
+use Rattle.std.proofs.Common.{Option, None, Some, append-nil, take-append-drop}
+use Rattle.std.specs.Prelude.{option_map, codes, decimal, Contains, ◌==◌, if◌then◌else◌}
+use Rattle.std.proofs.lemmas.List.{drop_at, get_or_default}
+use Rattle.acc_inputs.specs.declared.words.Command.{Command}
+use Rattle.acc_inputs.specs.declared.words.Command.TheVariants as command
+use Rattle.acc_inputs.specs.declared.words.Form.TheVariants.{Files}
+use Rattle.acc_inputs.specs.Words.{form_of, file_count, IsCrew, workers_in, with_files, with_workers, with_form, command_of}
+use Rattle.acc_inputs.specs.Notes.{help_lines}
+use Rattle.acc_inputs.specs.Verbs.{verb_of, EachHasVerb, EachHasHelp}
+use Rattle.acc_inputs.proofs.Workers.{workers_of_numeral}
+
+-- the names of a command's files behind its verb
+files_given : (c : Command) (names : List (List ℕ)) → length names ≡ file_count c → with_files c (names ++ []) ≡ Some c
+files_given c names count =
+    let same : (length (names ++ []) == file_count c) ≡ true = eq-eqb (length (names ++ [])) (file_count c) (ap length (append-nil names) ∙ count) in
+    ap (λ (b : Bool). if b then Some c else None) same
+
+verb_given : (c : Command) (names : List (List ℕ)) → form_of (verb_of c) ≡ Some (Files c) → length names ≡ file_count c
+    → command_of (verb_of c ∷ (names ++ [])) ≡ Some c
+verb_given c names form count = ap (λ o. with_form o (names ++ [])) form ∙ files_given c names count
+
+run_given : (n : ℕ) (names : List (List ℕ)) → IsCrew n → length names ≡ 3
+    → with_workers (names ++ decimal n ∷ []) ≡ Some (command.Run n)
+run_given n names few count =
+    ap (λ words. option_map command.Run (workers_in words)) (drop_at names (decimal n ∷ []) 3 count)
+    ∙ ap (option_map command.Run) (workers_of_numeral n few)
+
+pub verbs : EachHasVerb
+unfolding form_of file_count
+verbs command.Play names few count = verb_given command.Play names refl count
+verbs command.Rehearse names few count = verb_given command.Rehearse names refl count
+verbs command.Print names few count = verb_given command.Print names refl count
+verbs command.Check names few count = verb_given command.Check names refl count
+verbs command.Prove names few count = verb_given command.Prove names refl count
+verbs command.Init names few count = verb_given command.Init names refl count
+verbs command.Sched names few count = verb_given command.Sched names refl count
+verbs (command.Run n) names few count = run_given n names few count
+verbs command.Recover names few count = verb_given command.Recover names refl count
+verbs command.Dump names few count = verb_given command.Dump names refl count
+verbs command.Replies names few count = verb_given command.Replies names refl count
+verbs command.Help names few count = verb_given command.Help names refl count
+verbs command.Version names few count = verb_given command.Version names refl count
+
+-- the line of the help with this number, if it begins so
+line_at : (k : ℕ) (front : List ℕ) → k < length help_lines → take (length front) (get_or help_lines k []) ≡ front
+    → (rest : List ℕ) × Contains help_lines (front ++ rest)
+line_at k front few begins =
+    let line = get_or help_lines k [] in
+    let rest = drop (length front) line in
+    let whole : line ≡ front ++ rest = sym (take-append-drop (length front) line) ∙ ap (λ x. x ++ rest) begins in
+    (rest, (k, few, get_or_default help_lines k (front ++ rest) [] few ∙ whole))
+
+pub help : EachHasHelp
+unfolding help_lines
+help command.Play = line_at 0 (codes "acc play ") (omega arith) refl
+help command.Rehearse = line_at 1 (codes "acc rehearse ") (omega arith) refl
+help command.Print = line_at 2 (codes "acc print ") (omega arith) refl
+help command.Check = line_at 3 (codes "acc check ") (omega arith) refl
+help command.Prove = line_at 4 (codes "acc prove ") (omega arith) refl
+help command.Init = line_at 5 (codes "acc init ") (omega arith) refl
+help command.Sched = line_at 6 (codes "acc sched ") (omega arith) refl
+help (command.Run workers) = line_at 7 (codes "acc run ") (omega arith) refl
+help command.Recover = line_at 8 (codes "acc recover ") (omega arith) refl
+help command.Dump = line_at 9 (codes "acc dump ") (omega arith) refl
+help command.Replies = line_at 10 (codes "acc replies ") (omega arith) refl
+help command.Help = line_at 11 (codes "acc --help ") (omega arith) refl
+help command.Version = line_at 12 (codes "acc --version ") (omega arith) refl
