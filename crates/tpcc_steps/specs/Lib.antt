@@ -1,0 +1,4 @@
+pub mod Amounts
+pub mod Shipped
+pub mod ShippedText
+pub mod Law

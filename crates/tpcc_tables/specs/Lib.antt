@@ -1,0 +1,4 @@
+pub mod Schema
+pub mod Fronts
+pub mod Conditions
+pub mod Lines
