@@ -1,7 +1,8 @@
-//! Leaving out the instances and axioms of a proof that nothing behind them uses.
+//! Leaving out what a proof doesn't need: a node one of whose branches uses nothing that the node adds to it. That branch stands in the
+//! node's place, so an instance or an axiom goes alone, and a split goes with its other branches.
 //!
-//! No clause says that what is left is a proof: the search asks that of the checker. The cost is that of the proof's length times the
-//! relations that are known.
+//! No clause says that what is left is a proof: the search asks that of the checker. The nodes are gone through once from the last to
+//! the first, so what is left has no such node. The cost is that of the proof's length times the relations that are known.
 use crate::renumbering::renumbered;
 use acc_axioms::kinds::AxiomKind;
 use acc_axioms::nodes::Node;
@@ -106,19 +107,28 @@ fn mark_others(used: &mut Vec<bool>, others: &[bool]) -> Result<(), AllocError> 
     Ok(())
 }
 
-/// What the branches behind a node use.
-fn used_behind(
+/// What is left of a node and of the branches behind it.
+#[derive(Clone, Copy)]
+pub(crate) enum Left {
+    /// The node, and each of its branches.
+    All,
+    /// The branch with this number alone, in the node's place.
+    Branch(usize),
+}
+
+/// What the branches behind a node use, the first one first: they are taken off those that are open.
+fn uses_behind(
     alloc: Global,
-    uses: &mut Vec<Vec<bool>>,
-    branches: usize,
-) -> Result<Vec<bool>, AllocError> {
-    let mut used = Vec::new(alloc);
-    for _branch in 0..branches {
-        if let Some(others) = uses.pop() {
-            mark_others(&mut used, others.as_slice())?;
+    open: &mut Vec<Vec<bool>>,
+    node: &Node,
+) -> Result<Vec<Vec<bool>>, AllocError> {
+    let mut behind = Vec::new(alloc);
+    for _branch in 0..branches_of(node) {
+        if let Some(used) = open.pop() {
+            behind.push(used)?;
         }
     }
-    Ok(used)
+    Ok(behind)
 }
 
 /// Whether a place from a first one on is used.
@@ -131,48 +141,69 @@ fn is_used_from(used: &[bool], first: usize) -> bool {
     false
 }
 
-/// Whether a node stays, where this is used behind it.
-fn stays(node: &Node, known: usize, used: &[bool]) -> bool {
-    match node {
-        Node::Split(_) | Node::Leaf(_) => true,
-        Node::Inst(_, _, _) | Node::Axiom(_, _) => is_used_from(used, known),
+/// The number of the first branch that uses no relation from this one on.
+fn first_without(behind: &[Vec<bool>], known: usize) -> Option<usize> {
+    for number in 0..behind.len() {
+        if !is_used_from(behind[number].as_slice(), known) {
+            return Some(number);
+        }
     }
+    None
 }
 
-/// Whether a node stays; what it and the branches behind it use comes in place of what these use.
-fn take_node(
+/// What a node where so many relations are known uses, and the branches behind it.
+fn used_by_all(
     alloc: Global,
-    uses: &mut Vec<Vec<bool>>,
     known: usize,
     node: &Node,
-) -> Result<bool, AllocError> {
-    let mut used = used_behind(alloc, uses, branches_of(node))?;
-    let stays = stays(node, known, used.as_slice());
-    used.truncate(known);
-    if stays {
-        mark_node(&mut used, known, node)?;
+    behind: &[Vec<bool>],
+) -> Result<Vec<bool>, AllocError> {
+    let mut used = Vec::new(alloc);
+    for others in behind {
+        mark_others(&mut used, others.as_slice())?;
     }
-    uses.push(used)?;
-    Ok(stays)
+    used.truncate(known);
+    mark_node(&mut used, known, node)?;
+    Ok(used)
 }
 
-/// Whether each node stays, the last one first.
-fn staying(alloc: Global, counts: Vec<usize>, nodes: &[Node]) -> Result<Vec<bool>, AllocError> {
+/// What is left of a node where so many relations are known. What that uses comes in place of what the branches behind the node use.
+fn take_node(
+    alloc: Global,
+    open: &mut Vec<Vec<bool>>,
+    known: usize,
+    node: &Node,
+) -> Result<Left, AllocError> {
+    let mut behind = uses_behind(alloc, open, node)?;
+    match first_without(behind.as_slice(), known) {
+        Some(number) if number < behind.len() => {
+            open.push(behind.swap_remove(number))?;
+            Ok(Left::Branch(number))
+        }
+        _ => {
+            open.push(used_by_all(alloc, known, node, behind.as_slice())?)?;
+            Ok(Left::All)
+        }
+    }
+}
+
+/// What is left of each node, the last one first.
+fn left_of(alloc: Global, counts: Vec<usize>, nodes: &[Node]) -> Result<Vec<Left>, AllocError> {
     let mut counts = counts;
-    let mut uses = Vec::new(alloc);
-    let mut staying = Vec::new(alloc);
+    let mut open = Vec::new(alloc);
+    let mut left = Vec::new(alloc);
     for _node in 0..nodes.len() {
         let known = counts.pop().unwrap_or(0);
         if let Some(node) = nodes.get(counts.len()) {
-            staying.push(take_node(alloc, &mut uses, known, node)?)?;
+            left.push(take_node(alloc, &mut open, known, node)?)?;
         }
     }
-    Ok(staying)
+    Ok(left)
 }
 
-/// The nodes without those that add what nothing behind them uses, where so many relations are known first.
+/// The nodes that are left, where so many relations are known first.
 pub fn pruned(alloc: Global, first: usize, nodes: &[Node]) -> Result<Seq<Node>, AllocError> {
     let counts = known_counts(alloc, first, nodes)?;
-    let staying = staying(alloc, counts, nodes)?;
-    renumbered(alloc, first, nodes, staying)
+    let left = left_of(alloc, counts, nodes)?;
+    renumbered(alloc, first, nodes, left)
 }

@@ -1,5 +1,5 @@
 //! Nodes of a proof some of which are left out: the places of relations are told anew.
-use crate::pruning::{added_by, branches_of};
+use crate::pruning::{Left, added_by, branches_of};
 use acc_axioms::nodes::Node;
 use acc_base::sequences::{Seq, copied};
 use acc_farkas::refuting::Mults;
@@ -79,50 +79,76 @@ fn moved_node(alloc: Global, places: &Places, node: &Node) -> Result<Node, Alloc
     }
 }
 
-fn open_behind(
+/// The branch with this number behind a node, if it is left.
+fn branch_behind(
     alloc: Global,
-    open: &mut Vec<Places>,
     places: &Places,
     node: &Node,
-    stays: bool,
+    left: Left,
+    branch: usize,
+) -> Result<Option<Places>, AllocError> {
+    match left {
+        Left::All => Ok(Some(places_behind(alloc, places, added_by(node), true)?)),
+        Left::Branch(number) if number == branch => {
+            Ok(Some(places_behind(alloc, places, added_by(node), false)?))
+        }
+        Left::Branch(_) => Ok(None),
+    }
+}
+
+/// Opens the branches behind a node, the first one next.
+fn open_behind(
+    alloc: Global,
+    open: &mut Vec<Option<Places>>,
+    places: &Places,
+    node: &Node,
+    left: Left,
 ) -> Result<(), AllocError> {
-    for _branch in 0..branches_of(node) {
-        open.push(places_behind(alloc, places, added_by(node), stays)?)?;
+    for branch in (0..branches_of(node)).rev() {
+        open.push(branch_behind(alloc, places, node, left, branch)?)?;
     }
     Ok(())
 }
 
-/// Adds the next node, if it stays, and opens the branches behind it.
-fn add_node(
-    alloc: Global,
-    left: &mut Seq<Node>,
-    open: &mut Vec<Places>,
-    node: &Node,
-    stays: bool,
-) -> Result<(), AllocError> {
-    let Some(places) = open.pop() else {
-        return Ok(());
-    };
-    if stays {
-        left.push(moved_node(alloc, &places, node)?)?;
+/// Opens the branches behind a node of a branch that isn't left.
+fn open_none(open: &mut Vec<Option<Places>>, node: &Node) -> Result<(), AllocError> {
+    for _branch in 0..branches_of(node) {
+        open.push(None)?;
     }
-    open_behind(alloc, open, &places, node, stays)
+    Ok(())
 }
 
-/// The nodes that stay, as they are told from the last one on, where so many relations are known first.
+/// Adds the next node, if it is left, and opens the branches behind it.
+fn add_node(
+    alloc: Global,
+    nodes: &mut Seq<Node>,
+    open: &mut Vec<Option<Places>>,
+    node: &Node,
+    left: Left,
+) -> Result<(), AllocError> {
+    let Some(Some(places)) = open.pop() else {
+        return open_none(open, node);
+    };
+    if let Left::All = left {
+        nodes.push(moved_node(alloc, &places, node)?)?;
+    }
+    open_behind(alloc, open, &places, node, left)
+}
+
+/// The nodes that are left, where it is told of each what is left of it, from the last one on, and so many relations are known first.
 pub(crate) fn renumbered(
     alloc: Global,
     first: usize,
-    nodes: &[Node],
-    staying: Vec<bool>,
+    all: &[Node],
+    left: Vec<Left>,
 ) -> Result<Seq<Node>, AllocError> {
-    let mut staying = staying;
-    let mut left = Seq::new(alloc);
+    let mut left = left;
+    let mut nodes = Seq::new(alloc);
     let mut open = Vec::new(alloc);
-    open.push(first_places(alloc, first)?)?;
-    for node in nodes {
-        let stays = staying.pop().unwrap_or(true);
-        add_node(alloc, &mut left, &mut open, node, stays)?;
+    open.push(Some(first_places(alloc, first)?))?;
+    for node in all {
+        let left = left.pop().unwrap_or(Left::All);
+        add_node(alloc, &mut nodes, &mut open, node, left)?;
     }
-    Ok(left)
+    Ok(nodes)
 }
