@@ -2,7 +2,7 @@
 use crate::words::{list, small};
 use acc_base::bounds::MOST_KEY_PARTS;
 use acc_base::tables::Row;
-use acc_store::{MapStore, Store, StoreError};
+use acc_store::{Store, StoreError};
 use std::alloc::{AllocError, Global};
 use std::fmt::Write;
 
@@ -26,7 +26,7 @@ fn push_each(out: &mut String, rows: &[Row]) -> Result<(), AllocError> {
 }
 
 /// Pushes the rows of a store.
-fn push_rows(alloc: Global, out: &mut String, store: &MapStore) -> Result<(), AllocError> {
+fn push_rows<S: Store>(alloc: Global, out: &mut String, store: &S) -> Result<(), AllocError> {
     out.push_str("rows")?;
     match store.rows(alloc) {
         Ok(plain) => push_each(out, plain.rows.as_slice()),
@@ -35,9 +35,9 @@ fn push_rows(alloc: Global, out: &mut String, store: &MapStore) -> Result<(), Al
 }
 
 /// Pushes what a look-up of a key answers.
-fn push_look_up(
+fn push_look_up<S: Store>(
     out: &mut String,
-    store: &MapStore,
+    store: &S,
     verb: &str,
     table: u32,
     key: &[i64],
@@ -59,10 +59,10 @@ fn push_look_up(
 }
 
 /// Pushes what a look-up of a key in words answers.
-fn push_at(
+fn push_at<S: Store>(
     alloc: Global,
     out: &mut String,
-    store: &MapStore,
+    store: &S,
     verb: &str,
     table: u32,
     key: &str,
@@ -73,10 +73,10 @@ fn push_at(
 }
 
 /// Pushes what a question about the rows answers.
-pub fn push_row_answer(
+pub fn push_row_answer<S: Store>(
     alloc: Global,
     out: &mut String,
-    store: &MapStore,
+    store: &S,
     words: &[&str],
 ) -> Result<(), AllocError> {
     match words {

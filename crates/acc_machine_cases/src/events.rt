@@ -1,12 +1,15 @@
 //! Events, and questions between them.
+ghost use Rattle.std.specs.Prelude.{◌≡◌, [], IfOk};
+
 use crate::designs::is_formed;
 use acc_base::designs::Design;
 use acc_base::machines::Event;
 use acc_case_words::events::{event, push_reply, push_unfinished};
 use acc_case_words::rows::push_row_answer;
 use acc_case_words::words::number;
+use acc_index_store::IndexStore;
 use acc_plain::{Machine, PlainError};
-use acc_store::MapStore;
+use acc_store::{MapStore, Store, StoreError};
 use std::alloc::{AllocError, Global};
 use std::fmt::Write;
 
@@ -14,7 +17,7 @@ use std::fmt::Write;
 const MOST: usize = 1 << 30;
 
 /// Whether the machine takes an event.
-fn takes(machine: &mut Machine<MapStore>, event: &Event) -> Result<bool, AllocError> {
+fn takes<S: Store>(machine: &mut Machine<S>, event: &Event) -> Result<bool, AllocError> {
     if machine.events().len() >= MOST {
         return Ok(false);
     }
@@ -25,9 +28,9 @@ fn takes(machine: &mut Machine<MapStore>, event: &Event) -> Result<bool, AllocEr
 }
 
 /// Pushes whether an event is taken, and how many there are then.
-fn push_taken(
+fn push_taken<S: Store>(
     out: &mut String,
-    machine: &mut Machine<MapStore>,
+    machine: &mut Machine<S>,
     event: &Event,
 ) -> Result<(), AllocError> {
     let is_taken = takes(machine, event)?;
@@ -36,10 +39,10 @@ fn push_taken(
     write!(out, "{word} {count}")
 }
 
-fn push_answer(
+fn push_answer<S: Store>(
     alloc: Global,
     out: &mut String,
-    machine: &Machine<MapStore>,
+    machine: &Machine<S>,
     words: &[&str],
 ) -> Result<(), AllocError> {
     match words {
@@ -50,10 +53,10 @@ fn push_answer(
 }
 
 /// Pushes what comes of an event or of a question.
-fn push_item(
+fn push_item<S: Store>(
     alloc: Global,
     out: &mut String,
-    machine: &mut Machine<MapStore>,
+    machine: &mut Machine<S>,
     item: &str,
 ) -> Result<(), AllocError> {
     let words: Vec<&str> = item.split(' ').collect(alloc)?;
@@ -63,10 +66,10 @@ fn push_item(
     }
 }
 
-fn push_items(
+fn push_items<S: Store>(
     alloc: Global,
     out: &mut String,
-    machine: &mut Machine<MapStore>,
+    machine: &mut Machine<S>,
     items: &str,
 ) -> Result<(), AllocError> {
     let mut first = true;
@@ -91,5 +94,29 @@ pub fn push_answers(
         return out.push_str("no design");
     }
     let mut machine = Machine::new(alloc, design, MapStore::new(alloc));
+    push_items(alloc, out, &mut machine, items)
+}
+
+/// A store that keeps the totals that a design's steps read.
+fn indexed(alloc: Global, design: &Design) -> Result<IndexStore, AllocError>
+    ensures { IfOk result (λ store. store ≡ []) }
+{
+    match IndexStore::of(alloc, design) {
+        Ok(store) => Ok(store),
+        Err(StoreError::Memory) => Err(AllocError),
+    }
+}
+
+/// Pushes what comes of events and questions on a fresh machine whose store keeps totals.
+pub fn push_indexed(
+    alloc: Global,
+    out: &mut String,
+    design: &Design,
+    items: &str,
+) -> Result<(), AllocError> {
+    if !is_formed(design) {
+        return out.push_str("no design");
+    }
+    let mut machine = Machine::new(alloc, design, indexed(alloc, design)?);
     push_items(alloc, out, &mut machine, items)
 }

@@ -2,7 +2,8 @@
 //!
 //! `design TEXT` gives the design of the questions behind it, and `rename` gives its last type the name of its first. A number stands for a
 //! type, a point, a table or a column, from 0 on; a list has commas, and '-' is none. `long_script COUNT FIRST~PIECE~LAST` and `long_order
-//! PLACES COUNT FIRST~PIECE~LAST` ask about texts with a piece so many times.
+//! PLACES COUNT FIRST~PIECE~LAST` ask about texts with a piece so many times. `indexed` asks what `events` does over a store that keeps the
+//! totals that the design's steps read.
 #![tactic(auto)]
 
 mod designs;
@@ -43,6 +44,7 @@ fn push_answer(
     let (verb, rest) = parted(question, " ");
     match verb {
         "events" => events::push_answers(alloc, out, design, rest),
+        "indexed" => events::push_indexed(alloc, out, design, rest),
         "effect" | "look" => steps::push_answer(alloc, out, design, verb, rest),
         "script" => scripts::push_script(alloc, out, design, rest),
         "order" => scripts::push_order(alloc, out, rest),

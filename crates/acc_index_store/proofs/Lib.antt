@@ -1,0 +1,11 @@
+pub mod Finding
+pub mod Counting
+pub mod Sharing
+pub mod Naming
+pub mod Shares
+pub mod Batch
+pub mod Rooms
+pub mod Written
+pub mod Exchanges
+pub mod Adding
+pub mod Empties
