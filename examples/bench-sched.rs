@@ -1,5 +1,6 @@
-// A schedule by the rules of locks, in plain Rust: what `bench-sched` compares with. It has the design of counter.design, reads a script
-// and an order, and prints the lines that the schedule has. Rows stand in a map with keys of their own.
+// A schedule by the rules of locks, in plain Rust: what `bench-sched` compares with. It has the design of counter.design for so many tables
+// of cells and so many types that bump the cells of each, reads a script and an order, and prints the lines that the schedule has. Rows
+// stand in a map with keys of their own.
 use std::collections::BTreeMap;
 use std::fmt::Write;
 
@@ -66,7 +67,7 @@ struct Point {
 }
 
 struct Type {
-    name: &'static str,
+    name: String,
     params: usize,
     locals: usize,
     points: Vec<Point>,
@@ -493,43 +494,47 @@ fn reached(points: &[Point], from: usize) -> Vec<bool> {
     reached
 }
 
-fn counter() -> Design {
-    let make = Step {
-        reads: vec![Read::Has(1, 0, vec![local(0)])],
+// The type that makes a table's cells.
+fn make(table: u32) -> Type {
+    let next = Step {
+        reads: vec![Read::Has(1, table, vec![local(0)])],
         paths: vec![
-            path(is(1, 0), vec![Action::Put(0, vec![local(0)], vec![constant(0)])], Target::Commit),
+            path(is(1, 0), vec![Action::Put(table, vec![local(0)], vec![constant(0)])], Target::Commit),
             path(Vec::new(), Vec::new(), Target::Refuse(1)),
         ],
     };
+    let points = vec![Point { name: "start", next, undo: undone() }];
+    Type { name: format!("make{table}"), params: 1, locals: 2, points, returns: Vec::new(), limit: 1 }
+}
+
+// One of the types that bump a table's cells.
+fn bump(table: u32, kind: usize) -> Type {
     let look = Step {
-        reads: vec![Read::Has(1, 0, vec![local(0)]), Read::Column(2, 0, vec![local(0)], 0)],
+        reads: vec![Read::Has(1, table, vec![local(0)]), Read::Column(2, table, vec![local(0)], 0)],
         paths: vec![path(is(1, 1), Vec::new(), Target::Point(1)), path(Vec::new(), Vec::new(), Target::Refuse(1))],
     };
     let more = Linear { terms: vec![(2, 1)], constant: 1 };
     let change = Step {
         reads: Vec::new(),
-        paths: vec![path(Vec::new(), vec![Action::Set(0, vec![local(0)], 0, more)], Target::Commit)],
+        paths: vec![path(Vec::new(), vec![Action::Set(table, vec![local(0)], 0, more)], Target::Commit)],
     };
-    let types = vec![
-        Type {
-            name: "make",
-            params: 1,
-            locals: 2,
-            points: vec![Point { name: "start", next: make, undo: undone() }],
-            returns: Vec::new(),
-            limit: 1,
-        },
-        Type {
-            name: "bump",
-            params: 1,
-            locals: 3,
-            points: vec![Point { name: "start", next: look, undo: undone() }, Point { name: "mid", next: change, undo: undone() }],
-            returns: vec![2],
-            limit: 2,
-        },
-    ];
-    let mid = At { ty: 1, point: 1 };
-    let entries = vec![Entry { held: mid, step: mid, side: Side::Next, pairs: vec![(0, 0)] }];
+    let points = vec![Point { name: "start", next: look, undo: undone() }, Point { name: "mid", next: change, undo: undone() }];
+    Type { name: format!("bump{table}_{kind}"), params: 1, locals: 3, points, returns: vec![2], limit: 2 }
+}
+
+fn counters(tables: u32, kinds: usize) -> Design {
+    let mut types = Vec::new();
+    let mut entries = Vec::new();
+    for table in 0..tables {
+        types.push(make(table));
+        let first = types.len();
+        types.extend((0..kinds).map(|kind| bump(table, kind)));
+        for held in first..types.len() {
+            let held = At { ty: held, point: 1 };
+            let steps = (first..types.len()).map(|ty| At { ty, point: 1 });
+            entries.extend(steps.map(|step| Entry { held, step, side: Side::Next, pairs: vec![(0, 0)] }));
+        }
+    }
     let reached = types.iter().map(|ty| (0..ty.points.len()).map(|point| reached(&ty.points, point)).collect()).collect();
     Design { types, entries, reached }
 }
@@ -621,9 +626,9 @@ fn end_all(machine: &mut Machine) {
 
 fn main() {
     let words: Vec<String> = std::env::args().collect();
-    let script = std::fs::read_to_string(&words[1]).expect("a script");
-    let order = std::fs::read_to_string(&words[2]).expect("an order");
-    let design = counter();
+    let script = std::fs::read_to_string(&words[3]).expect("a script");
+    let order = std::fs::read_to_string(&words[4]).expect("an order");
+    let design = counters(words[1].parse().expect("a number of tables"), words[2].parse().expect("a number of types"));
     let calls: Vec<Call> = lines(&script).map(|line| call(&design, line)).collect();
     let order: Vec<usize> = lines(&order).flat_map(str::split_whitespace).map(|word| word.parse().expect("a place")).collect();
     let mut machine =
