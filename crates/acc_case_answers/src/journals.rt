@@ -125,3 +125,56 @@ pub fn twice<R: Files + Print + AllocGlobal>(rt: &R, words: &str) -> io::Result<
     let mut out = sink(rt.alloc(), "-", "-")?;
     answer_twice(rt, words, &mut shelf, &mut out)
 }
+
+/// Answers a command line over a disk that holds these bytes, prints what it wrote and its status, and hands out the bytes that it left.
+fn answer_behind<R: Print + AllocGlobal>(
+    rt: &R,
+    shelf: &mut MemShelf,
+    words: &str,
+    bytes: &[u8],
+    from: &str,
+) -> io::Result<Vec<u8>> {
+    let disk = disk(rt.alloc(), bytes, "-", from)?;
+    let mut out = sink(rt.alloc(), "-", "-")?;
+    let done = memory::answer_over(rt.alloc(), words, shelf, &mut out, disk)?;
+    let text = String::from_utf8_lossy(rt.alloc(), out.bytes())?;
+    println!(rt; "{}status {}", text.as_str(), done.status)?;
+    Ok(done.disk.bytes().to_vec(rt.alloc())?)
+}
+
+/// `chain AT FROM WORDS ; WORDS ..`: command lines over the folder's files, each over the bytes that the one before it left on a disk in
+/// memory, the first over an empty one. Of the line with the number AT, the calls of the disk from the number FROM on fail; a `-` is none.
+pub fn chain<R: Files + Print + AllocGlobal>(rt: &R, text: &str) -> io::Result<()> {
+    let (at, rest) = first_word(text);
+    let (from, lines) = first_word(rest);
+    let mut shelf = shelf_of(rt, lines)?;
+    let mut bytes = Vec::new(rt.alloc());
+    let mut number = 0u64;
+    for words in lines.split(" ; ") {
+        number = number.saturating_add(1);
+        let from = if at.parse() == Ok(number) { from } else { "-" };
+        bytes = answer_behind(rt, &mut shelf, words, &bytes, from)?;
+    }
+    Ok(())
+}
+
+/// What a command line writes over an empty disk in memory, and its status.
+fn written(alloc: Global, shelf: &mut MemShelf, words: &str) -> Result<(Vec<u8>, u8), AllocError> {
+    let mut out = sink(alloc, "-", "-")?;
+    let done = memory::answer_over(alloc, words, shelf, &mut out, disk(alloc, &[], "-", "-")?)?;
+    Ok((out.bytes().to_vec(alloc)?, done.status))
+}
+
+/// `alike WORDS ; WORDS`: whether two command lines over the folder's files write the same; and the status of each.
+pub fn alike<R: Files + Print + AllocGlobal>(rt: &R, text: &str) -> io::Result<()> {
+    let (one, other) = text.split_once(" ; ").unwrap_or((text, ""));
+    let mut shelf = shelf_of(rt, text)?;
+    let (first, status) = written(rt.alloc(), &mut shelf, one)?;
+    let (second, behind) = written(rt.alloc(), &mut shelf, other)?;
+    let told = if first == second {
+        "the same"
+    } else {
+        "not the same"
+    };
+    println!(rt; "{told}, status {status} and {behind}")
+}

@@ -1,5 +1,5 @@
 //! Command lines over a shelf and a disk in memory.
-use acc_cli::{Alone, Done, acc};
+use acc_cli::{Alone, Done, InTurn, acc};
 use acc_disk::MemDisk;
 use acc_io::{MemShelf, MemSink, Sink};
 use acc_progress::Silent;
@@ -98,6 +98,7 @@ pub fn answer_over<K: Sink>(
         out,
         disk,
         &Alone,
+        &InTurn,
         &mut None,
         &mut Silent,
     ))

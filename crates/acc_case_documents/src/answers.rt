@@ -1,6 +1,6 @@
 //! What the program answers to commands and to texts.
 use crate::journals::Journals;
-use acc_case_commands::{acc, asks_journal, memory};
+use acc_case_commands::{InTurn, acc, asks_journal, memory};
 use acc_crew::Alone;
 use acc_disk::MemDisk;
 use acc_io::{FolderShelf, Shelf};
@@ -23,6 +23,7 @@ fn answer_words<H: Shelf>(
         &mut out,
         disk,
         &Alone,
+        &InTurn,
         &mut None,
         &mut Silent,
     );

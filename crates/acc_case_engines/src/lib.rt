@@ -2,7 +2,7 @@
 //! the engine and the questions about it, item by item.
 #![tactic(auto)]
 
-mod answers;
+pub mod answers;
 pub mod calls;
 mod items;
 pub mod runs;

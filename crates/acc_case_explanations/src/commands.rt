@@ -1,5 +1,5 @@
 //! Command lines over files and disks in memory: how they end, what they print, and what is told of them.
-use acc_case_commands::{acc, help_text, memory};
+use acc_case_commands::{InTurn, acc, help_text, memory};
 use acc_crew::Alone;
 use acc_diagnose::explain;
 use acc_disk::MemDisk;
@@ -76,6 +76,7 @@ fn answer_over(
         out,
         disk,
         &Alone,
+        &InTurn,
         &mut None,
         &mut Silent,
     )

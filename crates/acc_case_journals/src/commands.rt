@@ -50,8 +50,8 @@ fn ending_word(ending: Ending) -> &'static str {
         Ending::Done => "done ",
         Ending::JournalRefused => "refused ",
         Ending::DiskFailed => "failed ",
-        Ending::DesignRefused | Ending::ScriptRefused | Ending::Unbegun | Ending::Open =>
-            "otherwise ",
+        Ending::DesignRefused | Ending::ScriptRefused => "otherwise ",
+        Ending::Unbegun | Ending::Open | Ending::ConditionFalse => "otherwise ",
     }
 }
 

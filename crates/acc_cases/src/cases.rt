@@ -9,7 +9,7 @@ use acc_case_answers::runs::{play_texts, sched_last, sched_texts};
 use acc_case_commands::texts::{self, first_word};
 use acc_case_commands::{memory, proofs};
 use acc_case_documents::documents;
-use acc_cli::acc;
+use acc_cli::{InTurn, acc};
 use acc_crew::Alone;
 use acc_io::{FolderShelf, StdSink};
 use acc_progress::Silent;
@@ -32,6 +32,7 @@ fn run<R: Files<File = File> + Print + AllocGlobal>(rt: &R, line: &str) -> io::R
         &mut out,
         disk,
         &Alone,
+        &InTurn,
         &mut None,
         &mut Silent,
     );
@@ -158,6 +159,8 @@ fn answer_words<R: Files<File = File> + Print + AllocGlobal>(
         "fails" => fails(rt, rest),
         "disk" => journals::over_disk(rt, rest),
         "twice" => journals::twice(rt, rest),
+        "chain" => journals::chain(rt, rest),
+        "alike" => journals::alike(rt, rest),
         _ => answer_design(rt, verb, rest),
     }
 }
@@ -188,7 +191,7 @@ fn answer_command<R: Files<File = File> + Print + AllocGlobal>(
     answer_plain(rt, base, line.as_str())
 }
 
-/// Prints a case of a run by threads, and what it answers.
+/// Prints a case by threads, and what it answers.
 fn answer_in_threads<R: Files<File = File> + Print + AllocGlobal, T: Threads + Wait + Sync>(
     rt: &R,
     threads: &T,
@@ -206,7 +209,7 @@ pub fn answer<R: Files<File = File> + Print + AllocGlobal, T: Threads + Wait + S
     line: &str,
 ) -> io::Result<()> {
     match first_word(line).0 {
-        "threads" | "interleaves" => answer_in_threads(rt, threads, line),
+        "threads" | "interleaves" | "shares" | "searches" => answer_in_threads(rt, threads, line),
         "device" | "journal" | "relation" => kinds::tell(rt, kinds, line),
         "machine" | "text" | "search" => kinds::tell_or_take(rt, kinds, line),
         "state" | "engine" => kinds::tell_or_accept(rt, kinds, line),

@@ -7,7 +7,7 @@ use Rattle.acc_io.specs.Shelves.{Told}
 use Rattle.acc_io.specs.declared.counts.Counts.{Counts}
 use Rattle.acc_commands.specs.Command.{Command}
 use Rattle.acc_journalled.specs.declared.answers.Ending.{Ending}
-use Rattle.acc_journalled.specs.declared.answers.Ending.TheVariants.{Done, JournalRefused, DiskFailed, Unbegun, Open}
+use Rattle.acc_journalled.specs.declared.answers.Ending.TheVariants.{Done, JournalRefused, DiskFailed, Unbegun, Open, ConditionFalse}
 use Rattle.acc_cli.specs.declared.status.Status.{Status}
 use Rattle.acc_cli.specs.declared.status.Status.TheVariants.{Usage, File, Sink, Memory, Ran}
 use Rattle.acc_cli.specs.Replies.{Reply}
@@ -16,11 +16,11 @@ use Rattle.acc_commands.specs.Words.{command_of, files_of}
 use Rattle.acc_cli.specs.Meant.{Runs, MeansForm, Meant}
 use Rattle.acc_cli.specs.Answered.{Answered}
 use Rattle.acc_cli.specs.Causes.{EndsSo, LeavesInMemory, LeavesUnbegun, FindsJournal, RefusesRecovering, RefusesJournal}
-use Rattle.acc_cli.specs.Causes.{LeavesOpen, HasCauses}
+use Rattle.acc_cli.specs.Causes.{LeavesOpen, FindsConditionFalse, HasCauses}
 use Rattle.acc_journalled.proofs.Endings.{was_of_bytes}
 use Rattle.acc_commands.specs.Overs.{LeavesBy}
 use Rattle.acc_commands.proofs.RefusedOvers.{RefusesOver}
-use Rattle.acc_commands.proofs.WhichCommands.{LeftAnyhow, leaves_unbegun, leaves_open, refuses_journal, fails_by_disk}
+use Rattle.acc_commands.proofs.WhichCommands.{LeftAnyhow, leaves_unbegun, leaves_open, finds_false, refuses_journal, fails_by_disk}
 
 module _ (held : List ℕ → Told) (counts counts' : Counts) (disk disk' : Seen) (words : List (List ℕ)) where
   -- the files were given, and the command ended so
@@ -75,6 +75,12 @@ module _ (held : List ℕ → Told) (counts counts' : Counts) (disk disk' : Seen
       let left = leaves_open ends.command ends.files disk disk' ends.said ends.ending_is ends.meant in
       record { ends = ends; is_prove = left.0; design = left.2; file = left.3; stays = left.4 }
 
+  -- a condition is false
+  is_false : EndsSo held counts counts' disk disk' words ConditionFalse → FindsConditionFalse held counts counts' disk disk' words
+  is_false ends =
+      let found = finds_false ends.command ends.files disk disk' ends.said ends.ending_is ends.meant in
+      record { ends = ends; is_verify = found.0; finds = found.1 }
+
   failed_disk : EndsSo held counts counts' disk disk' words DiskFailed → Rose disk.faults disk'.faults
   failed_disk ends = fails_by_disk ends.command ends.files disk disk' ends.said ends.ending_is ends.meant
 
@@ -93,6 +99,7 @@ module _ (held : List ℕ → Told) (counts counts' : Counts) (disk disk' : Seen
     unbegun = λ h. let e : Usage ≡ Ran Unbegun = sym meant.0 ∙ h in absurd cc;
     journal = λ h. let e : Usage ≡ Ran JournalRefused = sym meant.0 ∙ h in absurd cc;
     unproved = λ h. let e : Usage ≡ Ran Open = sym meant.0 ∙ h in absurd cc;
+    judged = λ h. let e : Usage ≡ Ran ConditionFalse = sym meant.0 ∙ h in absurd cc;
     disk_fault = λ h. let e : Usage ≡ Ran DiskFailed = sym meant.0 ∙ h in absurd cc;
     ran = λ ending h. let e : Usage ≡ Ran ending = sym meant.0 ∙ h in cc;
   }
@@ -112,6 +119,7 @@ module _ (held : List ℕ → Told) (counts counts' : Counts) (disk disk' : Seen
     unbegun = λ h. let e : File ≡ Ran Unbegun = sym refuses.0 ∙ h in absurd cc;
     journal = λ h. let e : File ≡ Ran JournalRefused = sym refuses.0 ∙ h in absurd cc;
     unproved = λ h. let e : File ≡ Ran Open = sym refuses.0 ∙ h in absurd cc;
+    judged = λ h. let e : File ≡ Ran ConditionFalse = sym refuses.0 ∙ h in absurd cc;
     disk_fault = λ h. let e : File ≡ Ran DiskFailed = sym refuses.0 ∙ h in absurd cc;
     ran = λ ending h. let e : File ≡ Ran ending = sym refuses.0 ∙ h in cc;
   }
@@ -123,6 +131,7 @@ module _ (held : List ℕ → Told) (counts counts' : Counts) (disk disk' : Seen
     unbegun = λ h. left_unbegun (by Unbegun h);
     journal = λ h. refused_journal (by JournalRefused h);
     unproved = λ h. stays_open (by Open h);
+    judged = λ h. is_false (by ConditionFalse h);
     disk_fault = λ h. failed_disk (by DiskFailed h);
     ran = by;
   }
@@ -152,6 +161,7 @@ module _ (held : List ℕ → Told) (counts counts' : Counts) (disk disk' : Seen
         unbegun = λ h. absurd cc;
         journal = λ h. absurd cc;
         unproved = λ h. absurd cc;
+        judged = λ h. absurd cc;
         disk_fault = λ h. absurd cc;
         ran = λ ending h. cc;
       }
@@ -167,6 +177,7 @@ module _ (held : List ℕ → Told) (counts counts' : Counts) (disk disk' : Seen
     unbegun = λ h. let e : Memory ≡ Ran Unbegun = sym none.0 ∙ h in absurd cc;
     journal = λ h. let e : Memory ≡ Ran JournalRefused = sym none.0 ∙ h in absurd cc;
     unproved = λ h. let e : Memory ≡ Ran Open = sym none.0 ∙ h in absurd cc;
+    judged = λ h. let e : Memory ≡ Ran ConditionFalse = sym none.0 ∙ h in absurd cc;
     disk_fault = λ h. let e : Memory ≡ Ran DiskFailed = sym none.0 ∙ h in absurd cc;
     ran = λ ending h. let e : Memory ≡ Ran ending = sym none.0 ∙ h in cc;
   }

@@ -5,7 +5,7 @@ use Rattle.std.proofs.lemmas.List.Elements.{All-nil, All-cons}
 use Rattle.acc_io.specs.Shelves.{Told}
 use Rattle.acc_journalled.specs.declared.answers.Ending.{Ending}
 use Rattle.acc_journalled.specs.declared.answers.Ending.TheVariants.{Done, DesignRefused, ScriptRefused, JournalRefused}
-use Rattle.acc_journalled.specs.declared.answers.Ending.TheVariants.{DiskFailed, Unbegun, Open}
+use Rattle.acc_journalled.specs.declared.answers.Ending.TheVariants.{DiskFailed, Unbegun, Open, ConditionFalse}
 use Rattle.acc_commands.specs.Text.{IsEarly}
 use Rattle.acc_commands.specs.Files.{AreFiles}
 use Rattle.acc_cli.specs.declared.status.Status.TheVariants.{Ran}
@@ -28,6 +28,7 @@ early JournalRefused h = absurd (omega (arith, h))
 early DiskFailed h = absurd (omega (arith, h))
 early Unbegun h = absurd (omega (arith, h))
 early Open h = absurd (omega (arith, h))
+early ConditionFalse h = absurd (omega (arith, h))
 
 pub not_failed : (ending : Ending) → code_of (Ran ending) ≢ 5 → ending ≢ DiskFailed
 not_failed DiskFailed h = absurd (h refl)
@@ -37,3 +38,4 @@ not_failed ScriptRefused h = λ e. cc
 not_failed JournalRefused h = λ e. cc
 not_failed Unbegun h = λ e. cc
 not_failed Open h = λ e. cc
+not_failed ConditionFalse h = λ e. cc

@@ -7,6 +7,7 @@ pub mod DiskLemmas
 pub mod CreationLemmas
 pub mod ProvingLemmas
 pub mod RecoveryLemmas
+pub mod VerificationLemmas
 pub mod AnswerLemmas
 pub mod LineLemmas
 pub mod Surviving

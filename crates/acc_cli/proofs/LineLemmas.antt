@@ -12,6 +12,7 @@ use Rattle.acc_commands.specs.Words.{command_of, file_count, files_of}
 use Rattle.acc_commands.specs.Files.{AreFiles}
 use Rattle.acc_commands.specs.Disks.{LeavesSo}
 use Rattle.acc_commands.specs.RecoverFiles.{TellsDesign, TellsNoneOr}
+use Rattle.acc_commands.specs.VerifyFiles.{TellsVerifiedDesign}
 use Rattle.acc_commands.proofs.Disks.{leaves_weaker}
 use Rattle.acc_commands.specs.Means.{LeavesOfFile, LeavesOf}
 use Rattle.acc_commands.proofs.LeavesFiles.{leaves_untouched, leaves_file}
@@ -19,6 +20,7 @@ use Rattle.acc_cli.specs.Leavings.{LeavesLine}
 use Rattle.acc_cli.specs.Meant.{LeavesOfLine}
 use Rattle.acc_cli.specs.Recoveries.{wanted_by, IsRecovered}
 use Rattle.acc_cli.specs.Runs.{RunsLine, WorksLine}
+use Rattle.acc_cli.specs.Verifications.{IsVerified}
 
 module _ {D : Type 0} (clock : D → ℕ) (left_since : D → ℕ → List ℕ → Type 0) (told : D → Option (List ℕ)) (may_leave : D → List ℕ → Type 0)
     (held : List ℕ → Told) (words : List (List ℕ)) (old new : D) (history : List Event) (settled : ℕ) where
@@ -126,6 +128,8 @@ module _ {D : Type 0} (clock : D → ℕ) (left_since : D → ℕ → List ℕ �
     of_recovering command.Replies w (design ∷ certificate ∷ []) by h =
         of_design command.Replies w wanted.Replies design certificate (same_Some wanted.Replies w by) h.1 h.2.tells
     of_recovering command.Replies w (design ∷ certificate ∷ more ∷ rest) by h = absurd (omega (arith, h.0))
+    of_recovering command.Verify w files by h = absurd cc
+    of_recovering command.TpccDesign w files by h = absurd cc
     of_recovering command.Init w files by h = absurd cc
     of_recovering command.Play w files by h = absurd cc
     of_recovering command.Rehearse w files by h = absurd cc
@@ -143,3 +147,43 @@ module _ {D : Type 0} (clock : D → ℕ) (left_since : D → ℕ → List ℕ �
     tells_somehow c w is by (inr g) =
         of_recovering c w g.files by
         (subst (λ (x : Command). OfCommand x g.files) (same_Some g.command c (sym g.form ∙ is)) (g.count, g.given, g.left))
+
+  -- ---- the same of `verify`
+
+  module _ (out out' : Option (List ℕ)) (code : ℕ) (lacks : code ≡ 9) where
+    abbrev VerifiedSomehow : Type 0
+    VerifiedSomehow = ((history ≡ []) × (settled ≡ 0)) ⊎ IsVerified held words (told old) (told new) out out' code history settled
+
+    of_verified : (design certificate : List ℕ) → AreFiles held (files_of command.Verify words) (design ∷ certificate ∷ [])
+        → TellsNoneOr (TellsVerifiedDesign design certificate (told old) (told new) history settled) history settled → VerifiedSomehow
+    of_verified design certificate given (inl none) = inl none
+    of_verified design certificate given (inr t) = inr (record {
+      design = design;
+      certificate = certificate;
+      given = given;
+      d = t.d;
+      is_text = t.is_text;
+      accepted = t.tells.accepted;
+      tables = t.tells.tells.tables;
+      schema = t.tells.tells.schema;
+      text = t.tells.tells.text;
+      recovers = t.tells.tells.recovers;
+      says = λ zero. absurd (omega (arith, lacks, zero));
+      front = λ ten. absurd (omega (arith, lacks, ten));
+      all_true = λ done. absurd (omega (arith, lacks, done));
+      one_false = λ ten. absurd (omega (arith, lacks, ten));
+    })
+
+    of_verify : (files : List (List ℕ)) → OfCommand command.Verify files → VerifiedSomehow
+    unfolding LeavesOf file_count
+    of_verify [] h = absurd (omega (arith, h.0))
+    of_verify (design ∷ []) h = absurd (omega (arith, h.0))
+    of_verify (design ∷ certificate ∷ []) h = of_verified design certificate h.1 h.2.tells
+    of_verify (design ∷ certificate ∷ more ∷ rest) h = absurd (omega (arith, h.0))
+
+    pub verified_somehow : command_of words ≡ Some command.Verify
+        → LeavesLine clock left_since told may_leave held words old new history settled → VerifiedSomehow
+    verified_somehow is (inl none) = inl (none.1, none.2)
+    verified_somehow is (inr g) =
+        of_verify g.files
+        (subst (λ (x : Command). OfCommand x g.files) (same_Some g.command command.Verify (sym g.form ∙ is)) (g.count, g.given, g.left))

@@ -1,7 +1,7 @@
 -- The status behind a number.
 use Rattle.std.proofs.Common.{◌≡◌, refl}
 use Rattle.acc_journalled.specs.declared.answers.Ending.TheVariants.{Done, DesignRefused, ScriptRefused, JournalRefused}
-use Rattle.acc_journalled.specs.declared.answers.Ending.TheVariants.{DiskFailed, Unbegun, Open}
+use Rattle.acc_journalled.specs.declared.answers.Ending.TheVariants.{DiskFailed, Unbegun, Open, ConditionFalse}
 use Rattle.acc_cli.specs.declared.status.Status.{Status}
 use Rattle.acc_cli.specs.declared.status.Status.TheVariants.{Usage, File, Sink, Memory, Ran}
 use Rattle.acc_cli.specs.Status.{code_of}
@@ -14,6 +14,7 @@ zero_is_done (Ran JournalRefused) h = cc
 zero_is_done (Ran DiskFailed) h = cc
 zero_is_done (Ran Unbegun) h = cc
 zero_is_done (Ran Open) h = cc
+zero_is_done (Ran ConditionFalse) h = cc
 zero_is_done Usage h = cc
 zero_is_done File h = cc
 zero_is_done Sink h = cc
@@ -27,6 +28,7 @@ seven_is_sink (Ran JournalRefused) h = cc
 seven_is_sink (Ran DiskFailed) h = cc
 seven_is_sink (Ran Unbegun) h = cc
 seven_is_sink (Ran Open) h = cc
+seven_is_sink (Ran ConditionFalse) h = cc
 seven_is_sink Usage h = cc
 seven_is_sink File h = cc
 seven_is_sink Sink h = refl
@@ -40,6 +42,7 @@ four_is_refused (Ran JournalRefused) h = refl
 four_is_refused (Ran DiskFailed) h = cc
 four_is_refused (Ran Unbegun) h = cc
 four_is_refused (Ran Open) h = cc
+four_is_refused (Ran ConditionFalse) h = cc
 four_is_refused Usage h = cc
 four_is_refused File h = cc
 four_is_refused Sink h = cc

@@ -14,13 +14,13 @@ use Rattle.acc_recover.specs.declared.errors.RecoverError.{RecoverError}
 use Rattle.acc_commands.specs.Command.{Command}
 use Rattle.acc_commands.specs.Command.TheVariants as command
 use Rattle.acc_journalled.specs.declared.answers.Ending.{Ending}
-use Rattle.acc_journalled.specs.declared.answers.Ending.TheVariants.{Done, JournalRefused, DiskFailed, Unbegun, Open}
+use Rattle.acc_journalled.specs.declared.answers.Ending.TheVariants.{Done, JournalRefused, DiskFailed, Unbegun, Open, ConditionFalse}
 use Rattle.acc_cli.specs.declared.status.Status.{Status}
 use Rattle.acc_cli.specs.declared.status.Status.TheVariants.{Usage, File, Sink, Memory, Ran}
 use Rattle.acc_commands.specs.Words.{command_of, files_of}
 use Rattle.acc_commands.specs.Files.{AreFiles, IsFirstRefused, SaysRefused}
 use Rattle.acc_commands.specs.Means.{Means}
-use Rattle.acc_commands.specs.Overs.{IsRecovering, LeavesBy}
+use Rattle.acc_commands.specs.Overs.{IsRecovering, LeavesBy, FindsFalse}
 use Rattle.acc_commands.specs.ProveFiles.{StaysOpen}
 use Rattle.acc_journalled.specs.Tellings.{Telling}
 use Rattle.acc_commands.specs.Disks.{Seen}
@@ -67,8 +67,8 @@ pub record FindsJournal (c : Command) (disk disk' : Seen) : Type 0 where
   pub there : IfSome disk.told IsThere
   pub same : disk'.told ≡ disk.told
 
--- It is `sched`, `run`, `recover`, `dump` or `replies`, and the bytes of the disk give this cause why nothing is recovered. What is no
--- journal is left as it is; a journal that is refused counts what it counted.
+-- It is `sched`, `run`, `recover`, `dump`, `replies` or `verify`, and the bytes of the disk give this cause why nothing is recovered. What is
+-- no journal is left as it is; a journal that is refused counts what it counted.
 pub record RefusesRecovering (c : Command) (disk disk' : Seen) : Type 0 where
   pub is_over : IsRecovering c
   pub d : Design
@@ -91,6 +91,13 @@ pub record LeavesOpen (held : List ℕ → Told) (counts counts' : Counts) (disk
   pub file : ends.files ≡ design ∷ []
   pub stays : StaysOpen design ends.said.text
 
+-- it is `verify`, and a consistency condition is false of the recovered rows
+pub record FindsConditionFalse (held : List ℕ → Told) (counts counts' : Counts) (disk disk' : Seen) (words : List (List ℕ)) : Type 0
+  where
+    pub ends : EndsSo held counts counts' disk disk' words ConditionFalse
+    pub is_verify : ends.command ≡ command.Verify
+    pub finds : FindsFalse disk disk' ends.said
+
 -- Want of memory alone is free. No status but that of a file comes after a read that gave no file.
 pub record HasCauses (held : List ℕ → Told) (counts counts' : Counts) (disk disk' : Seen) (words : List (List ℕ)) (sink_fault : Type 0)
     (status : Status) : Type 0 where
@@ -101,5 +108,6 @@ pub record HasCauses (held : List ℕ → Told) (counts counts' : Counts) (disk 
   pub unbegun : status ≡ Ran Unbegun → LeavesUnbegun held counts counts' disk disk' words
   pub journal : status ≡ Ran JournalRefused → RefusesJournal held counts counts' disk disk' words
   pub unproved : status ≡ Ran Open → LeavesOpen held counts counts' disk disk' words
+  pub judged : status ≡ Ran ConditionFalse → FindsConditionFalse held counts counts' disk disk' words
   pub disk_fault : status ≡ Ran DiskFailed → Rose disk.faults disk'.faults
   pub ran : (ending : Ending) → status ≡ Ran ending → EndsSo held counts counts' disk disk' words ending

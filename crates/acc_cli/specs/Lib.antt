@@ -9,5 +9,6 @@ pub mod Laws
 pub mod Promises
 pub mod Creations
 pub mod Recoveries
+pub mod Verifications
 pub mod Runs
 pub mod Headline

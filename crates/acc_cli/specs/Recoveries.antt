@@ -22,6 +22,8 @@ abbrev pub wanted_by : Command → Option Wanted
 wanted_by command.Recover = Some wanted.Counts
 wanted_by command.Dump = Some wanted.Rows
 wanted_by command.Replies = Some wanted.Replies
+wanted_by command.Verify = None
+wanted_by command.TpccDesign = None
 wanted_by command.Play = None
 wanted_by command.Rehearse = None
 wanted_by command.Print = None

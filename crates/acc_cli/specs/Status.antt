@@ -1,7 +1,7 @@
 -- The numbers of the statuses.
 use Rattle.std.specs.Prelude.{◌≡◌, ◌⊎◌, ℕ}
 use Rattle.acc_journalled.specs.declared.answers.Ending.TheVariants.{Done, DesignRefused, ScriptRefused, JournalRefused}
-use Rattle.acc_journalled.specs.declared.answers.Ending.TheVariants.{DiskFailed, Unbegun, Open}
+use Rattle.acc_journalled.specs.declared.answers.Ending.TheVariants.{DiskFailed, Unbegun, Open, ConditionFalse}
 use Rattle.acc_cli.specs.declared.status.Status.{Status}
 use Rattle.acc_cli.specs.declared.status.Status.TheVariants.{Usage, File, Sink, Memory, Ran}
 
@@ -17,6 +17,7 @@ code_of Sink = 7
 code_of (Ran Unbegun) = 8
 code_of Memory = 9
 code_of (Ran Open) = 10
+code_of (Ran ConditionFalse) = 10
 
 -- the number is that of a status of which this holds
 pub record IsCoded (code : ℕ) (P : Status → Type 0) : Type 0 where

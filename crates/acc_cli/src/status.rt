@@ -35,7 +35,7 @@ impl Status {
             Status::Sink => 7,
             Status::Ran(Ending::Unbegun) => 8,
             Status::Memory => 9,
-            Status::Ran(Ending::Open) => 10,
+            Status::Ran(Ending::Open | Ending::ConditionFalse) => 10,
         }
     }
 }

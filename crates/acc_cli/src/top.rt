@@ -20,18 +20,21 @@ ghost use Rattle.acc_cli.specs.Runs.{RunsLine, WorksLine};
 ghost use Rattle.acc_cli.specs.Creations.{IsCreated};
 ghost use Rattle.acc_cli.specs.Provings.{IsProved};
 ghost use Rattle.acc_cli.specs.Recoveries.{wanted_by, TellsRecovery, LeavesRefused};
+ghost use Rattle.acc_cli.specs.Verifications.{TellsVerification};
 ghost use Rattle.acc_journalled.specs.declared.answers.Wanted.{Wanted};
 ghost use Rattle.acc_commands.specs.Command.{Command as TheCommand};
 ghost use Rattle.acc_commands.specs.Disks.{seen, IsUntouched};
 ghost use Rattle.acc_commands.specs.Words.{command_of, is_journalled, is_over_journal};
 ghost use Rattle.acc_commands.specs.Requests.{command_in, texts_in};
 ghost use Rattle.acc_commands.specs.Means.{LeavesOf};
-ghost use Rattle.acc_commands.specs.Command.TheVariants.{Rehearse, Sched, Run, Init, Prove};
+ghost use Rattle.acc_commands.specs.Command.TheVariants.{Rehearse, Sched, Run, Init, Prove, Verify};
 
 use crate::status::Status;
 use acc_base::machines::Event;
 use acc_base::sequences::Seq;
-use acc_commands::{Crew, Ended, Ending, Engine, Request, command_of, file_count, read_all, run};
+use acc_commands::{
+    Crew, Ended, Ending, Engine, Request, Searchers, command_of, file_count, read_all, run,
+};
 use acc_disk::Disk;
 use acc_io::{Shelf, ShelfError, Sink, write_all};
 use acc_lift::Accepted;
@@ -136,17 +139,26 @@ fn refusal_text(alloc: Global, name: &str, error: ShelfError) -> Result<Vec<u8>,
 }
 
 // Answers a command whose files are given.
-fn answer_command<'a, K: Sink, D: Disk, C: Crew<Engine<'a, MapStore, D>>, P: Progress>(
+fn answer_command<
+    'a,
+    K: Sink,
+    D: Disk,
+    C: Crew<Engine<'a, MapStore, D>>,
+    S: Searchers,
+    P: Progress,
+>(
     alloc: Global,
     request: Request,
     out: &mut K,
     disk: D,
     crew: &C,
+    searchers: &S,
     slot: &'a mut Option<Accepted>,
     progress: &mut P,
 ) -> Closed<D>
     requires short { All (λ text. length text ≤ 2 ^ 26) (texts_in request) }
     requires ready { C.ready crew.now }
+    requires searching { S.ready searchers.now }
     ensures answered { Answered (is_journalled (command_in request.entry))
         (RunsSo (command_in request.entry) (texts_in request.entry) (seen (D.told disk) (D.faults disk))
         (seen (D.told result.disk) (D.faults result.disk)))
@@ -166,7 +178,7 @@ fn answer_command<'a, K: Sink, D: Disk, C: Crew<Engine<'a, MapStore, D>>, P: Pro
         history,
         settled,
         answer,
-    } = run(alloc, request, disk, crew, slot, progress);
+    } = run(alloc, request, disk, crew, searchers, slot, progress);
     let Ok(answer) = answer else {
         return lacking(disk, history, settled);
     };
@@ -179,17 +191,27 @@ fn answer_command<'a, K: Sink, D: Disk, C: Crew<Engine<'a, MapStore, D>>, P: Pro
 }
 
 // Answers a command line.
-fn answer_line<'a, H: Shelf, K: Sink, D: Disk, C: Crew<Engine<'a, MapStore, D>>, P: Progress>(
+fn answer_line<
+    'a,
+    H: Shelf,
+    K: Sink,
+    D: Disk,
+    C: Crew<Engine<'a, MapStore, D>>,
+    S: Searchers,
+    P: Progress,
+>(
     alloc: Global,
     words: &[String],
     shelf: &mut H,
     out: &mut K,
     disk: D,
     crew: &C,
+    searchers: &S,
     slot: &'a mut Option<Accepted>,
     progress: &mut P,
 ) -> Closed<D>
-    requires { C.ready crew.now }
+    requires ready { C.ready crew.now }
+    requires searching { S.ready searchers.now }
     ensures held { H.held shelf.new ≡ H.held shelf.old }
     ensures faults { (H.counts shelf.old).faults ≤ (H.counts shelf.new).faults }
     ensures absences { (H.counts shelf.old).absences ≤ (H.counts shelf.new).absences }
@@ -215,7 +237,7 @@ fn answer_line<'a, H: Shelf, K: Sink, D: Disk, C: Crew<Engine<'a, MapStore, D>>,
     match read_all(alloc, shelf, names) {
         Ok(files) => {
             let request = Request::new(command, &files);
-            answer_command(alloc, request, out, disk, crew, slot, progress)
+            answer_command(alloc, request, out, disk, crew, searchers, slot, progress)
         }
         Err(refusal) => {
             let text = refusal_text(alloc, refusal.name, refusal.error);
@@ -233,19 +255,29 @@ fn answer_line<'a, H: Shelf, K: Sink, D: Disk, C: Crew<Engine<'a, MapStore, D>>,
 ///
 /// An accepted design is kept in the slot while a crew works, since its engine borrows it; nothing is read there.
 ///
-/// `run` lets the crew work, and so waits for whom the crew waits; no other command asks it for anything. With a crew that waits for nobody
-/// (`Alone`) the call returns, whatever the words.
-pub fn acc<'a, H: Shelf, K: Sink, D: Disk, C: Crew<Engine<'a, MapStore, D>>, P: Progress>(
+/// `run` lets the crew work, and so waits for whom the crew waits; `prove` lets the searchers search, and waits for them; no other command
+/// asks either for anything. With a crew and searchers that wait for nobody (`Alone`, `InTurn`) the call returns, whatever the words.
+pub fn acc<
+    'a,
+    H: Shelf,
+    K: Sink,
+    D: Disk,
+    C: Crew<Engine<'a, MapStore, D>>,
+    S: Searchers,
+    P: Progress,
+>(
     alloc: Global,
     words: &[String],
     shelf: &mut H,
     out: &mut K,
     disk: D,
     crew: &C,
+    searchers: &S,
     slot: &'a mut Option<Accepted>,
     progress: &mut P,
 ) -> Done<D>
-    requires { C.ready crew.now }
+    requires ready { C.ready crew.now }
+    requires searching { S.ready searchers.now }
     ensures answered { IsCoded result.status (λ status. Answered (is_over_journal (command_of (map string_bytes words.now)))
         (Meant (H.held shelf.old) (H.counts shelf.old) (H.counts shelf.new) (seen (D.told disk) (D.faults disk))
         (seen (D.told result.disk) (D.faults result.disk)) (map string_bytes words.now))
@@ -281,6 +313,12 @@ pub fn acc<'a, H: Shelf, K: Sink, D: Disk, C: Crew<Engine<'a, MapStore, D>>, P: 
     ensures recovered { (c : TheCommand) (w : Wanted) → command_of (map string_bytes words.now) ≡ Some c → wanted_by c ≡ Some w
         → TellsRecovery (H.held shelf.old) (map string_bytes words.now) c w (D.told disk) (D.told result.disk) (K.bytes out.old)
         (K.bytes out.new) result.status result.history result.settled }
+    // Where `verify` ended with status 0, 7 or 10, the history is the recovered one, all of it durable, and the disk holds a journal of just
+    // that; with 10 a condition is false of its rows, and else each is true. With 0 a line for each was said, with 10 these or a front of
+    // them. Else none is told, or, where memory ran out, that one.
+    ensures verified { command_of (map string_bytes words.now) ≡ Some Verify
+        → TellsVerification (H.held shelf.old) (map string_bytes words.now) (D.told disk) (D.told result.disk) (K.bytes out.old)
+        (K.bytes out.new) result.status result.history result.settled }
     // A journal that is refused tells the same bytes, or counts what it counted.
     ensures unchanged { result.status ≡ 4 → LeavesRefused (D.told disk) (D.told result.disk) }
     // Status 0 comes only where each read gave its file and no write failed.
@@ -305,7 +343,9 @@ pub fn acc<'a, H: Shelf, K: Sink, D: Disk, C: Crew<Engine<'a, MapStore, D>>, P: 
     ensures sink_faults { K.faults out.old ≤ K.faults out.new }
     ensures disk_faults { D.faults disk ≤ D.faults result.disk }
 {
-    let closed = answer_line(alloc, words, shelf, out, disk, crew, slot, progress);
+    let closed = answer_line(
+        alloc, words, shelf, out, disk, crew, searchers, slot, progress,
+    );
     Done {
         status: closed.status.code(),
         disk: closed.disk,

@@ -13,3 +13,5 @@ pub mod Tables
 pub mod InMemory
 pub mod LeavesFiles
 pub mod DiskEndings
+pub mod VerifyOvers
+pub mod OneVerifying

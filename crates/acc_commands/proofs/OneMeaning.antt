@@ -21,6 +21,7 @@ use Rattle.acc_journal_commands.specs.Disks.{Seen, TellsAll}
 use Rattle.acc_journal_commands.specs.Notes.{help_text, version_text}
 use Rattle.acc_journal_commands.specs.Scripts.{SaysOfScript}
 use Rattle.acc_file_commands.specs.PlayFiles.{SaysPlay, PlaysFiles}
+use Rattle.acc_file_commands.specs.ShippedText.{shipped_design}
 use Rattle.acc_file_commands.specs.ScheduleFiles.{SaysOfCertificate, SchedulesFiles}
 use Rattle.acc_file_commands.specs.PrintFiles.{PrintsFile}
 use Rattle.acc_file_commands.specs.CheckFiles.{ChecksFiles, ending_by}
@@ -31,6 +32,7 @@ use Rattle.acc_journal_commands.specs.Words.{is_journalled}
 use Rattle.acc_commands.specs.Means.{MeansOfFiles, MeansOverDisk, MeansBy, Means}
 use Rattle.acc_journal_commands.proofs.OneDesign.{said_same, one_design, one_refusal, formed_or_refused}
 use Rattle.acc_commands.proofs.OneProving.{SaidAlike, one_prove}
+use Rattle.acc_commands.proofs.OneVerifying.{telling_same, one_verify}
 use Rattle.acc_commands.proofs.OneRun.{one_of_script, one_play, one_certificate_refusal, accepted_or_refused, one_certified}
 use Rattle.acc_commands.proofs.OneRun.{one_order_refusal, one_numbers, one_script_refusal, one_calls}
 use Rattle.acc_journal_commands.specs.RunFiles.{RunsSeen, RunsOfOrder, WorksSeen, RunsOfScript, RunsCertified, RunsTexts}
@@ -110,16 +112,15 @@ one_of_files (command.Run workers) files a b h k = absurd h
 one_of_files command.Recover files a b h k = absurd h
 one_of_files command.Dump files a b h k = absurd h
 one_of_files command.Replies files a b h k = absurd h
+one_of_files command.Verify files a b h k = absurd h
+one_of_files command.TpccDesign [] a b h k = inl (said_same Done (printed shipped_design) (printed shipped_design) a b refl h.says k.says)
+one_of_files command.TpccDesign (more ∷ rest) a b h k = absurd h
 one_of_files command.Help [] a b h k = inl (said_same Done help_text help_text a b refl h k)
 one_of_files command.Help (more ∷ rest) a b h k = absurd h
 one_of_files command.Version [] a b h k = inl (said_same Done version_text version_text a b refl h k)
 one_of_files command.Version (more ∷ rest) a b h k = absurd h
 
 -- ---- journals
-
-telling_same : (a b : Telling) → said_in a ≡ said_in b → a.settled ≡ b.settled → a ≡ b
-telling_same a b said settled =
-    λ i. record { ending = (said i).ending; text = (said i).text; history = (said i).history; settled = settled i }
 
 -- of a disk that tells its bytes, one thing is said
 module _ (old one other : Seen) (a b : Telling) (all : TellsAll old one other) where
@@ -264,6 +265,12 @@ one_over_disk command.Replies (design ∷ []) old one other a b all h k = absurd
 one_over_disk command.Replies (design ∷ certificate ∷ []) old one other a b all h k =
     inl (one_recover old one other a b all Replies design certificate h k)
 one_over_disk command.Replies (design ∷ certificate ∷ more ∷ rest) old one other a b all h k = absurd h
+one_over_disk command.Verify [] old one other a b all h k = absurd h
+one_over_disk command.Verify (design ∷ []) old one other a b all h k = absurd h
+one_over_disk command.Verify (design ∷ certificate ∷ []) old one other a b all h k =
+    inl (one_verify old one other a b all design certificate h k)
+one_over_disk command.Verify (design ∷ certificate ∷ more ∷ rest) old one other a b all h k = absurd h
+one_over_disk command.TpccDesign files old one other a b all h k = absurd h
 one_over_disk command.Play files old one other a b all h k = absurd h
 one_over_disk command.Rehearse files old one other a b all h k = absurd h
 one_over_disk command.Sched [] old one other a b all h k = absurd h

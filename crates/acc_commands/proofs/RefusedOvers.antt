@@ -25,6 +25,7 @@ use Rattle.acc_journal_commands.specs.RunFiles.{RunsOfOrder, WorksSeen, RunsOfSc
 use Rattle.acc_journal_commands.specs.RecoverFiles.{RecoversSeen, RecoversCertified, RecoversFiles}
 use Rattle.acc_commands.specs.Means.{MeansOverDisk}
 use Rattle.acc_commands.specs.Overs.{IsRecovering, LeavesOver, LeavesBy}
+use Rattle.acc_commands.proofs.VerifyOvers.{verify_refused, verify_unbegun}
 use Rattle.acc_journal_commands.proofs.JournalEndings.{other_end, refusal_ends, making_ends, recovering_ends, unrecovered_ends}
 use Rattle.acc_journal_commands.proofs.JournalEndings.{over_unbegun}
 
@@ -124,6 +125,12 @@ refused_over command.Replies (design ∷ []) old new t e h = absurd h
 refused_over command.Replies (design ∷ certificate ∷ []) old new t e h =
     let r = recover_refused Replies old new t e design certificate h in inr (inr (inr (inr (inl refl))), r.0, r.1)
 refused_over command.Replies (design ∷ certificate ∷ more ∷ rest) old new t e h = absurd h
+refused_over command.Verify [] old new t e h = absurd h
+refused_over command.Verify (design ∷ []) old new t e h = absurd h
+refused_over command.Verify (design ∷ certificate ∷ []) old new t e h =
+    let r = verify_refused old new t design certificate e h in inr (inr (inr (inr (inr (inl refl)))), r.0, r.1)
+refused_over command.Verify (design ∷ certificate ∷ more ∷ rest) old new t e h = absurd h
+refused_over command.TpccDesign files old new t e h = absurd h
 refused_over command.Play files old new t e h = absurd h
 refused_over command.Rehearse files old new t e h = absurd h
 refused_over command.Sched [] old new t e h = absurd h
@@ -139,7 +146,7 @@ refused_over (command.Run workers) (design ∷ []) old new t e h = absurd h
 refused_over (command.Run workers) (design ∷ certificate ∷ []) old new t e h = absurd h
 refused_over (command.Run workers) (design ∷ certificate ∷ script ∷ []) old new t e h =
     let r = texts_refused old new t e WorksSeen (workers_refused old new t e) design certificate script h in
-    inr (inr (inr (inr (inr (workers, refl)))), r.0, r.1)
+    inr (inr (inr (inr (inr (inr (workers, refl))))), r.0, r.1)
 refused_over (command.Run workers) (design ∷ certificate ∷ script ∷ more ∷ rest) old new t e h = absurd h
 refused_over command.Print files old new t e h = absurd h
 refused_over command.Check files old new t e h = absurd h
@@ -251,6 +258,11 @@ unbegun_over command.Replies (design ∷ []) old new t e h = absurd h
 unbegun_over command.Replies (design ∷ certificate ∷ []) old new t e h = absurd (recover_unbegun old new t e Replies design certificate h)
 unbegun_over command.Replies (design ∷ certificate ∷ more ∷ rest) old new t e h = absurd h
 unbegun_over command.Rehearse files old new t e h = absurd h
+unbegun_over command.Verify [] old new t e h = absurd h
+unbegun_over command.Verify (design ∷ []) old new t e h = absurd h
+unbegun_over command.Verify (design ∷ certificate ∷ []) old new t e h = absurd (verify_unbegun old new t design certificate e h)
+unbegun_over command.Verify (design ∷ certificate ∷ more ∷ rest) old new t e h = absurd h
+unbegun_over command.TpccDesign files old new t e h = absurd h
 unbegun_over command.Play files old new t e h = absurd h
 unbegun_over command.Print files old new t e h = absurd h
 unbegun_over command.Check files old new t e h = absurd h

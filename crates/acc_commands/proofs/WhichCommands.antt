@@ -1,5 +1,5 @@
 -- Which command ends so.
-use Rattle.std.proofs.Common.{◌≡◌, ℕ, Bool, true, false, List, [], ◌∷◌, inl, inr, refl, sym, subst, ◌∙◌}
+use Rattle.std.proofs.Common.{◌≡◌, ℕ, Bool, true, false, List, [], ◌∷◌, inl, inr, refl, sym, subst, ◌∙◌, ⊎_elim}
 use Rattle.std.specs.Prelude.{◌≢◌, ◌⊎◌}
 use Rattle.acc_io.specs.Causes.{Rose}
 use Rattle.acc_base.specs.declared.designs.Design.{Design}
@@ -11,7 +11,7 @@ use Rattle.acc_journal_commands.specs.Command.{Command}
 use Rattle.acc_journal_commands.specs.Command.TheVariants as command
 use Rattle.acc_journalled.specs.declared.answers.Ending.{Ending}
 use Rattle.acc_journalled.specs.declared.answers.Ending.TheVariants.{Done, DesignRefused, ScriptRefused, JournalRefused, DiskFailed}
-use Rattle.acc_journalled.specs.declared.answers.Ending.TheVariants.{Unbegun, Open}
+use Rattle.acc_journalled.specs.declared.answers.Ending.TheVariants.{Unbegun, Open, ConditionFalse}
 use Rattle.acc_journalled.specs.Tellings.{Telling}
 use Rattle.acc_journal_commands.specs.Text.{Said, said_in}
 use Rattle.acc_journal_commands.specs.Disks.{Seen}
@@ -24,8 +24,8 @@ use Rattle.acc_file_commands.specs.CheckFiles.{ChecksFiles, ending_by}
 use Rattle.acc_file_commands.specs.ProveFiles.{EndsProving, StaysOpen, ProvesFile}
 use Rattle.acc_journal_commands.specs.Words.{is_journalled}
 use Rattle.acc_commands.specs.Means.{MeansOfFiles, MeansBy, Means}
-use Rattle.acc_commands.specs.Overs.{LeavesBy}
-use Rattle.acc_journal_commands.proofs.JournalEndings.{failed_by, never_open}
+use Rattle.acc_commands.specs.Overs.{LeavesBy, FindsFalse}
+use Rattle.acc_journal_commands.proofs.JournalEndings.{failed_by, never_false, never_open, other_end}
 use Rattle.acc_commands.proofs.DiskEndings.{ends_over_disk}
 use Rattle.acc_commands.proofs.RefusedOvers.{RefusesOver, refused_over, unbegun_over}
 
@@ -155,6 +155,9 @@ module _ (other : Ending) (done_other : Done ≢ other) (design_other : DesignRe
   ends_scheduled command.Recover files said e h = absurd h
   ends_scheduled command.Dump files said e h = absurd h
   ends_scheduled command.Replies files said e h = absurd h
+  ends_scheduled command.Verify files said e h = absurd h
+  ends_scheduled command.TpccDesign [] said e h = absurd (not_so Done said done_other h.says.0 e)
+  ends_scheduled command.TpccDesign (more ∷ rest) said e h = absurd h
   ends_scheduled command.Help [] said e h = absurd (not_so Done said done_other h.0 e)
   ends_scheduled command.Help (more ∷ rest) said e h = absurd h
   ends_scheduled command.Version [] said e h = absurd (not_so Done said done_other h.0 e)
@@ -231,7 +234,9 @@ pub fails_by_disk :
 fails_by_disk c files old new t e = by (is_journalled c)
   where
     by : (over : Bool) → MeansBy over c files old new t → Rose old.faults new.faults
-    by true h = failed_by (Rose old.faults new.faults) t (ends_over_disk c files old new t h) e
+    by true h =
+        ⊎_elim (λ others. failed_by (Rose old.faults new.faults) t others e)
+        (λ finds. absurd (other_end ConditionFalse DiskFailed t (λ e. cc) finds.1 e)) (ends_over_disk c files old new t h)
     by false h =
         absurd (neither DiskFailed (λ e. cc) (λ e. cc) (λ e. cc) c files t e
         (ends_scheduled DiskFailed (λ e. cc) (λ e. cc) (λ e. cc) c files (said_in t) e h.2))
@@ -247,5 +252,21 @@ leaves_open c files old new t e = by (is_journalled c)
     open_so (inr h) = h
 
     by : (over : Bool) → MeansBy over c files old new t → Opens c files (said_in t)
-    by true h = absurd (never_open (Rose old.faults new.faults) t (ends_over_disk c files old new t h) e)
+    by true h =
+        ⊎_elim (λ others. absurd (never_open (Rose old.faults new.faults) t others e))
+        (λ finds. absurd (other_end ConditionFalse Open t (λ e. cc) finds.1 e)) (ends_over_disk c files old new t h)
     by false h = open_so (ends_scheduled Open (λ e. cc) (λ e. cc) (λ e. cc) c files (said_in t) e h.2)
+
+-- a command that finds a condition false is `verify`
+pub finds_false :
+    (c : Command) (files : List (List ℕ)) (old new : Seen) (t : Telling) → t.ending ≡ ConditionFalse → Means c files old new t
+    → (c ≡ command.Verify) × FindsFalse old new t
+finds_false c files old new t e = by (is_journalled c)
+  where
+    by : (over : Bool) → MeansBy over c files old new t → (c ≡ command.Verify) × FindsFalse old new t
+    by true h =
+        ⊎_elim (λ others. absurd (never_false (Rose old.faults new.faults) t others e)) (λ finds. (finds.0, finds.2))
+        (ends_over_disk c files old new t h)
+    by false h =
+        absurd (neither ConditionFalse (λ e. cc) (λ e. cc) (λ e. cc) c files t e
+        (ends_scheduled ConditionFalse (λ e. cc) (λ e. cc) (λ e. cc) c files (said_in t) e h.2))

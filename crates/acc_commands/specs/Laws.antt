@@ -1,5 +1,5 @@
 -- What the definitions of the commands say by themselves.
-use Rattle.std.specs.Prelude.{◌≡◌, ℕ, true, List, [], None, codes}
+use Rattle.std.specs.Prelude.{◌≡◌, ◌≢◌, ℕ, true, List, [], None, codes}
 use Rattle.acc_base.specs.declared.designs.Design.{Design}
 use Rattle.acc_base.specs.Lines.{line}
 use Rattle.acc_formed.specs.WellFormed.{IsWellFormed}
@@ -8,13 +8,15 @@ use Rattle.acc_goals.specs.Causes.{first_wide}
 use Rattle.acc_journal_commands.specs.Texts.{IsDesignText}
 use Rattle.acc_journal_commands.specs.Admissions.{IsAcceptedWith}
 use Rattle.acc_file_commands.specs.Provings.{AllClose, IsCertified}
-use Rattle.acc_journalled.specs.declared.answers.Ending.TheVariants.{Done}
+use Rattle.acc_journalled.specs.declared.answers.Ending.TheVariants.{Done, ConditionFalse}
 use Rattle.acc_journalled.specs.Tellings.{Telling}
 use Rattle.acc_journal_commands.specs.Command.{Command}
 use Rattle.acc_journal_commands.specs.Text.{Said, Says}
 use Rattle.acc_journal_commands.specs.Disks.{Seen, TellsAll}
 use Rattle.acc_file_commands.specs.CheckFiles.{ChecksFiles}
 use Rattle.acc_file_commands.specs.ProveFiles.{ProvesFile}
+use Rattle.acc_file_commands.specs.ShippedText.{shipped_design}
+use Rattle.acc_journal_commands.specs.VerifyFiles.{VerifiesFiles}
 use Rattle.acc_journal_commands.specs.Words.{is_journalled}
 use Rattle.acc_commands.specs.Means.{Means}
 use Rattle.acc_commands.specs.Alike.{AreAlike}
@@ -40,3 +42,8 @@ AcceptedIsTold = (design certificate : List ℕ) (d : Design) (said : Said) → 
 abbrev pub ClosedIsTold : Type 0
 ClosedIsTold = (design : List ℕ) (d : Design) (said : Said) → IsDesignText design d → IsWellFormed d → first_wide (drafts_of d) ≡ None
     → AllClose d (sequents_of d) → ProvesFile design said → (said.ending ≡ Done) × IsCertified d said.text × (said.history ≡ [])
+
+-- Where a text is that of the shipped design, `verify` never finds a condition false of it, whatever its journal holds.
+abbrev pub ShippedStaysTrue : Type 0
+ShippedStaysTrue = (design certificate : List ℕ) (old new : Seen) (t : Telling) → IsDesignText design shipped_design
+    → VerifiesFiles design certificate old new t → t.ending ≢ ConditionFalse

@@ -2,6 +2,8 @@ pub use Rattle.acc_file_commands.specs.ProveFiles
 pub use Rattle.acc_file_commands.specs.Provings
 pub use Rattle.acc_file_commands.specs.ScheduleFiles
 pub use Rattle.acc_file_commands.specs.Schedules
+pub use Rattle.acc_file_commands.specs.ShippedText
+pub use Rattle.acc_file_commands.specs.Workloads
 pub use Rattle.acc_journal_commands.specs.Acks
 pub use Rattle.acc_journal_commands.specs.Admissions
 pub use Rattle.acc_journal_commands.specs.Command
@@ -17,9 +19,11 @@ pub use Rattle.acc_journal_commands.specs.Request
 pub use Rattle.acc_journal_commands.specs.Requests
 pub use Rattle.acc_journal_commands.specs.RunFiles
 pub use Rattle.acc_journal_commands.specs.Running
+pub use Rattle.acc_journal_commands.specs.Schemas
 pub use Rattle.acc_journal_commands.specs.Scripts
 pub use Rattle.acc_journal_commands.specs.Text
 pub use Rattle.acc_journal_commands.specs.Texts
+pub use Rattle.acc_journal_commands.specs.VerifyFiles
 pub use Rattle.acc_journal_commands.specs.Words
 pub mod Means
 pub mod Alike

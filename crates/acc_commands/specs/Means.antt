@@ -19,8 +19,10 @@ use Rattle.acc_file_commands.specs.ScheduleFiles.{SchedulesFiles}
 use Rattle.acc_file_commands.specs.PrintFiles.{PrintsFile}
 use Rattle.acc_file_commands.specs.CheckFiles.{ChecksFiles}
 use Rattle.acc_file_commands.specs.ProveFiles.{ProvesFile}
+use Rattle.acc_file_commands.specs.Workloads.{PrintsShipped}
 use Rattle.acc_journal_commands.specs.InitFiles.{InitsFile, InitLeaves, InitLeft}
 use Rattle.acc_journal_commands.specs.RecoverFiles.{RecoversFiles, RecoverLeaves, RecoverLeft}
+use Rattle.acc_journal_commands.specs.VerifyFiles.{VerifiesFiles, VerifyLeft}
 use Rattle.acc_journal_commands.specs.RunFiles.{RunsFiles, WorksFiles, RunLeaves, OrderRuns, RunLeft}
 
 -- what a command without a journal makes of its files
@@ -30,6 +32,7 @@ MeansOfFiles command.Rehearse (design ∷ certificate ∷ script ∷ order ∷ [
 MeansOfFiles command.Print (design ∷ []) = PrintsFile design
 MeansOfFiles command.Check (design ∷ certificate ∷ []) = ChecksFiles design certificate
 MeansOfFiles command.Prove (design ∷ []) = ProvesFile design
+MeansOfFiles command.TpccDesign [] = PrintsShipped
 MeansOfFiles command.Help [] = Says Done help_text
 MeansOfFiles command.Version [] = Says Done version_text
 MeansOfFiles command.Play files = λ said. ⊥
@@ -43,6 +46,8 @@ MeansOfFiles (command.Run workers) files = λ said. ⊥
 MeansOfFiles command.Recover files = λ said. ⊥
 MeansOfFiles command.Dump files = λ said. ⊥
 MeansOfFiles command.Replies files = λ said. ⊥
+MeansOfFiles command.Verify files = λ said. ⊥
+MeansOfFiles command.TpccDesign files = λ said. ⊥
 MeansOfFiles command.Help files = λ said. ⊥
 MeansOfFiles command.Version files = λ said. ⊥
 
@@ -54,6 +59,7 @@ MeansOverDisk (command.Run workers) (design ∷ certificate ∷ script ∷ []) =
 MeansOverDisk command.Recover (design ∷ certificate ∷ []) = RecoversFiles Counts design certificate
 MeansOverDisk command.Dump (design ∷ certificate ∷ []) = RecoversFiles Rows design certificate
 MeansOverDisk command.Replies (design ∷ certificate ∷ []) = RecoversFiles Replies design certificate
+MeansOverDisk command.Verify (design ∷ certificate ∷ []) = VerifiesFiles design certificate
 MeansOverDisk command.Play files = λ old new t. ⊥
 MeansOverDisk command.Rehearse files = λ old new t. ⊥
 MeansOverDisk command.Print files = λ old new t. ⊥
@@ -65,6 +71,8 @@ MeansOverDisk (command.Run workers) files = λ old new t. ⊥
 MeansOverDisk command.Recover files = λ old new t. ⊥
 MeansOverDisk command.Dump files = λ old new t. ⊥
 MeansOverDisk command.Replies files = λ old new t. ⊥
+MeansOverDisk command.Verify files = λ old new t. ⊥
+MeansOverDisk command.TpccDesign files = λ old new t. ⊥
 MeansOverDisk command.Help files = λ old new t. ⊥
 MeansOverDisk command.Version files = λ old new t. ⊥
 
@@ -84,6 +92,7 @@ LeavesOfFile (command.Run workers) (design ∷ certificate ∷ script ∷ []) = 
 LeavesOfFile command.Recover (design ∷ certificate ∷ []) = RecoverLeaves design certificate
 LeavesOfFile command.Dump (design ∷ certificate ∷ []) = RecoverLeaves design certificate
 LeavesOfFile command.Replies (design ∷ certificate ∷ []) = RecoverLeaves design certificate
+LeavesOfFile command.Verify (design ∷ certificate ∷ []) = RecoverLeaves design certificate
 LeavesOfFile command.Play files = λ file image. image ≡ file
 LeavesOfFile command.Rehearse files = λ file image. image ≡ file
 LeavesOfFile command.Print files = λ file image. image ≡ file
@@ -95,6 +104,8 @@ LeavesOfFile (command.Run workers) files = λ file image. image ≡ file
 LeavesOfFile command.Recover files = λ file image. image ≡ file
 LeavesOfFile command.Dump files = λ file image. image ≡ file
 LeavesOfFile command.Replies files = λ file image. image ≡ file
+LeavesOfFile command.Verify files = λ file image. image ≡ file
+LeavesOfFile command.TpccDesign files = λ file image. image ≡ file
 LeavesOfFile command.Help files = λ file image. image ≡ file
 LeavesOfFile command.Version files = λ file image. image ≡ file
 
@@ -114,6 +125,7 @@ module _ {D : Type 0} (clock : D → ℕ) (left_since : D → ℕ → List ℕ �
     LeavesOf command.Recover (design ∷ certificate ∷ []) = RecoverLeft clock left_since told may_leave Counts design certificate
     LeavesOf command.Dump (design ∷ certificate ∷ []) = RecoverLeft clock left_since told may_leave Rows design certificate
     LeavesOf command.Replies (design ∷ certificate ∷ []) = RecoverLeft clock left_since told may_leave Replies design certificate
+    LeavesOf command.Verify (design ∷ certificate ∷ []) = VerifyLeft clock left_since told may_leave design certificate
     LeavesOf command.Play files = LeavesDisk
     LeavesOf command.Rehearse files = LeavesDisk
     LeavesOf command.Print files = LeavesDisk
@@ -125,6 +137,8 @@ module _ {D : Type 0} (clock : D → ℕ) (left_since : D → ℕ → List ℕ �
     LeavesOf command.Recover files = LeavesDisk
     LeavesOf command.Dump files = LeavesDisk
     LeavesOf command.Replies files = LeavesDisk
+    LeavesOf command.Verify files = LeavesDisk
+    LeavesOf command.TpccDesign files = LeavesDisk
     LeavesOf command.Help files = LeavesDisk
     LeavesOf command.Version files = LeavesDisk
 

@@ -1,4 +1,4 @@
--- Which commands go over a recovered journal, and which run over one leaves a place unbegun.
+-- Which commands go over a recovered journal, which run over one leaves a place unbegun, and where a condition is found false.
 use Rattle.std.specs.Prelude.{◌≡◌, ◌⊎◌, ℕ, false, List}
 use Rattle.acc_base.specs.declared.designs.Design.{Design}
 use Rattle.acc_base.specs.declared.machines.Call.{Call}
@@ -8,12 +8,18 @@ use Rattle.acc_file_commands.specs.Schedules.{TellsScheduleFrom}
 use Rattle.acc_journal_commands.specs.Running.{IsOpening, WorkersLeave}
 use Rattle.acc_journal_commands.specs.Command.{Command}
 use Rattle.acc_journal_commands.specs.Command.TheVariants as command
+use Rattle.acc_journalled.specs.Conditions.{AreConsistent}
+use Rattle.acc_journalled.specs.Verifying.{Verifies}
 use Rattle.acc_journalled.specs.Tellings.{Telling}
+use Rattle.acc_journal_commands.specs.Disks.{Seen}
+use Rattle.tpcc_tables.specs.Schema.{IsSchemaOf}
+use Rattle.tpcc_tables.specs.declared.tables.TableSet.{TableSet}
 
 -- it recovers a journal
 abbrev pub IsRecovering : Command → Type 0
 IsRecovering c =
-    (c ≡ command.Sched) ⊎ (c ≡ command.Recover) ⊎ (c ≡ command.Dump) ⊎ (c ≡ command.Replies) ⊎ ((workers : ℕ) × (c ≡ command.Run workers))
+    (c ≡ command.Sched) ⊎ (c ≡ command.Recover) ⊎ (c ≡ command.Dump) ⊎ (c ≡ command.Replies) ⊎ (c ≡ command.Verify)
+    ⊎ ((workers : ℕ) × (c ≡ command.Run workers))
 
 -- a schedule from where the turns begin behind a recovered state is told, and one of its places couldn't begin, since the history is full
 pub record LeavesOver (Opens : Design → List Call → World → Play → Type 0) (t : Telling) : Type 0 where
@@ -29,3 +35,12 @@ pub record LeavesOver (Opens : Design → List Call → World → Play → Type 
 abbrev pub LeavesBy : Command → Telling → Type 0
 LeavesBy c t = ((c ≡ command.Sched) × LeavesOver (λ d. IsOpening) t)
     ⊎ ((workers : ℕ) × (c ≡ command.Run workers) × LeavesOver WorkersLeave t)
+
+-- The journal of a design with TPC-C's tables was recovered, and it is told of each condition whether it is true of the recovered rows: one
+-- isn't.
+pub record FindsFalse (old new : Seen) (t : Telling) : Type 0 where
+  pub d : Design
+  pub tables : TableSet
+  pub schema : IsSchemaOf tables d
+  pub verified : Verifies tables d old.told new.told t
+  pub not_all : ¬ AreConsistent tables verified.recovers.last.rows

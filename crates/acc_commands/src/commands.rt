@@ -10,14 +10,17 @@ ghost use Rattle.acc_journalled.specs.declared.answers.Ending.TheVariants.{Done}
 ghost use Rattle.acc_journal_commands.specs.Answers.{said_alone};
 
 use acc_disk::Disk;
+use acc_file_commands::Searchers;
 use acc_file_commands::designs::{check_files, print_file};
 use acc_file_commands::memory_runs::Run;
 use acc_file_commands::plays::play_files;
 use acc_file_commands::provings::prove_file;
 use acc_file_commands::schedules::schedule_files;
+use acc_file_commands::workloads::print_shipped;
 use acc_journal_commands::journals::init_file;
 use acc_journal_commands::recoveries::recover_files;
 use acc_journal_commands::runs::{run_files, work_files};
+use acc_journal_commands::verifications::verify_files;
 use acc_journal_commands::{Crew, Engine, Request, help_text, version_text};
 use acc_journalled::{Answer, Ended, Ending, Wanted, unrun};
 use acc_lift::Accepted;
@@ -63,18 +66,21 @@ fn ran<D>(alloc: Global, disk: D, run: Result<Run, AllocError>) -> Ended<D>
 }
 
 /// How a command ends over its files and the disk. How far a long one is, and what a recovery found, is told while it goes on. `run` lets
-/// the crew work, and waits for whom the crew waits; no other command asks the crew for anything, or waits for anybody.
+/// the crew work, and waits for whom the crew waits; `prove` lets the searchers search, and waits for them; no other command asks the crew or
+/// the searchers for anything, or waits for anybody.
 #[tactic(auto, unfolding(crate::specs::Means::MeansOfFiles, crate::specs::Means::MeansOverDisk, crate::specs::Means::LeavesOf))]
-pub fn run<'a, D: Disk, C: Crew<Engine<'a, MapStore, D>>, P: Progress>(
+pub fn run<'a, D: Disk, C: Crew<Engine<'a, MapStore, D>>, S: Searchers, P: Progress>(
     alloc: Global,
     request: Request,
     disk: D,
     crew: &C,
+    searchers: &S,
     slot: &'a mut Option<Accepted>,
     progress: &mut P,
 ) -> Ended<D>
     requires short { All (λ text. length text ≤ 2 ^ 26) (texts_in request) }
     requires ready { C.ready crew.now }
+    requires searching { S.ready searchers.now }
     ensures ends { Ends D.told D.may_leave D.faults (Means (command_in request.entry) (texts_in request.entry))
         (LeavesOf D.clock D.left_since D.told D.may_leave (command_in request.entry) (texts_in request.entry))
         disk result.disk result.answer result.history result.settled }
@@ -87,7 +93,11 @@ pub fn run<'a, D: Disk, C: Crew<Engine<'a, MapStore, D>>, P: Progress>(
         Request::Rehearse(files) => ran(alloc, disk, schedule_files(alloc, files)),
         Request::Print(design) => unrun(alloc, disk, print_file(alloc, design)),
         Request::Check(files) => unrun(alloc, disk, check_files(alloc, files)),
-        Request::Prove(design) => unrun(alloc, disk, prove_file(alloc, design, progress)),
+        Request::Prove(design) => unrun(
+            alloc,
+            disk,
+            prove_file(alloc, design, searchers, progress),
+        ),
         Request::Init(design) => init_file(alloc, design, disk),
         Request::Sched(files) => run_files(alloc, files, disk, progress),
         Request::Run(files, workers) => {
@@ -96,6 +106,8 @@ pub fn run<'a, D: Disk, C: Crew<Engine<'a, MapStore, D>>, P: Progress>(
         Request::Recover(files) => recover_files(alloc, files, Wanted::Counts, disk, progress),
         Request::Dump(files) => recover_files(alloc, files, Wanted::Rows, disk, progress),
         Request::Replies(files) => recover_files(alloc, files, Wanted::Replies, disk, progress),
+        Request::Verify(files) => verify_files(alloc, files, disk, progress),
+        Request::TpccDesign => unrun(alloc, disk, print_shipped(alloc)),
         Request::Help => unrun(alloc, disk, help(alloc)),
         Request::Version => unrun(alloc, disk, version(alloc)),
     }

@@ -1,5 +1,5 @@
 //! What the definitions of the commands say by themselves.
-ghost use Rattle.acc_commands.specs.Laws.{CommandsMeanOne, ProvedIsAccepted, AcceptedIsTold, ClosedIsTold};
+ghost use Rattle.acc_commands.specs.Laws.{CommandsMeanOne, ProvedIsAccepted, AcceptedIsTold, ClosedIsTold, ShippedStaysTrue};
 
 /// Whatever its files hold, a command means one ending, one text and one history; but which certificate `prove` makes is free, and so is
 /// the order of the turns of `run`.
@@ -20,4 +20,9 @@ pub fn accepted_is_told()
 /// Where each search closes, `prove` is done.
 pub fn closed_is_told()
     ensures { ClosedIsTold }
+{}
+
+/// Of the shipped design `verify` never finds a condition false.
+pub fn shipped_stays_true()
+    ensures { ShippedStaysTrue }
 {}

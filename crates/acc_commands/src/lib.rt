@@ -4,6 +4,7 @@
 mod commands;
 pub mod laws;
 
+pub use acc_file_commands::{InTurn, Searchers};
 pub use acc_journal_commands::{
     Alone, Command, Crew, Engine, Request, asks_journal, command_of, file_count, help_text,
     read_all,

@@ -5,7 +5,7 @@ use acc_cert_read::certificates;
 use acc_check::check;
 use acc_form::well_formed;
 use acc_progress::Silent;
-use acc_prove::{Proving, prove};
+use acc_prove::{InTurn, Proving, prove};
 use std::alloc::{AllocError, Global};
 use std::fmt::Write;
 
@@ -19,7 +19,7 @@ fn proving_of(alloc: Global, text: &str) -> Result<Option<Proving>, AllocError> 
 
 fn proving(alloc: Global, design: &Design) -> Result<Option<Proving>, AllocError> {
     match well_formed(design) {
-        Ok(()) => Ok(Some(prove(alloc, design, &mut Silent)?)),
+        Ok(()) => Ok(Some(prove(alloc, design, &InTurn, &mut Silent)?)),
         Err(_) => Ok(None),
     }
 }

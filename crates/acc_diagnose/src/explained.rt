@@ -8,6 +8,7 @@ use crate::statuses::{
     DESIGN, DISK, DONE, FILE, JOURNAL, MEMORY, OPEN, SCRIPT, SINK, UNBEGUN, USAGE,
 };
 use crate::usage::push_usage;
+use crate::workloads::push_verified;
 use acc_base::designs::Design;
 use acc_base::sequences::Seq;
 use acc_explain::{
@@ -98,14 +99,17 @@ fn push_script(
     Ok(())
 }
 
-/// Says why a design isn't accepted with its certificate, or else what is wrong with the files behind that, if there are some.
+/// Says why a design isn't accepted with its certificate, or else what is wrong with the files behind that, if there are some; or what is
+/// told of TPC-C's tables and conditions, where a command asks for these.
 fn push_judged(
     alloc: Global,
     out: &mut Page,
+    command: Command,
     d: Design,
     design: File,
     certificate: File,
     behind: &[File],
+    printed: &[u8],
 ) -> Result<(), AllocError>
     requires { IsWellFormed d }
 {
@@ -114,7 +118,21 @@ fn push_judged(
         (Judged::Accepted(d), [script, orders @ ..]) => {
             push_script(alloc, out, d.design(), *script, orders)
         }
+        (Judged::Accepted(d), []) if asks_tables(command) => {
+            push_verified(alloc, out, d.design(), design, printed)
+        }
         (Judged::Accepted(_), []) => Ok(()),
+    }
+}
+
+/// Whether a command asks for TPC-C's tables.
+fn asks_tables(command: Command) -> bool {
+    match command {
+        Command::Verify => true,
+        Command::Rehearse | Command::Check | Command::Sched | Command::Run(_) => false,
+        Command::Recover | Command::Dump | Command::Replies => false,
+        Command::Play | Command::Print | Command::Prove | Command::Init => false,
+        Command::TpccDesign | Command::Help | Command::Version => false,
     }
 }
 
@@ -122,14 +140,14 @@ fn push_judged(
 fn is_certified(command: Command) -> bool {
     match command {
         Command::Rehearse | Command::Check | Command::Sched | Command::Run(_) => true,
-        Command::Recover | Command::Dump | Command::Replies => true,
+        Command::Recover | Command::Dump | Command::Replies | Command::Verify => true,
         Command::Play | Command::Print | Command::Prove | Command::Init => false,
-        Command::Help | Command::Version => false,
+        Command::TpccDesign | Command::Help | Command::Version => false,
     }
 }
 
 /// Says what is wrong with the files behind a design that is well-formed; or, where there are none, which of its obligations stay open, as
-/// it was printed.
+/// it was printed; or which of TPC-C's conditions are false, likewise.
 fn push_behind(
     alloc: Global,
     out: &mut Page,
@@ -143,7 +161,16 @@ fn push_behind(
     match files {
         [design] => push_unproved(alloc, out, &d, *design, printed),
         [design, certificate, behind @ ..] if is_certified(command) => {
-            push_judged(alloc, out, d, *design, *certificate, behind)
+            push_judged(
+                alloc,
+                out,
+                command,
+                d,
+                *design,
+                *certificate,
+                behind,
+                printed,
+            )
         }
         [_, script, orders @ ..] => push_script(alloc, out, &d, *script, orders),
         [] => Ok(()),
@@ -246,8 +273,8 @@ fn push_done<H: Shelf>(
         Command::Prove => push_names(alloc, out, command, names, shelf, printed),
         Command::Print | Command::Play | Command::Rehearse | Command::Check => Ok(()),
         Command::Init | Command::Sched | Command::Run(_) => Ok(()),
-        Command::Recover | Command::Dump | Command::Replies => Ok(()),
-        Command::Help | Command::Version => Ok(()),
+        Command::Recover | Command::Dump | Command::Replies | Command::Verify => Ok(()),
+        Command::TpccDesign | Command::Help | Command::Version => Ok(()),
     }
 }
 

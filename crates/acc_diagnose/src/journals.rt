@@ -70,10 +70,15 @@ fn standing(command: Command) -> &'static [u8] {
     match command {
         Command::Init =>
             b"there is no journal now, or the new one, or the old file with another first byte; give the command again",
-        Command::Sched | Command::Run(_) | Command::Recover | Command::Dump | Command::Replies =>
+        Command::Sched
+        | Command::Run(_)
+        | Command::Recover
+        | Command::Dump
+        | Command::Replies
+        | Command::Verify =>
             b"what was durable is durable, and nothing half-written counts; `acc recover` brings the journal to rest",
         Command::Play | Command::Rehearse | Command::Print | Command::Check => b"",
-        Command::Prove | Command::Help | Command::Version => b"",
+        Command::Prove | Command::TpccDesign | Command::Help | Command::Version => b"",
     }
 }
 

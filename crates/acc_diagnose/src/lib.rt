@@ -13,6 +13,7 @@ mod reasons;
 mod room;
 pub mod statuses;
 mod usage;
+mod workloads;
 
 pub use damage::cut_line;
 pub use explained::explain;

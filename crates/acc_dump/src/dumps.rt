@@ -11,8 +11,8 @@ use acc_page::Page;
 use acc_store::{Store, StoreError};
 use std::alloc::{AllocError, Global};
 
-/// The parts of a key, each behind a space.
-fn push_parts(out: &mut Page, parts: &[i64])
+/// Writes the parts of a key, each behind a space.
+pub fn push_parts(out: &mut Page, parts: &[i64])
     ensures { Adds out.old out.new (flat_map spaced parts.now) }
 {
     for part in parts {

@@ -3,4 +3,4 @@
 
 mod dumps;
 
-pub use dumps::dump;
+pub use dumps::{dump, push_parts};

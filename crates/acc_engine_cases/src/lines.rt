@@ -12,7 +12,8 @@ fn word(ending: Ending) -> &'static str {
         Ending::Unbegun => "unbegun",
         Ending::JournalRefused => "refused",
         Ending::DiskFailed => "failed",
-        Ending::DesignRefused | Ending::ScriptRefused | Ending::Open => "otherwise",
+        Ending::DesignRefused | Ending::ScriptRefused => "otherwise",
+        Ending::Open | Ending::ConditionFalse => "otherwise",
     }
 }
 

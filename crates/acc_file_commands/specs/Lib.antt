@@ -1,8 +1,11 @@
 pub use Rattle.acc_prove.specs.Provings
 pub use Rattle.acc_schedule.specs.Schedules
+pub use Rattle.tpcc_steps.specs.Law
+pub use Rattle.tpcc_steps.specs.ShippedText
 pub mod PlayFiles
 pub mod ScheduleFiles
 pub mod PrintFiles
 pub mod CheckFiles
 pub mod ProveFiles
 pub mod Runs
+pub mod Workloads

@@ -6,9 +6,12 @@ pub mod memory_runs;
 pub mod plays;
 pub mod provings;
 pub mod schedules;
+pub mod workloads;
 
+pub use acc_prove::{InTurn, Searchers, Searching};
 pub use designs::{check_files, print_file};
 pub use memory_runs::{Run, unplayed};
 pub use plays::play_files;
 pub use provings::prove_file;
 pub use schedules::schedule_files;
+pub use workloads::print_shipped;

@@ -8,7 +8,7 @@ use acc_base::designs::Design;
 use acc_inputs::{ReadDesign, read_design};
 use acc_journalled::{Answer, Ending};
 use acc_progress::Progress;
-use acc_prove::{Proving, prove};
+use acc_prove::{Proving, Searchers, prove};
 use std::alloc::{AllocError, Global};
 
 /// An answer with this text.
@@ -19,31 +19,35 @@ fn said(ending: Ending, text: Vec<u8>) -> Answer
 }
 
 /// Proves the obligations of a design that is well-formed.
-fn prove_design<P: Progress>(
+fn prove_design<S: Searchers, P: Progress>(
     alloc: Global,
     d: &Design,
+    searchers: &S,
     progress: &mut P,
 ) -> Result<Answer, AllocError>
-    requires { IsWellFormed d.now }
+    requires searching { S.ready searchers.now }
+    requires formed { IsWellFormed d.now }
     ensures { IfOk result (λ a. SaysProving d.now (said_alone a)) }
 {
-    match prove(alloc, d, progress)? {
+    match prove(alloc, d, searchers, progress)? {
         Proving::Proved(certificate) => Ok(said(Ending::Done, certificate)),
         Proving::Open(lines) => Ok(said(Ending::Open, lines)),
         Proving::Wide(line) => Ok(said(Ending::DesignRefused, line)),
     }
 }
 
-/// Proves the obligations of the design of a text, or tells which aren't proved.
-pub fn prove_file<P: Progress>(
+/// Proves the obligations of the design of a text, or tells which aren't proved. It waits for its searchers.
+pub fn prove_file<S: Searchers, P: Progress>(
     alloc: Global,
     design: &[u8],
+    searchers: &S,
     progress: &mut P,
 ) -> Result<Answer, AllocError>
+    requires { S.ready searchers.now }
     ensures { IfOk result (λ a. ProvesFile design.now (said_alone a)) }
 {
     match read_design(alloc, design)? {
-        ReadDesign::Read(d) => prove_design(alloc, &d, progress),
+        ReadDesign::Read(d) => prove_design(alloc, &d, searchers, progress),
         ReadDesign::Refused(answer) => Ok(answer),
     }
 }

@@ -7,4 +7,5 @@ pub mod FileNames
 pub mod FilesLemmas
 pub mod SaidLemmas
 pub mod OneDesign
+pub mod OneSchema
 pub mod VerbLemmas

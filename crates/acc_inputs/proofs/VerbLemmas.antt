@@ -17,9 +17,9 @@ files_given c names count =
     let same : (length (names ++ []) == file_count c) ≡ true = eq-eqb (length (names ++ [])) (file_count c) (ap length (append-nil names) ∙ count) in
     ap (λ (b : Bool). if b then Some c else None) same
 
-verb_given : (c : Command) (names : List (List ℕ)) → form_of (verb_of c) ≡ Some (Files c) → length names ≡ file_count c
-    → command_of (verb_of c ∷ (names ++ [])) ≡ Some c
-verb_given c names form count = ap (λ o. with_form o (names ++ [])) form ∙ files_given c names count
+verb_given : (c : Command) (verb : List ℕ) (names : List (List ℕ)) → form_of verb ≡ Some (Files c) → length names ≡ file_count c
+    → command_of (verb ∷ (names ++ [])) ≡ Some c
+verb_given c verb names form count = ap (λ o. with_form o (names ++ [])) form ∙ files_given c names count
 
 run_given : (n : ℕ) (names : List (List ℕ)) → IsCrew n → length names ≡ 3
     → with_workers (names ++ decimal n ∷ []) ≡ Some (command.Run n)
@@ -27,21 +27,29 @@ run_given n names few count =
     ap (λ words. option_map command.Run (workers_in words)) (drop_at names (decimal n ∷ []) 3 count)
     ∙ ap (option_map command.Run) (workers_of_numeral n few)
 
+-- `tpcc design` names no file
+design_given : (names : List (List ℕ)) → length names ≡ 0 → command_of (codes "tpcc" ∷ codes "design" ∷ (names ++ [])) ≡ Some command.TpccDesign
+unfolding form_of
+design_given [] none = refl
+design_given (name ∷ names) none = absurd (omega (arith, none))
+
 pub verbs : EachHasVerb
 unfolding form_of file_count
-verbs command.Play names few count = verb_given command.Play names refl count
-verbs command.Rehearse names few count = verb_given command.Rehearse names refl count
-verbs command.Print names few count = verb_given command.Print names refl count
-verbs command.Check names few count = verb_given command.Check names refl count
-verbs command.Prove names few count = verb_given command.Prove names refl count
-verbs command.Init names few count = verb_given command.Init names refl count
-verbs command.Sched names few count = verb_given command.Sched names refl count
+verbs command.Play names few count = verb_given command.Play (codes "play") names refl count
+verbs command.Rehearse names few count = verb_given command.Rehearse (codes "rehearse") names refl count
+verbs command.Print names few count = verb_given command.Print (codes "print") names refl count
+verbs command.Check names few count = verb_given command.Check (codes "check") names refl count
+verbs command.Prove names few count = verb_given command.Prove (codes "prove") names refl count
+verbs command.Init names few count = verb_given command.Init (codes "init") names refl count
+verbs command.Sched names few count = verb_given command.Sched (codes "sched") names refl count
 verbs (command.Run n) names few count = run_given n names few count
-verbs command.Recover names few count = verb_given command.Recover names refl count
-verbs command.Dump names few count = verb_given command.Dump names refl count
-verbs command.Replies names few count = verb_given command.Replies names refl count
-verbs command.Help names few count = verb_given command.Help names refl count
-verbs command.Version names few count = verb_given command.Version names refl count
+verbs command.Recover names few count = verb_given command.Recover (codes "recover") names refl count
+verbs command.Dump names few count = verb_given command.Dump (codes "dump") names refl count
+verbs command.Replies names few count = verb_given command.Replies (codes "replies") names refl count
+verbs command.Verify names few count = verb_given command.Verify (codes "verify") names refl count
+verbs command.TpccDesign names few count = design_given names count
+verbs command.Help names few count = verb_given command.Help (codes "--help") names refl count
+verbs command.Version names few count = verb_given command.Version (codes "--version") names refl count
 
 -- the line of the help with this number, if it begins so
 line_at : (k : ℕ) (front : List ℕ) → k < length help_lines → take (length front) (get_or help_lines k []) ≡ front
@@ -65,5 +73,7 @@ help (command.Run workers) = line_at 7 (codes "acc run ") (omega arith) refl
 help command.Recover = line_at 8 (codes "acc recover ") (omega arith) refl
 help command.Dump = line_at 9 (codes "acc dump ") (omega arith) refl
 help command.Replies = line_at 10 (codes "acc replies ") (omega arith) refl
-help command.Help = line_at 11 (codes "acc --help ") (omega arith) refl
-help command.Version = line_at 12 (codes "acc --version ") (omega arith) refl
+help command.Verify = line_at 11 (codes "acc verify ") (omega arith) refl
+help command.TpccDesign = line_at 12 (codes "acc tpcc design ") (omega arith) refl
+help command.Help = line_at 13 (codes "acc --help ") (omega arith) refl
+help command.Version = line_at 14 (codes "acc --version ") (omega arith) refl

@@ -6,6 +6,7 @@ pub mod Words
 pub mod Files
 pub mod Text
 pub mod Refusals
+pub mod Schemas
 pub mod ReadDesigns
 pub mod Notes
 pub mod Scripts

@@ -17,6 +17,8 @@ help_lines =
     codes "acc recover DESIGN CERT JOURNAL             ends what its events left unfinished, and tells how many events there are then" ∷
     codes "acc dump DESIGN CERT JOURNAL                does the same, and prints the rows that its events lead to" ∷
     codes "acc replies DESIGN CERT JOURNAL             does the same, and prints how each transaction ended, by its number" ∷
+    codes "acc verify DESIGN CERT JOURNAL              does the same, and tells which of TPC-C's conditions 1 to 9 are true of its rows" ∷
+    codes "acc tpcc design                             prints the design of TPC-C's transactions that the program brings along" ∷
     codes "acc --help                                  prints these lines" ∷
     codes "acc --version                               prints the version of acc, and of the toolchain that proved it" ∷
     codes "README.md tells what acc is for, and docs/DESIGN-LANGUAGE.md how a design is written and how to mend one that is refused." ∷

@@ -5,11 +5,12 @@ use Rattle.std.specs.Str.{bytes_eq}
 use Rattle.std.specs.Str.Parse.{digits_value}
 use Rattle.acc_inputs.specs.declared.words.TheConstants.{MOST_WORKERS}
 use Rattle.acc_inputs.specs.declared.words.Form.{Form}
-use Rattle.acc_inputs.specs.declared.words.Form.TheVariants.{Files, Workers}
+use Rattle.acc_inputs.specs.declared.words.Form.TheVariants.{Files, Workers, Tpcc}
 use Rattle.acc_inputs.specs.declared.words.Command.{Command}
 use Rattle.acc_inputs.specs.declared.words.Command.TheVariants as command
 
--- what stands behind this verb: the names of the command's files alone, or those of the files of `run` and then the number of workers
+-- what stands behind this verb: the names of the command's files alone; those of the files of `run` and then the number of workers; or,
+-- behind `tpcc`, what is wanted of it
 unfoldable pub form_of : List ℕ → Option Form
 form_of verb =
     if bytes_eq verb (codes "play") then Some (Files command.Play) else
@@ -23,9 +24,11 @@ form_of verb =
     (if bytes_eq verb (codes "recover") then Some (Files command.Recover) else
     (if bytes_eq verb (codes "dump") then Some (Files command.Dump) else
     (if bytes_eq verb (codes "replies") then Some (Files command.Replies) else
+    (if bytes_eq verb (codes "verify") then Some (Files command.Verify) else
+    (if bytes_eq verb (codes "tpcc") then Some Tpcc else
     (if bytes_eq verb (codes "--help") then Some (Files command.Help) else
     (if bytes_eq verb (codes "--version") then Some (Files command.Version) else
-    None))))))))))))
+    None))))))))))))))
 
 -- how many files a command reads: the first words behind the verb name them
 unfoldable pub file_count : Command → ℕ
@@ -40,6 +43,8 @@ file_count (command.Run workers) = 3
 file_count command.Recover = 2
 file_count command.Dump = 2
 file_count command.Replies = 2
+file_count command.Verify = 2
+file_count command.TpccDesign = 0
 file_count command.Help = 0
 file_count command.Version = 0
 
@@ -59,6 +64,8 @@ is_journalled (command.Run workers) = true
 is_journalled command.Recover = true
 is_journalled command.Dump = true
 is_journalled command.Replies = true
+is_journalled command.Verify = true
+is_journalled command.TpccDesign = false
 is_journalled command.Help = false
 is_journalled command.Version = false
 
@@ -87,11 +94,18 @@ workers_in (word ∷ other ∷ more) = None
 abbrev pub with_workers : List (List ℕ) → Option Command
 with_workers words = option_map command.Run (workers_in (drop 3 words))
 
+-- the command of which the one word behind `tpcc` says what is wanted
+abbrev pub with_tpcc : List (List ℕ) → Option Command
+with_tpcc [] = None
+with_tpcc (wanted ∷ []) = if bytes_eq wanted (codes "design") then Some command.TpccDesign else None
+with_tpcc (wanted ∷ other ∷ more) = None
+
 -- the command, if such words stand behind its verb
 abbrev pub with_form : Option Form → List (List ℕ) → Option Command
 with_form None words = None
 with_form (Some (Files c)) words = with_files c words
 with_form (Some Workers) words = with_workers words
+with_form (Some Tpcc) words = with_tpcc words
 
 -- the command that the words ask for: its verb, and what stands behind that
 abbrev pub command_of : List (List ℕ) → Option Command
@@ -116,6 +130,7 @@ abbrev pub is_journal_form : Option Form → Bool
 is_journal_form None = false
 is_journal_form (Some (Files c)) = is_journalled c
 is_journal_form (Some Workers) = true
+is_journal_form (Some Tpcc) = false
 
 -- Whether the first word is the verb of a command over a journal. Then the program's own last word names the journal's file, and isn't one
 -- of the words of a form.

@@ -20,6 +20,8 @@ acc run DESIGN CERT SCRIPT WORKERS JOURNAL  recovers the journal, and 1 to 64 wo
 acc recover DESIGN CERT JOURNAL             ends what its events left unfinished, and tells how many events there are then
 acc dump DESIGN CERT JOURNAL                does the same, and prints the rows that its events lead to
 acc replies DESIGN CERT JOURNAL             does the same, and prints how each transaction ended, by its number
+acc verify DESIGN CERT JOURNAL              does the same, and tells which of TPC-C's conditions 1 to 9 are true of its rows
+acc tpcc design                             prints the design of TPC-C's transactions that the program brings along
 acc --help                                  prints these lines
 acc --version                               prints the version of acc, and of the toolchain that proved it
 README.md tells what acc is for, and docs/DESIGN-LANGUAGE.md how a design is written and how to mend one that is refused.

@@ -78,6 +78,8 @@ pub enum Request<'a> {
     Recover(CertifiedFiles<'a>),
     Dump(CertifiedFiles<'a>),
     Replies(CertifiedFiles<'a>),
+    Verify(CertifiedFiles<'a>),
+    TpccDesign,
     Help,
     Version,
 }
@@ -113,6 +115,8 @@ impl<'a> Request<'a> {
             Command::Recover => Request::Recover(CertifiedFiles::new(files)),
             Command::Dump => Request::Dump(CertifiedFiles::new(files)),
             Command::Replies => Request::Replies(CertifiedFiles::new(files)),
+            Command::Verify => Request::Verify(CertifiedFiles::new(files)),
+            Command::TpccDesign => Request::TpccDesign,
             Command::Help => Request::Help,
             Command::Version => Request::Version,
         }

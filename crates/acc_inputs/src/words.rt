@@ -1,8 +1,8 @@
 //! The forms of the command line.
-ghost use Rattle.std.specs.Prelude.{◌≡◌, ◌≢◌, ℕ, ◌+◌, ◌≤◌, MatchOption, map, length, string_bytes, decimal, IfSome};
+ghost use Rattle.std.specs.Prelude.{◌≡◌, ◌≢◌, ℕ, ◌+◌, ◌≤◌, MatchOption, map, length, string_bytes, codes, decimal, IfSome};
 ghost use Rattle.std.specs.Str.{bytes_eq};
 ghost use Rattle.acc_inputs.specs.Words.{form_of, file_count, is_journalled, IsCrew, is_crew};
-ghost use Rattle.acc_inputs.specs.Words.{with_files, with_workers, command_of, file_names, asks_journal};
+ghost use Rattle.acc_inputs.specs.Words.{with_files, with_workers, with_tpcc, command_of, file_names, asks_journal};
 
 use itoa::Buffer;
 
@@ -34,6 +34,10 @@ pub enum Command {
     Dump,
     /// `replies DESIGN CERT`, over a journal
     Replies,
+    /// `verify DESIGN CERT`, over a journal
+    Verify,
+    /// `tpcc design`
+    TpccDesign,
     /// `--help`
     Help,
     /// `--version`
@@ -47,6 +51,8 @@ enum Form {
     Files(Command),
     /// The names of the files of `run`, and the number of workers.
     Workers,
+    /// The word that says what is wanted of TPC-C.
+    Tpcc,
 }
 
 /// What stands behind this verb.
@@ -66,6 +72,8 @@ fn form_of(verb: &str) -> Option<Form>
         "recover" => Some(Form::Files(Command::Recover)),
         "dump" => Some(Form::Files(Command::Dump)),
         "replies" => Some(Form::Files(Command::Replies)),
+        "verify" => Some(Form::Files(Command::Verify)),
+        "tpcc" => Some(Form::Tpcc),
         "--help" => Some(Form::Files(Command::Help)),
         "--version" => Some(Form::Files(Command::Version)),
         _ => None,
@@ -81,8 +89,9 @@ pub fn file_count(command: Command) -> usize
         Command::Play | Command::Run(_) => 3,
         Command::Rehearse | Command::Sched => 4,
         Command::Print | Command::Prove | Command::Init => 1,
-        Command::Check | Command::Recover | Command::Dump | Command::Replies => 2,
-        Command::Help | Command::Version => 0,
+        Command::Check | Command::Recover | Command::Dump => 2,
+        Command::Replies | Command::Verify => 2,
+        Command::TpccDesign | Command::Help | Command::Version => 0,
     }
 }
 
@@ -92,9 +101,9 @@ fn is_journalled(command: Command) -> bool
 {
     match command {
         Command::Init | Command::Sched | Command::Run(_) => true,
-        Command::Recover | Command::Dump | Command::Replies => true,
+        Command::Recover | Command::Dump | Command::Replies | Command::Verify => true,
         Command::Play | Command::Rehearse | Command::Print | Command::Check => false,
-        Command::Prove | Command::Help | Command::Version => false,
+        Command::Prove | Command::TpccDesign | Command::Help | Command::Version => false,
     }
 }
 
@@ -148,7 +157,31 @@ fn with_workers(words: &[String]) -> Option<Command>
     Some(Command::Run(workers_of(workers.as_str())?))
 }
 
-/// The command that the words ask for: its verb, and behind it the names of its files, and for `run` the number of workers.
+/// Whether a word asks for the design.
+fn asks_design(word: &str) -> bool
+    ensures { result ≡ bytes_eq word.now (codes "design") }
+{
+    word == "design"
+}
+
+/// The command of which the one word behind `tpcc` says what is wanted.
+#[tactic(auto, unfolding(crate::specs::Words::file_count))]
+fn with_tpcc(words: &[String]) -> Option<Command>
+    ensures command { result ≡ with_tpcc (map string_bytes words.now) }
+    ensures length { IfSome result (λ command. file_count command ≤ length words.now) }
+{
+    let [wanted] = words else {
+        return None;
+    };
+    if asks_design(wanted.as_str()) {
+        Some(Command::TpccDesign)
+    } else {
+        None
+    }
+}
+
+/// The command that the words ask for: its verb, and behind it the names of its files, and for `run` the number of workers; or `tpcc`, and
+/// behind it what is wanted of that.
 pub fn command_of(words: &[String]) -> Option<Command>
     ensures command { result ≡ command_of (map string_bytes words.now) }
     ensures length { IfSome result (λ command. file_count command + 1 ≤ length words.now) }
@@ -159,6 +192,7 @@ pub fn command_of(words: &[String]) -> Option<Command>
     match form_of(verb.as_str())? {
         Form::Files(command) => with_files(command, behind),
         Form::Workers => with_workers(behind),
+        Form::Tpcc => with_tpcc(behind),
     }
 }
 
@@ -182,6 +216,6 @@ pub fn asks_journal(words: &[String]) -> bool
     match form_of(verb.as_str()) {
         Some(Form::Files(command)) => is_journalled(command),
         Some(Form::Workers) => true,
-        None => false,
+        Some(Form::Tpcc) | None => false,
     }
 }

@@ -1,5 +1,5 @@
 -- How the commands over a journal end.
-use Rattle.std.proofs.Common.{◌≡◌, ℕ, Bool, true, false, List, [], Option, inl, inr, sym, ◌∙◌}
+use Rattle.std.proofs.Common.{◌≡◌, ℕ, Bool, true, false, List, [], Option, inl, inr, sym, ◌∙◌, ⊎_elim}
 use Rattle.std.specs.Prelude.{◌≢◌, ◌⊎◌}
 use Rattle.acc_io.specs.Causes.{Rose}
 use Rattle.acc_base.specs.declared.designs.Design.{Design}
@@ -15,11 +15,13 @@ use Rattle.acc_journalled.specs.RecoverError.{RecoverError}
 use Rattle.acc_journalled.specs.RecoverError.TheVariants as recovery
 use Rattle.acc_journalled.specs.declared.answers.Ending.{Ending}
 use Rattle.acc_journalled.specs.declared.answers.Ending.TheVariants.{Done, DesignRefused, ScriptRefused, JournalRefused}
-use Rattle.acc_journalled.specs.declared.answers.Ending.TheVariants.{DiskFailed, Unbegun, Open}
+use Rattle.acc_journalled.specs.declared.answers.Ending.TheVariants.{DiskFailed, Unbegun, Open, ConditionFalse}
 use Rattle.acc_journalled.specs.declared.answers.Wanted.{Wanted}
 use Rattle.acc_journalled.specs.Making.{MakesJournal}
 use Rattle.acc_journalled.specs.Recovering.{SaysNotRead, SaysNotRecovered, RecoversJournal, text_of}
+use Rattle.acc_journalled.specs.Verifying.{VerifiesJournal}
 use Rattle.acc_journalled.specs.Tellings.{Telling}
+use Rattle.tpcc_tables.specs.declared.tables.TableSet.{TableSet}
 use Rattle.acc_inputs.specs.Text.{Said, said_in, IsEarly}
 use Rattle.acc_journal_commands.specs.Disks.{Seen}
 use Rattle.acc_inputs.specs.Refusals.{SaysError, RefusesDesign}
@@ -28,6 +30,7 @@ use Rattle.acc_running.specs.Running.{RunsFrom, RunsJournal, WorksJournal, IsOpe
 use Rattle.acc_running.specs.Engines.{ending_at}
 use Rattle.acc_journal_commands.specs.RunFiles.{RunsOfOrder, WorksSeen, RunsOfScript, RunsCertified, RunsTexts, RunsFiles, WorksFiles}
 use Rattle.acc_journal_commands.specs.RecoverFiles.{RecoversCertified, RecoversFiles}
+use Rattle.acc_journal_commands.specs.VerifyFiles.{VerifiesSchema, VerifiesCertified, VerifiesFiles}
 
 -- ---- the journal decides
 
@@ -82,6 +85,24 @@ making_late d told told' fault t h = over_late fault t (making_ends d told told'
 pub recovering_late : (text : World → ℕ → List ℕ) (d : Design) (told told' : Option (List ℕ)) (fault : Type 0) (t : Telling)
     → RecoversJournal text d told told' fault t → IsEarly t.ending → ⊥
 recovering_late text d told told' fault t h = over_late fault t (recovering_ends text d told told' fault t h)
+
+-- telling of conditions ends so too, or with one that is false
+abbrev pub EndsJudged : Type 0 → Telling → Type 0
+EndsJudged fault t = EndsOver fault t ⊎ (t.ending ≡ ConditionFalse)
+
+verifying_ends : (s : TableSet) (d : Design) (told told' : Option (List ℕ)) (fault : Type 0) (t : Telling)
+    → VerifiesJournal s d told told' fault t → EndsJudged fault t
+verifying_ends s d told told' fault t (inl h) = ⊎_elim (λ e. inl (inl e.0)) (λ e. inr e.0) h.ending
+verifying_ends s d told told' fault t (inr h) = inl (unrecovered_ends h.error d told fault t h.cause h.says)
+
+judged_late : (fault : Type 0) (t : Telling) → EndsJudged fault t → IsEarly t.ending → ⊥
+judged_late fault t (inl over) early = over_late fault t over early
+judged_late fault t (inr is) (inl e) = other_end ConditionFalse DesignRefused t (λ e. cc) is e
+judged_late fault t (inr is) (inr e) = other_end ConditionFalse ScriptRefused t (λ e. cc) is e
+
+pub verifying_late : (s : TableSet) (d : Design) (told told' : Option (List ℕ)) (fault : Type 0) (t : Telling)
+    → VerifiesJournal s d told told' fault t → IsEarly t.ending → ⊥
+verifying_late s d told told' fault t h = judged_late fault t (verifying_ends s d told told' fault t h)
 
 -- ---- a refusal of the design stands before it
 
@@ -152,6 +173,27 @@ module _ (wanted : Wanted) (old new : Seen) (t : Telling) where
   recover_ends design certificate (inl h) = inl (inl (refusal_ends design (said_in t) h.2))
   recover_ends design certificate (inr h) = certified_ends h.d certificate h.says
 
+-- or with a condition that is false
+abbrev pub EndsVerified : Type 0 → Telling → Type 0
+EndsVerified fault t = EndsOverDisk fault t ⊎ (t.ending ≡ ConditionFalse)
+
+module _ (old new : Seen) (t : Telling) where
+  tables_end : (d : Design) → VerifiesSchema d old new t → EndsVerified (Rose old.faults new.faults) t
+  tables_end d (inl h) = inl (inl (inl h.2.says.0))
+  tables_end d (inr h) =
+      ⊎_elim (λ over. inl (inr (inl over))) (λ is. inr is)
+      (verifying_ends h.tables d old.told new.told (Rose old.faults new.faults) t h.ends)
+
+  verified_ends : (d : Design) (certificate : List ℕ) → VerifiesCertified d certificate old new t
+      → EndsVerified (Rose old.faults new.faults) t
+  verified_ends d certificate (inl h) = inl (inl (inl h.2.ending))
+  verified_ends d certificate (inr h) = tables_end d h.says
+
+  pub verify_ends : (design certificate : List ℕ) → VerifiesFiles design certificate old new t
+      → EndsVerified (Rose old.faults new.faults) t
+  verify_ends design certificate (inl h) = inl (inl (inl (refusal_ends design (said_in t) h.2)))
+  verify_ends design certificate (inr h) = verified_ends h.d certificate h.says
+
 -- where it is known how what is said of the calls ends
 module _ (OfCalls : Design → List Call → Seen → Seen → Telling → Type 0) (old new : Seen) (t : Telling)
     (calls_end : (d : Design) (calls : List Call) → OfCalls d calls old new t → EndsOverDisk (Rose old.faults new.faults) t) where
@@ -213,3 +255,14 @@ never_open fault t (inl (inl is)) e = other_end DesignRefused Open t (λ e. cc) 
 never_open fault t (inl (inr is)) e = other_end ScriptRefused Open t (λ e. cc) is e
 never_open fault t (inr (inl h)) e = over_open fault t h e
 never_open fault t (inr (inr is)) e = other_end Unbegun Open t (λ e. cc) is e
+
+pub over_true : (fault : Type 0) (t : Telling) → EndsOver fault t → t.ending ≡ ConditionFalse → ⊥
+over_true fault t (inl is) e = other_end Done ConditionFalse t (λ e. cc) is e
+over_true fault t (inr (inl is)) e = other_end JournalRefused ConditionFalse t (λ e. cc) is e
+over_true fault t (inr (inr is)) e = other_end DiskFailed ConditionFalse t (λ e. cc) is.0 e
+
+pub never_false : (fault : Type 0) (t : Telling) → EndsOverDisk fault t → t.ending ≡ ConditionFalse → ⊥
+never_false fault t (inl (inl is)) e = other_end DesignRefused ConditionFalse t (λ e. cc) is e
+never_false fault t (inl (inr is)) e = other_end ScriptRefused ConditionFalse t (λ e. cc) is e
+never_false fault t (inr (inl h)) e = over_true fault t h e
+never_false fault t (inr (inr is)) e = other_end Unbegun ConditionFalse t (λ e. cc) is e

@@ -7,6 +7,7 @@ pub use Rattle.acc_inputs.specs.ParseError
 pub use Rattle.acc_inputs.specs.Refusals
 pub use Rattle.acc_inputs.specs.Reports
 pub use Rattle.acc_inputs.specs.Requests
+pub use Rattle.acc_inputs.specs.Schemas
 pub use Rattle.acc_inputs.specs.Scripts
 pub use Rattle.acc_inputs.specs.Text
 pub use Rattle.acc_inputs.specs.Texts
@@ -21,3 +22,4 @@ pub mod Disks
 pub mod InitFiles
 pub mod RecoverFiles
 pub mod RunFiles
+pub mod VerifyFiles

@@ -4,6 +4,7 @@
 pub mod journals;
 pub mod recoveries;
 pub mod runs;
+pub mod verifications;
 
 pub use acc_inputs::{
     Command, Request, asks_journal, command_of, file_count, help_text, read_all, version_text,
@@ -12,3 +13,4 @@ pub use acc_running::{Alone, Crew, Engine};
 pub use journals::init_file;
 pub use recoveries::recover_files;
 pub use runs::{run_files, work_files};
+pub use verifications::verify_files;

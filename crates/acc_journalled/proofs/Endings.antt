@@ -8,6 +8,7 @@ use Rattle.acc_base.specs.declared.machines.Event.{Event}
 use Rattle.acc_base.specs.Annotated.{IsIdle}
 use Rattle.acc_base.specs.Machine.{World}
 use Rattle.acc_print.specs.Designs.{printed}
+use Rattle.tpcc_tables.specs.declared.tables.TableSet.{TableSet}
 use Rattle.acc_wal.specs.Journals.{Counts}
 use Rattle.acc_wal.specs.Wals.{Journal, IsOpened}
 use Rattle.acc_wal.specs.Creating.{rest_of, IsThere, RefusesNew}
@@ -22,7 +23,9 @@ use Rattle.acc_journalled.specs.declared.answers.Answer.{Answer}
 use Rattle.acc_journalled.specs.declared.answers.Ending.TheVariants.{Done, DiskFailed}
 use Rattle.acc_journalled.specs.Tellings.{Telling, Says, SaysOf}
 use Rattle.acc_journalled.specs.Making.{IsMakingError, SaysNotMade, MakesJournal}
-use Rattle.acc_journalled.specs.Recovering.{IsRecoverError, SaysNotRecovered, RecoversJournal, TellsRecovered}
+use Rattle.acc_journalled.specs.Conditions.{conditions_text, EndsByRows}
+use Rattle.acc_journalled.specs.Recovering.{IsRecoverError, SaysNotRecovered, Recovers, RefusesSo, RecoversJournal, TellsRecovered, done_with}
+use Rattle.acc_journalled.specs.Verifying.{VerifiesJournal, verdicts_text}
 
 -- the disk of a journal that isn't spent holds its base text and its durable events
 pub holds : {D : Type 0} (wal : Journal D) (base : List ℕ) (events : List Event) (told : Option (List ℕ)) → IsOpened base events wal
@@ -85,23 +88,42 @@ recovering (recovery.Unlawful at) d told fault why = tt
 recovering recovery.Disk d told fault why = tt
 recovering recovery.Memory d told fault why = tt
 
+recovers_so : {D : Type 0} (text : World → ℕ → List ℕ) (d : Design) (told told' : Option (List ℕ)) (w : World) (wal : Journal D)
+    (compensated : ℕ) (t : Telling)
+    → RecoversFile d told w wal compensated → IsIdle d w.rows → ((file : List ℕ) → told' ≡ Some file → Counts file wal.base wal.durable)
+    → SaysOf (text w compensated) w t → Recovers text d told told' t
+recovers_so text d told told' w wal compensated t file idle counts says = record {
+  found = file.found;
+  counts = file.counts;
+  last = w;
+  recovery = file.recovery;
+  idle = idle;
+  compensated = compensated;
+  unfinished_were = file.unfinished_were;
+  holds = holds wal (printed d) w.events told' file.settled counts;
+  says = says;
+}
+
 pub recovered_so : {D : Type 0} (text : World → ℕ → List ℕ) (d : Design) (told told' : Option (List ℕ)) (fault : Type 0) (w : World)
     (wal : Journal D) (compensated : ℕ) (t : Telling)
     → RecoversFile d told w wal compensated → IsIdle d w.rows → ((file : List ℕ) → told' ≡ Some file → Counts file wal.base wal.durable)
     → SaysOf (text w compensated) w t → RecoversJournal text d told told' fault t
 recovered_so text d told told' fault w wal compensated t file idle counts says =
-    inl
-    (record {
-      found = file.found;
-      counts = file.counts;
-      last = w;
-      recovery = file.recovery;
-      idle = idle;
-      compensated = compensated;
-      unfinished_were = file.unfinished_were;
-      holds = holds wal (printed d) w.events told' file.settled counts;
-      says = says;
-    })
+    inl (recovers_so text d told told' w wal compensated t file idle counts says)
+
+-- each condition was tried on the recovered rows
+pub verified_so : {D : Type 0} (s : TableSet) (d : Design) (told told' : Option (List ℕ)) (fault : Type 0) (w : World) (wal : Journal D)
+    (compensated : ℕ) (t : Telling)
+    → RecoversFile d told w wal compensated → IsIdle d w.rows → ((file : List ℕ) → told' ≡ Some file → Counts file wal.base wal.durable)
+    → t.text ≡ conditions_text s w.rows → EndsByRows s w.rows t.ending → t.history ≡ w.events → t.settled ≡ length w.events
+    → VerifiesJournal s d told told' fault t
+unfolding recovers_so
+verified_so s d told told' fault w wal compensated t file idle counts says ends same all = inl (record {
+  recovers =
+      recovers_so (verdicts_text s) d told told' w wal compensated (done_with t.text t.history t.settled) file idle counts
+      (refl, says, same, all);
+  ending = ends;
+})
 
 -- where no call of the disk failed, the bytes gave cause for the refusal
 pub was_of_bytes : (error : RecoverError) (t : Telling) → SaysNotRecovered error t → t.ending ≢ DiskFailed → IsOfBytes error
@@ -119,25 +141,15 @@ pub recovered_tells : {D : Type 0} (text : World → ℕ → List ℕ) (d : Desi
 recovered_tells text d told told' w wal compensated history settled file idle counts same all =
     inr (
       text w compensated,
-      record {
-        found = file.found;
-        counts = file.counts;
-        last = w;
-        recovery = file.recovery;
-        idle = idle;
-        compensated = compensated;
-        unfinished_were = file.unfinished_were;
-        holds = holds wal (printed d) w.events told' file.settled counts;
-        says = (refl, refl, same, all);
-      },
+      recovers_so text d told told' w wal compensated (done_with (text w compensated) history settled) file idle counts
+          (refl, refl, same, all),
     )
 
-pub not_recovered_so : (error : RecoverError) (text : World → ℕ → List ℕ) (d : Design) (told told' : Option (List ℕ)) (fault : Type 0)
-    (t : Telling)
+pub refuses_so : (error : RecoverError) (d : Design) (told told' : Option (List ℕ)) (fault : Type 0) (t : Telling)
     → RefusesRecovery d error told fault → (IsOfJournal error → told' ≡ told) → (IsOfBytes error → CountsSame told told')
-    → SaysNotRecovered error t → RecoversJournal text d told told' fault t
-not_recovered_so error text d told told' fault t why same kept says =
-    inr (record { error = error; cause = why; same = same; kept = kept; says = says })
+    → SaysNotRecovered error t → RefusesSo d told told' fault t
+refuses_so error d told told' fault t why same kept says =
+    record { error = error; cause = why; same = same; kept = kept; says = says }
 
 -- ---- no machine ran
 

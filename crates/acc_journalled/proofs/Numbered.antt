@@ -11,7 +11,7 @@ use Rattle.acc_base.specs.declared.machines.Event.{Event}
 use Rattle.acc_base.specs.declared.machines.Reply.{Reply}
 use Rattle.acc_base.specs.declared.machines.Transaction.{Transaction}
 use Rattle.acc_base.specs.declared.machines.Transaction.TheVariants.{Forward, Undoing, Ended}
-use Rattle.acc_base.specs.Invariant.{IsGood}
+use Rattle.acc_base.specs.Invariant.{IsSteady, IsGood}
 use Rattle.acc_base.specs.Lines.{line, outcome_text, rest_text}
 use Rattle.acc_base.specs.Machine.{World, reply_at, reply_in, transaction_at, unfinished}
 use Rattle.acc_lift.specs.Acceptance.{IsAccepted}
@@ -22,6 +22,12 @@ use Rattle.acc_recover.specs.Recoveries.{IsRecovery}
 use Rattle.acc_recover.proofs.Ends.{kept_run}
 use Rattle.acc_journalled.specs.Recovering.{number_line, replies_of}
 
+-- a recovered state is steady
+pub recovered_steady : (d : Design) (found : List Event) (w : World) → IsAccepted d → IsRecovery d found w → IsSteady d w
+recovered_steady d found w accepted r =
+    (recovers_lawfully d accepted.sound (run_rules d accepted.formed) r.more r.first w
+    (kept_run d d found r.first accepted refl r.comes).good.steady r.recovers).2
+
 -- after a recovery nothing is unfinished
 pub none_unfinished : (d : Design) (found : List Event) (w : World) → IsAccepted d → IsRecovery d found w → unfinished w ≡ []
 none_unfinished d found w accepted r =
@@ -30,7 +36,7 @@ none_unfinished d found w accepted r =
 
 -- ---- lines
 
-flat_more : (f : ℕ → List ℕ) (a n : ℕ) → flat_map f (range_with_len a (suc n)) ≡ flat_map f (range_with_len a n) ++ f (a + n)
+pub flat_more : (f : ℕ → List ℕ) (a n : ℕ) → flat_map f (range_with_len a (suc n)) ≡ flat_map f (range_with_len a n) ++ f (a + n)
 flat_more f a zero = let e : a ≡ a + 0 = omega arith in append-nil (f a) ∙ ap f e
 flat_more f a (suc n) =
     let e : (a + 1) + n ≡ a + suc n = omega arith in

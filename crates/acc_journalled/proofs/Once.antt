@@ -2,10 +2,12 @@
 use Rattle.std.proofs.Common.{◌≡◌, inl, inr, ℕ, List, length, Option, Some, Result, Ok, Err, refl, sym, ap, subst, ◌∙◌}
 use Rattle.acc_base.specs.declared.designs.Design.{Design}
 use Rattle.acc_base.specs.declared.machines.Event.{Event}
+use Rattle.acc_base.specs.declared.tables.Row.{Row}
 use Rattle.acc_base.specs.Lawful.{LeadLawfully}
 use Rattle.acc_base.specs.Machine.{World, start, unfinished}
 use Rattle.acc_recover.specs.Replays.{IsFirstUnlawful}
 use Rattle.acc_print.specs.Designs.{printed}
+use Rattle.tpcc_tables.specs.declared.tables.TableSet.{TableSet}
 use Rattle.acc_wal.specs.Attaching.{CountedAs}
 use Rattle.acc_wal.specs.Journals.{Counts}
 use Rattle.acc_wal.proofs.Apart.{one_answer}
@@ -21,7 +23,9 @@ use Rattle.acc_journalled.specs.declared.answers.Ending.{Ending}
 use Rattle.acc_journalled.specs.declared.answers.Ending.TheVariants.{Done, JournalRefused, DiskFailed}
 use Rattle.acc_journalled.specs.Tellings.{Telling, Says}
 use Rattle.acc_journalled.specs.Making.{MakesJournal}
-use Rattle.acc_journalled.specs.Recovering.{SaysNotRead, SaysNotRecovered, Recovers, RefusesSo, RecoversJournal}
+use Rattle.acc_journalled.specs.Conditions.{AreConsistent, EndsByRows}
+use Rattle.acc_journalled.specs.Recovering.{SaysNotRead, SaysNotRecovered, Recovers, RefusesSo, RecoversJournal, done_with}
+use Rattle.acc_journalled.specs.Verifying.{Verifies, VerifiesJournal, verdicts_text}
 use Rattle.acc_journalled.proofs.Lawfuls.{lead_once, lawful_or, first_once}
 
 -- ---- tellings
@@ -135,11 +139,15 @@ module _ (d : Design) (file : List ℕ) where
   recovered_or found last Memory x b calm c r k s = s
 
   module _ (text : World → ℕ → List ℕ) (one other : Option (List ℕ)) (a b : Telling) where
+    last_once : (h : Recovers text d (Some file) one a) (k : Recovers text d (Some file) other b) → h.last ≡ k.last
+    last_once h k =
+        one_recovery d k.found h.last k.last
+        (subst (λ (es : List Event). IsRecovery d es h.last) (same_events h.found k.found h.counts k.counts) h.recovery) k.recovery
+
     recovers_once : Recovers text d (Some file) one a → Recovers text d (Some file) other b → a ≡ b
     recovers_once h k =
         let found = same_events h.found k.found h.counts k.counts in
-        let last : h.last ≡ k.last = one_recovery d k.found h.last k.last
-        (subst (λ (es : List Event). IsRecovery d es h.last) found h.recovery) k.recovery in
+        let last = last_once h k in
         let were = subst (λ (es : List Event). LeavesUnfinished d es h.compensated) found h.unfinished_were in
         let first = lead_once d k.found start were.first k.unfinished_were.first were.comes k.unfinished_were.comes in
         let count : h.compensated ≡ k.compensated = were.count_is ∙ ap (λ (w : World). length (unfinished w)) first
@@ -162,3 +170,33 @@ module _ (d : Design) (file : List ℕ) where
     recovering_once x y calm sound (inr h) (inl k) =
         absurd (recovered_or k.found k.last h.error x a calm k.counts k.recovery h.cause h.says)
     recovering_once x y calm sound (inr h) (inr k) = refuses_once x y calm sound h k
+
+  -- ---- which conditions are true of one state
+
+  ending_once : (s : TableSet) (x y : List Row) (e f : Ending) → x ≡ y → EndsByRows s x e → EndsByRows s y f → e ≡ f
+  ending_once s x y e f same (inl h) (inl k) = h.0 ∙ sym k.0
+  ending_once s x y e f same (inl h) (inr k) = absurd (k.1 (subst (AreConsistent s) same h.1))
+  ending_once s x y e f same (inr h) (inl k) = absurd (h.1 (subst (AreConsistent s) (sym same) k.1))
+  ending_once s x y e f same (inr h) (inr k) = h.0 ∙ sym k.0
+
+  module _ (s : TableSet) (one other : Option (List ℕ)) (a b : Telling) where
+    verifies_once : Verifies s d (Some file) one a → Verifies s d (Some file) other b → a ≡ b
+    verifies_once h k =
+        let p = done_with a.text a.history a.settled in
+        let q = done_with b.text b.history b.settled in
+        let told = recovers_once (verdicts_text s) one other p q h.recovers k.recovers in
+        let last = last_once (verdicts_text s) one other p q h.recovers k.recovers in
+        telling_same a b
+        (ending_once s h.recovers.last.rows k.recovers.last.rows a.ending b.ending (ap (λ (w : World). w.rows) last) h.ending k.ending)
+        (ap (λ (t : Telling). t.text) told) (ap (λ (t : Telling). t.history) told) (ap (λ (t : Telling). t.settled) told)
+
+    pub verifying_once : (x y : Type 0) → ¬ x → ¬ y → VerifiesJournal s d (Some file) one x a → VerifiesJournal s d (Some file) other y b
+        → a ≡ b
+    verifying_once x y calm sound (inl h) (inl k) = verifies_once h k
+    verifying_once x y calm sound (inl h) (inr k) =
+        absurd
+        (recovered_or h.recovers.found h.recovers.last k.error y b sound h.recovers.counts h.recovers.recovery k.cause k.says)
+    verifying_once x y calm sound (inr h) (inl k) =
+        absurd
+        (recovered_or k.recovers.found k.recovers.last h.error x a calm k.recovers.counts k.recovers.recovery h.cause h.says)
+    verifying_once x y calm sound (inr h) (inr k) = refuses_once (verdicts_text s) one other a b x y calm sound h k

@@ -5,3 +5,5 @@ pub mod Tellings
 pub mod Making
 pub mod Recovering
 pub mod Laws
+pub mod Conditions
+pub mod Verifying

@@ -21,6 +21,8 @@ pub enum Ending {
     Unbegun,
     /// An obligation of the design stays open: the search found no proof of it.
     Open,
+    /// A consistency condition of TPC-C is false of the recovered rows.
+    ConditionFalse,
 }
 
 /// What is told of a recovered journal.

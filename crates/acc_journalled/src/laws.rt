@@ -1,5 +1,6 @@
 //! Laws of the definitions.
 ghost use Rattle.acc_journalled.specs.Laws.{MakingSaysOne, RecoveringSaysOne};
+ghost use Rattle.acc_journalled.specs.Verifying.{VerifyingSaysOne};
 
 /// Of a disk that tells its bytes, making a journal says one thing, where no call of the disk fails. So each refusal comes exactly where
 /// its cause stands.
@@ -11,4 +12,9 @@ pub fn making_says_one()
 /// where its cause stands.
 pub fn recovering_says_one()
     ensures { RecoveringSaysOne }
+{}
+
+/// And so does telling which conditions are true of a recovered journal.
+pub fn verifying_says_one()
+    ensures { VerifyingSaysOne }
 {}

@@ -1,12 +1,15 @@
-//! Commands over a journal on a disk: making one for a design, recovering it, and printing the recovered rows.
+//! Commands over a journal on a disk: making one for a design, recovering it, and telling of the recovered state.
 #![tactic(auto)]
 
 mod answers;
 mod commands;
+mod conditions;
 pub mod laws;
 mod lines;
 mod replies;
+mod verifying;
 
 pub use answers::{Answer, Ended, Ending, Wanted, unrun};
 pub use commands::{init_journal, recover_journal};
 pub use lines::{not_recovered, one_line};
+pub use verifying::verify_journal;

@@ -25,9 +25,10 @@ fn opening(words: &[String]) -> Opening {
     match command_of(words) {
         Some(Command::Init) => Opening::Make(&FIRST_BYTES),
         Some(Command::Sched | Command::Run(_)) => Opening::Use,
-        Some(Command::Recover | Command::Dump | Command::Replies) => Opening::Use,
+        Some(Command::Recover | Command::Dump | Command::Replies | Command::Verify) => Opening::Use,
         Some(Command::Play | Command::Rehearse | Command::Print | Command::Check) => Opening::Use,
-        Some(Command::Prove | Command::Help | Command::Version) | None => Opening::Use,
+        Some(Command::Prove | Command::TpccDesign) => Opening::Use,
+        Some(Command::Help | Command::Version) | None => Opening::Use,
     }
 }
 

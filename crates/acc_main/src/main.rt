@@ -1,6 +1,7 @@
 //! The program: makes the real shelf, sink and disk, answers the command line, and tells on standard error why one is refused.
 #![tactic(auto)]
 
+ghost use Rattle.acc_search_threads.specs.WellFormed.{IsWellFormed};
 ghost use Rattle.acc_threads.specs.Works.{IsUnworked};
 
 mod journal;
@@ -19,6 +20,7 @@ use acc_disk::{Disk, FileDisk, MemDisk};
 use acc_inputs::{Command, command_of, file_names};
 use acc_io::{FolderShelf, StdSink};
 use acc_lift::Accepted;
+use acc_search_threads::{InTurn, Searchers, Searching, at_once, search_in_threads};
 use acc_store::MapStore;
 use acc_threads::{Alone, Called, Crew, Engine, work_in_threads};
 use std::alloc::AllocError;
@@ -79,15 +81,17 @@ fn tell_if_any(rt: &HostRuntime, line: Result<Option<String>, AllocError>) {
     }
 }
 
-/// Answers a command line over a disk by a crew; what was printed is kept, and the disk handed back.
-fn answer<'a, 'd, D: Disk, C: Crew<Engine<'d, MapStore, D>>>(
+/// Answers a command line over a disk by a crew and by searchers; what was printed is kept, and the disk handed back.
+fn answer<'a, 'd, D: Disk, C: Crew<Engine<'d, MapStore, D>>, S: Searchers>(
     rt: &'a HostRuntime,
     words: &[String],
     disk: D,
     crew: &C,
+    searchers: &S,
     slot: &'d mut Option<Accepted>,
 ) -> Answered<'a, D>
-    requires { C.ready crew.now }
+    requires ready { C.ready crew.now }
+    requires searching { S.ready searchers.now }
 {
     let mut shelf = FolderShelf::new(rt);
     let mut out = Keeping::new(rt.alloc(), StdSink::new(rt));
@@ -99,6 +103,7 @@ fn answer<'a, 'd, D: Disk, C: Crew<Engine<'d, MapStore, D>>>(
         &mut out,
         disk,
         crew,
+        searchers,
         slot,
         &mut progress,
     );
@@ -129,7 +134,7 @@ fn answer_in_threads<'a, 'd, R: Threads + Wait + Sync>(
             engine
         },
     );
-    answer(rt, words, disk, &crew, slot)
+    answer(rt, words, disk, &crew, &InTurn, slot)
 }
 
 /// Whether workers do the command of these words.
@@ -137,13 +142,15 @@ fn is_by_crew(words: &[String]) -> bool {
     match command_of(words) {
         Some(Command::Run(_)) => true,
         Some(Command::Init | Command::Sched) => false,
-        Some(Command::Recover | Command::Dump | Command::Replies) => false,
+        Some(Command::Recover | Command::Dump | Command::Replies | Command::Verify) => false,
         Some(Command::Play | Command::Rehearse | Command::Print | Command::Check) => false,
-        Some(Command::Prove | Command::Help | Command::Version) | None => false,
+        Some(Command::Prove | Command::TpccDesign) => false,
+        Some(Command::Help | Command::Version) | None => false,
     }
 }
 
-/// Answers a command line over the journal's file: `run` by threads, and any other command without, so that it waits for nobody.
+/// Answers a command line over the journal's file: `run` by threads, and any other command that has a journal without, so that it waits for
+/// nobody. None of them searches for a proof.
 fn answer_by_crew<'a, R: Threads + Wait + Sync>(
     rt: &'a HostRuntime,
     threads: &R,
@@ -154,7 +161,7 @@ fn answer_by_crew<'a, R: Threads + Wait + Sync>(
     if is_by_crew(words) {
         answer_in_threads(rt, threads, words, disk, &mut slot)
     } else {
-        answer(rt, words, disk, &Alone, &mut slot)
+        answer(rt, words, disk, &Alone, &InTurn, &mut slot)
     }
 }
 
@@ -191,12 +198,23 @@ fn answer_over<R: Threads + Wait + Sync>(
     Ok(status)
 }
 
-/// Answers a command line without a journal, and tells on standard error why, where it isn't answered with status 0.
-fn answer_without(rt: &HostRuntime, words: &[String]) -> Result<u8, AllocError> {
+/// Answers a command line without a journal, where the searches for proofs run in threads; and tells on standard error why, where it isn't
+/// answered with status 0.
+fn answer_without<R: Threads + Sync>(
+    rt: &HostRuntime,
+    threads: &R,
+    words: &[String],
+) -> Result<u8, AllocError> {
     let Ok(disk) = MemDisk::new(rt.alloc(), &[], &[], None) else {
         return Err(AllocError);
     };
-    let Answered { status, out, .. } = answer(rt, words, disk, &Alone, &mut None);
+    let searchers = Searching::new(
+        at_once(threads),
+        |alloc, d, sequents|
+            requires { IsWellFormed d.now }
+        { search_in_threads(threads, alloc, d, sequents) },
+    );
+    let Answered { status, out, .. } = answer(rt, words, disk, &Alone, &searchers, &mut None);
     tell(rt, status, words, out.kept());
     Ok(status)
 }
@@ -205,7 +223,7 @@ fn answer_without(rt: &HostRuntime, words: &[String]) -> Result<u8, AllocError> 
 fn run<R: Threads + Wait + Sync>(rt: &HostRuntime, threads: &R, words: &mut Vec<String>) -> u8 {
     let answered = match take_journal(words) {
         Some(path) => answer_over(rt, threads, words, path),
-        None => answer_without(rt, words),
+        None => answer_without(rt, threads, words),
     };
     match answered {
         Ok(status) => status,

@@ -1,5 +1,5 @@
 //! Command lines over the folder's files and a disk in memory.
-use acc_case_commands::{acc, memory};
+use acc_case_commands::{InTurn, Searchers, acc, memory};
 use acc_crew::{Alone, Crew};
 use acc_disk::MemDisk;
 use acc_engine::Engine;
@@ -19,15 +19,22 @@ pub struct Answered {
     pub disk: MemDisk,
 }
 
-/// Answers a command line over a disk by a crew.
-pub fn answer<'d, R: Files<File = File> + AllocGlobal, C: Crew<Engine<'d, MapStore, MemDisk>>>(
+/// Answers a command line over a disk by a crew and by searchers.
+pub fn answer<
+    'd,
+    R: Files<File = File> + AllocGlobal,
+    C: Crew<Engine<'d, MapStore, MemDisk>>,
+    S: Searchers,
+>(
     rt: &R,
     line: &str,
     disk: MemDisk,
     crew: &C,
+    searchers: &S,
     slot: &'d mut Option<Accepted>,
 ) -> Result<Answered, AllocError>
-    requires { C.ready crew.now }
+    requires ready { C.ready crew.now }
+    requires searching { S.ready searchers.now }
 {
     let words = memory::words(rt.alloc(), line)?;
     let mut shelf = FolderShelf::new(rt);
@@ -39,6 +46,7 @@ pub fn answer<'d, R: Files<File = File> + AllocGlobal, C: Crew<Engine<'d, MapSto
         &mut out,
         disk,
         crew,
+        searchers,
         slot,
         &mut Silent,
     );
@@ -49,12 +57,12 @@ pub fn answer<'d, R: Files<File = File> + AllocGlobal, C: Crew<Engine<'d, MapSto
     })
 }
 
-/// Answers a command line over a disk that holds these bytes, without a worker.
+/// Answers a command line over a disk that holds these bytes, without a worker or a thread.
 pub fn answer_alone<R: Files<File = File> + AllocGlobal>(
     rt: &R,
     line: &str,
     bytes: &[u8],
 ) -> Result<Answered, AllocError> {
     let disk = memory::disk(rt.alloc(), bytes, &[], None)?;
-    answer(rt, line, disk, &Alone, &mut None)
+    answer(rt, line, disk, &Alone, &InTurn, &mut None)
 }

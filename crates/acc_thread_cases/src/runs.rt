@@ -2,9 +2,11 @@
 ghost use Rattle.acc_crew.specs.Works.{IsUnworked};
 
 use crate::answers::{Answered, answer, answer_alone};
+use crate::calls::work_by_calls;
 use crate::meetings::Meeting;
-use acc_case_commands::memory;
+use crate::searches::tell_searches;
 use acc_case_commands::texts::first_word;
+use acc_case_commands::{InTurn, memory};
 use acc_crew::Called;
 use acc_disk::MemDisk;
 use acc_engine::Engine;
@@ -12,7 +14,7 @@ use acc_lift::Accepted;
 use acc_store::MapStore;
 use acc_threads::work_in_threads;
 use acc_workers::{Gate, OpenGate};
-use std::alloc::AllocError;
+use std::alloc::{AllocError, Global};
 use std::fs::File;
 use std::io;
 use std::rt::Files;
@@ -87,7 +89,28 @@ fn answer_in_threads<
             requires { IsUnworked engine }
         { work_in_threads(threads, alloc, engine, workers, gate) },
     );
-    answer(rt, line, disk, &crew, slot)
+    answer(rt, line, disk, &crew, &InTurn, slot)
+}
+
+/// The disk with which the run of a case begins.
+fn disk_of<R: Files<File = File> + AllocGlobal>(
+    rt: &R,
+    case: Case<'_>,
+) -> Result<MemDisk, AllocError> {
+    let journal = journal_of(rt, case)?;
+    memory::disk(rt.alloc(), &journal, &[], case.from.parse().ok())
+}
+
+/// The command line of the run of a case.
+fn line_of(alloc: Global, case: Case<'_>) -> Result<String, AllocError> {
+    let Case {
+        workers,
+        design,
+        certificate,
+        script,
+        ..
+    } = case;
+    format!(in alloc; "run {design} {certificate} {script} {workers}")
 }
 
 /// Answers the run of a case, with a gate between its turns.
@@ -97,17 +120,25 @@ fn run<R: Files<File = File> + AllocGlobal, T: Threads + Wait + Sync, G: Gate + 
     gate: &G,
     case: Case<'_>,
 ) -> Result<Answered, AllocError> {
-    let journal = journal_of(rt, case)?;
-    let disk = memory::disk(rt.alloc(), &journal, &[], case.from.parse().ok())?;
-    let Case {
-        workers,
-        design,
-        certificate,
-        script,
-        ..
-    } = case;
-    let line = format!(in rt.alloc(); "run {design} {certificate} {script} {workers}")?;
+    let disk = disk_of(rt, case)?;
+    let line = line_of(rt.alloc(), case)?;
     answer_in_threads(rt, threads, gate, line.as_str(), disk, &mut None)
+}
+
+/// Answers a command line over a disk by the calls of the shared engine, and tells what these answer.
+fn answer_by_calls<'d, R: Files<File = File> + Print + AllocGlobal, W: Wait>(
+    rt: &R,
+    waits: &W,
+    line: &str,
+    disk: MemDisk,
+    slot: &'d mut Option<Accepted>,
+) -> Result<Answered, AllocError> {
+    let crew = Called::new::<Engine<'d, MapStore, MemDisk>>(
+        |alloc, engine, _workers|
+            requires { IsUnworked engine }
+        { work_by_calls(rt, waits, alloc, engine) },
+    );
+    answer(rt, line, disk, &crew, &InTurn, slot)
 }
 
 /// Tells what a command line printed, and its status.
@@ -132,16 +163,37 @@ fn tell_left<R: Files<File = File> + Print + AllocGlobal>(
     tell_answer(rt, &answered)
 }
 
-/// Tells of the run of a case, and of what it left.
+/// Tells what a run answered, and of what it left.
+fn tell_answered<R: Files<File = File> + Print + AllocGlobal>(
+    rt: &R,
+    case: Case<'_>,
+    answered: &Answered,
+) -> io::Result<()> {
+    tell_answer(rt, answered)?;
+    tell_left(rt, "recover", case, answered.disk.bytes())?;
+    tell_left(rt, "dump", case, answered.disk.bytes())
+}
+
+/// Tells of the run of a case by workers.
 fn tell_run<R: Files<File = File> + Print + AllocGlobal, T: Threads + Wait + Sync>(
     rt: &R,
     threads: &T,
     case: Case<'_>,
 ) -> io::Result<()> {
     let answered = run(rt, threads, &OpenGate, case)?;
-    tell_answer(rt, &answered)?;
-    tell_left(rt, "recover", case, answered.disk.bytes())?;
-    tell_left(rt, "dump", case, answered.disk.bytes())
+    tell_answered(rt, case, &answered)
+}
+
+/// Tells of the run of a case by the calls of the shared engine.
+fn tell_calls<R: Files<File = File> + Print + AllocGlobal, W: Wait>(
+    rt: &R,
+    waits: &W,
+    case: Case<'_>,
+) -> io::Result<()> {
+    let disk = disk_of(rt, case)?;
+    let line = line_of(rt.alloc(), case)?;
+    let answered = answer_by_calls(rt, waits, line.as_str(), disk, &mut None)?;
+    tell_answered(rt, case, &answered)
 }
 
 /// Tells whether two transactions of the run of a case met between their steps.
@@ -159,16 +211,17 @@ fn tell_meeting<R: Files<File = File> + Print + AllocGlobal, T: Threads + Wait +
     })
 }
 
-/// Tells of the run that a line asks for.
+/// Tells of what a line asks for.
 pub fn tell<R: Files<File = File> + Print + AllocGlobal, T: Threads + Wait + Sync>(
     rt: &R,
     threads: &T,
     line: &str,
 ) -> io::Result<()> {
     let (verb, rest) = first_word(line);
-    let case = case_of(rest);
     match verb {
-        "interleaves" => tell_meeting(rt, threads, case),
-        _ => tell_run(rt, threads, case),
+        "searches" => tell_searches(rt, threads, rest),
+        "interleaves" => tell_meeting(rt, threads, case_of(rest)),
+        "shares" => tell_calls(rt, threads, case_of(rest)),
+        _ => tell_run(rt, threads, case_of(rest)),
     }
 }

@@ -90,7 +90,7 @@ impl SchemaTable {
     }
 
     /// Its name.
-    fn name(self) -> &'static [u8]
+    pub fn name(self) -> &'static [u8]
         ensures { result.now ≡ name_of self }
     {
         match self {
@@ -109,7 +109,7 @@ impl SchemaTable {
     }
 
     /// How many parts its keys have.
-    fn width(self) -> u32
+    pub fn width(self) -> u32
         ensures { result ≡ width_of self }
     {
         match self {
@@ -125,7 +125,7 @@ impl SchemaTable {
     }
 
     /// The names of its columns.
-    fn columns(self) -> &'static [&'static [u8]]
+    pub fn columns(self) -> &'static [&'static [u8]]
         ensures { texts result.now ≡ columns_of self }
     {
         match self {

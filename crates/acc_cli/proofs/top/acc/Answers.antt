@@ -3,8 +3,9 @@ use Rattle.acc_cli.proofs.CauseLemmas.{causes_of}
 use Rattle.acc_cli.proofs.PromiseLemmas.{promise_kept}
 use Rattle.acc_cli.proofs.CreationLemmas.{is_created}
 use Rattle.acc_cli.proofs.ProvingLemmas.{is_proved}
-use Rattle.acc_cli.proofs.LineLemmas.{leaves_line, runs_line, works_line, tells_somehow}
+use Rattle.acc_cli.proofs.LineLemmas.{leaves_line, runs_line, works_line, tells_somehow, verified_somehow}
 use Rattle.acc_cli.proofs.RecoveryLemmas.{tells_recovery, left_refused}
+use Rattle.acc_cli.proofs.VerificationLemmas.{tells_verification}
 use Rattle.acc_cli.proofs.StatusLemmas.{zero_is_done, four_is_refused}
 use Rattle.acc_cli.proofs.top.acc.Goals as goal
 
@@ -44,6 +45,14 @@ returns-clause-recovered g c command wanted is by =
     (tells_recovery _ _ command wanted _ _ _ _ _ _ _ _ by _ _ _ is
     (λ unsaid. tells_somehow g.D.Disk.clock g.D.Disk.left_since g.D.Disk.told g.D.Disk.may_leave _ _ c.args.disk
     c.answer_line-closed.result.disk _ _ _ _ _ unsaid command wanted is by c.answer_line-closed.ensures.leaves)
+    c.answer_line-closed.ensures.answered)
+
+pub returns-clause-verified : goal.returns-clause-verified
+returns-clause-verified g c is =
+    rw c.code.ensures
+    (tells_verification _ _ _ _ _ _ _ _ _ _ _ _ _ is
+    (λ nine. verified_somehow g.D.Disk.clock g.D.Disk.left_since g.D.Disk.told g.D.Disk.may_leave _ _ c.args.disk
+    c.answer_line-closed.result.disk _ _ _ _ _ nine is c.answer_line-closed.ensures.leaves)
     c.answer_line-closed.ensures.answered)
 
 pub returns-clause-unchanged : goal.returns-clause-unchanged

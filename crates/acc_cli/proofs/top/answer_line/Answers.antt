@@ -16,7 +16,8 @@ answer_command-requires g c =
     let read : AreFiles (g.H.Shelf.held c.args.shelf.now) _ (texts_in c.new-request.result) =
     subst (AreFiles (g.H.Shelf.held c.args.shelf.now) _)
     (sym (c.new-request.ensures.texts ∙ ap (map (λ (v : Vec ℕ Global). v.items)) c.deref.ensures.value)) c.in-Ok.ensures.read in
-    λ lifetimes. ((refl, tt), (short_files (g.H.Shelf.held c.args.shelf.now) _ (texts_in c.new-request.result) read, c.requires))
+    let short = short_files (g.H.Shelf.held c.args.shelf.now) _ (texts_in c.new-request.result) read in
+    λ lifetimes. ((refl, tt), (short, (c.requires.ready, c.requires.searching)))
 
 pub returns-in_default-clause-answered : goal.returns-in_default-clause-answered
 returns-in_default-clause-answered g c =

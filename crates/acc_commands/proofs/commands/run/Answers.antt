@@ -115,3 +115,19 @@ returns-in-Dump-clause-ends g c = rw c.in-Dump.is c.recover_files-in-Dump.ensure
 pub returns-in-Replies-clause-ends : goal.returns-in-Replies-clause-ends
 unfolding MeansOverDisk LeavesOf
 returns-in-Replies-clause-ends g c = rw c.in-Replies.is c.recover_files-in-Replies.ensures
+
+pub returns-in-Verify-clause-ends : goal.returns-in-Verify-clause-ends
+unfolding MeansOverDisk LeavesOf
+returns-in-Verify-clause-ends g c = rw c.in-Verify.is c.verify_files.ensures
+
+pub returns-in-TpccDesign-clause-ends : goal.returns-in-TpccDesign-clause-ends
+unfolding MeansOfFiles
+returns-in-TpccDesign-clause-ends g c =
+    rw c.in-TpccDesign.is
+    (ends_alone g.D.Disk.clock g.D.Disk.left_since g.D.Disk.told g.D.Disk.may_leave g.D.Disk.faults command.TpccDesign [] refl c.args.disk _
+    c.unrun-in-TpccDesign.ensures.disk c.print_shipped.result _ c.unrun-in-TpccDesign.ensures.answer _ _
+    c.unrun-in-TpccDesign.ensures.none.0 c.unrun-in-TpccDesign.ensures.none.1 c.print_shipped.ensures)
+
+pub returns-in-TpccDesign-clause-lacking : goal.returns-in-TpccDesign-clause-lacking
+returns-in-TpccDesign-clause-lacking g c without =
+    lacks_none c.unrun-in-TpccDesign.result.answer _ _ c.unrun-in-TpccDesign.ensures.none.0 c.unrun-in-TpccDesign.ensures.none.1

@@ -1,4 +1,4 @@
-use Rattle.std.proofs.Common.{◌≡◌, length, sym, ap, subst, ◌∙◌}
+use Rattle.std.proofs.Common.{◌≡◌, inr, length, sym, ap, subst, ◌∙◌}
 use Rattle.std.specs.Prelude.{◌≢◌, IfOk}
 use Rattle.std.proofs.lemmas.Result.{IfOk-weaker}
 use Rattle.acc_base.specs.declared.designs.Design.{Design}
@@ -11,7 +11,7 @@ use Rattle.acc_journalled.specs.declared.answers.Answer.{Answer}
 use Rattle.acc_journalled.specs.declared.answers.Ending.TheVariants.{Done, DiskFailed}
 use Rattle.acc_journalled.specs.Recovering.{RecoversJournal, text_of}
 use Rattle.acc_journalled.specs.Tellings.{telling_of, unrun_telling}
-use Rattle.acc_journalled.proofs.Endings.{recovered_so, recovered_tells, not_recovered_so, was_of_bytes, by_unrun}
+use Rattle.acc_journalled.proofs.Endings.{recovered_so, recovered_tells, refuses_so, was_of_bytes, by_unrun}
 use Rattle.acc_journalled.proofs.Numbered.{none_unfinished}
 use Rattle.acc_journalled.proofs.commands.recover_journal.Goals as goal
 
@@ -70,8 +70,8 @@ returns-clause-answer g c =
     (Rose (faults c.args.disk) (faults x)) (telling_of a es n))) c.in-Err.disk R.disk c.not_recovered.result R.answer R.history R.settled
     c.unrun.ensures.disk c.unrun.ensures.answer c.unrun.ensures.none
     (IfOk-weaker c.not_recovered.result _ _
-    (λ a says. not_recovered_so c.in-Err.error text c.args.d.now (told c.args.disk)
-    (told c.in-Err.disk) _ (unrun_telling a) c.in-Err.ensures.why (λ of. (c.in-Err.ensures.unread of).0) c.in-Err.ensures.kept says)
+    (λ a says. inr (refuses_so c.in-Err.error c.args.d.now (told c.args.disk)
+    (told c.in-Err.disk) _ (unrun_telling a) c.in-Err.ensures.why (λ of. (c.in-Err.ensures.unread of).0) c.in-Err.ensures.kept says))
     c.not_recovered.ensures.says)
 
 pub returns-clause-left : goal.returns-clause-left

@@ -1,23 +1,22 @@
-use Rattle.acc_prove.proofs.Adding.{left_at, next_lines, next_proofs, ended_proofs}
+use Rattle.acc_prove.specs.Lines.{open_lines}
+use Rattle.acc_prove.proofs.Adding.{lines_behind, proofs_behind}
 use Rattle.acc_prove.proofs.proving.prove_each.Goals as goal
 
-pub loop-q-preserved : goal.loop-q-preserved
-loop-q-preserved g c =
+pub loop-left-preserved : goal.loop-left-preserved
+loop-left-preserved g c =
     let d = c.args.d.now in
     let qs = c.args.sequents.now in
-    let i = c.loop-q.q-index in
-    let q = c.q-item.result in
-    let left = left_at qs i q c.loop-q-test.true c.q-item.is in
+    let left = c.loop-left.left.now in
+    let n = c.min-count.result in
+    let front = c.split_at.result.0.now in
+    let behind = c.split_at.result.1.now in
+    let cut = c.split_at.ensures in
+    let now = c.in_ok-prove_at_once.ensures in
     record {
       lines =
-          next_lines d qs i q c.args.lines.now c.loop-q.lines c.prove_one.new.lines left c.in_ok-prove_one.ensures.lines
-          c.loop-q.invariant.lines;
+          lines_behind d n left front behind c.args.lines.now c.loop-left.lines c.prove_at_once.new.lines (open_lines d qs) cut.front
+          cut.back now.lines c.loop-left.invariant.lines;
       proofs =
-          next_proofs d qs i q c.args.proofs.now.items c.loop-q.proofs.items c.prove_one.new.proofs.items left
-          c.in_ok-prove_one.ensures.proofs c.loop-q.invariant.proofs;
+          proofs_behind d n left front behind qs c.args.proofs.now.items c.loop-left.proofs.items c.prove_at_once.new.proofs.items
+          cut.front cut.back now.proofs c.loop-left.invariant.proofs;
     }
-
-pub returns-clause-proofs : goal.returns-clause-proofs
-returns-clause-proofs g c =
-    ended_proofs c.args.d.now c.args.sequents.now c.loop-q.q-index c.args.proofs.now.items c.loop-q.proofs.items c.loop-q-test.false
-    c.loop-q.invariant.proofs

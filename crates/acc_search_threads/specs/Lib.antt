@@ -1,0 +1,1 @@
+pub use Rattle.acc_formed.specs.WellFormed
