@@ -47,7 +47,8 @@ fn answer<R: Print + AllocGlobal>(
     Ok(done.disk)
 }
 
-/// A disk's bytes, the calls of it that fail, the one from which on all fail, the writes of the sink that fail, and the command line.
+/// A disk's bytes, the calls of it that fail, the one from which on all fail, the writes of the sink that fail and, behind a `/`, how many
+/// bytes the others take; and the command line.
 #[derive(Clone, Copy)]
 struct Case<'a> {
     bytes: &'a str,
@@ -91,7 +92,8 @@ fn over_shelf<R: Print + AllocGlobal>(
     case: Case<'_>,
     shelf: &mut MemShelf,
 ) -> io::Result<()> {
-    let mut out = sink(rt.alloc(), case.writes, "-")?;
+    let (fails, takes) = case.writes.split_once('/').unwrap_or((case.writes, "-"));
+    let mut out = sink(rt.alloc(), fails, takes)?;
     let base = base(rt.alloc(), shelf, case.bytes, case.words)?;
     let disk = disk_of(rt.alloc(), &base, case)?;
     answer(rt, &base, case.words, shelf, &mut out, disk)?;
@@ -99,7 +101,8 @@ fn over_shelf<R: Print + AllocGlobal>(
 }
 
 /// `disk BYTES FAILS FROM WRITES WORDS`: a command line over the folder's files, a disk in memory and a sink some of whose writes fail.
-/// Behind a `+` the bytes stand in the place of the last byte of the journal that `init` makes of the design.
+/// Behind a `+` the bytes stand in the place of the last byte of the journal that `init` makes of the design. WRITES may be `FAILS/TAKES`,
+/// as those of `fails`.
 pub fn over_disk<R: Files + Print + AllocGlobal>(rt: &R, text: &str) -> io::Result<()> {
     let case = case_of(text);
     let mut shelf = shelf_of(rt, case.words)?;
@@ -126,6 +129,20 @@ pub fn twice<R: Files + Print + AllocGlobal>(rt: &R, words: &str) -> io::Result<
     answer_twice(rt, words, &mut shelf, &mut out)
 }
 
+/// The bytes that a disk holds; or, where a text is `CALLS/PICK`, those that a crash behind so many of its calls leaves, picked by that
+/// number.
+fn left(alloc: Global, disk: &MemDisk, text: &str) -> Result<Vec<u8>, AllocError> {
+    let (calls, pick) = text.split_once('/').unwrap_or(("", ""));
+    let Ok(calls) = calls.parse::<u64>() else {
+        return disk.bytes().to_vec(alloc);
+    };
+    if calls > disk.calls() {
+        return Err(AllocError);
+    }
+    let pick = pick.parse().unwrap_or(0);
+    disk.image(calls, pick).map_err(|_| AllocError)
+}
+
 /// Answers a command line over a disk that holds these bytes, prints what it wrote and its status, and hands out the bytes that it left.
 fn answer_behind<R: Print + AllocGlobal>(
     rt: &R,
@@ -139,11 +156,12 @@ fn answer_behind<R: Print + AllocGlobal>(
     let done = memory::answer_over(rt.alloc(), words, shelf, &mut out, disk)?;
     let text = String::from_utf8_lossy(rt.alloc(), out.bytes())?;
     println!(rt; "{}status {}", text.as_str(), done.status)?;
-    Ok(done.disk.bytes().to_vec(rt.alloc())?)
+    Ok(left(rt.alloc(), &done.disk, from)?)
 }
 
 /// `chain AT FROM WORDS ; WORDS ..`: command lines over the folder's files, each over the bytes that the one before it left on a disk in
 /// memory, the first over an empty one. Of the line with the number AT, the calls of the disk from the number FROM on fail; a `-` is none.
+/// Where FROM is `CALLS/PICK`, that line leaves what a crash behind so many calls leaves, picked by that number.
 pub fn chain<R: Files + Print + AllocGlobal>(rt: &R, text: &str) -> io::Result<()> {
     let (at, rest) = first_word(text);
     let (from, lines) = first_word(rest);

@@ -7,4 +7,4 @@ pub mod memory;
 pub mod proofs;
 pub mod texts;
 
-pub use acc_cli::{Done, InTurn, Searchers, acc, asks_journal, help_text};
+pub use acc_cli::{Done, InTurn, IndexStore, Searchers, acc, asks_journal, help_text};

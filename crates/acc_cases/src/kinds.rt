@@ -47,7 +47,7 @@ fn say<R: Print>(rt: &R, line: &str, said: Option<String>) -> io::Result<()> {
     }
 }
 
-/// What a line answers that asks about devices, a journal or relations.
+/// What a line answers that asks about devices, a journal, a workload or relations.
 fn answered<R: Files<File = File> + Print + AllocGlobal>(
     rt: &R,
     kinds: &mut Kinds,
@@ -57,6 +57,7 @@ fn answered<R: Files<File = File> + Print + AllocGlobal>(
     match kind {
         "device" => acc_disk_cases::answer(rt, &mut kinds.devices, rest),
         "journal" => acc_wal_cases::answer(rt, &mut kinds.held, rest),
+        "workload" => tpcc_gen_cases::answer(rt.alloc(), rest),
         _ => acc_rel_cases::answer(rt.alloc(), rest),
     }
 }
@@ -103,7 +104,7 @@ fn answered_or_accepted<R: Files<File = File> + AllocGlobal>(
     }
 }
 
-/// Prints a line that asks about devices, a journal or relations, and what it answers.
+/// Prints a line that asks about devices, a journal, a workload or relations, and what it answers.
 pub fn tell<R: Files<File = File> + Print + AllocGlobal>(
     rt: &R,
     kinds: &mut Kinds,

@@ -67,8 +67,8 @@ pub record FindsJournal (c : Command) (disk disk' : Seen) : Type 0 where
   pub there : IfSome disk.told IsThere
   pub same : disk'.told ≡ disk.told
 
--- It is `sched`, `run`, `recover`, `dump`, `replies` or `verify`, and the bytes of the disk give this cause why nothing is recovered. What is
--- no journal is left as it is; a journal that is refused counts what it counted.
+-- It is `sched`, `run`, `recover`, `dump`, `replies` or `verify`, and the bytes of the disk give this cause why nothing is recovered. What
+-- is no journal is left as it is; a journal that is refused counts what it counted.
 pub record RefusesRecovering (c : Command) (disk disk' : Seen) : Type 0 where
   pub is_over : IsRecovering c
   pub d : Design

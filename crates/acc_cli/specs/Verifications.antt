@@ -16,8 +16,8 @@ use Rattle.acc_commands.specs.Command.TheVariants as command
 use Rattle.acc_commands.specs.Words.{files_of}
 use Rattle.acc_commands.specs.Files.{AreFiles}
 
--- The files spell this design, which is accepted with its certificate and has TPC-C's tables, and the disk held a journal of it. This is the
--- recovered history, all of it durable: the disk holds a journal of just that now. The text has a line for each condition, which tells
+-- The files spell this design, which is accepted with its certificate and has TPC-C's tables, and the disk held a journal of it. This is
+-- the recovered history, all of it durable: the disk holds a journal of just that now. The text has a line for each condition, which tells
 -- whether it is true of the recovered rows; with status 0 it was said, and with 10 it or a front of it. With 0 or 7 each condition is true,
 -- and with 10 one is false. Where memory ran out, the text is one that could be said.
 pub record IsVerified (held : List ℕ → Told) (words : List (List ℕ)) (told told' : Option (List ℕ)) (old new : Option (List ℕ))

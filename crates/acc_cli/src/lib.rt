@@ -5,6 +5,8 @@ pub mod laws;
 mod status;
 mod top;
 
-pub use acc_commands::{Alone, Command, Ending, InTurn, Searchers, asks_journal, help_text};
+pub use acc_commands::{
+    Alone, Command, Ending, InTurn, IndexStore, Searchers, asks_journal, help_text,
+};
 pub use status::Status;
 pub use top::{Done, acc};

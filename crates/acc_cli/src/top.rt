@@ -33,13 +33,13 @@ use crate::status::Status;
 use acc_base::machines::Event;
 use acc_base::sequences::Seq;
 use acc_commands::{
-    Crew, Ended, Ending, Engine, Request, Searchers, command_of, file_count, read_all, run,
+    Crew, Ended, Ending, Engine, IndexStore, Request, Searchers, command_of, file_count, read_all,
+    run,
 };
 use acc_disk::Disk;
 use acc_io::{Shelf, ShelfError, Sink, write_all};
 use acc_lift::Accepted;
 use acc_progress::Progress;
-use acc_store::MapStore;
 use std::alloc::{AllocError, Global};
 
 /// How the program ended: its status, from 0 to 10, the disk that it was handed, the events of the machine whose lines it printed, oldest
@@ -143,7 +143,7 @@ fn answer_command<
     'a,
     K: Sink,
     D: Disk,
-    C: Crew<Engine<'a, MapStore, D>>,
+    C: Crew<Engine<'a, IndexStore, D>>,
     S: Searchers,
     P: Progress,
 >(
@@ -196,7 +196,7 @@ fn answer_line<
     H: Shelf,
     K: Sink,
     D: Disk,
-    C: Crew<Engine<'a, MapStore, D>>,
+    C: Crew<Engine<'a, IndexStore, D>>,
     S: Searchers,
     P: Progress,
 >(
@@ -262,7 +262,7 @@ pub fn acc<
     H: Shelf,
     K: Sink,
     D: Disk,
-    C: Crew<Engine<'a, MapStore, D>>,
+    C: Crew<Engine<'a, IndexStore, D>>,
     S: Searchers,
     P: Progress,
 >(
@@ -313,9 +313,9 @@ pub fn acc<
     ensures recovered { (c : TheCommand) (w : Wanted) → command_of (map string_bytes words.now) ≡ Some c → wanted_by c ≡ Some w
         → TellsRecovery (H.held shelf.old) (map string_bytes words.now) c w (D.told disk) (D.told result.disk) (K.bytes out.old)
         (K.bytes out.new) result.status result.history result.settled }
-    // Where `verify` ended with status 0, 7 or 10, the history is the recovered one, all of it durable, and the disk holds a journal of just
-    // that; with 10 a condition is false of its rows, and else each is true. With 0 a line for each was said, with 10 these or a front of
-    // them. Else none is told, or, where memory ran out, that one.
+    // Where `verify` ended with status 0, 7 or 10, the history is the recovered one, all of it durable, and the disk holds a journal of
+    // just that; with 10 a condition is false of its rows, and else each is true. With 0 a line for each was said, with 10 these or a
+    // front of them. Else none is told, or, where memory ran out, that one.
     ensures verified { command_of (map string_bytes words.now) ≡ Some Verify
         → TellsVerification (H.held shelf.old) (map string_bytes words.now) (D.told disk) (D.told result.disk) (K.bytes out.old)
         (K.bytes out.new) result.status result.history result.settled }

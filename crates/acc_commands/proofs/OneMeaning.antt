@@ -22,6 +22,7 @@ use Rattle.acc_journal_commands.specs.Notes.{help_text, version_text}
 use Rattle.acc_journal_commands.specs.Scripts.{SaysOfScript}
 use Rattle.acc_file_commands.specs.PlayFiles.{SaysPlay, PlaysFiles}
 use Rattle.acc_file_commands.specs.ShippedText.{shipped_design}
+use Rattle.acc_file_commands.specs.Workloads.{load_said, mix_said}
 use Rattle.acc_file_commands.specs.ScheduleFiles.{SaysOfCertificate, SchedulesFiles}
 use Rattle.acc_file_commands.specs.PrintFiles.{PrintsFile}
 use Rattle.acc_file_commands.specs.CheckFiles.{ChecksFiles, ending_by}
@@ -115,6 +116,10 @@ one_of_files command.Replies files a b h k = absurd h
 one_of_files command.Verify files a b h k = absurd h
 one_of_files command.TpccDesign [] a b h k = inl (said_same Done (printed shipped_design) (printed shipped_design) a b refl h.says k.says)
 one_of_files command.TpccDesign (more ∷ rest) a b h k = absurd h
+one_of_files (command.TpccLoad scale) [] a b h k = inl (said_same Done (load_said scale) (load_said scale) a b refl h k)
+one_of_files (command.TpccMix mix) [] a b h k = inl (said_same Done (mix_said mix) (mix_said mix) a b refl h k)
+one_of_files (command.TpccLoad scale) (more ∷ rest) a b h k = absurd h
+one_of_files (command.TpccMix mix) (more ∷ rest) a b h k = absurd h
 one_of_files command.Help [] a b h k = inl (said_same Done help_text help_text a b refl h k)
 one_of_files command.Help (more ∷ rest) a b h k = absurd h
 one_of_files command.Version [] a b h k = inl (said_same Done version_text version_text a b refl h k)
@@ -271,6 +276,8 @@ one_over_disk command.Verify (design ∷ certificate ∷ []) old one other a b a
     inl (one_verify old one other a b all design certificate h k)
 one_over_disk command.Verify (design ∷ certificate ∷ more ∷ rest) old one other a b all h k = absurd h
 one_over_disk command.TpccDesign files old one other a b all h k = absurd h
+one_over_disk (command.TpccLoad scale) files old one other a b all h k = absurd h
+one_over_disk (command.TpccMix mix) files old one other a b all h k = absurd h
 one_over_disk command.Play files old one other a b all h k = absurd h
 one_over_disk command.Rehearse files old one other a b all h k = absurd h
 one_over_disk command.Sched [] old one other a b all h k = absurd h

@@ -158,6 +158,10 @@ module _ (other : Ending) (done_other : Done ≢ other) (design_other : DesignRe
   ends_scheduled command.Verify files said e h = absurd h
   ends_scheduled command.TpccDesign [] said e h = absurd (not_so Done said done_other h.says.0 e)
   ends_scheduled command.TpccDesign (more ∷ rest) said e h = absurd h
+  ends_scheduled (command.TpccLoad scale) [] said e h = absurd (not_so Done said done_other h.0 e)
+  ends_scheduled (command.TpccMix mix) [] said e h = absurd (not_so Done said done_other h.0 e)
+  ends_scheduled (command.TpccLoad scale) (more ∷ rest) said e h = absurd h
+  ends_scheduled (command.TpccMix mix) (more ∷ rest) said e h = absurd h
   ends_scheduled command.Help [] said e h = absurd (not_so Done said done_other h.0 e)
   ends_scheduled command.Help (more ∷ rest) said e h = absurd h
   ends_scheduled command.Version [] said e h = absurd (not_so Done said done_other h.0 e)

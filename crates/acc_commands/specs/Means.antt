@@ -19,7 +19,7 @@ use Rattle.acc_file_commands.specs.ScheduleFiles.{SchedulesFiles}
 use Rattle.acc_file_commands.specs.PrintFiles.{PrintsFile}
 use Rattle.acc_file_commands.specs.CheckFiles.{ChecksFiles}
 use Rattle.acc_file_commands.specs.ProveFiles.{ProvesFile}
-use Rattle.acc_file_commands.specs.Workloads.{PrintsShipped}
+use Rattle.acc_file_commands.specs.Workloads.{PrintsShipped, PrintsLoad, PrintsMix}
 use Rattle.acc_journal_commands.specs.InitFiles.{InitsFile, InitLeaves, InitLeft}
 use Rattle.acc_journal_commands.specs.RecoverFiles.{RecoversFiles, RecoverLeaves, RecoverLeft}
 use Rattle.acc_journal_commands.specs.VerifyFiles.{VerifiesFiles, VerifyLeft}
@@ -33,6 +33,8 @@ MeansOfFiles command.Print (design ∷ []) = PrintsFile design
 MeansOfFiles command.Check (design ∷ certificate ∷ []) = ChecksFiles design certificate
 MeansOfFiles command.Prove (design ∷ []) = ProvesFile design
 MeansOfFiles command.TpccDesign [] = PrintsShipped
+MeansOfFiles (command.TpccLoad scale) [] = PrintsLoad scale
+MeansOfFiles (command.TpccMix mix) [] = PrintsMix mix
 MeansOfFiles command.Help [] = Says Done help_text
 MeansOfFiles command.Version [] = Says Done version_text
 MeansOfFiles command.Play files = λ said. ⊥
@@ -48,6 +50,8 @@ MeansOfFiles command.Dump files = λ said. ⊥
 MeansOfFiles command.Replies files = λ said. ⊥
 MeansOfFiles command.Verify files = λ said. ⊥
 MeansOfFiles command.TpccDesign files = λ said. ⊥
+MeansOfFiles (command.TpccLoad scale) files = λ said. ⊥
+MeansOfFiles (command.TpccMix mix) files = λ said. ⊥
 MeansOfFiles command.Help files = λ said. ⊥
 MeansOfFiles command.Version files = λ said. ⊥
 
@@ -73,6 +77,8 @@ MeansOverDisk command.Dump files = λ old new t. ⊥
 MeansOverDisk command.Replies files = λ old new t. ⊥
 MeansOverDisk command.Verify files = λ old new t. ⊥
 MeansOverDisk command.TpccDesign files = λ old new t. ⊥
+MeansOverDisk (command.TpccLoad scale) files = λ old new t. ⊥
+MeansOverDisk (command.TpccMix mix) files = λ old new t. ⊥
 MeansOverDisk command.Help files = λ old new t. ⊥
 MeansOverDisk command.Version files = λ old new t. ⊥
 
@@ -106,6 +112,8 @@ LeavesOfFile command.Dump files = λ file image. image ≡ file
 LeavesOfFile command.Replies files = λ file image. image ≡ file
 LeavesOfFile command.Verify files = λ file image. image ≡ file
 LeavesOfFile command.TpccDesign files = λ file image. image ≡ file
+LeavesOfFile (command.TpccLoad scale) files = λ file image. image ≡ file
+LeavesOfFile (command.TpccMix mix) files = λ file image. image ≡ file
 LeavesOfFile command.Help files = λ file image. image ≡ file
 LeavesOfFile command.Version files = λ file image. image ≡ file
 
@@ -139,6 +147,8 @@ module _ {D : Type 0} (clock : D → ℕ) (left_since : D → ℕ → List ℕ �
     LeavesOf command.Replies files = LeavesDisk
     LeavesOf command.Verify files = LeavesDisk
     LeavesOf command.TpccDesign files = LeavesDisk
+    LeavesOf (command.TpccLoad scale) files = LeavesDisk
+    LeavesOf (command.TpccMix mix) files = LeavesDisk
     LeavesOf command.Help files = LeavesDisk
     LeavesOf command.Version files = LeavesDisk
 

@@ -16,16 +16,15 @@ use acc_file_commands::memory_runs::Run;
 use acc_file_commands::plays::play_files;
 use acc_file_commands::provings::prove_file;
 use acc_file_commands::schedules::schedule_files;
-use acc_file_commands::workloads::print_shipped;
+use acc_file_commands::workloads::{print_load, print_mix, print_shipped};
 use acc_journal_commands::journals::init_file;
 use acc_journal_commands::recoveries::recover_files;
 use acc_journal_commands::runs::{run_files, work_files};
 use acc_journal_commands::verifications::verify_files;
 use acc_journal_commands::{Crew, Engine, Request, help_text, version_text};
-use acc_journalled::{Answer, Ended, Ending, Wanted, unrun};
+use acc_journalled::{Answer, Ended, Ending, IndexStore, Wanted, unrun};
 use acc_lift::Accepted;
 use acc_progress::Progress;
-use acc_store::MapStore;
 use std::alloc::{AllocError, Global};
 
 /// What the program can do.
@@ -66,10 +65,10 @@ fn ran<D>(alloc: Global, disk: D, run: Result<Run, AllocError>) -> Ended<D>
 }
 
 /// How a command ends over its files and the disk. How far a long one is, and what a recovery found, is told while it goes on. `run` lets
-/// the crew work, and waits for whom the crew waits; `prove` lets the searchers search, and waits for them; no other command asks the crew or
-/// the searchers for anything, or waits for anybody.
+/// the crew work, and waits for whom the crew waits; `prove` lets the searchers search, and waits for them; no other command asks the crew
+/// or the searchers for anything, or waits for anybody.
 #[tactic(auto, unfolding(crate::specs::Means::MeansOfFiles, crate::specs::Means::MeansOverDisk, crate::specs::Means::LeavesOf))]
-pub fn run<'a, D: Disk, C: Crew<Engine<'a, MapStore, D>>, S: Searchers, P: Progress>(
+pub fn run<'a, D: Disk, C: Crew<Engine<'a, IndexStore, D>>, S: Searchers, P: Progress>(
     alloc: Global,
     request: Request,
     disk: D,
@@ -108,6 +107,8 @@ pub fn run<'a, D: Disk, C: Crew<Engine<'a, MapStore, D>>, S: Searchers, P: Progr
         Request::Replies(files) => recover_files(alloc, files, Wanted::Replies, disk, progress),
         Request::Verify(files) => verify_files(alloc, files, disk, progress),
         Request::TpccDesign => unrun(alloc, disk, print_shipped(alloc)),
+        Request::TpccLoad(scale) => unrun(alloc, disk, print_load(alloc, scale)),
+        Request::TpccMix(mix) => unrun(alloc, disk, print_mix(alloc, mix)),
         Request::Help => unrun(alloc, disk, help(alloc)),
         Request::Version => unrun(alloc, disk, version(alloc)),
     }

@@ -9,5 +9,5 @@ pub use acc_journal_commands::{
     Alone, Command, Crew, Engine, Request, asks_journal, command_of, file_count, help_text,
     read_all,
 };
-pub use acc_journalled::{Answer, Ended, Ending};
+pub use acc_journalled::{Answer, Ended, Ending, IndexStore};
 pub use commands::run;

@@ -132,7 +132,8 @@ fn asks_tables(command: Command) -> bool {
         Command::Rehearse | Command::Check | Command::Sched | Command::Run(_) => false,
         Command::Recover | Command::Dump | Command::Replies => false,
         Command::Play | Command::Print | Command::Prove | Command::Init => false,
-        Command::TpccDesign | Command::Help | Command::Version => false,
+        Command::TpccDesign | Command::TpccLoad(_) | Command::TpccMix(_) => false,
+        Command::Help | Command::Version => false,
     }
 }
 
@@ -142,7 +143,8 @@ fn is_certified(command: Command) -> bool {
         Command::Rehearse | Command::Check | Command::Sched | Command::Run(_) => true,
         Command::Recover | Command::Dump | Command::Replies | Command::Verify => true,
         Command::Play | Command::Print | Command::Prove | Command::Init => false,
-        Command::TpccDesign | Command::Help | Command::Version => false,
+        Command::TpccDesign | Command::TpccLoad(_) | Command::TpccMix(_) => false,
+        Command::Help | Command::Version => false,
     }
 }
 
@@ -274,7 +276,8 @@ fn push_done<H: Shelf>(
         Command::Print | Command::Play | Command::Rehearse | Command::Check => Ok(()),
         Command::Init | Command::Sched | Command::Run(_) => Ok(()),
         Command::Recover | Command::Dump | Command::Replies | Command::Verify => Ok(()),
-        Command::TpccDesign | Command::Help | Command::Version => Ok(()),
+        Command::TpccDesign | Command::TpccLoad(_) | Command::TpccMix(_) => Ok(()),
+        Command::Help | Command::Version => Ok(()),
     }
 }
 

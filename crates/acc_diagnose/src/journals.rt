@@ -16,7 +16,7 @@ fn said_of(why: &str) -> Said {
     match why {
         "exists" => Said {
             what: b"a journal is there already, and nothing of it was changed",
-            hint: b"`acc recover`, `acc dump` and `acc replies` tell what it holds; a new one wants another name",
+            hint: b"`acc recover`, `acc dump`, `acc replies` and `acc verify` tell what it holds; a new one wants another name",
         },
         "none" => Said {
             what: b"this file is no journal, and nothing of it was changed",
@@ -78,7 +78,8 @@ fn standing(command: Command) -> &'static [u8] {
         | Command::Verify =>
             b"what was durable is durable, and nothing half-written counts; `acc recover` brings the journal to rest",
         Command::Play | Command::Rehearse | Command::Print | Command::Check => b"",
-        Command::Prove | Command::TpccDesign | Command::Help | Command::Version => b"",
+        Command::Prove | Command::Help | Command::Version => b"",
+        Command::TpccDesign | Command::TpccLoad(_) | Command::TpccMix(_) => b"",
     }
 }
 

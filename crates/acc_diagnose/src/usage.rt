@@ -1,11 +1,58 @@
 //! What is told where the words of a command line are no command.
-use acc_explain::{push_quoted, push_with};
-use acc_inputs::MOST_WORKERS;
+use acc_explain::{push_grouped, push_quoted, push_with};
+use acc_inputs::{
+    LARGEST_START, MOST_CUSTOMERS, MOST_ITEMS, MOST_TRANSACTIONS, MOST_WAREHOUSES, MOST_WORKERS,
+    number_of,
+};
 use acc_page::Page;
 use acc_spot::is_one_of;
 
 /// Words by which other programs are asked for their commands.
 const ASKING: [&[u8]; 3] = [b"help", b"-h", b"-?"];
+
+/// A number that a command takes: what it is, and from which number to which it goes.
+#[derive(Clone, Copy)]
+struct Number {
+    what: &'static [u8],
+    least: u64,
+    most: u64,
+}
+
+/// The number of `run`.
+const WORKERS: Number = Number {
+    what: b"number of workers",
+    least: 1,
+    most: MOST_WORKERS,
+};
+
+/// The numbers of `tpcc mix`, of which the first three are those of `tpcc load`.
+const MIX: [Number; 5] = [
+    Number {
+        what: b"number of warehouses",
+        least: 1,
+        most: MOST_WAREHOUSES,
+    },
+    Number {
+        what: b"number of items",
+        least: 1,
+        most: MOST_ITEMS,
+    },
+    Number {
+        what: b"number of a district's customers",
+        least: 1,
+        most: MOST_CUSTOMERS,
+    },
+    Number {
+        what: b"number of transactions",
+        least: 0,
+        most: MOST_TRANSACTIONS,
+    },
+    Number {
+        what: b"number to draw from",
+        least: 0,
+        most: LARGEST_START,
+    },
+];
 
 /// Whether a line of the usage is about the command of this verb.
 fn is_about(line: &[u8], verb: &[u8]) -> bool {
@@ -39,15 +86,43 @@ fn push_verb(out: &mut Page, verb: &[u8], usage: &[u8]) {
     }
 }
 
-/// Says that the word in the place of the number of workers is none.
-fn push_workers(out: &mut Page, word: &[u8]) {
+/// Says that the word in the place of a command's number is none.
+fn push_number(out: &mut Page, command: &[u8], word: &[u8], number: Number) {
     push_quoted(out, word);
+    out.push(b" is no ");
+    out.push(number.what);
+    out.push(b": ");
+    push_quoted(out, command);
+    out.push(b" takes ");
+    push_grouped(out, number.least);
     push_with(
         out,
-        b" is no number of workers: `run` takes 1 to ",
-        MOST_WORKERS,
+        b" to ",
+        number.most,
         b", in digits without a sign or a leading zero",
     );
+}
+
+/// Says which of the words behind `tpcc load` or `tpcc mix` isn't the number that its place takes, if one isn't.
+fn push_numbers(out: &mut Page, command: &[u8], words: &[String]) {
+    for (word, number) in words.iter().zip(MIX.iter()) {
+        if number_of(number.least, number.most, word.as_str()).is_none() {
+            return push_number(out, command, word.as_bytes(), *number);
+        }
+    }
+}
+
+/// Says why words that begin with `tpcc` are no command.
+fn push_tpcc(out: &mut Page, words: &[String], usage: &[u8]) {
+    match words {
+        [load, numbers @ ..] if load.as_str() == "load" && numbers.len() == 3 => {
+            push_numbers(out, b"tpcc load", numbers)
+        }
+        [mix, numbers @ ..] if mix.as_str() == "mix" && numbers.len() == 5 => {
+            push_numbers(out, b"tpcc mix", numbers)
+        }
+        _ => push_verb(out, b"tpcc", usage),
+    }
 }
 
 /// Says why the words of a command line are no command, and which commands there are.
@@ -55,8 +130,9 @@ pub fn push_usage(out: &mut Page, words: &[String], usage: &[u8]) {
     out.push(b"acc: ");
     match words {
         [verb, _, _, _, workers] if verb.as_str() == "run" => {
-            push_workers(out, workers.as_bytes())
+            push_number(out, b"run", workers.as_bytes(), WORKERS)
         }
+        [verb, behind @ ..] if verb.as_str() == "tpcc" => push_tpcc(out, behind, usage),
         [verb, ..] => push_verb(out, verb.as_bytes(), usage),
         [] => out.push(b"no command is given, or one of the words isn't UTF-8"),
     }

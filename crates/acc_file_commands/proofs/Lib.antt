@@ -2,3 +2,4 @@ pub use Rattle.acc_play.proofs.OneTold
 pub use Rattle.acc_schedule.proofs.OneSchedule
 pub use Rattle.tpcc_steps.proofs.Reading
 pub use Rattle.tpcc_steps.proofs.Theorem
+pub mod Scales

@@ -14,4 +14,4 @@ pub use memory_runs::{Run, unplayed};
 pub use plays::play_files;
 pub use provings::prove_file;
 pub use schedules::schedule_files;
-pub use workloads::print_shipped;
+pub use workloads::{print_load, print_mix, print_shipped};

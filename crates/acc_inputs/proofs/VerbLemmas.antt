@@ -1,15 +1,23 @@
 -- Each command has a verb and a line of the help.
-use Rattle.std.proofs.Common.{◌≡◌, ◌<◌, ℕ, Bool, true, List, [], ◌∷◌, ◌++◌, length, get_or, take, drop, refl, sym, ap, ◌∙◌, arith, eq-eqb}
+use Rattle.std.proofs.Common.{◌≡◌, ◌<◌, ◌≤◌, ℕ, Bool, true, List, [], ◌∷◌, ◌++◌, length, get_or, take, drop, refl, sym, ap, ◌∙◌, arith}
+use Rattle.std.proofs.Common.{eq-eqb, map}
 use Rattle.std.proofs.Common.{Option, None, Some, append-nil, take-append-drop}
-use Rattle.std.specs.Prelude.{option_map, codes, decimal, Contains, ◌==◌, if◌then◌else◌}
+use Rattle.std.specs.Prelude.{option_map, codes, decimal, Contains, ◌==◌, if◌then◌else◌, nat_le}
+use Rattle.std.proofs.lemmas.Bool.Decides.{nat_tests}
 use Rattle.std.proofs.lemmas.List.{drop_at, get_or_default}
 use Rattle.acc_inputs.specs.declared.words.Command.{Command}
 use Rattle.acc_inputs.specs.declared.words.Command.TheVariants as command
 use Rattle.acc_inputs.specs.declared.words.Form.TheVariants.{Files}
-use Rattle.acc_inputs.specs.Words.{form_of, file_count, IsCrew, workers_in, with_files, with_workers, with_form, command_of}
+use Rattle.acc_inputs.specs.declared.scales.Scale.{Scale}
+use Rattle.acc_inputs.specs.declared.scales.Mix.{Mix}
+use Rattle.tpcc_gen.specs.declared.bounds.TheConstants.{MOST_WAREHOUSES, MOST_ITEMS, MOST_CUSTOMERS, MOST_TRANSACTIONS, LARGEST_START}
+use Rattle.acc_inputs.specs.declared.words.TheConstants.{MOST_WORKERS}
+use Rattle.acc_inputs.specs.Scales.{IsWithin, is_scale, is_mix}
+use Rattle.acc_inputs.specs.Words.{form_of, workload_of, file_count, IsCrew, number_of, workers_in, scale_of}
+use Rattle.acc_inputs.specs.Words.{with_files, with_workers, with_load, with_mix, with_form, command_of}
 use Rattle.acc_inputs.specs.Notes.{help_lines}
 use Rattle.acc_inputs.specs.Verbs.{verb_of, EachHasVerb, EachHasHelp}
-use Rattle.acc_inputs.proofs.Workers.{workers_of_numeral}
+use Rattle.acc_inputs.proofs.Workers.{number_of_numeral}
 
 -- the names of a command's files behind its verb
 files_given : (c : Command) (names : List (List ℕ)) → length names ≡ file_count c → with_files c (names ++ []) ≡ Some c
@@ -25,13 +33,44 @@ run_given : (n : ℕ) (names : List (List ℕ)) → IsCrew n → length names �
     → with_workers (names ++ decimal n ∷ []) ≡ Some (command.Run n)
 run_given n names few count =
     ap (λ words. option_map command.Run (workers_in words)) (drop_at names (decimal n ∷ []) 3 count)
-    ∙ ap (option_map command.Run) (workers_of_numeral n few)
+    ∙ ap (option_map command.Run) (number_of_numeral 1 MOST_WORKERS n (omega arith) few)
 
 -- `tpcc design` names no file
 design_given : (names : List (List ℕ)) → length names ≡ 0 → command_of (codes "tpcc" ∷ codes "design" ∷ (names ++ [])) ≡ Some command.TpccDesign
-unfolding form_of
+unfolding form_of workload_of
 design_given [] none = refl
 design_given (name ∷ names) none = absurd (omega (arith, none))
+
+-- a scale is told by the numerals of its numbers
+scale_given : (s : Scale) → is_scale s ≡ true
+    → scale_of (decimal s.warehouses) (decimal s.items) (decimal s.customers) ≡ Some s
+scale_given s fit =
+    let w : IsWithin 1 MOST_WAREHOUSES s.warehouses = grind (arith, nat_tests, fit) in
+    let i : IsWithin 1 MOST_ITEMS s.items = grind (arith, nat_tests, fit) in
+    let c : IsWithin 1 MOST_CUSTOMERS s.customers = grind (arith, nat_tests, fit) in
+    rw (
+      number_of_numeral 1 MOST_WAREHOUSES s.warehouses (omega arith) w,
+      number_of_numeral 1 MOST_ITEMS s.items (omega arith) i,
+      number_of_numeral 1 MOST_CUSTOMERS s.customers (omega arith) c,
+    ) refl
+
+load_given : (s : Scale) (names : List (List ℕ)) → is_scale s ≡ true → length names ≡ 0
+    → command_of (codes "tpcc" ∷ codes "load" ∷ (names ++ decimal s.warehouses ∷ decimal s.items ∷ decimal s.customers ∷ []))
+    ≡ Some (command.TpccLoad s)
+unfolding form_of workload_of
+load_given s [] fit none = ap (option_map command.TpccLoad) (scale_given s fit)
+load_given s (name ∷ names) fit none = absurd (omega (arith, none))
+
+mix_given : (m : Mix) (names : List (List ℕ)) → is_mix m ≡ true → length names ≡ 0
+    → command_of (codes "tpcc" ∷ codes "mix" ∷ (names ++ map decimal (m.scale.warehouses ∷ m.scale.items ∷ m.scale.customers ∷ m.count
+    ∷ m.start ∷ []))) ≡ Some (command.TpccMix m)
+unfolding form_of workload_of
+mix_given m [] fit none =
+    let s : is_scale m.scale ≡ true = grind (arith, nat_tests, fit) in
+    let n : IsWithin 0 MOST_TRANSACTIONS m.count = grind (arith, nat_tests, fit) in
+    let from : IsWithin 0 LARGEST_START m.start = grind (arith, nat_tests, fit) in
+    rw (scale_given m.scale s, number_of_numeral 0 MOST_TRANSACTIONS m.count (omega arith) n, number_of_numeral 0 LARGEST_START m.start (omega arith) from) refl
+mix_given m (name ∷ names) fit none = absurd (omega (arith, none))
 
 pub verbs : EachHasVerb
 unfolding form_of file_count
@@ -48,6 +87,8 @@ verbs command.Dump names few count = verb_given command.Dump (codes "dump") name
 verbs command.Replies names few count = verb_given command.Replies (codes "replies") names refl count
 verbs command.Verify names few count = verb_given command.Verify (codes "verify") names refl count
 verbs command.TpccDesign names few count = design_given names count
+verbs (command.TpccLoad s) names few count = load_given s names few count
+verbs (command.TpccMix m) names few count = mix_given m names few count
 verbs command.Help names few count = verb_given command.Help (codes "--help") names refl count
 verbs command.Version names few count = verb_given command.Version (codes "--version") names refl count
 
@@ -75,5 +116,7 @@ help command.Dump = line_at 9 (codes "acc dump ") (omega arith) refl
 help command.Replies = line_at 10 (codes "acc replies ") (omega arith) refl
 help command.Verify = line_at 11 (codes "acc verify ") (omega arith) refl
 help command.TpccDesign = line_at 12 (codes "acc tpcc design ") (omega arith) refl
-help command.Help = line_at 13 (codes "acc --help ") (omega arith) refl
-help command.Version = line_at 14 (codes "acc --version ") (omega arith) refl
+help (command.TpccLoad scale) = line_at 13 (codes "acc tpcc load ") (omega arith) refl
+help (command.TpccMix mix) = line_at 14 (codes "acc tpcc mix ") (omega arith) refl
+help command.Help = line_at 15 (codes "acc --help ") (omega arith) refl
+help command.Version = line_at 16 (codes "acc --version ") (omega arith) refl

@@ -2,6 +2,7 @@ pub use Rattle.acc_check.specs.Admissions
 pub use Rattle.acc_check.specs.Reports
 pub use Rattle.acc_readback.specs.ParseError
 pub use Rattle.acc_readback.specs.Texts
+pub mod Scales
 pub mod Words
 pub mod Files
 pub mod Text

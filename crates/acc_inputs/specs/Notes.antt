@@ -19,6 +19,8 @@ help_lines =
     codes "acc replies DESIGN CERT JOURNAL             does the same, and prints how each transaction ended, by its number" ∷
     codes "acc verify DESIGN CERT JOURNAL              does the same, and tells which of TPC-C's conditions 1 to 9 are true of its rows" ∷
     codes "acc tpcc design                             prints the design of TPC-C's transactions that the program brings along" ∷
+    codes "acc tpcc load W ITEMS CUSTOMERS             prints a script that loads W warehouses of TPC-C, 1 to 10, as the standard fills them" ∷
+    codes "acc tpcc mix W ITEMS CUSTOMERS COUNT START  prints a script of COUNT of TPC-C's transactions behind that, drawn from the number START" ∷
     codes "acc --help                                  prints these lines" ∷
     codes "acc --version                               prints the version of acc, and of the toolchain that proved it" ∷
     codes "README.md tells what acc is for, and docs/DESIGN-LANGUAGE.md how a design is written and how to mend one that is refused." ∷

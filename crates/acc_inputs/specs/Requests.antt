@@ -8,7 +8,7 @@ use Rattle.acc_inputs.specs.declared.requests.ScheduleFiles.{ScheduleFiles}
 use Rattle.acc_inputs.specs.declared.requests.WorkerFiles.{WorkerFiles}
 use Rattle.acc_inputs.specs.declared.requests.Request.{Request}
 use Rattle.acc_inputs.specs.declared.requests.Request.TheVariants.{Play, Rehearse, Print, Check, Prove, Init, Sched, Run}
-use Rattle.acc_inputs.specs.declared.requests.Request.TheVariants.{Recover, Dump, Replies, Verify, TpccDesign, Help, Version}
+use Rattle.acc_inputs.specs.declared.requests.Request.TheVariants.{Recover, Dump, Replies, Verify, TpccDesign, TpccLoad, TpccMix, Help, Version}
 
 abbrev pub command_in : Request → Command
 command_in (Play files) = command.Play
@@ -24,6 +24,8 @@ command_in (Dump files) = command.Dump
 command_in (Replies files) = command.Replies
 command_in (Verify files) = command.Verify
 command_in TpccDesign = command.TpccDesign
+command_in (TpccLoad scale) = command.TpccLoad scale
+command_in (TpccMix mix) = command.TpccMix mix
 command_in Help = command.Help
 command_in Version = command.Version
 
@@ -54,5 +56,7 @@ texts_in (Dump files) = certified_texts files
 texts_in (Replies files) = certified_texts files
 texts_in (Verify files) = certified_texts files
 texts_in TpccDesign = []
+texts_in (TpccLoad scale) = []
+texts_in (TpccMix mix) = []
 texts_in Help = []
 texts_in Version = []

@@ -1,8 +1,9 @@
 -- That no command is without a verb, or without a line of the help.
-use Rattle.std.specs.Prelude.{◌≡◌, ℕ, List, [], ◌∷◌, ◌++◌, length, Option, Some, None, IfSome, Contains, codes, decimal}
+use Rattle.std.specs.Prelude.{◌≡◌, ⊤, true, ℕ, List, [], ◌∷◌, ◌++◌, length, map, Some, Contains, codes, decimal}
 use Rattle.std.specs.List.{flat_map}
 use Rattle.acc_inputs.specs.declared.words.Command.{Command}
 use Rattle.acc_inputs.specs.declared.words.Command.TheVariants as command
+use Rattle.acc_inputs.specs.Scales.{is_scale, is_mix}
 use Rattle.acc_inputs.specs.Words.{file_count, IsCrew, command_of}
 use Rattle.acc_inputs.specs.Notes.{help_lines}
 
@@ -21,37 +22,56 @@ verb_of command.Dump = codes "dump" ∷ []
 verb_of command.Replies = codes "replies" ∷ []
 verb_of command.Verify = codes "verify" ∷ []
 verb_of command.TpccDesign = codes "tpcc" ∷ codes "design" ∷ []
+verb_of (command.TpccLoad scale) = codes "tpcc" ∷ codes "load" ∷ []
+verb_of (command.TpccMix mix) = codes "tpcc" ∷ codes "mix" ∷ []
 verb_of command.Help = codes "--help" ∷ []
 verb_of command.Version = codes "--version" ∷ []
 
--- how many workers a command has, if it has some
-abbrev pub crew_of : Command → Option ℕ
-crew_of command.Play = None
-crew_of command.Rehearse = None
-crew_of command.Print = None
-crew_of command.Check = None
-crew_of command.Prove = None
-crew_of command.Init = None
-crew_of command.Sched = None
-crew_of (command.Run workers) = Some workers
-crew_of command.Recover = None
-crew_of command.Dump = None
-crew_of command.Replies = None
-crew_of command.Verify = None
-crew_of command.TpccDesign = None
-crew_of command.Help = None
-crew_of command.Version = None
+-- the numbers that a command has, in the order of the words that tell them
+abbrev pub numbers_of : Command → List ℕ
+numbers_of command.Play = []
+numbers_of command.Rehearse = []
+numbers_of command.Print = []
+numbers_of command.Check = []
+numbers_of command.Prove = []
+numbers_of command.Init = []
+numbers_of command.Sched = []
+numbers_of (command.Run workers) = workers ∷ []
+numbers_of command.Recover = []
+numbers_of command.Dump = []
+numbers_of command.Replies = []
+numbers_of command.Verify = []
+numbers_of command.TpccDesign = []
+numbers_of (command.TpccLoad scale) = scale.warehouses ∷ scale.items ∷ scale.customers ∷ []
+numbers_of (command.TpccMix mix) = mix.scale.warehouses ∷ mix.scale.items ∷ mix.scale.customers ∷ mix.count ∷ mix.start ∷ []
+numbers_of command.Help = []
+numbers_of command.Version = []
 
--- the word that tells their number
-abbrev pub crew_words : Option ℕ → List (List ℕ)
-crew_words None = []
-crew_words (Some workers) = decimal workers ∷ []
+-- they are within their bounds
+abbrev pub HasFit : Command → Type 0
+HasFit command.Play = ⊤
+HasFit command.Rehearse = ⊤
+HasFit command.Print = ⊤
+HasFit command.Check = ⊤
+HasFit command.Prove = ⊤
+HasFit command.Init = ⊤
+HasFit command.Sched = ⊤
+HasFit (command.Run workers) = IsCrew workers
+HasFit command.Recover = ⊤
+HasFit command.Dump = ⊤
+HasFit command.Replies = ⊤
+HasFit command.Verify = ⊤
+HasFit command.TpccDesign = ⊤
+HasFit (command.TpccLoad scale) = is_scale scale ≡ true
+HasFit (command.TpccMix mix) = is_mix mix ≡ true
+HasFit command.Help = ⊤
+HasFit command.Version = ⊤
 
--- each command is what its verb asks for, with as many words behind it as it has files, and the number of its workers, if it has some
+-- each command is what its verb asks for, with as many words behind it as it has files, and its numbers, if it has some
 abbrev pub EachHasVerb : Type 0
 EachHasVerb =
-    (c : Command) (names : List (List ℕ)) → IfSome (crew_of c) IsCrew → length names ≡ file_count c
-    → command_of (verb_of c ++ (names ++ crew_words (crew_of c))) ≡ Some c
+    (c : Command) (names : List (List ℕ)) → HasFit c → length names ≡ file_count c
+    → command_of (verb_of c ++ (names ++ map decimal (numbers_of c))) ≡ Some c
 
 -- words, each with a space behind it
 abbrev pub words_text : List (List ℕ) → List ℕ

@@ -1,16 +1,22 @@
 -- The forms of the command line.
-use Rattle.std.specs.Prelude.{ℕ, ◌≤◌, List, [], ◌∷◌, length, take, drop, Bool, true, false, ◌==◌, if◌then◌else◌}
-use Rattle.std.specs.Prelude.{◌&&◌, nat_le, Option, Some, None, option_map, codes, decimal}
+use Rattle.std.specs.Prelude.{ℕ, List, [], ◌∷◌, length, take, drop, Bool, true, false, ◌==◌, if◌then◌else◌}
+use Rattle.std.specs.Prelude.{◌&&◌, Option, Some, None, option_map, codes, decimal}
 use Rattle.std.specs.Str.{bytes_eq}
 use Rattle.std.specs.Str.Parse.{digits_value}
+use Rattle.tpcc_gen.specs.declared.bounds.TheConstants.{MOST_WAREHOUSES, MOST_ITEMS, MOST_CUSTOMERS, MOST_TRANSACTIONS, LARGEST_START}
 use Rattle.acc_inputs.specs.declared.words.TheConstants.{MOST_WORKERS}
+use Rattle.acc_inputs.specs.declared.scales.Scale.{Scale}
+use Rattle.acc_inputs.specs.declared.scales.Mix.{Mix}
+use Rattle.acc_inputs.specs.declared.words.Workload.{Workload}
+use Rattle.acc_inputs.specs.declared.words.Workload.TheVariants.{Design, Load, Mix as MixOf}
+use Rattle.acc_inputs.specs.Scales.{IsWithin, is_within}
 use Rattle.acc_inputs.specs.declared.words.Form.{Form}
 use Rattle.acc_inputs.specs.declared.words.Form.TheVariants.{Files, Workers, Tpcc}
 use Rattle.acc_inputs.specs.declared.words.Command.{Command}
 use Rattle.acc_inputs.specs.declared.words.Command.TheVariants as command
 
 -- what stands behind this verb: the names of the command's files alone; those of the files of `run` and then the number of workers; or,
--- behind `tpcc`, what is wanted of it
+-- behind `tpcc`, what is wanted of it and its numbers
 unfoldable pub form_of : List ℕ → Option Form
 form_of verb =
     if bytes_eq verb (codes "play") then Some (Files command.Play) else
@@ -30,6 +36,14 @@ form_of verb =
     (if bytes_eq verb (codes "--version") then Some (Files command.Version) else
     None))))))))))))))
 
+-- what this word wants of TPC-C
+unfoldable pub workload_of : List ℕ → Option Workload
+workload_of word =
+    if bytes_eq word (codes "design") then Some Design else
+    (if bytes_eq word (codes "load") then Some Load else
+    (if bytes_eq word (codes "mix") then Some MixOf else
+    None))
+
 -- how many files a command reads: the first words behind the verb name them
 unfoldable pub file_count : Command → ℕ
 file_count command.Play = 3
@@ -45,6 +59,8 @@ file_count command.Dump = 2
 file_count command.Replies = 2
 file_count command.Verify = 2
 file_count command.TpccDesign = 0
+file_count (command.TpccLoad scale) = 0
+file_count (command.TpccMix mix) = 0
 file_count command.Help = 0
 file_count command.Version = 0
 
@@ -66,19 +82,23 @@ is_journalled command.Dump = true
 is_journalled command.Replies = true
 is_journalled command.Verify = true
 is_journalled command.TpccDesign = false
+is_journalled (command.TpccLoad scale) = false
+is_journalled (command.TpccMix mix) = false
 is_journalled command.Help = false
 is_journalled command.Version = false
 
+-- the number that a word tells: the one of which it is the decimal numeral, if that is within bounds
+abbrev pub number_of : ℕ → ℕ → List ℕ → Option ℕ
+number_of least most word =
+    let n = digits_value 10 word in if is_within least most n && bytes_eq (decimal n) word then Some n else None
+
 -- there may be so many workers
 abbrev pub IsCrew : ℕ → Type 0
-IsCrew n = (1 ≤ n) × (n ≤ MOST_WORKERS)
+IsCrew n = IsWithin 1 MOST_WORKERS n
 
-abbrev pub is_crew : ℕ → Bool
-is_crew n = nat_le 1 n && nat_le n MOST_WORKERS
-
--- how many workers a word asks for: the number of which it is the decimal numeral, if there may be so many
+-- how many workers a word asks for
 abbrev pub workers_of : List ℕ → Option ℕ
-workers_of word = let n = digits_value 10 word in if is_crew n && bytes_eq (decimal n) word then Some n else None
+workers_of word = number_of 1 MOST_WORKERS word
 
 -- the command, if so many words name its files
 abbrev pub with_files : Command → List (List ℕ) → Option Command
@@ -94,11 +114,57 @@ workers_in (word ∷ other ∷ more) = None
 abbrev pub with_workers : List (List ℕ) → Option Command
 with_workers words = option_map command.Run (workers_in (drop 3 words))
 
--- the command of which the one word behind `tpcc` says what is wanted
+-- the scale of these numbers, if each of them is told
+abbrev pub scale_from : Option ℕ → Option ℕ → Option ℕ → Option Scale
+scale_from None items customers = None
+scale_from (Some w) None customers = None
+scale_from (Some w) (Some i) None = None
+scale_from (Some w) (Some i) (Some c) = Some (record { warehouses = w; items = i; customers = c })
+
+abbrev pub scale_of : List ℕ → List ℕ → List ℕ → Option Scale
+scale_of w i c = scale_from (number_of 1 MOST_WAREHOUSES w) (number_of 1 MOST_ITEMS i) (number_of 1 MOST_CUSTOMERS c)
+
+-- the mix of these, likewise
+abbrev pub mix_from : Option Scale → Option ℕ → Option ℕ → Option Mix
+mix_from None count start = None
+mix_from (Some s) None start = None
+mix_from (Some s) (Some n) None = None
+mix_from (Some s) (Some n) (Some from) = Some (record { scale = s; count = n; start = from })
+
+-- `tpcc design`, if nothing stands behind it
+abbrev pub with_design : List (List ℕ) → Option Command
+with_design [] = Some command.TpccDesign
+with_design (more ∷ rest) = None
+
+-- `tpcc load`, if its scale stands behind it
+abbrev pub with_load : List (List ℕ) → Option Command
+with_load [] = None
+with_load (w ∷ []) = None
+with_load (w ∷ i ∷ []) = None
+with_load (w ∷ i ∷ c ∷ []) = option_map command.TpccLoad (scale_of w i c)
+with_load (w ∷ i ∷ c ∷ more ∷ rest) = None
+
+-- `tpcc mix`, if its scale stands behind it, how many transactions it has, and the number that they are drawn from
+abbrev pub with_mix : List (List ℕ) → Option Command
+with_mix [] = None
+with_mix (w ∷ []) = None
+with_mix (w ∷ i ∷ []) = None
+with_mix (w ∷ i ∷ c ∷ []) = None
+with_mix (w ∷ i ∷ c ∷ count ∷ []) = None
+with_mix (w ∷ i ∷ c ∷ count ∷ start ∷ []) =
+    option_map command.TpccMix (mix_from (scale_of w i c) (number_of 0 MOST_TRANSACTIONS count) (number_of 0 LARGEST_START start))
+with_mix (w ∷ i ∷ c ∷ count ∷ start ∷ more ∷ rest) = None
+
+abbrev pub with_workload : Option Workload → List (List ℕ) → Option Command
+with_workload None words = None
+with_workload (Some Design) words = with_design words
+with_workload (Some Load) words = with_load words
+with_workload (Some MixOf) words = with_mix words
+
+-- the command of which the words behind `tpcc` say what is wanted
 abbrev pub with_tpcc : List (List ℕ) → Option Command
 with_tpcc [] = None
-with_tpcc (wanted ∷ []) = if bytes_eq wanted (codes "design") then Some command.TpccDesign else None
-with_tpcc (wanted ∷ other ∷ more) = None
+with_tpcc (wanted ∷ words) = with_workload (workload_of wanted) words
 
 -- the command, if such words stand behind its verb
 abbrev pub with_form : Option Form → List (List ℕ) → Option Command

@@ -1,5 +1,5 @@
-//! What commands are given: the words that name one, the files that they name, the design, script and order in these, the tables of TPC-C in
-//! the design, and what is answered where one is refused.
+//! What commands are given: the words that name one, the files that they name, the design, script and order in these, the tables of TPC-C
+//! in the design, and what is answered where one is refused.
 #![tactic(auto)]
 
 mod designs;
@@ -7,6 +7,7 @@ mod files;
 pub mod laws;
 mod notes;
 mod requests;
+mod scales;
 mod schemas;
 mod scripts;
 mod words;
@@ -16,6 +17,10 @@ pub use designs::{ReadDesign, design_refused, read_design};
 pub use files::{Refusal, read_all};
 pub use notes::{help_text, version_text};
 pub use requests::{CertifiedFiles, PlayFiles, Request, ScheduleFiles, WorkerFiles};
+pub use scales::{Mix, Scale};
 pub use schemas::{FoundSchema, find_schema};
 pub use scripts::{ReadOrder, ReadScript, read_order, read_script};
-pub use words::{Command, MOST_WORKERS, asks_journal, command_of, file_count, file_names};
+pub use tpcc_gen::{LARGEST_START, MOST_CUSTOMERS, MOST_ITEMS, MOST_TRANSACTIONS, MOST_WAREHOUSES};
+pub use words::{
+    Command, MOST_WORKERS, asks_journal, command_of, file_count, file_names, number_of,
+};

@@ -22,6 +22,8 @@ acc dump DESIGN CERT JOURNAL                does the same, and prints the rows t
 acc replies DESIGN CERT JOURNAL             does the same, and prints how each transaction ended, by its number
 acc verify DESIGN CERT JOURNAL              does the same, and tells which of TPC-C's conditions 1 to 9 are true of its rows
 acc tpcc design                             prints the design of TPC-C's transactions that the program brings along
+acc tpcc load W ITEMS CUSTOMERS             prints a script that loads W warehouses of TPC-C, 1 to 10, as the standard fills them
+acc tpcc mix W ITEMS CUSTOMERS COUNT START  prints a script of COUNT of TPC-C's transactions behind that, drawn from the number START
 acc --help                                  prints these lines
 acc --version                               prints the version of acc, and of the toolchain that proved it
 README.md tells what acc is for, and docs/DESIGN-LANGUAGE.md how a design is written and how to mend one that is refused.

@@ -3,6 +3,7 @@ ghost use Rattle.std.specs.Prelude.{◌≡◌, map, length};
 ghost use Rattle.acc_inputs.specs.Words.{file_count};
 ghost use Rattle.acc_inputs.specs.Requests.{command_in, texts_in, certified_texts, scheduled_texts};
 
+use crate::scales::{Mix, Scale};
 use crate::words::Command;
 
 /// The bytes of a design, of a script of its calls, and of an order of their turns.
@@ -80,6 +81,8 @@ pub enum Request<'a> {
     Replies(CertifiedFiles<'a>),
     Verify(CertifiedFiles<'a>),
     TpccDesign,
+    TpccLoad(Scale),
+    TpccMix(Mix),
     Help,
     Version,
 }
@@ -117,6 +120,8 @@ impl<'a> Request<'a> {
             Command::Replies => Request::Replies(CertifiedFiles::new(files)),
             Command::Verify => Request::Verify(CertifiedFiles::new(files)),
             Command::TpccDesign => Request::TpccDesign,
+            Command::TpccLoad(scale) => Request::TpccLoad(scale),
+            Command::TpccMix(mix) => Request::TpccMix(mix),
             Command::Help => Request::Help,
             Command::Version => Request::Version,
         }

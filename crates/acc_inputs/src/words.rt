@@ -1,10 +1,14 @@
 //! The forms of the command line.
-ghost use Rattle.std.specs.Prelude.{◌≡◌, ◌≢◌, ℕ, ◌+◌, ◌≤◌, MatchOption, map, length, string_bytes, codes, decimal, IfSome};
+ghost use Rattle.std.specs.Prelude.{◌≡◌, ◌≢◌, ℕ, ◌+◌, ◌≤◌, MatchOption, map, length, string_bytes, decimal, IfSome};
 ghost use Rattle.std.specs.Str.{bytes_eq};
-ghost use Rattle.acc_inputs.specs.Words.{form_of, file_count, is_journalled, IsCrew, is_crew};
-ghost use Rattle.acc_inputs.specs.Words.{with_files, with_workers, with_tpcc, command_of, file_names, asks_journal};
+ghost use Rattle.acc_inputs.specs.Scales.{IsWithin, is_within};
+ghost use Rattle.acc_inputs.specs.Words.{form_of, workload_of, file_count, is_journalled, number_of, scale_of};
+ghost use Rattle.acc_inputs.specs.Words.{with_files, with_workers, with_design, with_load, with_mix, with_tpcc, command_of};
+ghost use Rattle.acc_inputs.specs.Words.{file_names, asks_journal};
 
+use crate::scales::{Mix, Scale};
 use itoa::Buffer;
+use tpcc_gen::{LARGEST_START, MOST_CUSTOMERS, MOST_ITEMS, MOST_TRANSACTIONS, MOST_WAREHOUSES};
 
 /// The most workers that `run` takes.
 pub const MOST_WORKERS: u64 = 64;
@@ -38,6 +42,10 @@ pub enum Command {
     Verify,
     /// `tpcc design`
     TpccDesign,
+    /// `tpcc load W ITEMS CUSTOMERS`
+    TpccLoad(Scale),
+    /// `tpcc mix W ITEMS CUSTOMERS COUNT START`
+    TpccMix(Mix),
     /// `--help`
     Help,
     /// `--version`
@@ -51,8 +59,18 @@ enum Form {
     Files(Command),
     /// The names of the files of `run`, and the number of workers.
     Workers,
-    /// The word that says what is wanted of TPC-C.
+    /// The word that says what is wanted of TPC-C, and the numbers of that.
     Tpcc,
+}
+
+/// What is wanted of TPC-C.
+#[derive(Clone, Copy)]
+enum Workload {
+    Design,
+    /// With its scale.
+    Load,
+    /// With its scale, how many transactions it has, and the number that they are drawn from.
+    Mix,
 }
 
 /// What stands behind this verb.
@@ -80,6 +98,19 @@ fn form_of(verb: &str) -> Option<Form>
     }
 }
 
+/// What this word wants of TPC-C.
+#[tactic(auto, unfolding(crate::specs::Words::workload_of))]
+fn workload_of(word: &str) -> Option<Workload>
+    ensures { result ≡ workload_of word.now }
+{
+    match word {
+        "design" => Some(Workload::Design),
+        "load" => Some(Workload::Load),
+        "mix" => Some(Workload::Mix),
+        _ => None,
+    }
+}
+
 /// How many of the words behind the verb name files.
 #[tactic(auto, unfolding(crate::specs::Words::file_count))]
 pub fn file_count(command: Command) -> usize
@@ -91,7 +122,8 @@ pub fn file_count(command: Command) -> usize
         Command::Print | Command::Prove | Command::Init => 1,
         Command::Check | Command::Recover | Command::Dump => 2,
         Command::Replies | Command::Verify => 2,
-        Command::TpccDesign | Command::Help | Command::Version => 0,
+        Command::TpccDesign | Command::TpccLoad(_) | Command::TpccMix(_) => 0,
+        Command::Help | Command::Version => 0,
     }
 }
 
@@ -103,15 +135,16 @@ fn is_journalled(command: Command) -> bool
         Command::Init | Command::Sched | Command::Run(_) => true,
         Command::Recover | Command::Dump | Command::Replies | Command::Verify => true,
         Command::Play | Command::Rehearse | Command::Print | Command::Check => false,
-        Command::Prove | Command::TpccDesign | Command::Help | Command::Version => false,
+        Command::Prove | Command::Help | Command::Version => false,
+        Command::TpccDesign | Command::TpccLoad(_) | Command::TpccMix(_) => false,
     }
 }
 
-/// Whether there may be so many workers.
-fn is_crew(workers: u64) -> bool
-    ensures { result ≡ is_crew workers }
+/// Whether a number is within bounds.
+fn is_within(least: u64, most: u64, number: u64) -> bool
+    ensures { result ≡ is_within least most number }
 {
-    (1..=MOST_WORKERS).contains(&workers)
+    (least..=most).contains(&number)
 }
 
 /// Whether a word is the numeral of a number: its decimal digits, without a sign or a leading zero.
@@ -121,15 +154,17 @@ fn is_numeral_of(word: &str, number: u64) -> bool
     Buffer::new().format(number).as_bytes() == word.as_bytes()
 }
 
-/// The number of workers of which a word is the numeral, if there is one.
-fn workers_of(word: &str) -> Option<u64>
-    ensures { MatchOption result ((n : ℕ) → IsCrew n → word.now ≢ decimal n) (λ n. IsCrew n × (word.now ≡ decimal n)) }
+/// The number from the least to the most of which a word is the numeral, without a sign or a leading zero, if there is one.
+pub fn number_of(least: u64, most: u64, word: &str) -> Option<u64>
+    ensures meaning { MatchOption result ((n : ℕ) → IsWithin least most n → word.now ≢ decimal n)
+        (λ n. IsWithin least most n × (word.now ≡ decimal n)) }
+    ensures value { result ≡ number_of least most word.now }
 {
-    let Ok(workers) = word.parse() else {
+    let Ok(number) = word.parse() else {
         return None;
     };
-    if is_crew(workers) && is_numeral_of(word, workers) {
-        Some(workers)
+    if is_within(least, most, number) && is_numeral_of(word, number) {
+        Some(number)
     } else {
         None
     }
@@ -154,34 +189,85 @@ fn with_workers(words: &[String]) -> Option<Command>
     let [_design, _certificate, _script, workers] = words else {
         return None;
     };
-    Some(Command::Run(workers_of(workers.as_str())?))
+    Some(Command::Run(number_of(1, MOST_WORKERS, workers.as_str())?))
 }
 
-/// Whether a word asks for the design.
-fn asks_design(word: &str) -> bool
-    ensures { result ≡ bytes_eq word.now (codes "design") }
+/// The scale that three words tell.
+fn scale_of(warehouses: &str, items: &str, customers: &str) -> Option<Scale>
+    ensures { result ≡ scale_of warehouses.now items.now customers.now }
 {
-    word == "design"
+    let warehouses = number_of(1, MOST_WAREHOUSES, warehouses)?;
+    let items = number_of(1, MOST_ITEMS, items)?;
+    let customers = number_of(1, MOST_CUSTOMERS, customers)?;
+    Some(Scale {
+        warehouses,
+        items,
+        customers,
+    })
 }
 
-/// The command of which the one word behind `tpcc` says what is wanted.
+/// `tpcc design`, if nothing stands behind it.
 #[tactic(auto, unfolding(crate::specs::Words::file_count))]
-fn with_tpcc(words: &[String]) -> Option<Command>
-    ensures command { result ≡ with_tpcc (map string_bytes words.now) }
+fn with_design(words: &[String]) -> Option<Command>
+    ensures command { result ≡ with_design (map string_bytes words.now) }
     ensures length { IfSome result (λ command. file_count command ≤ length words.now) }
 {
-    let [wanted] = words else {
-        return None;
-    };
-    if asks_design(wanted.as_str()) {
+    if words.is_empty() {
         Some(Command::TpccDesign)
     } else {
         None
     }
 }
 
+/// `tpcc load`, if its scale stands behind it.
+#[tactic(auto, unfolding(crate::specs::Words::file_count))]
+fn with_load(words: &[String]) -> Option<Command>
+    ensures command { result ≡ with_load (map string_bytes words.now) }
+    ensures length { IfSome result (λ command. file_count command ≤ length words.now) }
+{
+    let [warehouses, items, customers] = words else {
+        return None;
+    };
+    let scale = scale_of(warehouses.as_str(), items.as_str(), customers.as_str())?;
+    Some(Command::TpccLoad(scale))
+}
+
+/// `tpcc mix`, if its scale stands behind it, and then its two numbers.
+#[tactic(auto, unfolding(crate::specs::Words::file_count))]
+fn with_mix(words: &[String]) -> Option<Command>
+    ensures command { result ≡ with_mix (map string_bytes words.now) }
+    ensures length { IfSome result (λ command. file_count command ≤ length words.now) }
+{
+    let [warehouses, items, customers, count, start] = words else {
+        return None;
+    };
+    let scale = scale_of(warehouses.as_str(), items.as_str(), customers.as_str())?;
+    let count = number_of(0, MOST_TRANSACTIONS, count.as_str())?;
+    let start = number_of(0, LARGEST_START, start.as_str())?;
+    Some(Command::TpccMix(Mix {
+        scale,
+        count,
+        start,
+    }))
+}
+
+/// The command of which the words behind `tpcc` say what is wanted.
+fn with_tpcc(words: &[String]) -> Option<Command>
+    ensures command { result ≡ with_tpcc (map string_bytes words.now) }
+    ensures length { IfSome result (λ command. file_count command ≤ length words.now) }
+{
+    let [wanted, behind @ ..] = words else {
+        return None;
+    };
+    match workload_of(wanted.as_str())? {
+        Workload::Design => with_design(behind),
+        Workload::Load => with_load(behind),
+        Workload::Mix => with_mix(behind),
+    }
+}
+
 /// The command that the words ask for: its verb, and behind it the names of its files, and for `run` the number of workers; or `tpcc`, and
-/// behind it what is wanted of that.
+/// behind it what is wanted of that, with its numbers.
 pub fn command_of(words: &[String]) -> Option<Command>
     ensures command { result ≡ command_of (map string_bytes words.now) }
     ensures length { IfSome result (λ command. file_count command + 1 ≤ length words.now) }

@@ -9,6 +9,7 @@ pub mod verifications;
 pub use acc_inputs::{
     Command, Request, asks_journal, command_of, file_count, help_text, read_all, version_text,
 };
+pub use acc_journalled::IndexStore;
 pub use acc_running::{Alone, Crew, Engine};
 pub use journals::init_file;
 pub use recoveries::recover_files;

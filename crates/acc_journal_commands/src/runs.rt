@@ -16,11 +16,10 @@ use acc_inputs::{
     Admission, CertifiedFiles, ReadDesign, ReadOrder, ReadScript, ScheduleFiles, WorkerFiles,
     admit, design_refused, read_design, read_order, read_script,
 };
-use acc_journalled::{Ended, unrun};
+use acc_journalled::{Ended, IndexStore, unrun};
 use acc_lift::Accepted;
 use acc_progress::Progress;
 use acc_running::{Alone, Crew, Engine, schedule_journal, work_journal};
-use acc_store::MapStore;
 use std::alloc::Global;
 
 /// Who has the next turn.
@@ -59,7 +58,7 @@ fn run_order<D: Disk, P: Progress>(
 }
 
 /// Lets so many workers run the calls.
-fn run_workers<'a, D: Disk, C: Crew<Engine<'a, MapStore, D>>, P: Progress>(
+fn run_workers<'a, D: Disk, C: Crew<Engine<'a, IndexStore, D>>, P: Progress>(
     alloc: Global,
     accepted: &'a Accepted,
     asked: Seq<Call>,
@@ -79,7 +78,7 @@ fn run_workers<'a, D: Disk, C: Crew<Engine<'a, MapStore, D>>, P: Progress>(
 }
 
 /// Runs the calls as the turns are taken.
-fn run_calls<'a, D: Disk, C: Crew<Engine<'a, MapStore, D>>, P: Progress>(
+fn run_calls<'a, D: Disk, C: Crew<Engine<'a, IndexStore, D>>, P: Progress>(
     alloc: Global,
     accepted: &'a Accepted,
     asked: Seq<Call>,
@@ -104,7 +103,7 @@ fn run_calls<'a, D: Disk, C: Crew<Engine<'a, MapStore, D>>, P: Progress>(
 }
 
 /// Runs the calls of a script.
-fn run_script<'a, D: Disk, C: Crew<Engine<'a, MapStore, D>>, P: Progress>(
+fn run_script<'a, D: Disk, C: Crew<Engine<'a, IndexStore, D>>, P: Progress>(
     alloc: Global,
     accepted: &'a Accepted,
     script: &[u8],
@@ -129,7 +128,7 @@ fn run_script<'a, D: Disk, C: Crew<Engine<'a, MapStore, D>>, P: Progress>(
 }
 
 /// Runs the calls of a script over the journal of a design, if it is accepted with its certificate.
-fn run_design<'a, D: Disk, C: Crew<Engine<'a, MapStore, D>>, P: Progress>(
+fn run_design<'a, D: Disk, C: Crew<Engine<'a, IndexStore, D>>, P: Progress>(
     alloc: Global,
     d: Design,
     certificate: &[u8],
@@ -157,7 +156,7 @@ fn run_design<'a, D: Disk, C: Crew<Engine<'a, MapStore, D>>, P: Progress>(
 }
 
 /// Runs the calls of a script over the journal of the design of a text, if it is accepted with its certificate.
-fn run_texts<'a, D: Disk, C: Crew<Engine<'a, MapStore, D>>, P: Progress>(
+fn run_texts<'a, D: Disk, C: Crew<Engine<'a, IndexStore, D>>, P: Progress>(
     alloc: Global,
     files: CertifiedFiles,
     script: &[u8],
@@ -227,7 +226,7 @@ pub fn run_files<D: Disk, P: Progress>(
 /// Lets so many workers of the crew run the calls of a script, over the journal of the design of a text, if it is accepted with its
 /// certificate. The accepted design is kept in the slot, where the crew's engine borrows it. It waits for whom the crew waits, and for
 /// nobody else.
-pub fn work_files<'a, D: Disk, C: Crew<Engine<'a, MapStore, D>>, P: Progress>(
+pub fn work_files<'a, D: Disk, C: Crew<Engine<'a, IndexStore, D>>, P: Progress>(
     alloc: Global,
     files: WorkerFiles,
     workers: u64,

@@ -3,6 +3,8 @@ use Rattle.std.proofs.Common.{◌≡◌, inl, inr, ℕ, List, [], ◌∷◌, len
 use Rattle.std.specs.Prelude.{◌≢◌, IfSome, codes}
 use Rattle.std.specs.declared.alloc.AllocError.{AllocError}
 use Rattle.acc_base.specs.Lines.{line}
+use Rattle.acc_disk.specs.Crashes.{Only}
+use Rattle.acc_disk.specs.Moments.{AtAnyMoment}
 use Rattle.acc_base.specs.declared.designs.Design.{Design}
 use Rattle.acc_base.specs.declared.machines.Event.{Event}
 use Rattle.acc_base.specs.Annotated.{IsIdle}
@@ -15,6 +17,8 @@ use Rattle.acc_wal.specs.Creating.{rest_of, IsThere, RefusesNew}
 use Rattle.acc_wal.specs.Attaching.{IsOfBytes as IsOfBytesOld}
 use Rattle.acc_wal.specs.declared.errors.WalError.{WalError}
 use Rattle.acc_wal.specs.declared.errors.WalError.TheVariants.{Exists, NotJournal, OtherVersion, Damaged, Disk, Spent, Memory}
+use Rattle.acc_wal.proofs.Moments.{started}
+use Rattle.acc_recover.specs.Recoveries.{LeavesRecovery}
 use Rattle.acc_recover.specs.Answers.{RecoversFile}
 use Rattle.acc_recover.specs.Refusals.{RefusesRecovery, IsOfBytes, IsOfJournal, CountsSame}
 use Rattle.acc_recover.specs.declared.errors.RecoverError.{RecoverError}
@@ -152,6 +156,14 @@ refuses_so error d told told' fault t why same kept says =
     record { error = error; cause = why; same = same; kept = kept; says = says }
 
 -- ---- no machine ran
+
+-- a crash of a disk that was asked nothing leaves the file's bytes
+pub leaves_file : {D : Type 0} (clock : D → ℕ) (left_since : D → ℕ → List ℕ → Type 0) (may_leave : List ℕ → Type 0) (d : Design)
+    (file : List ℕ) (disk end : D) → end ≡ disk → ((image : List ℕ) → left_since disk (clock disk) image → may_leave image)
+    → Only file may_leave → AtAnyMoment clock left_since disk end (LeavesRecovery d file)
+leaves_file clock left_since may_leave d file disk end same only_now only =
+    subst (λ x. AtAnyMoment clock left_since disk x (LeavesRecovery d file)) (sym same)
+    (started clock left_since disk (LeavesRecovery d file) (λ image left. inl (only image (only_now image left))))
 
 -- what is so of an unrun ending's parts
 pub by_unrun : {D : Type 0} (P : D → Result Answer AllocError → List Event → ℕ → Type 0) (disk disk' : D)

@@ -2,4 +2,4 @@ pub mod Endings
 pub mod Lawfuls
 pub mod Numbered
 pub mod Once
-mod Verdicts
+pub mod Verdicts

@@ -65,7 +65,7 @@ module _ (s : TableSet) (db : List Row) where
 
   -- ---- all of them, or one that is false
 
-  all_true : ((n : ℕ) → n < 9 → false_key s db (n + 1) ≡ None) → AreConsistent s db
+  pub all_true : ((n : ℕ) → n < 9 → false_key s db (n + 1) ≡ None) → AreConsistent s db
   all_true h n d few =
       let place : n + 1 - 1 ≡ n = omega arith in
       subst (IsTrueOf s db) (ap (λ k. get_or CONDITIONS k WarehouseDistricts) place ∙ get_or_default CONDITIONS n WarehouseDistricts d few)

@@ -14,13 +14,13 @@ ghost use Rattle.acc_journalled.specs.Recovering.{RecoversJournal, TellsRecovere
 
 use crate::answers::{Answer, Ended, Ending, Wanted, unrun};
 use crate::lines::{not_made, not_recovered, one_line, tell_state};
+use crate::rows::empty_rows;
 use acc_base::designs::Design;
 use acc_disk::Disk;
 use acc_lift::Accepted;
 use acc_print::{PrintError, print};
 use acc_progress::Progress;
 use acc_recover::{Recovered, recover};
-use acc_store::MapStore;
 use acc_wal::Wal;
 use std::alloc::{AllocError, Global};
 
@@ -94,7 +94,10 @@ pub fn recover_journal<D: Disk, P: Progress>(
         → IsCalm (D.told result.disk) (D.may_leave result.disk)) }
     ensures faults { D.faults disk ≤ D.faults result.disk }
 {
-    match recover(alloc, d, MapStore::new(alloc), disk, progress) {
+    let Some(rows) = empty_rows(alloc, d) else {
+        return unrun(alloc, disk, Err(AllocError));
+    };
+    match recover(alloc, d, rows, disk, progress) {
         Ok(found) => {
             let Recovered {
                 state,

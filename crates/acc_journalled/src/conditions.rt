@@ -1,5 +1,5 @@
 //! The consistency conditions of TPC-C, tried on the rows of a store.
-ghost use Rattle.std.specs.Prelude.{◌≡◌, ◌≤◌, ◌&&◌, false, is_none, length, IfOk};
+ghost use Rattle.std.specs.Prelude.{◌≡◌, ◌≤◌, ◌&&◌, false, is_none, length, None, Some, IfOk};
 ghost use Rattle.acc_base.specs.Tables.{IsInOrder};
 ghost use Rattle.acc_page.specs.Written.{Adds};
 ghost use Rattle.acc_store.specs.Rows.{SumsFit};
@@ -14,24 +14,38 @@ use std::alloc::{AllocError, Global};
 use tpcc_tables::kinds::CONDITIONS;
 use tpcc_tables::{CheckError, TableSet, condition};
 
+/// Writes the line of a condition with this number that the key shows to be false.
+pub fn push_false(out: &mut Page, number: u32, key: &Key)
+    ensures { Adds out.old out.new (condition_line number (Some key.now)) }
+{
+    out.push(b"condition ");
+    out.push_number(number);
+    out.push(b" false");
+    push_parts(out, key.parts.as_slice());
+    out.push(b"\n");
+}
+
+/// Writes the line of a condition with this number that is true.
+fn push_true(out: &mut Page, number: u32)
+    ensures { Adds out.old out.new (condition_line number None) }
+{
+    out.push(b"condition ");
+    out.push_number(number);
+    out.push(b" true\n");
+}
+
 /// Writes the line of the condition with this number: that it is true, or the key that shows it to be false.
 fn push_condition(out: &mut Page, number: u32, found: &Option<Key>)
     ensures { Adds out.old out.new (condition_line number found.now) }
 {
-    out.push(b"condition ");
-    out.push_number(number);
     match found {
-        Some(key) => {
-            out.push(b" false");
-            push_parts(out, key.parts.as_slice());
-        }
-        None => out.push(b" true"),
+        Some(key) => push_false(out, number, key),
+        None => push_true(out, number),
     }
-    out.push(b"\n");
 }
 
 /// The key of the first row that shows the condition with this number to be false, and none where it is true.
-fn key_against(
+pub fn key_against(
     alloc: Global,
     s: &TableSet,
     number: u32,

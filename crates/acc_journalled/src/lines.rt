@@ -12,8 +12,8 @@ use crate::answers::{Answer, Ending, Wanted};
 use crate::replies::reply_lines;
 use acc_base::designs::Design;
 use acc_dump::dump;
+use acc_index_store::IndexStore;
 use acc_recover::{RecoverError, State};
-use acc_store::MapStore;
 use acc_wal::WalError;
 use std::alloc::{AllocError, Global};
 
@@ -81,7 +81,7 @@ pub fn not_recovered(alloc: Global, error: RecoverError) -> Result<Answer, Alloc
 }
 
 /// How many events a recovered state has, and how many transactions were compensated.
-fn counts(alloc: Global, state: &State<MapStore>, compensated: u64) -> Result<Vec<u8>, AllocError>
+fn counts(alloc: Global, state: &State<IndexStore>, compensated: u64) -> Result<Vec<u8>, AllocError>
     ensures { IfOk result (λ text. text.items ≡ counts_text state.now.world compensated) }
 {
     let events = state.events().len();
@@ -93,7 +93,7 @@ fn wanted_text(
     alloc: Global,
     d: &Design,
     wanted: Wanted,
-    state: &State<MapStore>,
+    state: &State<IndexStore>,
     compensated: u64,
 ) -> Result<Vec<u8>, AllocError>
     requires ended { unfinished state.now.world ≡ [] }
@@ -111,7 +111,7 @@ pub fn tell_state(
     alloc: Global,
     d: &Design,
     wanted: Wanted,
-    state: &State<MapStore>,
+    state: &State<IndexStore>,
     compensated: u64,
 ) -> Result<Answer, AllocError>
     requires ended { unfinished state.now.world ≡ [] }

@@ -13,12 +13,12 @@ ghost use Rattle.acc_journalled.specs.Verifying.{VerifiesJournal, verdicts_text}
 use crate::answers::{Ended, unrun};
 use crate::conditions::judge_store;
 use crate::lines::not_recovered;
+use crate::rows::empty_rows;
 use acc_disk::Disk;
 use acc_lift::Accepted;
 use acc_progress::Progress;
 use acc_recover::{Recovered, recover};
-use acc_store::MapStore;
-use std::alloc::Global;
+use std::alloc::{AllocError, Global};
 use tpcc_tables::TableSet;
 
 /// Recovers the journal of an accepted design as `recover_journal` does, and tells of each consistency condition of TPC-C whether it is
@@ -44,7 +44,10 @@ pub fn verify_journal<D: Disk, P: Progress>(
         → IsCalm (D.told result.disk) (D.may_leave result.disk)) }
     ensures faults { D.faults disk ≤ D.faults result.disk }
 {
-    match recover(alloc, d, MapStore::new(alloc), disk, progress) {
+    let Some(rows) = empty_rows(alloc, d) else {
+        return unrun(alloc, disk, Err(AllocError));
+    };
+    match recover(alloc, d, rows, disk, progress) {
         Ok(found) => {
             let Recovered { state, wal, .. } = found;
             let (store, history) = state.into_parts();

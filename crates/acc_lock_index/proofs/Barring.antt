@@ -8,13 +8,13 @@ use Rattle.acc_base.specs.declared.designs.Entry.{Entry}
 use Rattle.acc_base.specs.declared.designs.Design.{Design}
 use Rattle.acc_base.specs.declared.machines.Frame.{Frame}
 use Rattle.acc_base.specs.Entries.{at_of}
-use Rattle.acc_table.specs.Closures.{is_set, IsClosure}
+use Rattle.acc_table.specs.Closures.{is_set}
 use Rattle.acc_holders.specs.Keys.{Key}
 use Rattle.acc_holders.specs.Entries.{Entries}
 use Rattle.acc_lock_index.specs.Roles.{standing_key, coming_key, undoing_key, held_values, step_values, may_stand, may_undo, one_if}
 use Rattle.acc_lock_index.specs.Roles.{keys_from}
 use Rattle.acc_lock_index.specs.Asks.{Asked, is_of, asks, first_from, TellsFirst}
-use Rattle.acc_lock_index.specs.Indexed.{Standing, AreUnder, StandsFor, BarsStep, Bars, AreReached, asked_of}
+use Rattle.acc_lock_index.specs.Indexed.{Standing, IsReached, AreUnder, StandsFor, BarsStep, Bars, AreReached, asked_of}
 use Rattle.acc_lock_index.proofs.Members.{in_one_if}
 use Rattle.acc_lock_index.proofs.Clashing.{Shares, forbids_shares, shares_forbids, clash_shares, coming_clash, undoing_clash}
 use Rattle.acc_lock_index.proofs.Firsts.{IsFound, first_alike, tells_first}
@@ -87,7 +87,7 @@ module _ (d : Design) (t : ℕ) (at : At) (locals : List ℤ) where
         by (inr c) =
             inr (inr (record { entry = s.entry; first = s.first; is_entry = s.is_entry; shared = s.shared; had = s.had; asked_for = c }))
 
-  module _ (f : Frame) (held : List Bool) (closed : IsClosure d f.ty f.point held) (n : ℕ) (points : List Bool) (to_locals : List ℤ) where
+  module _ (f : Frame) (held : List Bool) (closed : IsReached d (at_of f) held) (n : ℕ) (points : List Bool) (to_locals : List ℤ) where
     abbrev pub keys : List Key
     keys = keys_from (at_of f) f.locals held 1 d.entries
 

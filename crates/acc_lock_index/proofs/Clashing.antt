@@ -1,11 +1,13 @@
 -- Entries forbid and points clash exactly where keys are alike.
-use Rattle.std.proofs.Common.{◌≡◌, ℕ, ◌-◌, ◌≤◌, ◌⊎◌, inl, inr, Bool, true, false, ◌||◌, List, [], ◌∷◌, sym, ap, subst, refl, ◌∙◌}
+use Rattle.std.proofs.Common.{◌≡◌, ℕ, zero, suc, ◌-◌, ◌≤◌, ◌⊎◌, inl, inr, Bool, true, false, ◌||◌, List, [], ◌∷◌, sym, ap, subst, refl, ◌∙◌}
 use Rattle.std.proofs.Common.{Some, Contains, map, drop, ℤ, pos, arith}
-use Rattle.std.specs.Prelude.{◌==◌, ◌&&◌, slice_get, slice_index_or}
+use Rattle.std.specs.Prelude.{◌==◌, ◌&&◌, slice_get, slice_index_or, IsTrue}
 use Rattle.std.specs.Cmp.Derive.{both_true}
 use Rattle.std.specs.Cmp.{first_so, second_so}
 use Rattle.std.proofs.lemmas.Bool.{and_parts}
-use Rattle.std.proofs.lemmas.Bool.Decides.{Decides-int_eq}
+use Rattle.std.proofs.lemmas.Bool.Decides.{Decides-int_eq, nat_tests}
+use Rattle.std.proofs.lemmas.Option.{same_Some, none-some}
+use Rattle.std.specs.List.{list_any}
 use Rattle.acc_base.specs.declared.designs.At.{At}
 use Rattle.acc_base.specs.declared.designs.Side.TheVariants.{Next, Undo}
 use Rattle.acc_base.specs.declared.designs.Entry.{Entry}
@@ -13,16 +15,17 @@ use Rattle.acc_base.specs.declared.designs.Design.{Design}
 use Rattle.acc_base.specs.Linear.{var}
 use Rattle.acc_base.specs.PointEquality.{at_eq, side_eq}
 use Rattle.acc_base.specs.Entries.{Forbids}
-use Rattle.acc_base.specs.Locks.{ClashesEither}
-use Rattle.acc_table.specs.Closures.{is_set, IsClosure}
+use Rattle.acc_base.specs.Locks.{Clashes, ClashesEither}
+use Rattle.acc_table.specs.Closures.{is_set}
 use Rattle.acc_table.specs.Entries.{pair_agrees, pairs_agree, entry_clashes, either_clashes, entry_may_clash}
 use Rattle.acc_table.proofs.Telling.{Passing, forbids_to, forbids_from, either_to, either_from}
 use Rattle.acc_holders.specs.declared.keys.Role.{Role}
 use Rattle.acc_holders.specs.declared.keys.Role.TheVariants.{Standing, Coming, Undoing}
 use Rattle.acc_holders.specs.Keys.{Key}
 use Rattle.acc_lock_index.specs.Roles.{standing_key, coming_key, undoing_key, held_values, step_values, stands, may_stand, may_undo}
-use Rattle.acc_lock_index.specs.Roles.{one_if, keys_at, keys_from}
+use Rattle.acc_lock_index.specs.Roles.{names_undo, one_if, keys_at, keys_from}
 use Rattle.acc_lock_index.specs.Asks.{is_of}
+use Rattle.acc_lock_index.specs.Indexed.{IsReached}
 use Rattle.acc_lock_index.proofs.Members.{in_one_if, one_if_in, KeyIs, standing, coming, undoing, key_is, at_number, put_at}
 use Rattle.acc_lock_index.proofs.Members.{has_standing, has_coming, has_undoing}
 
@@ -87,6 +90,57 @@ module _ (a : ℕ) (a_points : List Bool) (a_locals : List ℤ) (b : ℕ) (b_poi
       let s = and_parts (side_is && (e.held.ty == b)) (is_set b_points e.held.point) p.held in
       let w = and_parts side_is (e.held.ty == b) s.0 in
       both_true (both_true (both_true (both_true (both_true v.0 v.1) w.1) (values_from b_locals a_locals e p.values)) u.1) s.1
+
+-- ---- entries of undo steps that name a type
+
+either_left : (x y : Bool) → x ≡ true → (x || y) ≡ true
+either_left true y e = refl
+either_left false y e = cc
+
+either_right : (x y : Bool) → y ≡ true → (x || y) ≡ true
+either_right true y e = refl
+either_right false y e = e
+
+some_names : (ty : ℕ) (entries : List Entry) (i : ℕ) (e : Entry) → slice_get entries i ≡ Some e → names_undo ty e ≡ true
+    → list_any (names_undo ty) entries ≡ true
+some_names ty [] i e at h = absurd (none-some e at)
+some_names ty (x ∷ entries) zero e at h =
+    either_left (names_undo ty x) (list_any (names_undo ty) entries) (ap (names_undo ty) (same_Some x e at) ∙ h)
+some_names ty (x ∷ entries) (suc i) e at h =
+    either_right (names_undo ty x) (list_any (names_undo ty) entries) (some_names ty entries i e at h)
+
+undo_names : (ty : ℕ) (points : List Bool) (e : Entry) → may_undo ty points e ≡ true → names_undo ty e ≡ true
+undo_names ty points e h =
+    let k = and_parts (side_eq e.side Undo && (e.step.ty == ty)) (is_set points e.step.point) h in
+    let l = and_parts (side_eq e.side Undo) (e.step.ty == ty) k.0 in
+    both_true l.0 (either_right (e.held.ty == ty) (e.step.ty == ty) l.1)
+
+stand_names : (ty : ℕ) (points : List Bool) (e : Entry) → may_stand ty points e ≡ true → names_undo ty e ≡ true
+stand_names ty points e h =
+    let k = and_parts (side_eq e.side Undo && (e.held.ty == ty)) (is_set points e.held.point) h in
+    let l = and_parts (side_eq e.side Undo) (e.held.ty == ty) k.0 in
+    both_true l.0 (either_left (e.held.ty == ty) (e.step.ty == ty) l.1)
+
+number_itself : (n : ℕ) → (n == n) ≡ true
+number_itself n = grind (arith, nat_tests)
+
+-- the entry of a clash names both types
+clash_named : (d : Design) (a : At) (a_locals : List ℤ) (b : At) (b_locals : List ℤ) (n : ℕ) → Clashes d a a_locals b b_locals n
+    → IsTrue (list_any (names_undo a.ty) d.entries) × IsTrue (list_any (names_undo b.ty) d.entries)
+clash_named d a a_locals b b_locals n c =
+    let f = c.forbids in
+    let e = f.entry in
+    let side : side_eq e.side Undo ≡ true = ap (λ s. side_eq s Undo) f.side_is in
+    let step : (e.step.ty == a.ty) ≡ true = ap (λ (p : At). p.ty == a.ty) f.step_is ∙ number_itself a.ty in
+    let held : (e.held.ty == b.ty) ≡ true = ap (λ (p : At). p.ty == b.ty) f.held_is ∙ number_itself b.ty in (
+      some_names a.ty d.entries (n - 1) e f.is_entry (both_true side (either_right (e.held.ty == a.ty) (e.step.ty == a.ty) step)),
+      some_names b.ty d.entries (n - 1) e f.is_entry (both_true side (either_left (e.held.ty == b.ty) (e.step.ty == b.ty) held)),
+    )
+
+clash_names : (d : Design) (a : At) (a_locals : List ℤ) (b : At) (b_locals : List ℤ) (n : ℕ) → ClashesEither d a a_locals b b_locals n
+    → IsTrue (list_any (names_undo a.ty) d.entries) × IsTrue (list_any (names_undo b.ty) d.entries)
+clash_names d a a_locals b b_locals n (inl c) = clash_named d a a_locals b b_locals n c
+clash_names d a a_locals b b_locals n (inr c) = let k = clash_named d b b_locals a a_locals n c in (k.1, k.0)
 
 -- ---- a key in common, under the entry with number n
 
@@ -154,8 +208,8 @@ module _ (d : Design) (held : At) (held_locals : List ℤ) (points : List Bool) 
 
   -- ---- where a step leads
 
-  module _ (closed : IsClosure d held.ty held.point points) (to : At) (to_points : List Bool) (to_locals : List ℤ)
-      (to_closed : IsClosure d to.ty to.point to_points) (n : ℕ) where
+  module _ (closed : IsReached d held points) (to : At) (to_points : List Bool) (to_locals : List ℤ)
+      (to_closed : IsReached d to to_points) (n : ℕ) where
     abbrev pub coming_asks : ℕ → Entry → List Key
     coming_asks m e = one_if (may_undo to.ty to_points e) (coming_key m (step_values e to_locals))
 
@@ -164,7 +218,8 @@ module _ (d : Design) (held : At) (held_locals : List ℤ) (points : List Bool) 
 
     pub clash_shares : ClashesEither d to to_locals held held_locals n → Shares coming_asks d keys n ⊎ Shares undoing_asks d keys n
     clash_shares c =
-        let p = either_to d to to_points to_locals held points held_locals to_closed closed n c in
+        let names = clash_names d to to_locals held held_locals n c in
+        let p = either_to d to to_points to_locals held points held_locals (to_closed names.0) (closed names.1) n c in
         by p (entry_clashes to.ty to_points to_locals held.ty points held_locals p.entry) refl p.passes
       where
         by : (p : Passing d.entries (either_clashes to.ty to_points to_locals held.ty points held_locals) n) (b : Bool)
@@ -198,10 +253,6 @@ module _ (d : Design) (held : At) (held_locals : List ℤ) (points : List Bool) 
                   (has_undoing held held_locals points n p.entry q.undoes));
             })
 
-    right : (x y : Bool) → y ≡ true → (x || y) ≡ true
-    right true y e = refl
-    right false y e = e
-
     pub coming_clash : Shares coming_asks d keys n → ClashesEither d to to_locals held held_locals n
     coming_clash s =
         let a = in_one_if (may_undo to.ty to_points s.entry) (coming_key n (step_values s.entry to_locals)) s.shared s.asked_for in
@@ -216,7 +267,9 @@ module _ (d : Design) (held : At) (held_locals : List ℤ) (points : List Bool) 
             let passes : entry_clashes to.ty to_points to_locals held.ty points held_locals s.entry ≡ true =
             parts_clash to.ty to_points to_locals held.ty points held_locals s.entry
             (record { undoes = u; held = h; values = ap (λ (z : Key). z.values) (f ∙ sym e) }) in
-            either_from d to to_points to_locals held points held_locals to_closed closed n (record {
+            either_from d to to_points to_locals held points held_locals
+            (to_closed (some_names to.ty d.entries (n - 1) s.entry s.is_entry (undo_names to.ty to_points s.entry u)))
+            (closed (some_names held.ty d.entries (n - 1) s.entry s.is_entry (stand_names held.ty points s.entry h))) n (record {
               entry = s.entry;
               first = s.first;
               is_entry = s.is_entry;
@@ -237,10 +290,12 @@ module _ (d : Design) (held : At) (held_locals : List ℤ) (points : List Bool) 
             let passes : entry_clashes held.ty points held_locals to.ty to_points to_locals s.entry ≡ true =
             parts_clash held.ty points held_locals to.ty to_points to_locals s.entry
             (record { undoes = h; held = u; values = sym (ap (λ (z : Key). z.values) (f ∙ sym e)) }) in
-            either_from d to to_points to_locals held points held_locals to_closed closed n (record {
+            either_from d to to_points to_locals held points held_locals
+            (to_closed (some_names to.ty d.entries (n - 1) s.entry s.is_entry (stand_names to.ty to_points s.entry u)))
+            (closed (some_names held.ty d.entries (n - 1) s.entry s.is_entry (undo_names held.ty points s.entry h))) n (record {
               entry = s.entry;
               first = s.first;
               is_entry = s.is_entry;
-              passes = right (entry_clashes to.ty to_points to_locals held.ty points held_locals s.entry)
+              passes = either_right (entry_clashes to.ty to_points to_locals held.ty points held_locals s.entry)
                   (entry_clashes held.ty points held_locals to.ty to_points to_locals s.entry) passes;
             })

@@ -1,5 +1,6 @@
 -- What an index of transactions keeps, and which transactions it stands for.
-use Rattle.std.specs.Prelude.{◌≡◌, ◌≢◌, ◌⊎◌, ◌↔◌, ℕ, Bool, false, List, Option, None, Some, Contains, ⊤, ℤ, slice_get, remove, slice_set}
+use Rattle.std.specs.Prelude.{◌≡◌, ◌≢◌, ◌⊎◌, ◌↔◌, ℕ, Bool, false, List, Option, None, Some, Contains, ⊤, ℤ, slice_get, remove, slice_set, IsTrue}
+use Rattle.std.specs.List.{list_any}
 use Rattle.acc_base.specs.declared.designs.At.{At}
 use Rattle.acc_base.specs.declared.designs.Side.TheVariants.{Next}
 use Rattle.acc_base.specs.declared.designs.Design.{Design}
@@ -10,7 +11,7 @@ use Rattle.acc_table.specs.Closures.{is_set, IsClosure}
 use Rattle.acc_table.specs.Entries.{IsPointOf}
 use Rattle.acc_holders.specs.Keys.{Key}
 use Rattle.acc_holders.specs.Entries.{Entries, under, HaveRoom}
-use Rattle.acc_lock_index.specs.Roles.{keys_from}
+use Rattle.acc_lock_index.specs.Roles.{keys_from, names_undo}
 use Rattle.acc_lock_index.specs.Asks.{Asked}
 
 -- a transaction's number, and its keys
@@ -28,10 +29,14 @@ IsIn xs x = (i : ℕ) × (slice_get xs i ≡ Some x)
 
 -- ---- what it stands for
 
+-- the flags are those of the points that undo steps reach from this point, where any entry asks for them
+abbrev pub IsReached : Design → At → List Bool → Type 0
+IsReached d at points = IsTrue (list_any (names_undo at.ty) d.entries) → IsClosure d at.ty at.point points
+
 -- these are the keys of a transaction that stands at this point with these locals
 pub record AreKeysOf (d : Design) (at : At) (locals : List ℤ) (keys : List Key) : Type 0 where
   pub points : List Bool
-  pub closure : IsClosure d at.ty at.point points
+  pub closure : IsReached d at points
   pub keys_are : keys ≡ keys_from at locals points 1 d.entries
 
 -- it is kept for transaction t, which stands there
@@ -91,7 +96,7 @@ LeadsToPoint d (Some at) = IsPointOf d at.ty at.point
 -- the flags are those of the points that undo steps reach from where a step leads, none where it leads to an end
 abbrev pub AreReached : Design → Option At → List Bool → Type 0
 AreReached d None points = (q : ℕ) → is_set points q ≡ false
-AreReached d (Some at) points = IsClosure d at.ty at.point points
+AreReached d (Some at) points = IsReached d at points
 
 -- ---- changes of the list
 

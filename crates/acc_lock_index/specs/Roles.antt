@@ -1,5 +1,5 @@
 -- The keys of a transaction: what it does under which entries, with which values of their pairs.
-use Rattle.std.specs.Prelude.{ℕ, ◌+◌, Bool, ◌&&◌, ◌==◌, List, [], ◌∷◌, ◌++◌, map, if◌then◌else◌, ℤ}
+use Rattle.std.specs.Prelude.{ℕ, ◌+◌, Bool, ◌&&◌, ◌||◌, ◌==◌, List, [], ◌∷◌, ◌++◌, map, if◌then◌else◌, ℤ}
 use Rattle.acc_base.specs.declared.designs.At.{At}
 use Rattle.acc_base.specs.declared.designs.Side.TheVariants.{Next, Undo}
 use Rattle.acc_base.specs.declared.designs.Entry.{Entry}
@@ -39,6 +39,10 @@ may_stand ty points e = side_eq e.side Undo && (e.held.ty == ty) && is_set point
 
 abbrev pub may_undo : ℕ → List Bool → Entry → Bool
 may_undo ty points e = side_eq e.side Undo && (e.step.ty == ty) && is_set points e.step.point
+
+-- an entry of an undo step names the type, as held or as the step's
+abbrev pub names_undo : ℕ → Entry → Bool
+names_undo ty e = side_eq e.side Undo && ((e.held.ty == ty) || (e.step.ty == ty))
 
 -- a key, if the test says so
 abbrev pub one_if : Bool → Key → List Key

@@ -10,12 +10,11 @@ ghost use Rattle.acc_lock_index.specs.Indexed.{StandsFor, StandsAt, Bars, AreRea
 ghost use Rattle.acc_lock_index.specs.Indexed.{IsWith, IsWithout, IsPut};
 
 use crate::asks::Asked;
-use crate::roles::keys_of;
+use crate::roles::{keys_of, reached_from};
 use crate::standings::{Standing, add_one, place_of, put_one, take_one_out};
 use acc_base::bounds::MOST_POINTS;
 use acc_base::designs::{At, Design};
 use acc_holders::maps::{Holders, forget_all, make_room_for};
-use acc_table::undo_points;
 use indexmap::IndexMap;
 use std::alloc::{AllocError, Global};
 use std::marker::Model;
@@ -34,13 +33,13 @@ impl From<AllocError> for LockError {
 }
 
 /// The flags of the points that undo steps reach from where a step leads; none where it leads to an end.
-fn reached_from(d: &Design, to: Option<At>) -> [bool; MOST_POINTS]
+fn reached_to(d: &Design, to: Option<At>) -> [bool; MOST_POINTS]
     requires formed { IsWellFormed d.now }
     requires point { LeadsToPoint d.now to }
     ensures { AreReached d.now to result }
 {
     match to {
-        Some(at) => undo_points(d, at.ty, at.point),
+        Some(at) => reached_from(d, at),
         None => [false; MOST_POINTS],
     }
 }
@@ -112,7 +111,7 @@ impl LockIndex {
         ensures { (frames : List Shown) → StandsFor d.now frames self.now.standings
             → IfOk result (TellsFirst (Bars d.now frames t at locals.now to to_locals.now)) }
     {
-        let points = reached_from(d, to);
+        let points = reached_to(d, to);
         let asked = Asked::new(at, locals, type_of(to), &points, to_locals);
         Ok(asked.first(&self.holders, self.alloc, t, d.entries.as_slice())?)
     }

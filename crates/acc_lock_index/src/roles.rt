@@ -1,12 +1,13 @@
 //! The keys of a transaction.
 ghost use Rattle.std.specs.Prelude.{◌≡◌, ◌≤◌, ◌++◌, length, IfOk, OnOk};
+ghost use Rattle.std.specs.List.{list_any};
 ghost use Rattle.acc_base.specs.Linear.{var};
 ghost use Rattle.acc_formed.specs.WellFormed.{IsWellFormed};
 ghost use Rattle.acc_table.specs.Closures.{is_set};
 ghost use Rattle.acc_table.specs.Entries.{IsPointOf};
 ghost use Rattle.acc_lock_index.specs.Roles.{standing_key, coming_key, undoing_key, held_values, step_values, stands, may_stand};
-ghost use Rattle.acc_lock_index.specs.Roles.{may_undo, one_if, keys_at, keys_from};
-ghost use Rattle.acc_lock_index.specs.Indexed.{AreKeysOf};
+ghost use Rattle.acc_lock_index.specs.Roles.{may_undo, names_undo, one_if, keys_at, keys_from};
+ghost use Rattle.acc_lock_index.specs.Indexed.{AreKeysOf, IsReached};
 
 use acc_base::bounds::{MOST_ENTRIES, MOST_POINTS};
 use acc_base::designs::{At, Design, Entry, Side};
@@ -162,12 +163,39 @@ fn keys_under(
     Ok(keys)
 }
 
+/// Whether an entry of an undo step names a type, as held or as the step's.
+fn names_undo(ty: u32, entry: &Entry) -> bool
+    ensures { result ≡ names_undo ty entry.now }
+{
+    entry.side == Side::Undo && (entry.held.ty == ty || entry.step.ty == ty)
+}
+
+/// Whether one of the entries does.
+fn some_names(entries: &[Entry], ty: u32) -> bool
+    ensures { result ≡ list_any (names_undo ty) entries.now }
+{
+    entries.iter().any(|entry| names_undo(ty, entry))
+}
+
+/// The flags of the points that undo steps reach from a point. Where no entry of an undo step names its type nothing asks for them, and
+/// none is set.
+pub fn reached_from(d: &Design, at: At) -> [bool; MOST_POINTS]
+    requires formed { IsWellFormed d.now }
+    requires point { IsPointOf d.now at.ty at.point }
+    ensures { IsReached d.now at result }
+{
+    if !some_names(d.entries.as_slice(), at.ty) {
+        return [false; MOST_POINTS];
+    }
+    undo_points(d, at.ty, at.point)
+}
+
 /// The keys of a transaction that stands at a point with these locals.
 pub fn keys_of(alloc: Global, d: &Design, at: At, locals: &[i64]) -> Result<Vec<Key>, AllocError>
     requires formed { IsWellFormed d.now }
     requires point { IsPointOf d.now at.ty at.point }
     ensures { IfOk result (λ keys. AreKeysOf d.now at locals.now keys.items) }
 {
-    let points = undo_points(d, at.ty, at.point);
+    let points = reached_from(d, at);
     keys_under(alloc, at, locals, &points, d.entries.as_slice())
 }

@@ -1,5 +1,5 @@
 -- Who blocks a transaction, by its number.
-use Rattle.std.proofs.Common.{◌≡◌, ℕ, ◌<◌, ◌≤◌, arith, List, length, sym, ap, subst, refl, ◌∙◌, Option, Some, None}
+use Rattle.std.proofs.Common.{◌≡◌, ℕ, List, sym, ap, subst, refl, ◌∙◌, Option, Some, None}
 use Rattle.std.specs.Prelude.{◌≢◌, slice_get}
 use Rattle.std.proofs.lemmas.Option.{same_Some}
 use Rattle.acc_base.specs.declared.designs.Design.{Design}
@@ -8,10 +8,11 @@ use Rattle.acc_base.specs.declared.machines.Transaction.TheVariants.{Forward}
 use Rattle.acc_base.specs.Machine.{World, transaction_at, frame_in, unfinished}
 use Rattle.acc_base.specs.Locks.{frame_at}
 use Rattle.acc_base.specs.Invariant.{IsSteady}
-use Rattle.acc_lift.proofs.Transactions.{got_within, frame_from}
+use Rattle.acc_lift.proofs.Transactions.{frame_from}
+use Rattle.acc_lock_index.specs.Indexed.{IsIn}
 use Rattle.acc_machine.specs.Holders.{IsForward, IsListed, TellsHolder}
 use Rattle.acc_machine.specs.Turns.{TellsHeldAt}
-use Rattle.acc_machine.proofs.Places.{At, number_listed}
+use Rattle.acc_machine.proofs.Places.{number_listed}
 
 module _ (d : Design) (w : World) (steady : IsSteady d w) where
   -- by the frame of that number
@@ -42,9 +43,11 @@ module _ (d : Design) (w : World) (steady : IsSteady d w) where
           subst (λ k. transaction_at k w.transactions ≡ Some (Forward f)) (sym n) (e ∙ ap (λ z. Some (Forward z)) same)
 
   -- no frame has the number
-  pub held_nowhere : (t : ℕ) (fs : List Frame) (i : ℕ) → fs ≡ unfinished w
-      → ((j : ℕ) (g : Frame) → j < i → slice_get fs j ≡ Some g → g.t ≢ t) → length fs ≤ i → TellsHeldAt d w t None
-  held_nowhere t fs i q none l =
-      λ g e s. let a = number_listed d w steady t g (frame_from t w g (Forward g) e refl) in let at : slice_get fs a.j ≡ Some g =
-      ap (λ xs. slice_get xs a.j) q ∙ a.is in let k =
-      got_within fs a.j g at in absurd (none a.j g (omega arith) at (steady.each t (Forward g) e).number)
+  pub held_nowhere : (t : ℕ) (fs : List Frame) → fs ≡ unfinished w → ((g : Frame) → IsIn fs g → g.t ≢ t) → TellsHeldAt d w t None
+  held_nowhere t fs q none =
+      λ g e s. let a = number_listed d w steady t g (frame_from t w g (Forward g) e refl) in
+      absurd (none g (a.j, ap (λ xs. slice_get xs a.j) q ∙ a.is) (steady.each t (Forward g) e).number)
+
+-- a frame of the list
+pub listed_in : (w : World) (fs : List Frame) (f : Frame) → fs ≡ unfinished w → IsIn fs f → IsListed w f
+listed_in w fs f q is = (is.0, ap (λ xs. slice_get xs is.0) (sym q) ∙ is.1)

@@ -12,3 +12,8 @@ pub mod ForwardTurns
 pub mod Going
 pub mod Taking
 pub mod Replaying
+pub mod Following
+pub mod Unchanged
+pub mod Barrings
+pub mod Behind
+pub mod Asking

@@ -1,5 +1,5 @@
 -- Whether a forward step would take place but for the locks, and who blocks it then.
-use Rattle.std.specs.Prelude.{◌≡◌, ℕ, Bool, true, false, not, ◌&&◌, nat_lt, List, [], Option, None, Some, MatchOption, slice_get, ℤ}
+use Rattle.std.specs.Prelude.{◌≡◌, ◌≢◌, ℕ, Bool, true, false, not, ◌&&◌, nat_lt, List, [], length, take, Option, None, Some, MatchOption, slice_get, ℤ}
 use Rattle.acc_base.specs.declared.tables.Row.{Row}
 use Rattle.acc_base.specs.declared.designs.Design.{Design}
 use Rattle.acc_base.specs.declared.designs.Side.TheVariants.{Next}
@@ -25,6 +25,15 @@ abbrev pub locals_of : Effect → List ℤ
 locals_of (Goes db s i to) = s.locals
 locals_of (Refuses s n) = s.locals
 locals_of OutOfRange = []
+
+-- nothing stops f's step, this is what it looks like, and the first places have the locals after its reads
+pub record IsAhead (d : Design) (db : List Row) (f : Frame) (places : List ℤ) (outlook : Outlook) : Type 0 where
+  pub free : stop_of d db f ≡ None
+  pub looks : outlook ≡ outlook_of (effect_of d db f Next)
+  pub locals : take (length f.locals) places ≡ locals_of (effect_of d db f Next)
+
+abbrev pub TellsAhead : Design → List Row → Frame → List ℤ → Option Outlook → Type 0
+TellsAhead d db f places result = MatchOption result (stop_of d db f ≢ None) (IsAhead d db f places)
 
 -- all of the frames let f's step pass
 abbrev pub PassesAll : Design → List Row → List Frame → Frame → Type 0

@@ -1,5 +1,4 @@
 -- What the type of a state keeps: its design is accepted, and the state is good.
-use Rattle.std.specs.Prelude.{◌≡◌}
 use Rattle.acc_base.specs.declared.designs.Design.{Design}
 use Rattle.acc_base.specs.Machine.{World}
 use Rattle.acc_base.specs.Invariant.{IsGood}
@@ -8,8 +7,3 @@ use Rattle.acc_lift.specs.Acceptance.{IsAccepted}
 pub record IsKept (d : Design) (w : World) : Type 0 where
   pub accepted : IsAccepted d
   pub good : IsGood d w
-
--- the state of a machine over an accepted design
-pub record IsStateOf (accepted d : Design) (w : World) : Type 0 where
-  pub same : accepted ≡ d
-  pub kept : IsKept d w

@@ -1,11 +1,14 @@
 pub use Rattle.acc_plain.specs.Running
 pub use Rattle.acc_plain.specs.Turned
 pub mod Kept
+pub mod IndexedStates
 pub mod Begun
 pub mod Blocked
 pub mod Lowest
 pub mod HeldUp
 pub mod Holders
+pub mod Agreeing
+pub mod Barred
 pub mod Turns
 pub mod Takes
 pub mod Replays

@@ -2,8 +2,10 @@
 #![tactic(auto)]
 
 mod blocked;
+mod calls;
 mod errors;
 mod held_up;
+mod kept_index;
 mod replays;
 mod states;
 

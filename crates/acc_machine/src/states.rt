@@ -13,13 +13,16 @@ ghost use Rattle.acc_machine.specs.Holders.{IsForward, IsListed, IsHeldBack, Tel
 ghost use Rattle.acc_machine.specs.Takes.{CanCome, GivesLeave, Takes};
 ghost use Rattle.acc_machine.specs.Turns.{IsGoing, IsTurn, IsHeldAt, TellsHeldAt, AddsBy};
 
+use crate::calls;
 use crate::errors::{BeginError, StateError, TakeError, TurnError};
-use crate::held_up::held_up;
+use crate::held_up::{barred, held_up};
+use crate::kept_index::{KeptIndex, frame_of};
 use acc_base::bounds::{MOST_EVENTS, MOST_UNFINISHED};
 use acc_base::designs::Side;
 use acc_base::machines::{Call, Cause, Event, Frame, Reply, Turn};
 use acc_base::sequences::Seq;
 use acc_lift::Accepted;
+use acc_lock_index::LockError;
 use acc_plain::{Machine, PlainError};
 use acc_store::Store;
 use std::alloc::Global;
@@ -29,23 +32,26 @@ use std::marker::Model;
 /// that the events are lawful and lead to these rows, frames and replies, that each assertion is true where its frame stands, and
 /// that all unfinished transactions are compatible.
 ///
-/// A turn costs what its step's look-ups and writes cost, and for each unfinished transaction two walks over the design's entries;
-/// it doesn't depend on the length of the history.
+/// A turn costs what its step's look-ups and writes cost, and who blocks it: two walks over the design's entries for each unfinished
+/// transaction where these are few, and where entries times unfinished are 1,024 or more one walk over the entries, by an index. The
+/// index is kept behind each event, and takes memory; where there is none for it, it is let go, and no call answers otherwise for that.
+/// Nothing depends on the length of the history.
 #[derive(Drop)]
 pub struct State<'a, S: Store> {
     accepted: &'a Accepted,
     machine: Machine<'a, S>,
+    kept: KeptIndex,
 }
 
 impl<'a, S: Store> Model for State<'a, S> {
     ghost use Rattle.acc_plain.specs.Running.{Running};
-    ghost use Rattle.acc_machine.specs.Kept.{IsStateOf};
+    ghost use Rattle.acc_machine.specs.IndexedStates.{IsStateOf};
 
     ghost Value = { Running };
 
     ghost view = { λ s. s.machine };
 
-    ghost invariant = { λ s. IsStateOf s.accepted.now s.machine.design s.machine.world };
+    ghost invariant = { λ s. IsStateOf s.accepted.now s.machine.design s.machine.world s.kept.index };
 }
 
 impl<'a, S: Store> State<'a, S> {
@@ -57,9 +63,14 @@ impl<'a, S: Store> State<'a, S> {
         ensures start { IfOk result (λ s. s.world ≡ start) }
         ensures store { IfErr result (λ e. S.rows e.1 ≡ []) }
     {
+        let kept = KeptIndex::new(alloc);
         let mut machine = Machine::new(alloc, accepted.design(), store);
         match machine.reserve(MOST_UNFINISHED) {
-            Ok(()) => Ok(State { accepted, machine }),
+            Ok(()) => Ok(State {
+                accepted,
+                machine,
+                kept,
+            }),
             Err(PlainError::Memory) => Err((StateError::Memory, machine.into_parts().0)),
         }
     }
@@ -115,6 +126,7 @@ impl<'a, S: Store> State<'a, S> {
         let State {
             accepted: _,
             machine,
+            kept: _,
         } = self;
         machine.into_parts()
     }
@@ -140,7 +152,8 @@ impl<'a, S: Store> State<'a, S> {
         ensures design { self.new.design ≡ self.old.design }
     {
         self.room()?;
-        match self.machine.begin(call) {
+        let d = self.accepted.design();
+        match calls::begin(&mut self.machine, &mut self.kept, d, call) {
             Ok(t) => Ok(t),
             Err(PlainError::Memory) => Err(BeginError::Memory),
         }
@@ -161,6 +174,20 @@ impl<'a, S: Store> State<'a, S> {
         )
     }
 
+    /// Who blocks it, by the index where one is kept and there is memory to ask it.
+    fn first_holder(&self, f: &Frame) -> Option<(u64, u32)>
+        requires forward { IsForward self.now.world f.now }
+        ensures { TellsHolder self.now.design self.now.world f.now result }
+    {
+        let Some(index) = &self.kept.index else {
+            return self.holder(f);
+        };
+        match barred(self.accepted.design(), index, f, self.machine.store()) {
+            Ok(found) => found,
+            Err(LockError::Memory) => self.holder(f),
+        }
+    }
+
     /// Who blocks a frame's step, if it is forward and nothing stops it.
     fn held_frame(&self, f: &Frame) -> Option<(u64, u32)>
         requires listed { IsListed self.now.world f.now }
@@ -168,7 +195,7 @@ impl<'a, S: Store> State<'a, S> {
     {
         let _accepted = self.accepted;
         match f.side {
-            Side::Next => self.holder(f),
+            Side::Next => self.first_holder(f),
             Side::Undo => None,
         }
     }
@@ -177,14 +204,10 @@ impl<'a, S: Store> State<'a, S> {
     fn held_at(&self, t: u64) -> Option<(u64, u32)>
         ensures { TellsHeldAt self.now.design self.now.world t result }
     {
-        let frames = self.machine.unfinished();
-        for i in 0..frames.len() {
-            let f = &frames[i];
-            if f.t == t {
-                return self.held_frame(f);
-            }
+        match frame_of(self.machine.unfinished(), t) {
+            Some(f) => self.held_frame(f),
+            None => None,
         }
-        None
     }
 
     /// Whether a transaction is forward, nothing stops its step, and some transaction blocks it.
@@ -253,7 +276,8 @@ impl<'a, S: Store> State<'a, S> {
         ensures err { OnErr result (self.new.world ≡ self.old.world) }
         ensures design { self.new.design ≡ self.old.design }
     {
-        match self.machine.turn(t) {
+        let d = self.accepted.design();
+        match calls::turn(&mut self.machine, &mut self.kept, d, t) {
             Ok(Some(turn)) => Ok(turn),
             Ok(None) => unreachable!(),
             Err(PlainError::Memory) => Err(TurnError::Memory),
@@ -284,7 +308,13 @@ impl<'a, S: Store> State<'a, S> {
         ensures err { OnErr result (self.new.world ≡ self.old.world) }
         ensures design { self.new.design ≡ self.old.design }
     {
-        match self.machine.take(&Event::Abort(t, cause)) {
+        let d = self.accepted.design();
+        match calls::take(
+            &mut self.machine,
+            &mut self.kept,
+            d,
+            &Event::Abort(t, cause),
+        ) {
             Ok(_) => Ok(()),
             Err(PlainError::Memory) => Err(TurnError::Memory),
         }
@@ -333,7 +363,8 @@ impl<'a, S: Store> State<'a, S> {
         if !self.has_leave(event) {
             return Err(TakeError::Unlawful);
         }
-        match self.machine.take(event) {
+        let d = self.accepted.design();
+        match calls::take(&mut self.machine, &mut self.kept, d, event) {
             Ok(true) => Ok(()),
             Ok(false) => Err(TakeError::Unlawful),
             Err(PlainError::Memory) => Err(TakeError::Memory),

@@ -13,7 +13,7 @@ use crate::journal::{is_let_alone, journal_disk, take_journal, trouble_line, unl
 use crate::streams::{hold_streams, write_error};
 use crate::terminal::TerminalProgress;
 use crate::work::TerminalGate;
-use acc_cli::{acc, help_text};
+use acc_cli::{IndexStore, acc, help_text};
 use acc_diagnose::statuses::{DISK, FILE, JOURNAL, MEMORY, SINK};
 use acc_diagnose::{Keeping, cut_line, explain, room_line, system_reason};
 use acc_disk::{Disk, FileDisk, MemDisk};
@@ -21,7 +21,6 @@ use acc_inputs::{Command, command_of, file_names};
 use acc_io::{FolderShelf, StdSink};
 use acc_lift::Accepted;
 use acc_search_threads::{InTurn, Searchers, Searching, at_once, search_in_threads};
-use acc_store::MapStore;
 use acc_threads::{Alone, Called, Crew, Engine, work_in_threads};
 use std::alloc::AllocError;
 use std::io::ErrorKind;
@@ -82,7 +81,7 @@ fn tell_if_any(rt: &HostRuntime, line: Result<Option<String>, AllocError>) {
 }
 
 /// Answers a command line over a disk by a crew and by searchers; what was printed is kept, and the disk handed back.
-fn answer<'a, 'd, D: Disk, C: Crew<Engine<'d, MapStore, D>>, S: Searchers>(
+fn answer<'a, 'd, D: Disk, C: Crew<Engine<'d, IndexStore, D>>, S: Searchers>(
     rt: &'a HostRuntime,
     words: &[String],
     disk: D,
@@ -124,7 +123,7 @@ fn answer_in_threads<'a, 'd, R: Threads + Wait + Sync>(
     disk: FileDisk<'a, HostRuntime>,
     slot: &'d mut Option<Accepted>,
 ) -> Answered<'a, FileDisk<'a, HostRuntime>> {
-    let crew = Called::new::<Engine<'d, MapStore, FileDisk<'a, HostRuntime>>>(
+    let crew = Called::new::<Engine<'d, IndexStore, FileDisk<'a, HostRuntime>>>(
         |alloc, engine, workers|
             requires { IsUnworked engine }
         {
@@ -144,7 +143,8 @@ fn is_by_crew(words: &[String]) -> bool {
         Some(Command::Init | Command::Sched) => false,
         Some(Command::Recover | Command::Dump | Command::Replies | Command::Verify) => false,
         Some(Command::Play | Command::Rehearse | Command::Print | Command::Check) => false,
-        Some(Command::Prove | Command::TpccDesign) => false,
+        Some(Command::Prove) => false,
+        Some(Command::TpccDesign | Command::TpccLoad(_) | Command::TpccMix(_)) => false,
         Some(Command::Help | Command::Version) | None => false,
     }
 }

@@ -10,7 +10,7 @@ use acc_base::designs::Design;
 use acc_base::machines::{Call, Event};
 use acc_base::sequences::Seq;
 use acc_plain::Machine;
-use acc_player::{Board, Stop, mention_all, push_replies};
+use acc_player::{Board, Detail, Stop, mention_all, push_replies};
 use acc_script::push_events;
 use acc_store::MapStore;
 use std::alloc::{AllocError, Global};
@@ -41,7 +41,7 @@ pub fn play(
         calls,
     };
     let mut board = Board::open(alloc, calls.len(), 0)?;
-    match mention_all(&mut player, &mut board, d, order) {
+    match mention_all(&mut player, &mut board, d, Detail::Lines, order) {
         Ok(()) => (),
         Err(Stop::Memory) => return Err(AllocError),
         // such a player has no disk

@@ -4,10 +4,8 @@ use Rattle.std.proofs.Common.{sym, ap, subst, ◌∙◌, append_assoc, zero, suc
 use Rattle.std.specs.List.{flat_map, range_with_len}
 use Rattle.std.proofs.lemmas.Grind.{flat_map-append}
 use Rattle.std.proofs.lemmas.List.{append-nil}
-use Rattle.acc_base.specs.declared.designs.Design.{Design}
 use Rattle.acc_base.specs.declared.machines.Call.{Call}
 use Rattle.acc_base.specs.Plays.{Rules, Play, Told, number_of, Mentions, PlaysOn, play_after}
-use Rattle.acc_base.specs.Lines.{mention_line}
 use Rattle.acc_base.specs.Machine.{World}
 use Rattle.acc_player.specs.Endings.{EndsAll, EndsPlaces}
 use Rattle.acc_player.specs.Schedules.{in_state, IsPlayed, IsRun}
@@ -15,16 +13,18 @@ use Rattle.acc_player.specs.Schedules.{in_state, IsPlayed, IsRun}
 -- ---- the order, place by place
 
 -- what is done so far, and then a play of the places that are left, is a play of the whole
-pub record IsPlayedSoFar (m : Rules) (d : Design) (calls : List Call) (first : Play) (order left text : List ℕ) (p : Play) : Type 0 where
+pub record IsPlayedSoFar (m : Rules) (text_of : Told × Play → List ℕ) (calls : List Call) (first : Play) (order left text : List ℕ)
+    (p : Play)
+    : Type 0 where
   pub mentions : List (Told × Play)
-  pub text_is : text ≡ flat_map (mention_line d) mentions
+  pub text_is : text ≡ flat_map text_of mentions
   pub now : play_after first mentions ≡ p
   pub whole : (later : List (Told × Play)) → PlaysOn m calls p left later → PlaysOn m calls first order (mentions ++ later)
 
 -- nothing is done, where the play opens
-pub opens_play : (m : Rules) (d : Design) (calls : List Call) (first : Play) (order text : List ℕ) (p : Play) → text ≡ [] → p ≡ first
-    → IsPlayedSoFar m d calls first order order text p
-opens_play m d calls first order text p empty opens = record {
+pub opens_play : (m : Rules) (text_of : Told × Play → List ℕ) (calls : List Call) (first : Play) (order text : List ℕ) (p : Play)
+    → text ≡ [] → p ≡ first → IsPlayedSoFar m text_of calls first order order text p
+opens_play m text_of calls first order text p empty opens = record {
   mentions = [];
   text_is = empty;
   now = sym opens;
@@ -35,15 +35,16 @@ after_last : (p : Play) (xs : List (Told × Play)) (x : Told × Play) → play_a
 after_last p [] x = refl
 after_last p (y ∷ ys) x = after_last y.1 ys x
 
-pub played_more : (m : Rules) (d : Design) (calls : List Call) (first : Play) (order left old new : List ℕ) (place : ℕ) (p : Play)
-    (x : Told × Play) → IsPlayedSoFar m d calls first order (place ∷ left) old p → Mentions m calls place p (number_of p place) x
-    → new ≡ old ++ mention_line d x → IsPlayedSoFar m d calls first order left new x.1
-played_more m d calls first order left old new place p x so_far mention text =
+pub played_more : (m : Rules) (text_of : Told × Play → List ℕ) (calls : List Call) (first : Play) (order left old new : List ℕ)
+    (place : ℕ) (p : Play) (x : Told × Play)
+    → IsPlayedSoFar m text_of calls first order (place ∷ left) old p → Mentions m calls place p (number_of p place) x
+    → new ≡ old ++ text_of x → IsPlayedSoFar m text_of calls first order left new x.1
+played_more m text_of calls first order left old new place p x so_far mention text =
     record {
       mentions = so_far.mentions ++ x ∷ [];
-      text_is = text ∙ ap (λ (z : List ℕ). z ++ mention_line d x) so_far.text_is ∙ sym
-          (flat_map-append (mention_line d) so_far.mentions (x ∷ []) ∙ ap (λ (z : List ℕ). flat_map (mention_line d) so_far.mentions ++ z)
-          (append-nil (mention_line d x)));
+      text_is = text ∙ ap (λ (z : List ℕ). z ++ text_of x) so_far.text_is ∙ sym
+          (flat_map-append text_of so_far.mentions (x ∷ []) ∙ ap (λ (z : List ℕ). flat_map text_of so_far.mentions ++ z)
+          (append-nil (text_of x)));
       now = after_last first so_far.mentions x;
       whole = λ later h. subst (PlaysOn m calls first order) (sym (append_assoc so_far.mentions (x ∷ []) later))
           (so_far.whole (x ∷ later) (mention, h));
@@ -58,9 +59,9 @@ range_more a (suc n) =
     ap (λ (zs : List ℕ). a ∷ zs) (range_more (a + 1) n ∙ ap (λ (z : ℕ). range_with_len (a + 1) n ++ z ∷ []) e)
 
 -- the mentions of a whole order
-pub played : (m : Rules) (d : Design) (calls : List Call) (first : Play) (order text : List ℕ) (p : Play)
-    → IsPlayedSoFar m d calls first order [] text p → IsPlayed m d calls first order text p
-played m d calls first order text p so_far = record {
+pub played : (m : Rules) (text_of : Told × Play → List ℕ) (calls : List Call) (first : Play) (order text : List ℕ) (p : Play)
+    → IsPlayedSoFar m text_of calls first order [] text p → IsPlayed m text_of calls first order text p
+played m text_of calls first order text p so_far = record {
   mentions = so_far.mentions;
   is_played = subst (PlaysOn m calls first order) (append-nil so_far.mentions) (so_far.whole [] tt);
   text_is = so_far.text_is;
@@ -68,10 +69,11 @@ played m d calls first order text p so_far = record {
 }
 
 -- a schedule's parts, put together: the play after the mentions, the state after the passes, and the play after the places
-pub runs_so : (m : Rules) (d : Design) (calls : List Call) (first : Play) (order told text : List ℕ) (p : Play) (rest : World) (r : Play)
-    → IsPlayed m d calls first order told p → EndsAll m p.world rest
-    → EndsPlaces m calls (in_state p rest) (range_with_len 1 (length calls)) r → text ≡ told → IsRun m d calls first order text r
-runs_so m d calls first order told text p rest r played ends places same = record {
+pub runs_so : (m : Rules) (text_of : Told × Play → List ℕ) (calls : List Call) (first : Play) (order told text : List ℕ) (p : Play)
+    (rest : World) (r : Play)
+    → IsPlayed m text_of calls first order told p → EndsAll m p.world rest
+    → EndsPlaces m calls (in_state p rest) (range_with_len 1 (length calls)) r → text ≡ told → IsRun m text_of calls first order text r
+runs_so m text_of calls first order told text p rest r played ends places same = record {
   mentions = played.mentions;
   schedules = record {
     is_played = played.is_played;

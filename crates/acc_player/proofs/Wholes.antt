@@ -2,7 +2,6 @@
 use Rattle.std.proofs.Common.{◌≡◌, inl, inr, ℕ, List, [], ◌∷◌, length, Option, Some, None, refl, sym, ap, subst, ◌∙◌}
 use Rattle.std.specs.List.{range_with_len}
 use Rattle.std.proofs.lemmas.List.{append-nil}
-use Rattle.acc_base.specs.declared.designs.Design.{Design}
 use Rattle.acc_base.specs.declared.machines.Call.{Call}
 use Rattle.acc_base.specs.declared.machines.Event.{Event}
 use Rattle.acc_base.specs.declared.machines.Turn.{Turn}
@@ -180,7 +179,8 @@ module _ (m : Rules) (orderly : AreOrderly m) where
           front_order first
           (λ later h. subst (PlayPrecedes first) (sym h.ends) (order_precedes calls first order h.mentions h.plays))
 
-      module _ (d : Design) (text : List ℕ) (p : Play) (played : IsPlayed m d calls first order text p) where
+      module _ (text_of : Told × Play → List ℕ) (text : List ℕ) (p : Play)
+          (played : IsPlayed m text_of calls first order text p) where
         -- what follows the mentions that were played
         ends_played : (done : Play) → IsAfterSchedule m calls order first done
             → (rest : World) × EndsAll m p.world rest

@@ -6,14 +6,15 @@ ghost use Rattle.acc_script.specs.OrderLines.{IsPlace};
 ghost use Rattle.acc_player.specs.declared.stops.Stop.TheVariants.{Memory};
 ghost use Rattle.acc_player.specs.Boards.{play_of, IsBoardOf, KeepsBegun, HasBegun, GoesOn, IsMentioned};
 ghost use Rattle.acc_player.specs.Boards.{IsAfterBegin, IsAfterGoing, IsAfterMention};
+ghost use Rattle.acc_player.specs.Details.{mention_text};
 ghost use Rattle.acc_player.specs.Players.{CanStart};
 ghost use Rattle.acc_player.specs.Ways.{PlayPrecedesEach};
 
 use crate::boards::Board;
+use crate::details::Detail;
 use crate::players::Player;
 use crate::stops::Stop;
 use acc_base::designs::Design;
-use acc_script::{push_full, push_over, push_stuck, push_turn};
 
 /// The number of a place's transaction; a place that hasn't begun begins, unless the machine is full. Want of memory is told only where
 /// it could begin.
@@ -51,11 +52,12 @@ pub fn number<P: Player>(player: &mut P, board: &mut Board, place: u64) -> Resul
     }
 }
 
-/// Gives an unfinished transaction its turn, and writes the line of it.
+/// Gives an unfinished transaction its turn, and tells of it.
 fn take_open_turn<P: Player>(
     player: &mut P,
     board: &mut Board,
     d: &Design,
+    detail: Detail,
     place: u64,
     t: u64,
 ) -> Result<(), Stop>
@@ -63,7 +65,8 @@ fn take_open_turn<P: Player>(
     requires design { P.design player.old ≡ d.now }
     requires board { IsBoardOf (P.calls player.old) (P.can_begin player.old) board.old }
     requires unfinished { IsUnfinished t (P.world player.old) }
-    ensures turn { OnOk result (GoesOn (P.rules d.now) d.now place t (P.world player.old) (P.world player.new) board.old board.new) }
+    ensures turn { OnOk result (GoesOn (P.rules d.now) (mention_text detail d.now) place t (P.world player.old) (P.world player.new)
+        board.old board.new) }
     ensures board { IsBoardOf (P.calls player.new) (P.can_begin player.new) board.new }
     ensures design { P.design player.new ≡ P.design player.old }
     ensures calls { P.calls player.new ≡ P.calls player.old }
@@ -73,24 +76,28 @@ fn take_open_turn<P: Player>(
         (IsAfterGoing (P.rules d.now) place t (play_of (P.world player.old) board.old))) }
 {
     match player.turn(t)? {
-        Some(turn) => push_turn(&mut board.text, d, board.places.as_slice(), place, turn)?,
-        None => push_stuck(&mut board.text, place)?,
+        Some(turn) => {
+            detail.tell_turn(&mut board.text, d, board.places.as_slice(), place, turn)?
+        }
+        None => detail.tell_stuck(&mut board.text, place)?,
     }
     Ok(())
 }
 
-/// Gives a transaction its turn, if it hasn't ended, and writes the line of it.
+/// Gives a transaction its turn, if it hasn't ended, and tells of it.
 fn take_turn<P: Player>(
     player: &mut P,
     board: &mut Board,
     d: &Design,
+    detail: Detail,
     place: u64,
     t: u64,
 ) -> Result<(), Stop>
     requires ready { P.ready player.old }
     requires design { P.design player.old ≡ d.now }
     requires board { IsBoardOf (P.calls player.old) (P.can_begin player.old) board.old }
-    ensures turn { OnOk result (GoesOn (P.rules d.now) d.now place t (P.world player.old) (P.world player.new) board.old board.new) }
+    ensures turn { OnOk result (GoesOn (P.rules d.now) (mention_text detail d.now) place t (P.world player.old) (P.world player.new)
+        board.old board.new) }
     ensures board { IsBoardOf (P.calls player.new) (P.can_begin player.new) board.new }
     ensures design { P.design player.new ≡ P.design player.old }
     ensures calls { P.calls player.new ≡ P.calls player.old }
@@ -100,11 +107,11 @@ fn take_turn<P: Player>(
         (IsAfterGoing (P.rules d.now) place t (play_of (P.world player.old) board.old))) }
 {
     if player.is_unfinished(t) {
-        return take_open_turn(player, board, d, place, t);
+        return take_open_turn(player, board, d, detail, place, t);
     }
     match player.reply(t) {
-        Some(_) => push_over(&mut board.text, place)?,
-        None => push_stuck(&mut board.text, place)?,
+        Some(_) => detail.tell_over(&mut board.text, place)?,
+        None => detail.tell_stuck(&mut board.text, place)?,
     }
     Ok(())
 }
@@ -114,14 +121,15 @@ pub fn mention<P: Player>(
     player: &mut P,
     board: &mut Board,
     d: &Design,
+    detail: Detail,
     place: u64,
 ) -> Result<(), Stop>
     requires ready { P.ready player.old }
     requires design { P.design player.old ≡ d.now }
     requires board { IsBoardOf (P.calls player.old) (P.can_begin player.old) board.old }
     requires place { IsPlace (length (P.calls player.old)) place }
-    ensures mention { OnOk result (IsMentioned (P.rules d.now) d.now (P.calls player.old) place (P.world player.old)
-        (P.world player.new) board.old board.new) }
+    ensures mention { OnOk result (IsMentioned (P.rules d.now) (mention_text detail d.now) (P.calls player.old) place
+        (P.world player.old) (P.world player.new) board.old board.new) }
     ensures board { IsBoardOf (P.calls player.new) (P.can_begin player.new) board.new }
     ensures design { P.design player.new ≡ P.design player.old }
     ensures calls { P.calls player.new ≡ P.calls player.old }
@@ -131,7 +139,7 @@ pub fn mention<P: Player>(
         (IsAfterMention (P.rules d.now) (P.calls player.old) place (play_of (P.world player.old) board.old))) }
 {
     match number(player, board, place)? {
-        Some(t) => take_turn(player, board, d, place, t),
-        None => Ok(push_full(&mut board.text, place)?),
+        Some(t) => take_turn(player, board, d, detail, place, t),
+        None => Ok(detail.tell_full(&mut board.text, place)?),
     }
 }

@@ -16,13 +16,12 @@ use acc_base::sequences::Seq;
 use acc_crew::Crew;
 use acc_disk::Disk;
 use acc_engine::Engine;
-use acc_journalled::{Ended, not_recovered, unrun};
+use acc_journalled::{Ended, IndexStore, empty_rows, not_recovered, unrun};
 use acc_lift::Accepted;
 use acc_progress::Progress;
 use acc_recover::{Recovered, recover};
 use acc_settling::{Settling, over_journal, transactions};
-use acc_store::MapStore;
-use std::alloc::Global;
+use std::alloc::{AllocError, Global};
 
 /// Recovers the journal of an accepted design, and schedules a script's calls in the order, from the recovered state on: each number of
 /// the order names a call by its place from 1, which begins at its first mention and takes a turn at each. Then what is unfinished is
@@ -58,7 +57,10 @@ pub fn schedule_journal<D: Disk, P: Progress>(
         → IsCalm (D.told result.disk) (D.may_leave result.disk)) }
     ensures faults { D.faults disk ≤ D.faults result.disk }
 {
-    match recover(alloc, d, MapStore::new(alloc), disk, progress) {
+    let Some(rows) = empty_rows(alloc, d) else {
+        return unrun(alloc, disk, Err(AllocError));
+    };
+    match recover(alloc, d, rows, disk, progress) {
         Ok(recovered) => {
             let Recovered {
                 state,
@@ -86,7 +88,7 @@ pub fn schedule_journal<D: Disk, P: Progress>(
 ///
 /// From a calm disk a crash leaves what one in `schedule_journal` does: a journal of some first of the events that are handed back, and
 /// after the call of all that are told as durable. The disk is calm again, unless one of its calls failed.
-pub fn work_journal<'a, D: Disk, C: Crew<Engine<'a, MapStore, D>>, P: Progress>(
+pub fn work_journal<'a, D: Disk, C: Crew<Engine<'a, IndexStore, D>>, P: Progress>(
     alloc: Global,
     d: &'a Accepted,
     calls: Seq<Call>,
@@ -105,7 +107,10 @@ pub fn work_journal<'a, D: Disk, C: Crew<Engine<'a, MapStore, D>>, P: Progress>(
         → IsCalm (D.told result.disk) (D.may_leave result.disk)) }
     ensures faults { D.faults disk ≤ D.faults result.disk }
 {
-    match recover(alloc, d, MapStore::new(alloc), disk, progress) {
+    let Some(rows) = empty_rows(alloc, d) else {
+        return unrun(alloc, disk, Err(AllocError));
+    };
+    match recover(alloc, d, rows, disk, progress) {
         Ok(recovered) => {
             let Recovered {
                 state,

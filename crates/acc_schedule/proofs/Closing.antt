@@ -8,7 +8,7 @@ use Rattle.acc_base.specs.declared.machines.Event.{Event}
 use Rattle.acc_base.specs.Invariant.{IsGood}
 use Rattle.acc_base.specs.Machine.{World}
 use Rattle.acc_base.specs.Plays.{Play, opening}
-use Rattle.acc_base.specs.Lines.{ending_text}
+use Rattle.acc_base.specs.Lines.{mention_line, ending_text}
 use Rattle.acc_lift.specs.Acceptance.{IsAccepted}
 use Rattle.acc_lift.proofs.FormRules.{run_rules}
 use Rattle.acc_lift.proofs.Theorem.{front_steady, idle}
@@ -37,7 +37,7 @@ begun_by numbers history false all some full = let a = some refl in (a, full a.0
 -- a schedule that has run and is closed
 pub tells_schedule : (d : Design) (calls : List Call) (order : List ℕ) (first : Play) (p : Playing) (b : Board) (s : Scheduled)
     → first ≡ opening calls → p.design ≡ d → length b.numbers.items ≡ length calls
-    → IsRun (with_locks d) d calls first order b.text.items (play_of p.world b) → IsClosed p b s
+    → IsRun (with_locks d) (mention_line d) calls first order b.text.items (play_of p.world b) → IsClosed p b s
     → TellsSchedule d calls order s.text.items s.history s.all_begun
 tells_schedule d calls order first p b s opens design count ran closed =
     let q = play_of p.world b in

@@ -2,16 +2,16 @@
 ghost use Rattle.std.specs.Prelude.{◌≡◌};
 
 use acc_base::machines::{Call, Frame, Reply, Turn};
+use acc_index_store::IndexStore;
 use acc_lock_rules::{BeginError, State, TurnError};
 use acc_player::{Ender, Player, Stop};
-use acc_store::MapStore;
 use std::marker::Model;
 
 /// A state of an accepted design with the calls of a script. Contracts see the design, the state and the calls; its type keeps that
 /// each call fits its type.
 #[derive(Drop)]
 pub struct Locked<'a> {
-    pub state: State<'a, MapStore>,
+    pub state: State<'a, IndexStore>,
     pub calls: &'a [Call],
 }
 

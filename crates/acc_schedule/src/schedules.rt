@@ -1,7 +1,7 @@
 //! Calls that are scheduled in an order by the rules of locks, and then ended; and what is told of it.
 ghost use Rattle.std.specs.Prelude.{◌≡◌, ◌≤◌, ℕ, [], length, All, IfOk};
 ghost use Rattle.acc_base.specs.declared.bounds.TheConstants.{MOST_EVENTS};
-ghost use Rattle.acc_base.specs.Machine.{unfinished};
+ghost use Rattle.acc_base.specs.Machine.{start, unfinished};
 ghost use Rattle.acc_script.specs.OrderLines.{IsPlace};
 ghost use Rattle.acc_player.specs.Boards.{IsUnbegun};
 ghost use Rattle.acc_player.specs.Playing.{AllFit};
@@ -11,11 +11,11 @@ ghost use Rattle.acc_schedule.specs.Closings.{IsClosed};
 use crate::locked::Locked;
 use acc_base::machines::{Call, Event};
 use acc_base::sequences::Seq;
+use acc_index_store::IndexStore;
 use acc_lift::Accepted;
 use acc_lock_rules::State;
-use acc_player::{Board, Stop, all_begun, push_replies, run};
+use acc_player::{Board, Detail, Stop, all_begun, push_replies, run};
 use acc_script::push_events;
-use acc_store::MapStore;
 use std::alloc::{AllocError, Global};
 
 /// What is told of a schedule: its lines, each with a line feed; the events of its machine, oldest first; and whether each call has
@@ -25,6 +25,20 @@ pub struct Scheduled {
     pub text: Vec<u8>,
     pub history: Seq<Event>,
     pub all_begun: bool,
+}
+
+/// The state before any event, over rows with the totals that the design's steps read.
+fn first_state(alloc: Global, accepted: &Accepted) -> Result<State<'_, IndexStore>, AllocError>
+    ensures design { IfOk result (λ state. state.design ≡ accepted.now) }
+    ensures start { IfOk result (λ state. state.world ≡ start) }
+{
+    let Ok(rows) = IndexStore::of(alloc, accepted.design()) else {
+        return Err(AllocError);
+    };
+    let Ok(state) = State::new(alloc, accepted, rows) else {
+        return Err(AllocError);
+    };
+    Ok(state)
 }
 
 /// Tells the replies and how many events there were, behind the lines of a schedule that has run.
@@ -59,12 +73,11 @@ pub fn schedule(
     requires places { All (IsPlace (length calls.now)) order.now }
     ensures { IfOk result (λ s. TellsSchedule accepted.now calls.now order.now s.text.items s.history s.all_begun) }
 {
-    let Ok(state) = State::new(alloc, accepted, MapStore::new(alloc)) else {
-        return Err(AllocError);
-    };
+    let state = first_state(alloc, accepted)?;
     let mut player = Locked { state, calls };
     let mut board = Board::open(alloc, calls.len(), 0)?;
-    match run(alloc, &mut player, &mut board, accepted.design(), order) {
+    let d = accepted.design();
+    match run(alloc, &mut player, &mut board, d, Detail::Lines, order) {
         Ok(()) => close(player, board),
         Err(Stop::Memory) => Err(AllocError),
         // such a player has no disk

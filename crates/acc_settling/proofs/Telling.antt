@@ -6,7 +6,7 @@ use Rattle.std.specs.Fmt.{decimal}
 use Rattle.std.proofs.lemmas.List.{take-append-drop}
 use Rattle.acc_base.specs.declared.designs.Design.{Design}
 use Rattle.acc_base.specs.declared.machines.Call.{Call}
-use Rattle.acc_base.specs.Lines.{line, settled_text, settled_line, ending_text}
+use Rattle.acc_base.specs.Lines.{line, mention_line, settled_text, settled_line, ending_text}
 use Rattle.acc_base.specs.Machine.{World, start, reply_at, after_events}
 use Rattle.acc_base.specs.Plays.{Play}
 use Rattle.acc_lift.proofs.Theorem.{lead_runs}
@@ -62,7 +62,7 @@ tells_stop count NoMemory Memory old new p at why so = (tt, λ failed. absurd (l
 -- a schedule that has run and is closed
 pub tells_from : {D : Type 0} (d : Design) (calls : List Call) (order : List ℕ) (first : Play) (w : World) (e : Journalled D)
     (ran closed : Board) (all_begun : Bool) → e.design ≡ d → e.state ≡ w → length ran.numbers.items ≡ length calls
-    → IsRun (with_locks d) d calls first order ran.text.items (play_of w ran) → IsClosed e ran closed all_begun
+    → IsRun (with_locks d) (mention_line d) calls first order ran.text.items (play_of w ran) → IsClosed e ran closed all_begun
     → TellsScheduleFrom d calls first order closed.text.items e.state.events all_begun
 tells_from d calls order first w e ran closed all_begun design same count run told =
     let q = play_of e.state ran in

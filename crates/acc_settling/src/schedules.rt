@@ -18,7 +18,7 @@ use crate::replies::durable_replies;
 use crate::settling::Settling;
 use acc_base::designs::Design;
 use acc_disk::Disk;
-use acc_player::{Board, Stop, all_begun, push_replies, run};
+use acc_player::{Board, Detail, Stop, all_begun, push_replies, run};
 use acc_script::push_events;
 use acc_store::Store;
 use std::alloc::{AllocError, Global};
@@ -74,7 +74,7 @@ fn play_out<S: Store, D: Disk>(
     ensures front { OnErr result (PlayPrecedesEach (play_of player.new.state board.new)
         (IsAfterSchedule d.now player.old.calls order.now (play_of player.old.state board.old))) }
 {
-    run(alloc, player, board, d, order)?;
+    run(alloc, player, board, d, Detail::Lines, order)?;
     player.settle()?;
     Ok(close(player, board)?)
 }

@@ -12,7 +12,8 @@ use acc_table::entries::{compatible, forbids};
 use std::alloc::{AllocError, Global};
 use std::fmt::Write;
 
-fn at(ty: &str, point: &str) -> At {
+/// The point of those numbers.
+pub fn at(ty: &str, point: &str) -> At {
     At {
         ty: small(ty),
         point: small(point),
@@ -35,7 +36,7 @@ fn standing(alloc: Global, at: At, locals: Vec<i64>) -> Frame {
 }
 
 /// Whether there is such a point.
-fn is_point(d: &Design, at: At) -> bool
+pub fn is_point(d: &Design, at: At) -> bool
     ensures { IsTrue result → IsPointOf d.now at.ty at.point }
 {
     match d.types.as_slice().get(at.ty as usize) {

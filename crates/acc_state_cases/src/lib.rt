@@ -12,9 +12,13 @@
 //!   a script ';' is a line feed.
 //! - `compatible TYPE POINT LOCALS TYPE POINT LOCALS` tells by which entry two places aren't compatible.
 //! - `forbids TYPE POINT LOCALS SIDE TYPE POINT LOCALS` tells by which entry the first place forbids a step at the second.
+//! - `locks CALL; CALL ..` makes calls of an index in which no transaction is. `enter T TYPE POINT LOCALS`, `prepare ..` and `leave T`
+//!   tell that they are done, or why they can't be asked for; `change ..` prepares and changes. `first T TYPE POINT LOCALS TO` tells who
+//!   bars the step of transaction T there that leads to point TO of its type, and `first T TYPE POINT LOCALS` the step that leads to an end.
 #![tactic(auto)]
 
 mod entries;
+mod locks;
 mod replays;
 mod schedules;
 
@@ -36,6 +40,7 @@ fn push_answer(
         "replay" => replays::push_replayed(alloc, out, design, rest),
         "schedule" => schedules::push_schedule(alloc, out, design, rest),
         "compatible" => entries::push_clash(alloc, out, design, rest),
+        "locks" => locks::push_locks(alloc, out, design, rest),
         "forbids" => entries::push_forbidding(alloc, out, design, rest),
         _ => out.push_str("no question"),
     }

@@ -1,12 +1,11 @@
 //! Command lines over the folder's files and a disk in memory.
-use acc_case_commands::{InTurn, Searchers, acc, memory};
+use acc_case_commands::{InTurn, IndexStore, Searchers, acc, memory};
 use acc_crew::{Alone, Crew};
 use acc_disk::MemDisk;
 use acc_engine::Engine;
 use acc_io::FolderShelf;
 use acc_lift::Accepted;
 use acc_progress::Silent;
-use acc_store::MapStore;
 use std::alloc::AllocError;
 use std::fs::File;
 use std::rt::Files;
@@ -23,7 +22,7 @@ pub struct Answered {
 pub fn answer<
     'd,
     R: Files<File = File> + AllocGlobal,
-    C: Crew<Engine<'d, MapStore, MemDisk>>,
+    C: Crew<Engine<'d, IndexStore, MemDisk>>,
     S: Searchers,
 >(
     rt: &R,

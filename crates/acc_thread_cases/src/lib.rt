@@ -4,9 +4,9 @@
 //! Behind `searches DESIGN` it is told whether `prove` answers the same bytes and the same status by searches in threads, so many at once
 //! that they don't come out even, as by one search after the other; and the status.
 //!
-//! The other kinds have the words `WORKERS FROM DESIGN CERT FIRST SCRIPT`, for a run of the script by so many workers. The journal is the one
-//! that `init` makes of the design, and behind that a run of the script FIRST without threads; a script without lines leaves it as `init`
-//! made it. The calls of the disk from the number FROM on fail, counted from the begin of the workers' run; a `-` is none.
+//! The other kinds have the words `WORKERS FROM DESIGN CERT FIRST SCRIPT`, for a run of the script by so many workers. The journal is the
+//! one that `init` makes of the design, and behind that a run of the script FIRST without threads; a script without lines leaves it as
+//! `init` made it. The calls of the disk from the number FROM on fail, counted from the begin of the workers' run; a `-` is none.
 //!
 //! Behind `threads` three lines are told, each with what was printed and the status: the run's, and what `recover` and then `dump` answer
 //! over the bytes that the disk held afterwards. Behind `interleaves` one word is told, of the transactions 3 and 4, each of which waits

@@ -6,12 +6,11 @@ use crate::calls::work_by_calls;
 use crate::meetings::Meeting;
 use crate::searches::tell_searches;
 use acc_case_commands::texts::first_word;
-use acc_case_commands::{InTurn, memory};
+use acc_case_commands::{InTurn, IndexStore, memory};
 use acc_crew::Called;
 use acc_disk::MemDisk;
 use acc_engine::Engine;
 use acc_lift::Accepted;
-use acc_store::MapStore;
 use acc_threads::work_in_threads;
 use acc_workers::{Gate, OpenGate};
 use std::alloc::{AllocError, Global};
@@ -84,7 +83,7 @@ fn answer_in_threads<
     disk: MemDisk,
     slot: &'d mut Option<Accepted>,
 ) -> Result<Answered, AllocError> {
-    let crew = Called::new::<Engine<'d, MapStore, MemDisk>>(
+    let crew = Called::new::<Engine<'d, IndexStore, MemDisk>>(
         |alloc, engine, workers|
             requires { IsUnworked engine }
         { work_in_threads(threads, alloc, engine, workers, gate) },
@@ -133,7 +132,7 @@ fn answer_by_calls<'d, R: Files<File = File> + Print + AllocGlobal, W: Wait>(
     disk: MemDisk,
     slot: &'d mut Option<Accepted>,
 ) -> Result<Answered, AllocError> {
-    let crew = Called::new::<Engine<'d, MapStore, MemDisk>>(
+    let crew = Called::new::<Engine<'d, IndexStore, MemDisk>>(
         |alloc, engine, _workers|
             requires { IsUnworked engine }
         { work_by_calls(rt, waits, alloc, engine) },

@@ -131,3 +131,27 @@ returns-in-TpccDesign-clause-ends g c =
 pub returns-in-TpccDesign-clause-lacking : goal.returns-in-TpccDesign-clause-lacking
 returns-in-TpccDesign-clause-lacking g c without =
     lacks_none c.unrun-in-TpccDesign.result.answer _ _ c.unrun-in-TpccDesign.ensures.none.0 c.unrun-in-TpccDesign.ensures.none.1
+
+pub returns-in-TpccLoad-clause-ends : goal.returns-in-TpccLoad-clause-ends
+unfolding MeansOfFiles
+returns-in-TpccLoad-clause-ends g c =
+    rw c.in-TpccLoad.is
+    (ends_alone g.D.Disk.clock g.D.Disk.left_since g.D.Disk.told g.D.Disk.may_leave g.D.Disk.faults (command.TpccLoad c.in-TpccLoad.scale) []
+    refl c.args.disk _ c.unrun-in-TpccLoad.ensures.disk c.print_load.result _ c.unrun-in-TpccLoad.ensures.answer _ _
+    c.unrun-in-TpccLoad.ensures.none.0 c.unrun-in-TpccLoad.ensures.none.1 c.print_load.ensures)
+
+pub returns-in-TpccLoad-clause-lacking : goal.returns-in-TpccLoad-clause-lacking
+returns-in-TpccLoad-clause-lacking g c without =
+    lacks_none c.unrun-in-TpccLoad.result.answer _ _ c.unrun-in-TpccLoad.ensures.none.0 c.unrun-in-TpccLoad.ensures.none.1
+
+pub returns-in-TpccMix-clause-ends : goal.returns-in-TpccMix-clause-ends
+unfolding MeansOfFiles
+returns-in-TpccMix-clause-ends g c =
+    rw c.in-TpccMix.is
+    (ends_alone g.D.Disk.clock g.D.Disk.left_since g.D.Disk.told g.D.Disk.may_leave g.D.Disk.faults (command.TpccMix c.in-TpccMix.mix) []
+    refl c.args.disk _ c.unrun-in-TpccMix.ensures.disk c.print_mix.result _ c.unrun-in-TpccMix.ensures.answer _ _
+    c.unrun-in-TpccMix.ensures.none.0 c.unrun-in-TpccMix.ensures.none.1 c.print_mix.ensures)
+
+pub returns-in-TpccMix-clause-lacking : goal.returns-in-TpccMix-clause-lacking
+returns-in-TpccMix-clause-lacking g c without =
+    lacks_none c.unrun-in-TpccMix.result.answer _ _ c.unrun-in-TpccMix.ensures.none.0 c.unrun-in-TpccMix.ensures.none.1

@@ -2,21 +2,19 @@ use Rattle.std.proofs.Common.{◌∙◌, sym, ap, rules}
 use Rattle.std.specs.Prelude.{option_map}
 use Rattle.acc_inputs.specs.declared.words.Command.TheVariants.{Run}
 use Rattle.acc_inputs.specs.Words.{file_count, workers_of}
-use Rattle.acc_inputs.proofs.Workers.{workers_found, last_word}
+use Rattle.acc_inputs.proofs.Workers.{last_word}
 use Rattle.acc_inputs.proofs.words.with_workers.Goals as goal
 
-pub returns-in_err-workers_of-clause-command : goal.returns-in_err-workers_of-clause-command
-returns-in_err-workers_of-clause-command c =
+pub returns-in_err-number_of-clause-command : goal.returns-in_err-number_of-clause-command
+returns-in_err-number_of-clause-command c =
     let last = last_word c.args.words.now c.workers-item.result (search rules) c.workers-item.is in
-    let found = workers_found _ _ c.workers_of.ensures in
     c.from_residual.ensures
-    ∙ sym (last ∙ ap (option_map Run) (ap workers_of (sym c.as_str.ensures.value) ∙ sym found ∙ c.in_err-workers_of.was))
+    ∙ sym (last ∙ ap (option_map Run) (ap workers_of (sym c.as_str.ensures.value) ∙ sym c.number_of.ensures.value ∙ c.in_err-number_of.was))
 
 pub returns-clause-command : goal.returns-clause-command
 returns-clause-command c =
     let last = last_word c.args.words.now c.workers-item.result (search rules) c.workers-item.is in
-    let found = workers_found _ _ c.workers_of.ensures in
-    sym (last ∙ ap (option_map Run) (ap workers_of (sym c.as_str.ensures.value) ∙ sym found ∙ c.in_ok-workers_of.was))
+    sym (last ∙ ap (option_map Run) (ap workers_of (sym c.as_str.ensures.value) ∙ sym c.number_of.ensures.value ∙ c.in_ok-number_of.was))
 
 pub returns-clause-length : goal.returns-clause-length
 unfolding file_count

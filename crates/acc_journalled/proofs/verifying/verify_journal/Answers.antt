@@ -14,9 +14,24 @@ use Rattle.acc_journalled.specs.declared.answers.Ending.TheVariants.{DiskFailed}
 use Rattle.acc_journalled.specs.Conditions.{conditions_text, EndsByRows}
 use Rattle.acc_journalled.specs.Verifying.{VerifiesJournal, verdicts_text}
 use Rattle.acc_journalled.specs.Tellings.{telling_of, unrun_telling}
-use Rattle.acc_journalled.proofs.Endings.{verified_so, recovered_tells, refuses_so, was_of_bytes, by_unrun}
+use Rattle.acc_journalled.proofs.Endings.{leaves_file, verified_so, recovered_tells, refuses_so, was_of_bytes, by_unrun}
 use Rattle.acc_journalled.proofs.Verdicts.{both_ok, eleven_tables, steady_sums}
 use Rattle.acc_journalled.proofs.verifying.verify_journal.Goals as goal
+
+-- ---- memory lacks for the rows
+
+pub returns-in_default-clause-moments : goal.returns-in_default-clause-moments
+returns-in_default-clause-moments g c file told only =
+    leaves_file g.D.Disk.clock g.D.Disk.left_since (g.D.Disk.may_leave c.args.disk) c.args.d.now file c.args.disk c.unrun.result.disk
+    c.unrun.ensures.disk (g.met.D.Disk.only_now c.args.disk) only
+
+pub returns-in_default-clause-left : goal.returns-in_default-clause-left
+returns-in_default-clause-left g c file told only =
+    let x = c.unrun.result.disk in
+    read_left g.D.Disk.clock g.D.Disk.left_since c.args.disk x (g.D.Disk.told x) (g.D.Disk.may_leave x)
+    (LeavesRecovery c.args.d.now file) (g.met.D.Disk.nothing_lost x)
+    (λ time image le left. g.met.D.Disk.counts_now x time image le left)
+    (returns-in_default-clause-moments g c file told only)
 
 -- ---- it is recovered
 
@@ -73,10 +88,10 @@ pub returns-clause-answer : goal.returns-clause-answer
 returns-clause-answer g c =
     let told = g.D.Disk.told in
     let faults = g.D.Disk.faults in
-    let R = c.unrun.result in
+    let R = c.unrun-in-Err.result in
     by_unrun (λ x r es n. IfOk r (λ (a : Answer). VerifiesJournal c.args.tables.now c.args.d.now (told c.args.disk) (told x)
     (Rose (faults c.args.disk) (faults x)) (telling_of a es n))) c.in-Err.disk R.disk c.not_recovered.result R.answer R.history R.settled
-    c.unrun.ensures.disk c.unrun.ensures.answer c.unrun.ensures.none
+    c.unrun-in-Err.ensures.disk c.unrun-in-Err.ensures.answer c.unrun-in-Err.ensures.none
     (IfOk-weaker c.not_recovered.result _ _
     (λ a says. inr (refuses_so c.in-Err.error c.args.d.now (told c.args.disk) (told c.in-Err.disk) _ (unrun_telling a) c.in-Err.ensures.why
     (λ of. (c.in-Err.ensures.unread of).0) c.in-Err.ensures.kept says))
@@ -84,21 +99,21 @@ returns-clause-answer g c =
 
 pub returns-clause-left : goal.returns-clause-left
 returns-clause-left g c file told only =
-    let x = c.unrun.result.disk in
+    let x = c.unrun-in-Err.result.disk in
     read_left g.D.Disk.clock g.D.Disk.left_since c.args.disk x (g.D.Disk.told x) (g.D.Disk.may_leave x)
     (LeavesRecovery c.args.d.now file) (g.met.D.Disk.nothing_lost x)
     (λ time image le left. g.met.D.Disk.counts_now x time image le left)
-    (subst (λ y. AtAnyMoment g.D.Disk.clock g.D.Disk.left_since c.args.disk y (LeavesRecovery c.args.d.now file)) (sym c.unrun.ensures.disk)
+    (subst (λ y. AtAnyMoment g.D.Disk.clock g.D.Disk.left_since c.args.disk y (LeavesRecovery c.args.d.now file)) (sym c.unrun-in-Err.ensures.disk)
     (c.in-Err.ensures.leaves_refused file told only))
 
 pub returns-clause-calm : goal.returns-clause-calm
 returns-clause-calm g c =
     let told = g.D.Disk.told in
     let may_leave = g.D.Disk.may_leave in
-    let R = c.unrun.result in
+    let R = c.unrun-in-Err.result in
     by_unrun (λ x r es n. IfOk r (λ (a : Answer). a.ending ≢ DiskFailed → IsCalm (told c.args.disk) (may_leave c.args.disk)
     → IsCalm (told x) (may_leave x))) c.in-Err.disk R.disk c.not_recovered.result R.answer R.history R.settled
-    c.unrun.ensures.disk c.unrun.ensures.answer c.unrun.ensures.none
+    c.unrun-in-Err.ensures.disk c.unrun-in-Err.ensures.answer c.unrun-in-Err.ensures.none
     (IfOk-weaker c.not_recovered.result _ _
     (λ a says none calm. c.in-Err.ensures.calm_refused calm (was_of_bytes c.in-Err.error (unrun_telling a) says none))
     c.not_recovered.ensures.says)

@@ -2,6 +2,7 @@ use Rattle.std.proofs.Common.{◌≡◌, ◌∙◌, ℕ, ◌+◌, ◌∷◌, ◌
 use Rattle.std.proofs.lemmas.List.{drop_all}
 use Rattle.acc_base.specs.declared.machines.Call.{Call}
 use Rattle.acc_player.specs.Boards.{play_of, IsMentioned, IsAfterMention}
+use Rattle.acc_player.specs.Details.{mention_text}
 use Rattle.acc_player.specs.Ways.{PlayPrecedesEach}
 use Rattle.acc_player.proofs.Items.{if_stopped}
 use Rattle.acc_player.proofs.Orders.{IsPlayedSoFar, opens_play, played_more, played}
@@ -11,12 +12,13 @@ use Rattle.acc_player.proofs.schedules.mention_all.Goals as goal
 pub loop-place-init : goal.loop-place-init
 loop-place-init g c =
     let d = c.args.d.now in
+    let text_of = mention_text c.args.detail d in
     let e = c.args.player.now in
     let b = c.args.board.now in
     let p = play_of (g.P.Player.world e) b in
     record {
       board = c.requires.board;
-      played = opens_play (g.P.Player.rules d) d (g.P.Player.calls e) p c.args.order.now b.text.items p c.requires.text refl;
+      played = opens_play (g.P.Player.rules d) text_of (g.P.Player.calls e) p c.args.order.now b.text.items p c.requires.text refl;
       left = λ q h. h;
       ready = c.requires.ready;
       design = refl;
@@ -27,6 +29,7 @@ loop-place-init g c =
 pub loop-place-preserved : goal.loop-place-preserved
 loop-place-preserved g c =
     let d = c.args.d.now in
+    let text_of = mention_text c.args.detail d in
     let m = g.P.Player.rules d in
     let was = c.args.player.now in
     let calls = g.P.Player.calls was in
@@ -41,15 +44,15 @@ loop-place-preserved g c =
     let q = play_of (g.P.Player.world new) after in
     let inv = c.loop-place.invariant in
     let mentioned =
-    subst (λ (cs : List Call). IsMentioned m d cs (get_or order i 0) (g.P.Player.world old) (g.P.Player.world new) before after) inv.calls
-    c.in_ok-mention.ensures.mention in
+    subst (λ (cs : List Call). IsMentioned m text_of cs (get_or order i 0) (g.P.Player.world old) (g.P.Player.world new) before after)
+    inv.calls c.in_ok-mention.ensures.mention in
     let within : i < length order = omega arith in
     let split : drop i order ≡ get_or order i 0 ∷ drop (i + 1) order = rw (add-one, drop-cons order i 0) in
     record {
       board = c.mention.ensures.board;
-      played = played_more m d calls first order (drop (i + 1) order) before.text.items after.text.items (get_or order i 0) p
+      played = played_more m text_of calls first order (drop (i + 1) order) before.text.items after.text.items (get_or order i 0) p
           (mentioned.told, q)
-          (subst (λ (zs : List ℕ). IsPlayedSoFar m d calls first order zs before.text.items p) split inv.played) mentioned.is_mention
+          (subst (λ (zs : List ℕ). IsPlayedSoFar m text_of calls first order zs before.text.items p) split inv.played) mentioned.is_mention
           mentioned.text;
       left = leaves_play m (g.met.P.Player.orderly d) calls first p order (drop (i + 1) order) (get_or order i 0) (mentioned.told, q)
           (subst (λ (zs : List ℕ). LeavesPlay m calls first order p zs) split inv.left) mentioned.is_mention;
@@ -62,6 +65,7 @@ loop-place-preserved g c =
 pub returns-clause-played : goal.returns-clause-played
 returns-clause-played g c =
     let d = c.args.d.now in
+    let text_of = mention_text c.args.detail d in
     let m = g.P.Player.rules d in
     let was = c.args.player.now in
     let calls = g.P.Player.calls was in
@@ -71,8 +75,8 @@ returns-clause-played g c =
     let p = play_of (g.P.Player.world c.loop-place.player) b in
     let past : length order ≤ c.loop-place.place-index = omega arith in
     let over : drop c.loop-place.place-index order ≡ [] = drop_all c.loop-place.place-index order past in
-    played m d calls first order b.text.items p
-    (subst (λ (zs : List ℕ). IsPlayedSoFar m d calls first order zs b.text.items p) over c.loop-place.invariant.played)
+    played m text_of calls first order b.text.items p
+    (subst (λ (zs : List ℕ). IsPlayedSoFar m text_of calls first order zs b.text.items p) over c.loop-place.invariant.played)
 
 pub returns-in_err-mention-clause-front : goal.returns-in_err-mention-clause-front
 returns-in_err-mention-clause-front g c =

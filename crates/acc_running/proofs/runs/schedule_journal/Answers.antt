@@ -10,7 +10,7 @@ use Rattle.acc_recover.specs.Recoveries.{LeavesRecovery}
 use Rattle.acc_engine.specs.Keeping.{CallsFit}
 use Rattle.acc_settling.specs.Openings.{opening_at}
 use Rattle.acc_settling.specs.Wholes.{IsFrontOfSchedule}
-use Rattle.acc_journalled.proofs.Endings.{recovering}
+use Rattle.acc_journalled.proofs.Endings.{recovering, leaves_file}
 use Rattle.acc_running.specs.Engines.{SaysRun}
 use Rattle.acc_running.specs.Recorded.{IsDurableButOne}
 use Rattle.acc_running.specs.Running.{IsOpening}
@@ -209,19 +209,19 @@ not_recovered-requires g c = recovering c.in-Err.error c.args.d.now (g.D.Disk.to
 pub returns-in-Err-clause-answer : goal.returns-in-Err-clause-answer
 returns-in-Err-clause-answer g c =
     let D = g.D.Disk in
-    let R = c.unrun.result in
+    let R = c.unrun-in-Err.result in
     let e = c.in-Err.ensures in
     refused_answer D.clock D.left_since D.told D.may_leave D.faults c.args.d.now c.args.calls c.args.order.now (IsOpening c.args.calls) c.args.disk
-    c.in-Err.disk R.disk R.history R.settled c.unrun.ensures.disk c.unrun.ensures.none
-    c.in-Err.error c.not_recovered.result R.answer c.unrun.ensures.answer e.why (λ of. (e.unread of).0) e.kept c.not_recovered.ensures.says
+    c.in-Err.disk R.disk R.history R.settled c.unrun-in-Err.ensures.disk c.unrun-in-Err.ensures.none
+    c.in-Err.error c.not_recovered.result R.answer c.unrun-in-Err.ensures.answer e.why (λ of. (e.unread of).0) e.kept c.not_recovered.ensures.says
 
 pub returns-in-Err-clause-runs : goal.returns-in-Err-clause-runs
 returns-in-Err-clause-runs g c =
     let D = g.D.Disk in
-    let R = c.unrun.result in
+    let R = c.unrun-in-Err.result in
     let over =
     refused_over D.clock D.left_since D.told D.may_leave D.faults c.args.d.now c.args.calls c.args.order.now (IsOpening c.args.calls) c.args.disk
-    c.in-Err.disk R.disk R.history R.settled c.unrun.ensures.disk c.unrun.ensures.none
+    c.in-Err.disk R.disk R.history R.settled c.unrun-in-Err.ensures.disk c.unrun-in-Err.ensures.none
     c.in-Err.ensures.leaves_refused
     (λ time image le left. g.met.D.Disk.counts_now c.in-Err.disk time image le left)
     (λ P run. read_left D.clock D.left_since c.args.disk R.disk (D.told R.disk) (D.may_leave R.disk) P (g.met.D.Disk.nothing_lost R.disk)
@@ -229,22 +229,43 @@ returns-in-Err-clause-runs g c =
     record {
       over = over;
       durable =
-          moved (λ x es n. IsDurableButOne c.args.d.now es n) c.in-Err.disk R.disk [] R.history 0 R.settled c.unrun.ensures.disk
-          c.unrun.ensures.none.0 c.unrun.ensures.none.1 (record { one = 0; others = λ t n. refl });
+          moved (λ x es n. IsDurableButOne c.args.d.now es n) c.in-Err.disk R.disk [] R.history 0 R.settled c.unrun-in-Err.ensures.disk
+          c.unrun-in-Err.ensures.none.0 c.unrun-in-Err.ensures.none.1 (record { one = 0; others = λ t n. refl });
     }
 
 pub returns-in-Err-clause-calm : goal.returns-in-Err-clause-calm
 returns-in-Err-clause-calm g c =
     let D = g.D.Disk in
-    let R = c.unrun.result in
+    let R = c.unrun-in-Err.result in
     refused_calm D.clock D.left_since D.told D.may_leave D.faults c.args.d.now c.args.calls c.args.order.now (IsOpening c.args.calls) c.args.disk
-    c.in-Err.disk R.disk R.history R.settled c.unrun.ensures.disk c.unrun.ensures.none
-    c.in-Err.error c.not_recovered.result R.answer c.unrun.ensures.answer c.in-Err.ensures.calm_refused c.not_recovered.ensures.says
+    c.in-Err.disk R.disk R.history R.settled c.unrun-in-Err.ensures.disk c.unrun-in-Err.ensures.none
+    c.in-Err.error c.not_recovered.result R.answer c.unrun-in-Err.ensures.answer c.in-Err.ensures.calm_refused c.not_recovered.ensures.says
 
 pub returns-in-Err-clause-faults : goal.returns-in-Err-clause-faults
 returns-in-Err-clause-faults g c =
     let D = g.D.Disk in
-    let R = c.unrun.result in
+    let R = c.unrun-in-Err.result in
     refused_faults D.clock D.left_since D.told D.may_leave D.faults c.args.d.now c.args.calls c.args.order.now (IsOpening c.args.calls) c.args.disk
-    c.in-Err.disk R.disk R.history R.settled c.unrun.ensures.disk c.unrun.ensures.none
+    c.in-Err.disk R.disk R.history R.settled c.unrun-in-Err.ensures.disk c.unrun-in-Err.ensures.none
     c.in-Err.ensures.faults_refused
+
+-- ---- memory lacks for the rows
+
+pub returns-in_default-clause-runs : goal.returns-in_default-clause-runs
+returns-in_default-clause-runs g c =
+    let D = g.D.Disk in
+    let R = c.unrun.result in
+    let over =
+    refused_over D.clock D.left_since D.told D.may_leave D.faults c.args.d.now c.args.calls c.args.order.now (IsOpening c.args.calls) c.args.disk
+    c.args.disk R.disk R.history R.settled c.unrun.ensures.disk c.unrun.ensures.none
+    (λ file is only. leaves_file D.clock D.left_since (D.may_leave c.args.disk) c.args.d.now file c.args.disk c.args.disk refl
+    (g.met.D.Disk.only_now c.args.disk) only)
+    (λ time image le left. g.met.D.Disk.counts_now c.args.disk time image le left)
+    (λ P run. read_left D.clock D.left_since c.args.disk R.disk (D.told R.disk) (D.may_leave R.disk) P (g.met.D.Disk.nothing_lost R.disk)
+    (λ time image le left. g.met.D.Disk.counts_now R.disk time image le left) run) in
+    record {
+      over = over;
+      durable =
+          moved (λ x es n. IsDurableButOne c.args.d.now es n) c.args.disk R.disk [] R.history 0 R.settled c.unrun.ensures.disk
+          c.unrun.ensures.none.0 c.unrun.ensures.none.1 (record { one = 0; others = λ t n. refl });
+    }

@@ -12,7 +12,7 @@ returns c = λ frames stand.
     let locals = c.args.locals.now in
     let to = c.args.to in
     let to_locals = c.args.to_locals.now in
-    let points = c.reached_from-points.result in
+    let points = c.reached_to-points.result in
     let es = c.self.inside.holders.entries in
     let of_type : ℕ → Asked = λ n. record { at = at; locals = locals; ty = n; points = points; to_locals = to_locals } in
     let asked = asked_of at locals to to_locals points in
@@ -23,4 +23,4 @@ returns c = λ frames stand.
     subst (TellsFirst (Bars d frames t at locals to to_locals)) (sym found)
     (first_bars d t at locals frames c.self.inside.standings.items es
     (subst (λ v. StandsFor d frames v.standings) (sym c.self.view_is) stand) c.self.invariant.under_keys to to_locals points
-    c.reached_from-points.ensures)
+    c.reached_to-points.ensures)

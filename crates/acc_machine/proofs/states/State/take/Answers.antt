@@ -1,18 +1,22 @@
-use Rattle.std.proofs.Common.{subst, sym, ◌∙◌}
+use Rattle.std.proofs.Common.{sym, subst}
 use Rattle.acc_plain.specs.Running.{Running}
+use Rattle.acc_machine.specs.IndexedStates.{IsStateOf}
 use Rattle.acc_machine.specs.Takes.{GivesLeave}
-use Rattle.acc_machine.proofs.Taking.{kept_taking}
 use Rattle.acc_machine.proofs.states.State.take.Goals as goal
 
-pub invariant_of-self : goal.invariant_of-self
-invariant_of-self g c =
+pub take-requires-clause-state : goal.take-requires-clause-state
+take-requires-clause-state g c =
+    subst (λ a. IsStateOf a c.self.inside.machine.design c.self.inside.machine.world c.self.inside.kept.index)
+    (sym c.design-d.ensures.design) c.self.invariant
+
+pub take-requires-clause-leave : goal.take-requires-clause-leave
+take-requires-clause-leave g c =
     let m : Running = c.self.inside.machine in
     let told = subst {A = Running} (λ (s : Running). GivesLeave s.design s.world c.args.event.now c.has_leave.result) (sym c.self.view_is)
     c.has_leave.ensures in
-    let leave = subst (GivesLeave m.design m.world c.args.event.now) c.if-not-has_leave.false told in
-    record {
-      same = c.self.invariant.same ∙ sym c.take.ensures.design;
-      kept =
-          kept_taking m.design m.world c.take.new.self.design c.take.new.self.world c.args.event.now c.take.result c.self.invariant.kept
-          leave c.take.ensures.design c.take.ensures.ok c.take.ensures.err;
-    }
+    subst (GivesLeave m.design m.world c.args.event.now) c.if-not-has_leave.false told
+
+pub invariant_of-self : goal.invariant_of-self
+invariant_of-self g c =
+    subst (λ a. IsStateOf a c.take.new.machine.design c.take.new.machine.world c.take.new.kept.index) c.design-d.ensures.design
+    c.take.ensures.state

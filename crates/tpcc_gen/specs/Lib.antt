@@ -1,0 +1,6 @@
+pub mod Draws
+pub mod Bounds
+pub mod Writing
+pub mod Loads
+pub mod Mixes
+pub mod Orders
