@@ -18,6 +18,7 @@ use acc_index_store::IndexStore;
 use acc_lift::Accepted;
 use acc_lock_rules::State;
 use acc_player::{BLOCKED, Board, VICTIM, all_begun};
+use acc_progress::{BenchPart, Progress};
 use acc_schedule::Locked;
 use std::alloc::{AllocError, Global};
 use tpcc_tables::TableSet;
@@ -71,12 +72,13 @@ fn close<'a>(loaded: Loaded, player: Locked<'a>, board: Board) -> Ran<'a>
 ///
 /// It tells how many events there were after the load, how the mix's calls ended and what its turns in the order came to, and hands back
 /// the state at the end. Its one error is want of memory.
-pub fn load_and_mix<'a>(
+pub fn load_and_mix<'a, P: Progress>(
     alloc: Global,
     accepted: &'a Accepted,
     load: &'a [Call],
     mix: &'a [Call],
     order: &[u64],
+    progress: &mut P,
 ) -> Result<Ran<'a>, AllocError>
     requires load_fits { AllFit accepted.now load.now }
     requires mix_fits { AllFit accepted.now mix.now }
@@ -84,7 +86,9 @@ pub fn load_and_mix<'a>(
     ensures comes { IfOk result (λ r. ComesTo accepted.now load.now mix.now order.now r.loaded r.mixed r.state.world) }
     ensures design { IfOk result (λ r. r.state.design ≡ accepted.now) }
 {
+    progress.began(BenchPart::Load);
     let played = run_load(alloc, accepted, load)?;
+    progress.began(BenchPart::Mix);
     let loaded = tell_load(&played.player, &played.board, load);
     let Played { player, board } = run_mix(alloc, played, accepted.design(), mix, order)?;
     Ok(close(loaded, player, board))
@@ -113,13 +117,14 @@ fn benched(ran: Ran, against: Option<FalseCondition>) -> Benched
 /// the numbers of the schema's tables in the design.
 ///
 /// It tells besides all events, and the lowest condition that is false. Its one error is want of memory.
-pub fn bench(
+pub fn bench<P: Progress>(
     alloc: Global,
     accepted: &Accepted,
     tables: &TableSet,
     load: &[Call],
     mix: &[Call],
     order: &[u64],
+    progress: &mut P,
 ) -> Result<Benched, AllocError>
     requires schema { IsSchemaOf tables.now accepted.now }
     requires load_fits { AllFit accepted.now load.now }
@@ -127,7 +132,8 @@ pub fn bench(
     requires places { All (IsPlace (length mix.now)) order.now }
     ensures { IfOk result (Benches tables.now accepted.now load.now mix.now order.now) }
 {
-    let ran = load_and_mix(alloc, accepted, load, mix, order)?;
+    let ran = load_and_mix(alloc, accepted, load, mix, order, progress)?;
+    progress.began(BenchPart::Conditions);
     let against = judge(alloc, tables, &ran.state)?;
     Ok(benched(ran, against))
 }

@@ -209,7 +209,9 @@ pub fn answer<R: Files<File = File> + Print + AllocGlobal, T: Threads + Wait + S
     line: &str,
 ) -> io::Result<()> {
     match first_word(line).0 {
-        "threads" | "interleaves" | "shares" | "searches" => answer_in_threads(rt, threads, line),
+        "threads" | "interleaves" | "shares" | "searches" | "verifies" => {
+            answer_in_threads(rt, threads, line)
+        },
         "device" | "journal" | "relation" | "workload" => kinds::tell(rt, kinds, line),
         "machine" | "text" | "search" => kinds::tell_or_take(rt, kinds, line),
         "state" | "engine" => kinds::tell_or_accept(rt, kinds, line),

@@ -18,7 +18,7 @@ use Rattle.acc_cli.specs.Answered.{Answered}
 use Rattle.acc_cli.specs.Causes.{EndsSo, LeavesInMemory, LeavesUnbegun, FindsJournal, RefusesRecovering, RefusesJournal}
 use Rattle.acc_cli.specs.Causes.{LeavesOpen, FindsConditionFalse, HasCauses}
 use Rattle.acc_journalled.proofs.Endings.{was_of_bytes}
-use Rattle.acc_commands.specs.Overs.{LeavesBy}
+use Rattle.acc_commands.specs.Overs.{LeavesBy, LeavesBench}
 use Rattle.acc_commands.proofs.RefusedOvers.{RefusesOver}
 use Rattle.acc_commands.proofs.WhichCommands.{LeftAnyhow, leaves_unbegun, leaves_open, finds_false, refuses_journal, fails_by_disk}
 
@@ -43,7 +43,8 @@ module _ (held : List ℕ → Told) (counts counts' : Counts) (disk disk' : Seen
   left_unbegun ends =
       record { ends = ends; left = by (leaves_unbegun ends.command ends.files disk disk' ends.said ends.ending_is ends.meant) }
     where
-      by : LeftAnyhow ends.command ends.said → LeavesInMemory ends.command ends.said ⊎ LeavesBy ends.command ends.said
+      by : LeftAnyhow ends.command ends.said
+          → LeavesInMemory ends.command ends.said ⊎ LeavesBy ends.command ends.said ⊎ LeavesBench ends.command ends.said
       by (inl left) = inl (record { is_rehearse = left.0; d = left.1; calls = left.2; order = left.3; tells = left.4 })
       by (inr left) = inr left
 
@@ -78,8 +79,7 @@ module _ (held : List ℕ → Told) (counts counts' : Counts) (disk disk' : Seen
   -- a condition is false
   is_false : EndsSo held counts counts' disk disk' words ConditionFalse → FindsConditionFalse held counts counts' disk disk' words
   is_false ends =
-      let found = finds_false ends.command ends.files disk disk' ends.said ends.ending_is ends.meant in
-      record { ends = ends; is_verify = found.0; finds = found.1 }
+      record { ends = ends; finds = finds_false ends.command ends.files disk disk' ends.said ends.ending_is ends.meant }
 
   failed_disk : EndsSo held counts counts' disk disk' words DiskFailed → Rose disk.faults disk'.faults
   failed_disk ends = fails_by_disk ends.command ends.files disk disk' ends.said ends.ending_is ends.meant

@@ -8,6 +8,7 @@ pub mod CreationLemmas
 pub mod ProvingLemmas
 pub mod RecoveryLemmas
 pub mod VerificationLemmas
+pub mod BenchLemmas
 pub mod AnswerLemmas
 pub mod LineLemmas
 pub mod Surviving

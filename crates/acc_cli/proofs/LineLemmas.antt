@@ -132,6 +132,7 @@ module _ {D : Type 0} (clock : D → ℕ) (left_since : D → ℕ → List ℕ �
     of_recovering command.TpccDesign w files by h = absurd cc
     of_recovering (command.TpccLoad scale) w files by h = absurd cc
     of_recovering (command.TpccMix mix) w files by h = absurd cc
+    of_recovering (command.Bench mix) w files by h = absurd cc
     of_recovering command.Init w files by h = absurd cc
     of_recovering command.Play w files by h = absurd cc
     of_recovering command.Rehearse w files by h = absurd cc

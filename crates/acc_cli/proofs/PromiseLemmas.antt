@@ -58,12 +58,13 @@ module _ (held : List ℕ → Told) (words : List (List ℕ)) where
   of_files :
       (design certificate script order : List ℕ) (said : Said)
       → AreFiles held (files_of command.Rehearse words) (design ∷ certificate ∷ script ∷ order ∷ [])
-      → SchedulesFiles design certificate script order said → KeepsPromise held words said.history
+      → SchedulesFiles design certificate script order said → KeepsPromise held words command.Rehearse said.history
   of_files design certificate script order said given (inl h) = inl (refusal_tells_none design said h)
   of_files design certificate script order said given (inr h) = by h.says
     where
       of_accepted :
-          SchedulesAccepted h.d certificate script order said → EndsSomehow h.d said.history → KeepsPromise held words said.history
+          SchedulesAccepted h.d certificate script order said → EndsSomehow h.d said.history
+          → KeepsPromise held words command.Rehearse said.history
       of_accepted a (inl none) = inl none
       of_accepted a (inr w) = inr (record {
         design = design;
@@ -77,14 +78,14 @@ module _ (held : List ℕ → Told) (words : List (List ℕ)) where
         ends_well = w.1;
       })
 
-      by : SaysOfCertificate h.d certificate script order said → KeepsPromise held words said.history
+      by : SaysOfCertificate h.d certificate script order said → KeepsPromise held words command.Rehearse said.history
       by (inl refused) = inl refused.history
       by (inr a) = of_accepted a (of_script h.d script order said a.says)
 
   of_means :
       (files : List (List ℕ)) (said : Said) → AreFiles held (files_of command.Rehearse words) files
       → MeansOfFiles command.Rehearse files said
-      → KeepsPromise held words said.history
+      → KeepsPromise held words command.Rehearse said.history
   unfolding MeansOfFiles
   of_means [] said given h = absurd h
   of_means (design ∷ []) said given h = absurd h
@@ -95,7 +96,8 @@ module _ (held : List ℕ → Told) (words : List (List ℕ)) where
 
   of_form :
       (counts counts' : Counts) (disk disk' : Seen) (reply : Reply)
-      → MeansForm held counts counts' disk disk' words (Some command.Rehearse) reply → KeepsPromise held words reply.history
+      → MeansForm held counts counts' disk disk' words (Some command.Rehearse) reply
+      → KeepsPromise held words command.Rehearse reply.history
   of_form counts counts' disk disk' reply (inl refused) = inl refused.1.0
   of_form counts counts' disk disk' reply (inr (files, given, counted, (ending, status, means))) =
       of_means files (record { ending = ending; text = reply.text; history = reply.history }) given means.2
@@ -104,9 +106,9 @@ module _ (held : List ℕ → Told) (words : List (List ℕ)) where
       (counts counts' : Counts) (disk disk' : Seen) (old new : Option (List ℕ)) (fault : Type 0) (status : Status) (history : List Event)
       (settled : ℕ) → command_of words ≡ Some command.Rehearse
       → Answered (is_over_journal (command_of words)) (Meant held counts counts' disk disk' words) old new fault status history settled
-      → KeepsPromise held words history
+      → KeepsPromise held words command.Rehearse history
   promise_kept counts counts' disk disk' old new fault status history settled is (inl none) = inl (none.2 (ap is_over_journal is)).0
   promise_kept counts counts' disk disk' old new fault status history settled is (inr (meant, means, ends)) =
-      subst (KeepsPromise held words) (sym ends.history_is)
+      subst (KeepsPromise held words command.Rehearse) (sym ends.history_is)
       (of_form counts counts' disk disk' meant
       (subst (λ (o : Option Command). MeansForm held counts counts' disk disk' words o meant) is means))

@@ -193,6 +193,7 @@ of_command held words command.Verify w disk disk' old new code files t is given 
 of_command held words command.TpccDesign w disk disk' old new code files t is given h = absurd cc
 of_command held words (command.TpccLoad scale) w disk disk' old new code files t is given h = absurd cc
 of_command held words (command.TpccMix mix) w disk disk' old new code files t is given h = absurd cc
+of_command held words (command.Bench mix) w disk disk' old new code files t is given h = absurd cc
 of_command held words command.Init w disk disk' old new code files t is given h = absurd cc
 of_command held words command.Play w disk disk' old new code files t is given h = absurd cc
 of_command held words command.Rehearse w disk disk' old new code files t is given h = absurd cc

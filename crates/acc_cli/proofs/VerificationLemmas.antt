@@ -1,5 +1,5 @@
 -- What `verify` tells.
-use Rattle.std.proofs.Common.{◌≡◌, ℕ, Bool, List, [], ◌∷◌, Option, Some, inl, inr, sym, ap, subst, ◌∙◌, refl, arith, ⊎_elim}
+use Rattle.std.proofs.Common.{◌≡◌, ℕ, Bool, List, [], ◌∷◌, Option, Some, inl, inr, sym, ap, subst, ◌∙◌, arith, ⊎_elim}
 use Rattle.std.specs.Prelude.{◌≢◌, ◌⊎◌}
 use Rattle.acc_base.specs.declared.designs.Design.{Design}
 use Rattle.acc_base.specs.declared.machines.Event.{Event}
@@ -28,7 +28,7 @@ use Rattle.acc_commands.specs.VerifyFiles.{VerifiesSchema, VerifiesCertified, Ve
 use Rattle.acc_commands.specs.Words.{command_of, files_of}
 use Rattle.acc_commands.proofs.JournalEndings.{EndsOver, refusal_ends, refusal_tells_none, unrecovered_ends}
 use Rattle.acc_cli.specs.declared.status.Status.{Status}
-use Rattle.acc_cli.specs.declared.status.Status.TheVariants.{File, Sink, Memory, Ran}
+use Rattle.acc_cli.specs.declared.status.Status.TheVariants.{File, Sink, Ran}
 use Rattle.acc_cli.specs.Replies.{Reply}
 use Rattle.acc_cli.specs.Status.{code_of}
 use Rattle.acc_cli.specs.Meant.{MeansForm, Meant}

@@ -20,7 +20,7 @@ use Rattle.acc_cli.specs.declared.status.Status.TheVariants.{Usage, File, Sink, 
 use Rattle.acc_commands.specs.Words.{command_of, files_of}
 use Rattle.acc_commands.specs.Files.{AreFiles, IsFirstRefused, SaysRefused}
 use Rattle.acc_commands.specs.Means.{Means}
-use Rattle.acc_commands.specs.Overs.{IsRecovering, LeavesBy, FindsFalse}
+use Rattle.acc_commands.specs.Overs.{IsRecovering, LeavesBy, FindsFalse, LeavesBench, BenchFindsFalse}
 use Rattle.acc_commands.specs.ProveFiles.{StaysOpen}
 use Rattle.acc_journalled.specs.Tellings.{Telling}
 use Rattle.acc_commands.specs.Disks.{Seen}
@@ -56,10 +56,10 @@ pub record LeavesInMemory (c : Command) (said : Telling) : Type 0 where
   pub order : List ℕ
   pub tells : TellsSchedule d calls order said.text said.history false
 
--- a schedule leaves a place that couldn't begin
+-- a schedule leaves a place that couldn't begin, or a load and a mix do, with each condition true
 pub record LeavesUnbegun (held : List ℕ → Told) (counts counts' : Counts) (disk disk' : Seen) (words : List (List ℕ)) : Type 0 where
   pub ends : EndsSo held counts counts' disk disk' words Unbegun
-  pub left : LeavesInMemory ends.command ends.said ⊎ LeavesBy ends.command ends.said
+  pub left : LeavesInMemory ends.command ends.said ⊎ LeavesBy ends.command ends.said ⊎ LeavesBench ends.command ends.said
 
 -- it is `init`, the first two bytes of the disk say that a journal is there, and it holds what it held
 pub record FindsJournal (c : Command) (disk disk' : Seen) : Type 0 where
@@ -91,12 +91,11 @@ pub record LeavesOpen (held : List ℕ → Told) (counts counts' : Counts) (disk
   pub file : ends.files ≡ design ∷ []
   pub stays : StaysOpen design ends.said.text
 
--- it is `verify`, and a consistency condition is false of the recovered rows
+-- it is `verify`, and a consistency condition is false of the recovered rows; or `bench`, and one is false of the rows at its end
 pub record FindsConditionFalse (held : List ℕ → Told) (counts counts' : Counts) (disk disk' : Seen) (words : List (List ℕ)) : Type 0
   where
     pub ends : EndsSo held counts counts' disk disk' words ConditionFalse
-    pub is_verify : ends.command ≡ command.Verify
-    pub finds : FindsFalse disk disk' ends.said
+    pub finds : ((ends.command ≡ command.Verify) × FindsFalse disk disk' ends.said) ⊎ BenchFindsFalse ends.command ends.said
 
 -- Want of memory alone is free. No status but that of a file comes after a read that gave no file.
 pub record HasCauses (held : List ℕ → Told) (counts counts' : Counts) (disk disk' : Seen) (words : List (List ℕ)) (sink_fault : Type 0)

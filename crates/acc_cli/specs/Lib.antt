@@ -10,5 +10,6 @@ pub mod Promises
 pub mod Creations
 pub mod Recoveries
 pub mod Verifications
+pub mod Benches
 pub mod Runs
 pub mod Headline

@@ -26,6 +26,7 @@ wanted_by command.Verify = None
 wanted_by command.TpccDesign = None
 wanted_by (command.TpccLoad scale) = None
 wanted_by (command.TpccMix mix) = None
+wanted_by (command.Bench mix) = None
 wanted_by command.Play = None
 wanted_by command.Rehearse = None
 wanted_by command.Print = None

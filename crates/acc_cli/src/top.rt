@@ -21,13 +21,15 @@ ghost use Rattle.acc_cli.specs.Creations.{IsCreated};
 ghost use Rattle.acc_cli.specs.Provings.{IsProved};
 ghost use Rattle.acc_cli.specs.Recoveries.{wanted_by, TellsRecovery, LeavesRefused};
 ghost use Rattle.acc_cli.specs.Verifications.{TellsVerification};
+ghost use Rattle.acc_cli.specs.Benches.{TellsBench};
 ghost use Rattle.acc_journalled.specs.declared.answers.Wanted.{Wanted};
 ghost use Rattle.acc_commands.specs.Command.{Command as TheCommand};
 ghost use Rattle.acc_commands.specs.Disks.{seen, IsUntouched};
 ghost use Rattle.acc_commands.specs.Words.{command_of, is_journalled, is_over_journal};
 ghost use Rattle.acc_commands.specs.Requests.{command_in, texts_in};
 ghost use Rattle.acc_commands.specs.Means.{LeavesOf};
-ghost use Rattle.acc_commands.specs.Command.TheVariants.{Rehearse, Sched, Run, Init, Prove, Verify};
+ghost use Rattle.acc_commands.specs.Command.TheVariants.{Rehearse, Sched, Run, Init, Prove, Verify, Bench};
+ghost use Rattle.acc_commands.specs.Mix.{Mix};
 
 use crate::status::Status;
 use acc_base::machines::Event;
@@ -288,7 +290,7 @@ pub fn acc<
         (map string_bytes words.now) (Rose (K.faults out.old) (K.faults out.new)) status) }
     // What `rehearse` ran is a lawful and annotated run of an accepted design, whatever the order of turns.
     ensures promise { command_of (map string_bytes words.now) ≡ Some Rehearse
-        → KeepsPromise (H.held shelf.old) (map string_bytes words.now) result.history }
+        → KeepsPromise (H.held shelf.old) (map string_bytes words.now) Rehearse result.history }
     // What `sched` ran behind the recovered history is so too, and follows the order of turns; of its ends all but one at most are durable.
     // From a calm disk a crash at any moment of the call leaves its file, or a journal of what was found, of that with its compensation, or
     // of a front of the history with all of that; and after the call a front with all that is told as durable. This is so with each status,
@@ -319,6 +321,15 @@ pub fn acc<
     ensures verified { command_of (map string_bytes words.now) ≡ Some Verify
         → TellsVerification (H.held shelf.old) (map string_bytes words.now) (D.told disk) (D.told result.disk) (K.bytes out.old)
         (K.bytes out.new) result.status result.history result.settled }
+    // Where `bench` ended with status 0, 7, 8 or 10, the history is that of its load and its mix in the generated order. The status tells
+    // how they ended, and the lines what they came to: with 10 a condition is false of the rows at the end, and else each is true. Else
+    // none is told.
+    ensures benched { (mix : Mix) → command_of (map string_bytes words.now) ≡ Some (Bench mix)
+        → TellsBench (H.held shelf.old) (map string_bytes words.now) mix (K.bytes out.old) (K.bytes out.new) result.status
+        result.history }
+    // What `bench` ran is a lawful and annotated run of an accepted design, as that of `rehearse`.
+    ensures bench_promise { (mix : Mix) → command_of (map string_bytes words.now) ≡ Some (Bench mix)
+        → KeepsPromise (H.held shelf.old) (map string_bytes words.now) (Bench mix) result.history }
     // A journal that is refused tells the same bytes, or counts what it counted.
     ensures unchanged { result.status ≡ 4 → LeavesRefused (D.told disk) (D.told result.disk) }
     // Status 0 comes only where each read gave its file and no write failed.

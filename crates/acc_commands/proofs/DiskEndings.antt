@@ -44,6 +44,7 @@ ends_over_disk command.Verify (design ∷ certificate ∷ more ∷ rest) old new
 ends_over_disk command.TpccDesign files old new t h = absurd h
 ends_over_disk (command.TpccLoad scale) files old new t h = absurd h
 ends_over_disk (command.TpccMix mix) files old new t h = absurd h
+ends_over_disk (command.Bench mix) files old new t h = absurd h
 ends_over_disk command.Play files old new t h = absurd h
 ends_over_disk command.Rehearse files old new t h = absurd h
 ends_over_disk command.Sched [] old new t h = absurd h

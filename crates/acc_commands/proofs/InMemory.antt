@@ -32,6 +32,7 @@ module _ {D : Type 0} (clock : D → ℕ) (left_since : D → ℕ → List ℕ �
   leaves_disk command.TpccDesign files old new history settled is same none = (same, none)
   leaves_disk (command.TpccLoad scale) files old new history settled is same none = (same, none)
   leaves_disk (command.TpccMix mix) files old new history settled is same none = (same, none)
+  leaves_disk (command.Bench mix) files old new history settled is same none = (same, none)
   leaves_disk command.Play files old new history settled is same none = (same, none)
   leaves_disk command.Rehearse files old new history settled is same none = (same, none)
   leaves_disk command.Print files old new history settled is same none = (same, none)

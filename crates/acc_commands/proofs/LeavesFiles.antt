@@ -104,6 +104,7 @@ module _ {D : Type 0} (clock : D → ℕ) (left_since : D → ℕ → List ℕ �
     leaves_file command.TpccDesign files old new history settled now h = disk_same old new history settled now h
     leaves_file (command.TpccLoad scale) files old new history settled now h = disk_same old new history settled now h
     leaves_file (command.TpccMix mix) files old new history settled now h = disk_same old new history settled now h
+    leaves_file (command.Bench mix) files old new history settled now h = disk_same old new history settled now h
     leaves_file command.Play files old new history settled now h = disk_same old new history settled now h
     leaves_file command.Rehearse files old new history settled now h = disk_same old new history settled now h
     leaves_file command.Print files old new history settled now h = disk_same old new history settled now h

@@ -3,6 +3,9 @@ pub use Rattle.acc_journal_commands.proofs.Disks
 pub use Rattle.acc_journal_commands.proofs.JournalEndings
 pub use Rattle.acc_journal_commands.proofs.Tails
 pub mod OneRun
+pub mod OneBenching
+pub mod BenchOvers
+pub mod BenchTruths
 pub mod OneProving
 pub mod Completeness
 pub mod ProvedAccepted

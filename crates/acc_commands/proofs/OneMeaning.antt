@@ -34,6 +34,7 @@ use Rattle.acc_commands.specs.Means.{MeansOfFiles, MeansOverDisk, MeansBy, Means
 use Rattle.acc_journal_commands.proofs.OneDesign.{said_same, one_design, one_refusal, formed_or_refused}
 use Rattle.acc_commands.proofs.OneProving.{SaidAlike, one_prove}
 use Rattle.acc_commands.proofs.OneVerifying.{telling_same, one_verify}
+use Rattle.acc_commands.proofs.OneBenching.{one_bench_of}
 use Rattle.acc_commands.proofs.OneRun.{one_of_script, one_play, one_certificate_refusal, accepted_or_refused, one_certified}
 use Rattle.acc_commands.proofs.OneRun.{one_order_refusal, one_numbers, one_script_refusal, one_calls}
 use Rattle.acc_journal_commands.specs.RunFiles.{RunsSeen, RunsOfOrder, WorksSeen, RunsOfScript, RunsCertified, RunsTexts}
@@ -120,6 +121,10 @@ one_of_files (command.TpccLoad scale) [] a b h k = inl (said_same Done (load_sai
 one_of_files (command.TpccMix mix) [] a b h k = inl (said_same Done (mix_said mix) (mix_said mix) a b refl h k)
 one_of_files (command.TpccLoad scale) (more ∷ rest) a b h k = absurd h
 one_of_files (command.TpccMix mix) (more ∷ rest) a b h k = absurd h
+one_of_files (command.Bench mix) [] a b h k = absurd h
+one_of_files (command.Bench mix) (design ∷ []) a b h k = absurd h
+one_of_files (command.Bench mix) (design ∷ certificate ∷ []) a b h k = inl (one_bench_of mix design certificate a b h k)
+one_of_files (command.Bench mix) (design ∷ certificate ∷ more ∷ rest) a b h k = absurd h
 one_of_files command.Help [] a b h k = inl (said_same Done help_text help_text a b refl h k)
 one_of_files command.Help (more ∷ rest) a b h k = absurd h
 one_of_files command.Version [] a b h k = inl (said_same Done version_text version_text a b refl h k)
@@ -278,6 +283,7 @@ one_over_disk command.Verify (design ∷ certificate ∷ more ∷ rest) old one 
 one_over_disk command.TpccDesign files old one other a b all h k = absurd h
 one_over_disk (command.TpccLoad scale) files old one other a b all h k = absurd h
 one_over_disk (command.TpccMix mix) files old one other a b all h k = absurd h
+one_over_disk (command.Bench mix) files old one other a b all h k = absurd h
 one_over_disk command.Play files old one other a b all h k = absurd h
 one_over_disk command.Rehearse files old one other a b all h k = absurd h
 one_over_disk command.Sched [] old one other a b all h k = absurd h

@@ -75,7 +75,7 @@ module _ (old one other : Seen) (a b : Telling) (all : TellsAll old one other) w
 
 -- ---- with the shipped design no condition is false
 
-all_by_place : {X : Type 0} (P : X → Type 0) (xs : List X) → AllByRecursion P xs → All P xs
+pub all_by_place : {X : Type 0} (P : X → Type 0) (xs : List X) → AllByRecursion P xs → All P xs
 all_by_place P [] h = All-nil P
 all_by_place P (x ∷ xs) h = All-cons P x xs h.0 (all_by_place P xs h.1)
 

@@ -133,6 +133,7 @@ refused_over command.Verify (design ∷ certificate ∷ more ∷ rest) old new t
 refused_over command.TpccDesign files old new t e h = absurd h
 refused_over (command.TpccLoad scale) files old new t e h = absurd h
 refused_over (command.TpccMix mix) files old new t e h = absurd h
+refused_over (command.Bench mix) files old new t e h = absurd h
 refused_over command.Play files old new t e h = absurd h
 refused_over command.Rehearse files old new t e h = absurd h
 refused_over command.Sched [] old new t e h = absurd h
@@ -267,6 +268,7 @@ unbegun_over command.Verify (design ∷ certificate ∷ more ∷ rest) old new t
 unbegun_over command.TpccDesign files old new t e h = absurd h
 unbegun_over (command.TpccLoad scale) files old new t e h = absurd h
 unbegun_over (command.TpccMix mix) files old new t e h = absurd h
+unbegun_over (command.Bench mix) files old new t e h = absurd h
 unbegun_over command.Play files old new t e h = absurd h
 unbegun_over command.Print files old new t e h = absurd h
 unbegun_over command.Check files old new t e h = absurd h

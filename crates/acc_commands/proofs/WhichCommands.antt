@@ -24,7 +24,8 @@ use Rattle.acc_file_commands.specs.CheckFiles.{ChecksFiles, ending_by}
 use Rattle.acc_file_commands.specs.ProveFiles.{EndsProving, StaysOpen, ProvesFile}
 use Rattle.acc_journal_commands.specs.Words.{is_journalled}
 use Rattle.acc_commands.specs.Means.{MeansOfFiles, MeansBy, Means}
-use Rattle.acc_commands.specs.Overs.{LeavesBy, FindsFalse}
+use Rattle.acc_commands.specs.Overs.{LeavesBy, FindsFalse, RunsBench, LeavesBench, BenchFindsFalse}
+use Rattle.acc_commands.proofs.BenchOvers.{runs_bench, never_bench, leaves_bench, bench_finds_false}
 use Rattle.acc_journal_commands.proofs.JournalEndings.{failed_by, never_false, never_open, other_end}
 use Rattle.acc_commands.proofs.DiskEndings.{ends_over_disk}
 use Rattle.acc_commands.proofs.RefusedOvers.{RefusesOver, refused_over, unbegun_over}
@@ -43,8 +44,12 @@ abbrev pub Opens : Command → List (List ℕ) → Said → Type 0
 Opens c files said =
     (c ≡ command.Prove) × (said.ending ≡ Open) × (design : List ℕ) × (files ≡ design ∷ []) × StaysOpen design said.text
 
+-- a schedule, open obligations, or a load and a mix
+abbrev pub EndsOtherwise : Command → List (List ℕ) → Said → Type 0
+EndsOtherwise c files said = Scheduled c said ⊎ Opens c files said ⊎ RunsBench c said
+
 -- An ending that is neither that all is done nor a refusal of the design or the script. A command without a journal that ends so is
--- `rehearse`, or `prove` with obligations that stay open.
+-- `rehearse`, or `prove` with obligations that stay open, or `bench`.
 module _ (other : Ending) (done_other : Done ≢ other) (design_other : DesignRefused ≢ other) (script_other : ScriptRefused ≢ other) where
   -- what ends otherwise doesn't end so
   not_so : (ending : Ending) (said : Said) → ending ≢ other → said.ending ≡ ending → said.ending ≡ other → ⊥
@@ -125,7 +130,7 @@ module _ (other : Ending) (done_other : Done ≢ other) (design_other : DesignRe
 
   pub ends_scheduled :
       (c : Command) (files : List (List ℕ)) (said : Said) → said.ending ≡ other → MeansOfFiles c files said
-      → Scheduled c said ⊎ Opens c files said
+      → EndsOtherwise c files said
   unfolding MeansOfFiles
   ends_scheduled command.Play [] said e h = absurd h
   ends_scheduled command.Play (design ∷ []) said e h = absurd h
@@ -147,7 +152,7 @@ module _ (other : Ending) (done_other : Done ≢ other) (design_other : DesignRe
   ends_scheduled command.Check (design ∷ certificate ∷ []) said e h = absurd (check_other design certificate said e h)
   ends_scheduled command.Check (design ∷ certificate ∷ more ∷ rest) said e h = absurd h
   ends_scheduled command.Prove [] said e h = absurd h
-  ends_scheduled command.Prove (design ∷ []) said e h = inr (opens_so design said e h)
+  ends_scheduled command.Prove (design ∷ []) said e h = inr (inl (opens_so design said e h))
   ends_scheduled command.Prove (design ∷ more ∷ rest) said e h = absurd h
   ends_scheduled command.Init files said e h = absurd h
   ends_scheduled command.Sched files said e h = absurd h
@@ -162,6 +167,11 @@ module _ (other : Ending) (done_other : Done ≢ other) (design_other : DesignRe
   ends_scheduled (command.TpccMix mix) [] said e h = absurd (not_so Done said done_other h.0 e)
   ends_scheduled (command.TpccLoad scale) (more ∷ rest) said e h = absurd h
   ends_scheduled (command.TpccMix mix) (more ∷ rest) said e h = absurd h
+  ends_scheduled (command.Bench mix) [] said e h = absurd h
+  ends_scheduled (command.Bench mix) (design ∷ []) said e h = absurd h
+  ends_scheduled (command.Bench mix) (design ∷ certificate ∷ []) said e h =
+      inr (inr (runs_bench other design_other script_other mix said e design certificate h))
+  ends_scheduled (command.Bench mix) (design ∷ certificate ∷ more ∷ rest) said e h = absurd h
   ends_scheduled command.Help [] said e h = absurd (not_so Done said done_other h.0 e)
   ends_scheduled command.Help (more ∷ rest) said e h = absurd h
   ends_scheduled command.Version [] said e h = absurd (not_so Done said done_other h.0 e)
@@ -175,9 +185,9 @@ Left c t =
     (c ≡ command.Rehearse) × (d : Design) × (calls : List Call) × (order : List ℕ)
     × TellsSchedule d calls order t.text t.history false
 
--- or over a journal
+-- or over a journal, or by a load and a mix
 abbrev pub LeftAnyhow : Command → Telling → Type 0
-LeftAnyhow c t = Left c t ⊎ LeavesBy c t
+LeftAnyhow c t = Left c t ⊎ LeavesBy c t ⊎ LeavesBench c t
 
 ending_unbegun : (all_begun : Bool) → ending_at all_begun ≡ Unbegun → all_begun ≡ false
 ending_unbegun true e = absurd (done_unbegun e)
@@ -194,11 +204,12 @@ never_opens : (other : Ending) → Open ≢ other → (c : Command) (files : Lis
 never_opens other differs c files t e (is, ending, design, file, stays) = differs (sym ending ∙ e)
 
 left_of : (c : Command) (files : List (List ℕ)) (t : Telling) → t.ending ≡ Unbegun
-    → Scheduled c (said_in t) ⊎ Opens c files (said_in t) → Left c t
-left_of c files t e (inr opens) = absurd (never_opens Unbegun (λ e. cc) c files t e opens)
+    → EndsOtherwise c files (said_in t) → LeftAnyhow c t
+left_of c files t e (inr (inl opens)) = absurd (never_opens Unbegun (λ e. cc) c files t e opens)
+left_of c files t e (inr (inr runs)) = inr (inr (leaves_bench c t runs e))
 left_of c files t e (inl (is, d, calls, order, says)) =
     let begun : says.all_begun ≡ false = ending_unbegun says.all_begun (sym says.ending ∙ e) in
-    (is, d, calls, order, subst (TellsSchedule d calls order t.text t.history) begun says.tells)
+    inl (is, d, calls, order, subst (TellsSchedule d calls order t.text t.history) begun says.tells)
 
 pub leaves_unbegun :
     (c : Command) (files : List (List ℕ)) (old new : Seen) (t : Telling) → t.ending ≡ Unbegun → Means c files old new t
@@ -206,9 +217,8 @@ pub leaves_unbegun :
 leaves_unbegun c files old new t e = by (is_journalled c)
   where
     by : (over : Bool) → MeansBy over c files old new t → LeftAnyhow c t
-    by true h = inr (unbegun_over c files old new t e h)
-    by false h =
-        inl (left_of c files t e (ends_scheduled Unbegun done_unbegun (λ e. cc) (λ e. cc) c files (said_in t) e h.2))
+    by true h = inr (inl (unbegun_over c files old new t e h))
+    by false h = left_of c files t e (ends_scheduled Unbegun done_unbegun (λ e. cc) (λ e. cc) c files (said_in t) e h.2)
 
 not_scheduled :
     (other : Ending) → Done ≢ other → Unbegun ≢ other → (c : Command) (t : Telling) → t.ending ≡ other → Scheduled c (said_in t) → ⊥
@@ -216,10 +226,11 @@ not_scheduled other done unbegun c t e (is, d, calls, order, says) =
     ending_else other says.all_begun done unbegun (sym says.ending ∙ e)
 
 -- a command without a journal neither refuses one nor fails by its disk
-neither : (other : Ending) → Done ≢ other → Unbegun ≢ other → Open ≢ other → (c : Command) (files : List (List ℕ)) (t : Telling)
-    → t.ending ≡ other → Scheduled c (said_in t) ⊎ Opens c files (said_in t) → ⊥
-neither other done unbegun differs c files t e (inl h) = not_scheduled other done unbegun c t e h
-neither other done unbegun differs c files t e (inr h) = never_opens other differs c files t e h
+neither : (other : Ending) → Done ≢ other → Unbegun ≢ other → Open ≢ other → ConditionFalse ≢ other → (c : Command)
+    (files : List (List ℕ)) (t : Telling) → t.ending ≡ other → EndsOtherwise c files (said_in t) → ⊥
+neither other done unbegun differs judged c files t e (inl h) = not_scheduled other done unbegun c t e h
+neither other done unbegun differs judged c files t e (inr (inl h)) = never_opens other differs c files t e h
+neither other done unbegun differs judged c files t e (inr (inr h)) = never_bench c t h other done unbegun judged e
 
 pub refuses_journal :
     (c : Command) (files : List (List ℕ)) (old new : Seen) (t : Telling) → t.ending ≡ JournalRefused → Means c files old new t
@@ -229,7 +240,7 @@ refuses_journal c files old new t e = by (is_journalled c)
     by : (over : Bool) → MeansBy over c files old new t → RefusesOver c old new t
     by true h = refused_over c files old new t e h
     by false h =
-        absurd (neither JournalRefused (λ e. cc) (λ e. cc) (λ e. cc) c files t e
+        absurd (neither JournalRefused (λ e. cc) (λ e. cc) (λ e. cc) (λ e. cc) c files t e
         (ends_scheduled JournalRefused (λ e. cc) (λ e. cc) (λ e. cc) c files (said_in t) e h.2))
 
 pub fails_by_disk :
@@ -242,7 +253,7 @@ fails_by_disk c files old new t e = by (is_journalled c)
         ⊎_elim (λ others. failed_by (Rose old.faults new.faults) t others e)
         (λ finds. absurd (other_end ConditionFalse DiskFailed t (λ e. cc) finds.1 e)) (ends_over_disk c files old new t h)
     by false h =
-        absurd (neither DiskFailed (λ e. cc) (λ e. cc) (λ e. cc) c files t e
+        absurd (neither DiskFailed (λ e. cc) (λ e. cc) (λ e. cc) (λ e. cc) c files t e
         (ends_scheduled DiskFailed (λ e. cc) (λ e. cc) (λ e. cc) c files (said_in t) e h.2))
 
 -- a command that leaves something open is `prove`
@@ -251,9 +262,10 @@ pub leaves_open :
     → Opens c files (said_in t)
 leaves_open c files old new t e = by (is_journalled c)
   where
-    open_so : Scheduled c (said_in t) ⊎ Opens c files (said_in t) → Opens c files (said_in t)
+    open_so : EndsOtherwise c files (said_in t) → Opens c files (said_in t)
     open_so (inl h) = absurd (not_scheduled Open (λ e. cc) (λ e. cc) c t e h)
-    open_so (inr h) = h
+    open_so (inr (inl h)) = h
+    open_so (inr (inr h)) = absurd (never_bench c t h Open (λ e. cc) (λ e. cc) (λ e. cc) e)
 
     by : (over : Bool) → MeansBy over c files old new t → Opens c files (said_in t)
     by true h =
@@ -261,16 +273,23 @@ leaves_open c files old new t e = by (is_journalled c)
         (λ finds. absurd (other_end ConditionFalse Open t (λ e. cc) finds.1 e)) (ends_over_disk c files old new t h)
     by false h = open_so (ends_scheduled Open (λ e. cc) (λ e. cc) (λ e. cc) c files (said_in t) e h.2)
 
--- a command that finds a condition false is `verify`
+-- `verify` finds one false of recovered rows, or `bench` of those at its end
+abbrev pub FindsAnyhow : Command → Seen → Seen → Telling → Type 0
+FindsAnyhow c old new t = ((c ≡ command.Verify) × FindsFalse old new t) ⊎ BenchFindsFalse c t
+
+-- a command that finds a condition false is `verify` or `bench`
 pub finds_false :
     (c : Command) (files : List (List ℕ)) (old new : Seen) (t : Telling) → t.ending ≡ ConditionFalse → Means c files old new t
-    → (c ≡ command.Verify) × FindsFalse old new t
+    → FindsAnyhow c old new t
 finds_false c files old new t e = by (is_journalled c)
   where
-    by : (over : Bool) → MeansBy over c files old new t → (c ≡ command.Verify) × FindsFalse old new t
+    false_so : EndsOtherwise c files (said_in t) → FindsAnyhow c old new t
+    false_so (inl h) = absurd (not_scheduled ConditionFalse (λ e. cc) (λ e. cc) c t e h)
+    false_so (inr (inl h)) = absurd (never_opens ConditionFalse (λ e. cc) c files t e h)
+    false_so (inr (inr h)) = inr (bench_finds_false c t h e)
+
+    by : (over : Bool) → MeansBy over c files old new t → FindsAnyhow c old new t
     by true h =
-        ⊎_elim (λ others. absurd (never_false (Rose old.faults new.faults) t others e)) (λ finds. (finds.0, finds.2))
+        ⊎_elim (λ others. absurd (never_false (Rose old.faults new.faults) t others e)) (λ finds. inl (finds.0, finds.2))
         (ends_over_disk c files old new t h)
-    by false h =
-        absurd (neither ConditionFalse (λ e. cc) (λ e. cc) (λ e. cc) c files t e
-        (ends_scheduled ConditionFalse (λ e. cc) (λ e. cc) (λ e. cc) c files (said_in t) e h.2))
+    by false h = false_so (ends_scheduled ConditionFalse (λ e. cc) (λ e. cc) (λ e. cc) c files (said_in t) e h.2)

@@ -13,7 +13,9 @@ use Rattle.acc_journalled.specs.Tellings.{Telling}
 use Rattle.acc_journal_commands.specs.Command.{Command}
 use Rattle.acc_journal_commands.specs.Text.{Said, Says}
 use Rattle.acc_journal_commands.specs.Disks.{Seen, TellsAll}
+use Rattle.acc_file_commands.specs.BenchFiles.{BenchesFiles}
 use Rattle.acc_file_commands.specs.CheckFiles.{ChecksFiles}
+use Rattle.acc_file_commands.specs.Mix.{Mix}
 use Rattle.acc_file_commands.specs.ProveFiles.{ProvesFile}
 use Rattle.acc_file_commands.specs.ShippedText.{shipped_design}
 use Rattle.acc_journal_commands.specs.VerifyFiles.{VerifiesFiles}
@@ -47,3 +49,8 @@ ClosedIsTold = (design : List ℕ) (d : Design) (said : Said) → IsDesignText d
 abbrev pub ShippedStaysTrue : Type 0
 ShippedStaysTrue = (design certificate : List ℕ) (old new : Seen) (t : Telling) → IsDesignText design shipped_design
     → VerifiesFiles design certificate old new t → t.ending ≢ ConditionFalse
+
+-- And `bench` never finds one false of it, however large its load and its mix are.
+abbrev pub ShippedBenchesTrue : Type 0
+ShippedBenchesTrue = (m : Mix) (design certificate : List ℕ) (said : Said) → IsDesignText design shipped_design
+    → BenchesFiles m design certificate said → said.ending ≢ ConditionFalse

@@ -1,3 +1,5 @@
+pub use Rattle.acc_file_commands.specs.BenchFiles
+pub use Rattle.acc_file_commands.specs.Mix
 pub use Rattle.acc_file_commands.specs.ProveFiles
 pub use Rattle.acc_file_commands.specs.Provings
 pub use Rattle.acc_file_commands.specs.ScheduleFiles

@@ -20,6 +20,7 @@ use Rattle.acc_file_commands.specs.PrintFiles.{PrintsFile}
 use Rattle.acc_file_commands.specs.CheckFiles.{ChecksFiles}
 use Rattle.acc_file_commands.specs.ProveFiles.{ProvesFile}
 use Rattle.acc_file_commands.specs.Workloads.{PrintsShipped, PrintsLoad, PrintsMix}
+use Rattle.acc_file_commands.specs.BenchFiles.{BenchesFiles}
 use Rattle.acc_journal_commands.specs.InitFiles.{InitsFile, InitLeaves, InitLeft}
 use Rattle.acc_journal_commands.specs.RecoverFiles.{RecoversFiles, RecoverLeaves, RecoverLeft}
 use Rattle.acc_journal_commands.specs.VerifyFiles.{VerifiesFiles, VerifyLeft}
@@ -35,6 +36,7 @@ MeansOfFiles command.Prove (design ∷ []) = ProvesFile design
 MeansOfFiles command.TpccDesign [] = PrintsShipped
 MeansOfFiles (command.TpccLoad scale) [] = PrintsLoad scale
 MeansOfFiles (command.TpccMix mix) [] = PrintsMix mix
+MeansOfFiles (command.Bench mix) (design ∷ certificate ∷ []) = BenchesFiles mix design certificate
 MeansOfFiles command.Help [] = Says Done help_text
 MeansOfFiles command.Version [] = Says Done version_text
 MeansOfFiles command.Play files = λ said. ⊥
@@ -52,6 +54,7 @@ MeansOfFiles command.Verify files = λ said. ⊥
 MeansOfFiles command.TpccDesign files = λ said. ⊥
 MeansOfFiles (command.TpccLoad scale) files = λ said. ⊥
 MeansOfFiles (command.TpccMix mix) files = λ said. ⊥
+MeansOfFiles (command.Bench mix) files = λ said. ⊥
 MeansOfFiles command.Help files = λ said. ⊥
 MeansOfFiles command.Version files = λ said. ⊥
 
@@ -79,6 +82,7 @@ MeansOverDisk command.Verify files = λ old new t. ⊥
 MeansOverDisk command.TpccDesign files = λ old new t. ⊥
 MeansOverDisk (command.TpccLoad scale) files = λ old new t. ⊥
 MeansOverDisk (command.TpccMix mix) files = λ old new t. ⊥
+MeansOverDisk (command.Bench mix) files = λ old new t. ⊥
 MeansOverDisk command.Help files = λ old new t. ⊥
 MeansOverDisk command.Version files = λ old new t. ⊥
 
@@ -114,6 +118,7 @@ LeavesOfFile command.Verify files = λ file image. image ≡ file
 LeavesOfFile command.TpccDesign files = λ file image. image ≡ file
 LeavesOfFile (command.TpccLoad scale) files = λ file image. image ≡ file
 LeavesOfFile (command.TpccMix mix) files = λ file image. image ≡ file
+LeavesOfFile (command.Bench mix) files = λ file image. image ≡ file
 LeavesOfFile command.Help files = λ file image. image ≡ file
 LeavesOfFile command.Version files = λ file image. image ≡ file
 
@@ -149,6 +154,7 @@ module _ {D : Type 0} (clock : D → ℕ) (left_since : D → ℕ → List ℕ �
     LeavesOf command.TpccDesign files = LeavesDisk
     LeavesOf (command.TpccLoad scale) files = LeavesDisk
     LeavesOf (command.TpccMix mix) files = LeavesDisk
+    LeavesOf (command.Bench mix) files = LeavesDisk
     LeavesOf command.Help files = LeavesDisk
     LeavesOf command.Version files = LeavesDisk
 

@@ -1,10 +1,16 @@
--- Which commands go over a recovered journal, which run over one leaves a place unbegun, and where a condition is found false.
-use Rattle.std.specs.Prelude.{◌≡◌, ◌⊎◌, ℕ, false, List}
+-- Which commands go over a recovered journal, which run leaves a place unbegun, and where a condition is found false.
+use Rattle.std.specs.Prelude.{◌≡◌, ◌⊎◌, ◌≤◌, ◌&&◌, ℕ, false, List, length}
+use Rattle.acc_base.specs.declared.bounds.TheConstants.{MOST_EVENTS}
 use Rattle.acc_base.specs.declared.designs.Design.{Design}
 use Rattle.acc_base.specs.declared.machines.Call.{Call}
 use Rattle.acc_base.specs.Machine.{World}
 use Rattle.acc_base.specs.Plays.{Play}
+use Rattle.acc_file_commands.specs.BenchFiles.{SaysBench}
+use Rattle.acc_bench.specs.Conditions.{IsLowestFalse}
+use Rattle.acc_bench.specs.declared.results.FalseCondition.{FalseCondition}
+use Rattle.acc_file_commands.specs.Mix.{Mix}
 use Rattle.acc_file_commands.specs.Schedules.{TellsScheduleFrom}
+use Rattle.acc_file_commands.specs.Workloads.{load_said, mix_said}
 use Rattle.acc_journal_commands.specs.Running.{IsOpening, WorkersLeave}
 use Rattle.acc_journal_commands.specs.Command.{Command}
 use Rattle.acc_journal_commands.specs.Command.TheVariants as command
@@ -12,6 +18,8 @@ use Rattle.acc_journalled.specs.Conditions.{AreConsistent}
 use Rattle.acc_journalled.specs.Verifying.{Verifies}
 use Rattle.acc_journalled.specs.Tellings.{Telling}
 use Rattle.acc_journal_commands.specs.Disks.{Seen}
+use Rattle.acc_journal_commands.specs.Text.{Said, said_in}
+use Rattle.acc_script.specs.CallLines.{IsScript}
 use Rattle.tpcc_tables.specs.Schema.{IsSchemaOf}
 use Rattle.tpcc_tables.specs.declared.tables.TableSet.{TableSet}
 
@@ -44,3 +52,34 @@ pub record FindsFalse (old new : Seen) (t : Telling) : Type 0 where
   pub schema : IsSchemaOf tables d
   pub verified : Verifies tables d old.told new.told t
   pub not_all : ¬ AreConsistent tables verified.recovers.last.rows
+
+-- The design has these tables of TPC-C, the scripts of the load and of the mix have these calls over it, and this is said of them.
+pub record IsRunOf (m : Mix) (d : Design) (said : Said) : Type 0 where
+  pub tables : TableSet
+  pub schema : IsSchemaOf tables d
+  pub load : List Call
+  pub is_load : IsScript d (load_said m.scale) load
+  pub calls : List Call
+  pub is_mix : IsScript d (mix_said m) calls
+  pub says : SaysBench d tables m load calls said
+
+-- it is `bench`, and so
+pub record RunsBench (c : Command) (said : Said) : Type 0 where
+  pub mix : Mix
+  pub is_bench : c ≡ command.Bench mix
+  pub d : Design
+  pub run : IsRunOf mix d said
+
+-- one of the calls couldn't begin, since the history is full, and each condition is true of the rows at the end
+pub record LeavesBench (c : Command) (t : Telling) : Type 0 where
+  pub runs : RunsBench c (said_in t)
+  pub not_all : (runs.run.says.benched.loaded.all_begun && runs.run.says.benched.mixed.all_begun) ≡ false
+  pub full : MOST_EVENTS ≤ length t.history
+  pub all_true : AreConsistent runs.run.tables runs.run.says.comes.world.rows
+
+-- this is the lowest of the conditions that are false of the rows at the end
+pub record BenchFindsFalse (c : Command) (t : Telling) : Type 0 where
+  pub runs : RunsBench c (said_in t)
+  pub found : FalseCondition
+  pub is_lowest : IsLowestFalse runs.run.tables runs.run.says.comes.world.rows found
+  pub not_all : ¬ AreConsistent runs.run.tables runs.run.says.comes.world.rows

@@ -11,6 +11,7 @@ ghost use Rattle.acc_journal_commands.specs.Answers.{said_alone};
 
 use acc_disk::Disk;
 use acc_file_commands::Searchers;
+use acc_file_commands::benches::bench_files;
 use acc_file_commands::designs::{check_files, print_file};
 use acc_file_commands::memory_runs::Run;
 use acc_file_commands::plays::play_files;
@@ -109,6 +110,9 @@ pub fn run<'a, D: Disk, C: Crew<Engine<'a, IndexStore, D>>, S: Searchers, P: Pro
         Request::TpccDesign => unrun(alloc, disk, print_shipped(alloc)),
         Request::TpccLoad(scale) => unrun(alloc, disk, print_load(alloc, scale)),
         Request::TpccMix(mix) => unrun(alloc, disk, print_mix(alloc, mix)),
+        Request::Bench(files, mix) => {
+            ran(alloc, disk, bench_files(alloc, files, mix, progress))
+        },
         Request::Help => unrun(alloc, disk, help(alloc)),
         Request::Version => unrun(alloc, disk, version(alloc)),
     }

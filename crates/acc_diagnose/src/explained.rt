@@ -118,22 +118,23 @@ fn push_judged(
         (Judged::Accepted(d), [script, orders @ ..]) => {
             push_script(alloc, out, d.design(), *script, orders)
         }
-        (Judged::Accepted(d), []) if asks_tables(command) => {
-            push_verified(alloc, out, d.design(), design, printed)
-        }
-        (Judged::Accepted(_), []) => Ok(()),
+        (Judged::Accepted(d), []) => match asks_tables(command) {
+            Some(verb) => push_verified(alloc, out, d.design(), design, verb, printed),
+            None => Ok(()),
+        },
     }
 }
 
-/// Whether a command asks for TPC-C's tables.
-fn asks_tables(command: Command) -> bool {
+/// The verb of a command that asks for TPC-C's tables.
+fn asks_tables(command: Command) -> Option<&'static [u8]> {
     match command {
-        Command::Verify => true,
-        Command::Rehearse | Command::Check | Command::Sched | Command::Run(_) => false,
-        Command::Recover | Command::Dump | Command::Replies => false,
-        Command::Play | Command::Print | Command::Prove | Command::Init => false,
-        Command::TpccDesign | Command::TpccLoad(_) | Command::TpccMix(_) => false,
-        Command::Help | Command::Version => false,
+        Command::Verify => Some(b"verify"),
+        Command::Bench(_) => Some(b"bench"),
+        Command::Rehearse | Command::Check | Command::Sched | Command::Run(_) => None,
+        Command::Recover | Command::Dump | Command::Replies => None,
+        Command::Play | Command::Print | Command::Prove | Command::Init => None,
+        Command::TpccDesign | Command::TpccLoad(_) | Command::TpccMix(_) => None,
+        Command::Help | Command::Version => None,
     }
 }
 
@@ -142,6 +143,7 @@ fn is_certified(command: Command) -> bool {
     match command {
         Command::Rehearse | Command::Check | Command::Sched | Command::Run(_) => true,
         Command::Recover | Command::Dump | Command::Replies | Command::Verify => true,
+        Command::Bench(_) => true,
         Command::Play | Command::Print | Command::Prove | Command::Init => false,
         Command::TpccDesign | Command::TpccLoad(_) | Command::TpccMix(_) => false,
         Command::Help | Command::Version => false,
@@ -277,7 +279,7 @@ fn push_done<H: Shelf>(
         Command::Init | Command::Sched | Command::Run(_) => Ok(()),
         Command::Recover | Command::Dump | Command::Replies | Command::Verify => Ok(()),
         Command::TpccDesign | Command::TpccLoad(_) | Command::TpccMix(_) => Ok(()),
-        Command::Help | Command::Version => Ok(()),
+        Command::Bench(_) | Command::Help | Command::Version => Ok(()),
     }
 }
 
@@ -316,7 +318,7 @@ fn push_status<H: Shelf>(
         USAGE => push_usage(out, words, usage),
         JOURNAL => return push_journal(alloc, out, printed),
         SINK => push_note(out, b"acc", sink_text(), b""),
-        UNBEGUN => push_full(out),
+        UNBEGUN => push_full(out, words),
         MEMORY => push_note(out, b"acc", memory_text(), b""),
         _ => {
             if let Some(command) = command_of(words) {

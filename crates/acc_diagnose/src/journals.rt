@@ -1,7 +1,7 @@
 //! What is told of a journal that is refused, and of a disk that failed.
 use acc_base::bounds::MOST_EVENTS;
 use acc_explain::{begin_note, end_note, push_note, push_with};
-use acc_inputs::Command;
+use acc_inputs::{Command, command_of};
 use acc_page::Page;
 use std::alloc::{AllocError, Global};
 
@@ -78,7 +78,7 @@ fn standing(command: Command) -> &'static [u8] {
         | Command::Verify =>
             b"what was durable is durable, and nothing half-written counts; `acc recover` brings the journal to rest",
         Command::Play | Command::Rehearse | Command::Print | Command::Check => b"",
-        Command::Prove | Command::Help | Command::Version => b"",
+        Command::Prove | Command::Bench(_) | Command::Help | Command::Version => b"",
         Command::TpccDesign | Command::TpccLoad(_) | Command::TpccMix(_) => b"",
     }
 }
@@ -93,14 +93,25 @@ pub fn push_disk(out: &mut Page, command: Command) {
     )
 }
 
+/// Which places stayed unbegun, and what is so of the others.
+fn unbegun(words: &[String]) -> (&'static [u8], &'static [u8]) {
+    if let Some(Command::Bench(_)) = command_of(words) {
+        (
+            b" events of a run; a call of the load or of the mix came behind them",
+            b"it is neither committed nor compensated; a smaller load or mix has room",
+        )
+    } else {
+        (
+            b" events of a run, or of a journal; each place that is told as unbegun came behind them",
+            b"what is told of the other places stands",
+        )
+    }
+}
+
 /// Says why a place stayed unbegun.
-pub fn push_full(out: &mut Page) {
+pub fn push_full(out: &mut Page, words: &[String]) {
+    let (which, others) = unbegun(words);
     begin_note(out, b"acc");
-    push_with(
-        out,
-        b"no call begins behind ",
-        MOST_EVENTS,
-        b" events of a run, or of a journal; each place that is told as unbegun came behind them",
-    );
-    end_note(out, b"what is told of the other places stands")
+    push_with(out, b"no call begins behind ", MOST_EVENTS, which);
+    end_note(out, others)
 }

@@ -18,6 +18,8 @@ mod workloads;
 pub use damage::cut_line;
 pub use explained::explain;
 pub use keeping::Keeping;
-pub use progress::{found_line, replay_line, search_line, work_line};
+pub use progress::{
+    found_line, memory_line, part_line, replay_line, search_line, speed_line, work_line,
+};
 pub use reasons::system_reason;
 pub use room::room_line;

@@ -25,7 +25,7 @@ const WORKERS: Number = Number {
     most: MOST_WORKERS,
 };
 
-/// The numbers of `tpcc mix`, of which the first three are those of `tpcc load`.
+/// The numbers of `tpcc mix` and of `bench`, of which the first three are those of `tpcc load`.
 const MIX: [Number; 5] = [
     Number {
         what: b"number of warehouses",
@@ -103,7 +103,7 @@ fn push_number(out: &mut Page, command: &[u8], word: &[u8], number: Number) {
     );
 }
 
-/// Says which of the words behind `tpcc load` or `tpcc mix` isn't the number that its place takes, if one isn't.
+/// Says which of a command's numbers isn't one that its place takes, if one isn't.
 fn push_numbers(out: &mut Page, command: &[u8], words: &[String]) {
     for (word, number) in words.iter().zip(MIX.iter()) {
         if number_of(number.least, number.most, word.as_str()).is_none() {
@@ -133,6 +133,9 @@ pub fn push_usage(out: &mut Page, words: &[String], usage: &[u8]) {
             push_number(out, b"run", workers.as_bytes(), WORKERS)
         }
         [verb, behind @ ..] if verb.as_str() == "tpcc" => push_tpcc(out, behind, usage),
+        [verb, _, _, numbers @ ..] if verb.as_str() == "bench" && numbers.len() == 5 => {
+            push_numbers(out, b"bench", numbers)
+        }
         [verb, ..] => push_verb(out, verb.as_bytes(), usage),
         [] => out.push(b"no command is given, or one of the words isn't UTF-8"),
     }

@@ -1,7 +1,7 @@
-//! What is told of a design that lacks a table of TPC-C, and of conditions that are false.
+//! What is told of a design that lacks a table of TPC-C, or a call of its workload, and of conditions that are false.
 use crate::obligations::File;
 use acc_base::designs::Design;
-use acc_explain::{begin_note, end_note, push_quoted};
+use acc_explain::{begin_note, end_note, push_note, push_quoted};
 use acc_page::Page;
 use std::alloc::{AllocError, Global};
 use tpcc_tables::kinds::{CONDITIONS, Condition};
@@ -28,15 +28,16 @@ fn has_table(d: &Design, name: &[u8]) -> bool {
         .any(|table| table.name.as_slice() == name)
 }
 
-/// Says that a design lacks this table of TPC-C, or has another of its name.
-fn push_lack(out: &mut Page, d: &Design, design: File, wanted: SchemaTable) {
+/// Says that a design lacks this table of TPC-C, for which the command of the verb asks, or has another of its name.
+fn push_lack(out: &mut Page, d: &Design, design: File, verb: &[u8], wanted: SchemaTable) {
     begin_note(out, design.name);
+    push_quoted(out, verb);
     if has_table(d, wanted.name()) {
-        out.push(b"`verify` asks for TPC-C's tables, and the table ");
+        out.push(b" asks for TPC-C's tables, and the table ");
         push_quoted(out, wanted.name());
         out.push(b" has another width or other columns; it is to be ");
     } else {
-        out.push(b"`verify` asks for TPC-C's tables, and there is no table ");
+        out.push(b" asks for TPC-C's tables, and there is no table ");
         push_quoted(out, wanted.name());
         out.push(b"; it is to be ");
     }
@@ -67,30 +68,72 @@ fn false_text(condition: Condition) -> &'static [u8] {
     }
 }
 
+/// The number of the condition that a line tells of; 0 where it tells of none.
+fn condition_number(line: &[u8]) -> usize {
+    let mut number: usize = 0;
+    if let Some(told) = line.strip_prefix(b"condition ".as_slice()) {
+        for byte in told {
+            if !byte.is_ascii_digit() {
+                break;
+            }
+            number = number
+                .saturating_mul(10)
+                .saturating_add((*byte - b'0') as usize);
+        }
+    }
+    number
+}
+
+/// The condition that a line tells to be false.
+fn false_condition(line: &[u8]) -> Option<Condition> {
+    if line.ends_with(b" true") {
+        return None;
+    }
+    let at = condition_number(line).checked_sub(1)?;
+    CONDITIONS.get(at).copied()
+}
+
 /// Says what is so where conditions are false, by the lines that are printed of them.
 fn push_false(out: &mut Page, printed: &[u8]) {
-    for (line, condition) in printed.split(|byte| *byte == b'\n').zip(CONDITIONS.iter()) {
-        if !line.ends_with(b" true") {
+    for line in printed.split(|byte| *byte == b'\n') {
+        if let Some(condition) = false_condition(line) {
             begin_note(out, line);
-            out.push(false_text(*condition));
+            out.push(false_text(condition));
             end_note(out, b"");
         }
     }
 }
 
-/// Says which table of TPC-C an accepted design lacks; or, where it has them all, what is so where conditions are false.
+/// Says that a design lacks a call of the workload, if a generated line of that is told as refused.
+fn push_unfit(out: &mut Page, design: File, printed: &[u8]) {
+    if printed.starts_with(b"refused script ") {
+        push_note(
+            out,
+            design.name,
+            b"the load that `acc tpcc load` prints, or else the mix of `acc tpcc mix`, has a call in that line that isn't one of the design",
+            b"`acc tpcc design` prints a design that has all of their calls",
+        );
+    }
+}
+
+/// Says which table of TPC-C an accepted design lacks, for which the command of the verb asks; or, where it has them all, which call of the
+/// workload it lacks, or what is so where conditions are false.
 pub fn push_verified(
     alloc: Global,
     out: &mut Page,
     d: &Design,
     design: File,
+    verb: &[u8],
     printed: &[u8],
 ) -> Result<(), AllocError> {
     match schema(alloc, d) {
-        Ok(_) => push_false(out, printed),
+        Ok(_) => {
+            push_unfit(out, design, printed);
+            push_false(out, printed);
+        }
         Err(SchemaError::Lacks(number)) => {
             if let Some(wanted) = SCHEMA.get(number as usize - 1) {
-                push_lack(out, d, design, *wanted);
+                push_lack(out, d, design, verb, *wanted);
             }
         }
         Err(SchemaError::Memory) => return Err(AllocError),

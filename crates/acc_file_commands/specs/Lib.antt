@@ -1,3 +1,4 @@
+pub use Rattle.acc_inputs.specs.declared.scales.Mix
 pub use Rattle.acc_prove.specs.Provings
 pub use Rattle.acc_schedule.specs.Schedules
 pub use Rattle.tpcc_steps.specs.Law
@@ -9,3 +10,4 @@ pub mod CheckFiles
 pub mod ProveFiles
 pub mod Runs
 pub mod Workloads
+pub mod BenchFiles

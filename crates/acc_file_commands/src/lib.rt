@@ -1,6 +1,7 @@
 //! What each command without a journal makes of the files that it is given.
 #![tactic(auto)]
 
+pub mod benches;
 pub mod designs;
 pub mod memory_runs;
 pub mod plays;
@@ -9,6 +10,7 @@ pub mod schedules;
 pub mod workloads;
 
 pub use acc_prove::{InTurn, Searchers, Searching};
+pub use benches::bench_files;
 pub use designs::{check_files, print_file};
 pub use memory_runs::{Run, unplayed};
 pub use plays::play_files;

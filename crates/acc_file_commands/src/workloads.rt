@@ -23,7 +23,7 @@ pub fn print_shipped(alloc: Global) -> Result<Answer, AllocError>
 }
 
 /// The script that loads a scale. It is empty for one that no load may have; no words ask for such a one.
-fn load_script(alloc: Global, scale: Scale) -> Result<Vec<u8>, AllocError>
+pub(crate) fn load_script(alloc: Global, scale: Scale) -> Result<Vec<u8>, AllocError>
     ensures { IfOk result (λ text. text.items ≡ load_said scale) }
 {
     if scale.is_fit() {
@@ -44,7 +44,7 @@ pub fn print_load(alloc: Global, scale: Scale) -> Result<Answer, AllocError>
 }
 
 /// The script of a mix. It is empty for one that is too large; no words ask for such a one.
-fn mix_script(alloc: Global, asked: Mix) -> Result<Vec<u8>, AllocError>
+pub(crate) fn mix_script(alloc: Global, asked: Mix) -> Result<Vec<u8>, AllocError>
     ensures { IfOk result (λ text. text.items ≡ mix_said asked) }
 {
     if asked.is_fit() {

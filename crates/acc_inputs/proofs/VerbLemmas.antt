@@ -13,10 +13,10 @@ use Rattle.acc_inputs.specs.declared.scales.Mix.{Mix}
 use Rattle.tpcc_gen.specs.declared.bounds.TheConstants.{MOST_WAREHOUSES, MOST_ITEMS, MOST_CUSTOMERS, MOST_TRANSACTIONS, LARGEST_START}
 use Rattle.acc_inputs.specs.declared.words.TheConstants.{MOST_WORKERS}
 use Rattle.acc_inputs.specs.Scales.{IsWithin, is_scale, is_mix}
-use Rattle.acc_inputs.specs.Words.{form_of, workload_of, file_count, IsCrew, number_of, workers_in, scale_of}
-use Rattle.acc_inputs.specs.Words.{with_files, with_workers, with_load, with_mix, with_form, command_of}
+use Rattle.acc_inputs.specs.Words.{form_of, workload_of, file_count, IsCrew, number_of, workers_in, scale_of, mix_of}
+use Rattle.acc_inputs.specs.Words.{with_files, with_workers, with_load, with_mix, with_bench, with_form, command_of}
 use Rattle.acc_inputs.specs.Notes.{help_lines}
-use Rattle.acc_inputs.specs.Verbs.{verb_of, EachHasVerb, EachHasHelp}
+use Rattle.acc_inputs.specs.Verbs.{verb_of, mix_numbers, EachHasVerb, EachHasHelp}
 use Rattle.acc_inputs.proofs.Workers.{number_of_numeral}
 
 -- the names of a command's files behind its verb
@@ -61,16 +61,29 @@ unfolding form_of workload_of
 load_given s [] fit none = ap (option_map command.TpccLoad) (scale_given s fit)
 load_given s (name ∷ names) fit none = absurd (omega (arith, none))
 
-mix_given : (m : Mix) (names : List (List ℕ)) → is_mix m ≡ true → length names ≡ 0
-    → command_of (codes "tpcc" ∷ codes "mix" ∷ (names ++ map decimal (m.scale.warehouses ∷ m.scale.items ∷ m.scale.customers ∷ m.count
-    ∷ m.start ∷ []))) ≡ Some (command.TpccMix m)
-unfolding form_of workload_of
-mix_given m [] fit none =
+-- and a mix by those of its numbers
+mix_told : (m : Mix) → is_mix m ≡ true → mix_of (map decimal (mix_numbers m)) ≡ Some m
+mix_told m fit =
     let s : is_scale m.scale ≡ true = grind (arith, nat_tests, fit) in
     let n : IsWithin 0 MOST_TRANSACTIONS m.count = grind (arith, nat_tests, fit) in
     let from : IsWithin 0 LARGEST_START m.start = grind (arith, nat_tests, fit) in
-    rw (scale_given m.scale s, number_of_numeral 0 MOST_TRANSACTIONS m.count (omega arith) n, number_of_numeral 0 LARGEST_START m.start (omega arith) from) refl
+    rw (
+      scale_given m.scale s,
+      number_of_numeral 0 MOST_TRANSACTIONS m.count (omega arith) n,
+      number_of_numeral 0 LARGEST_START m.start (omega arith) from,
+    ) refl
+
+mix_given : (m : Mix) (names : List (List ℕ)) → is_mix m ≡ true → length names ≡ 0
+    → command_of (codes "tpcc" ∷ codes "mix" ∷ (names ++ map decimal (mix_numbers m))) ≡ Some (command.TpccMix m)
+unfolding form_of workload_of
+mix_given m [] fit none = ap (option_map command.TpccMix) (mix_told m fit)
 mix_given m (name ∷ names) fit none = absurd (omega (arith, none))
+
+bench_given : (m : Mix) (names : List (List ℕ)) → is_mix m ≡ true → length names ≡ 2
+    → with_bench (names ++ map decimal (mix_numbers m)) ≡ Some (command.Bench m)
+bench_given m names fit count =
+    ap (λ words. option_map command.Bench (mix_of words)) (drop_at names (map decimal (mix_numbers m)) 2 count)
+    ∙ ap (option_map command.Bench) (mix_told m fit)
 
 pub verbs : EachHasVerb
 unfolding form_of file_count
@@ -89,6 +102,7 @@ verbs command.Verify names few count = verb_given command.Verify (codes "verify"
 verbs command.TpccDesign names few count = design_given names count
 verbs (command.TpccLoad s) names few count = load_given s names few count
 verbs (command.TpccMix m) names few count = mix_given m names few count
+verbs (command.Bench m) names few count = bench_given m names few count
 verbs command.Help names few count = verb_given command.Help (codes "--help") names refl count
 verbs command.Version names few count = verb_given command.Version (codes "--version") names refl count
 
@@ -118,5 +132,6 @@ help command.Verify = line_at 11 (codes "acc verify ") (omega arith) refl
 help command.TpccDesign = line_at 12 (codes "acc tpcc design ") (omega arith) refl
 help (command.TpccLoad scale) = line_at 13 (codes "acc tpcc load ") (omega arith) refl
 help (command.TpccMix mix) = line_at 14 (codes "acc tpcc mix ") (omega arith) refl
-help command.Help = line_at 15 (codes "acc --help ") (omega arith) refl
-help command.Version = line_at 16 (codes "acc --version ") (omega arith) refl
+help (command.Bench mix) = line_at 15 (codes "acc bench ") (omega arith) refl
+help command.Help = line_at 16 (codes "acc --help ") (omega arith) refl
+help command.Version = line_at 17 (codes "acc --version ") (omega arith) refl

@@ -7,7 +7,7 @@ use Rattle.acc_base.specs.Lines.{line}
 unfoldable pub help_lines : List (List ℕ)
 help_lines =
     codes "acc play DESIGN SCRIPT ORDER                plays the script in the order's turns, and prints the turns and the replies" ∷
-    codes "acc rehearse DESIGN CERT SCRIPT ORDER       the same by the rules of locks, if the certificate proves it sound; ends the rest" ∷
+    codes "acc rehearse DESIGN CERT SCRIPT ORDER       the same by rules of locks, if the certificate proves it sound; ends the rest" ∷
     codes "acc print DESIGN                            prints the design in its one spelling" ∷
     codes "acc check DESIGN CERT                       tells whether the certificate proves that the design is sound, and else why not" ∷
     codes "acc prove DESIGN                            makes such a certificate, or tells which obligations stay open" ∷
@@ -19,8 +19,9 @@ help_lines =
     codes "acc replies DESIGN CERT JOURNAL             does the same, and prints how each transaction ended, by its number" ∷
     codes "acc verify DESIGN CERT JOURNAL              does the same, and tells which of TPC-C's conditions 1 to 9 are true of its rows" ∷
     codes "acc tpcc design                             prints the design of TPC-C's transactions that the program brings along" ∷
-    codes "acc tpcc load W ITEMS CUSTOMERS             prints a script that loads W warehouses of TPC-C, 1 to 10, as the standard fills them" ∷
-    codes "acc tpcc mix W ITEMS CUSTOMERS COUNT START  prints a script of COUNT of TPC-C's transactions behind that, drawn from the number START" ∷
+    codes "acc tpcc load W ITEMS CUSTOMERS             prints a script that fills W warehouses of TPC-C, 1 to 10, as the standard says" ∷
+    codes "acc tpcc mix W ITEMS CUSTOMERS COUNT START  prints a script of COUNT of TPC-C's transactions behind that, drawn from START" ∷
+    codes "acc bench DESIGN CERT W ITEMS CUSTOMERS COUNT START  runs both in memory, and tells whether TPC-C's conditions are true" ∷
     codes "acc --help                                  prints these lines" ∷
     codes "acc --version                               prints the version of acc, and of the toolchain that proved it" ∷
     codes "README.md tells what acc is for, and docs/DESIGN-LANGUAGE.md how a design is written and how to mend one that is refused." ∷

@@ -8,7 +8,8 @@ use Rattle.acc_inputs.specs.declared.requests.ScheduleFiles.{ScheduleFiles}
 use Rattle.acc_inputs.specs.declared.requests.WorkerFiles.{WorkerFiles}
 use Rattle.acc_inputs.specs.declared.requests.Request.{Request}
 use Rattle.acc_inputs.specs.declared.requests.Request.TheVariants.{Play, Rehearse, Print, Check, Prove, Init, Sched, Run}
-use Rattle.acc_inputs.specs.declared.requests.Request.TheVariants.{Recover, Dump, Replies, Verify, TpccDesign, TpccLoad, TpccMix, Help, Version}
+use Rattle.acc_inputs.specs.declared.requests.Request.TheVariants.{Recover, Dump, Replies, Verify}
+use Rattle.acc_inputs.specs.declared.requests.Request.TheVariants.{TpccDesign, TpccLoad, TpccMix, Bench, Help, Version}
 
 abbrev pub command_in : Request → Command
 command_in (Play files) = command.Play
@@ -26,6 +27,7 @@ command_in (Verify files) = command.Verify
 command_in TpccDesign = command.TpccDesign
 command_in (TpccLoad scale) = command.TpccLoad scale
 command_in (TpccMix mix) = command.TpccMix mix
+command_in (Bench files mix) = command.Bench mix
 command_in Help = command.Help
 command_in Version = command.Version
 
@@ -58,5 +60,6 @@ texts_in (Verify files) = certified_texts files
 texts_in TpccDesign = []
 texts_in (TpccLoad scale) = []
 texts_in (TpccMix mix) = []
+texts_in (Bench files mix) = certified_texts files
 texts_in Help = []
 texts_in Version = []

@@ -3,6 +3,7 @@ use Rattle.std.specs.Prelude.{◌≡◌, ⊤, true, ℕ, List, [], ◌∷◌, �
 use Rattle.std.specs.List.{flat_map}
 use Rattle.acc_inputs.specs.declared.words.Command.{Command}
 use Rattle.acc_inputs.specs.declared.words.Command.TheVariants as command
+use Rattle.acc_inputs.specs.declared.scales.Mix.{Mix}
 use Rattle.acc_inputs.specs.Scales.{is_scale, is_mix}
 use Rattle.acc_inputs.specs.Words.{file_count, IsCrew, command_of}
 use Rattle.acc_inputs.specs.Notes.{help_lines}
@@ -24,8 +25,13 @@ verb_of command.Verify = codes "verify" ∷ []
 verb_of command.TpccDesign = codes "tpcc" ∷ codes "design" ∷ []
 verb_of (command.TpccLoad scale) = codes "tpcc" ∷ codes "load" ∷ []
 verb_of (command.TpccMix mix) = codes "tpcc" ∷ codes "mix" ∷ []
+verb_of (command.Bench mix) = codes "bench" ∷ []
 verb_of command.Help = codes "--help" ∷ []
 verb_of command.Version = codes "--version" ∷ []
+
+-- the numbers of a mix, in the order of the words that tell them
+abbrev pub mix_numbers : Mix → List ℕ
+mix_numbers mix = mix.scale.warehouses ∷ mix.scale.items ∷ mix.scale.customers ∷ mix.count ∷ mix.start ∷ []
 
 -- the numbers that a command has, in the order of the words that tell them
 abbrev pub numbers_of : Command → List ℕ
@@ -43,7 +49,8 @@ numbers_of command.Replies = []
 numbers_of command.Verify = []
 numbers_of command.TpccDesign = []
 numbers_of (command.TpccLoad scale) = scale.warehouses ∷ scale.items ∷ scale.customers ∷ []
-numbers_of (command.TpccMix mix) = mix.scale.warehouses ∷ mix.scale.items ∷ mix.scale.customers ∷ mix.count ∷ mix.start ∷ []
+numbers_of (command.TpccMix mix) = mix_numbers mix
+numbers_of (command.Bench mix) = mix_numbers mix
 numbers_of command.Help = []
 numbers_of command.Version = []
 
@@ -64,6 +71,7 @@ HasFit command.Verify = ⊤
 HasFit command.TpccDesign = ⊤
 HasFit (command.TpccLoad scale) = is_scale scale ≡ true
 HasFit (command.TpccMix mix) = is_mix mix ≡ true
+HasFit (command.Bench mix) = is_mix mix ≡ true
 HasFit command.Help = ⊤
 HasFit command.Version = ⊤
 

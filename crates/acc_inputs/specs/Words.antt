@@ -11,12 +11,12 @@ use Rattle.acc_inputs.specs.declared.words.Workload.{Workload}
 use Rattle.acc_inputs.specs.declared.words.Workload.TheVariants.{Design, Load, Mix as MixOf}
 use Rattle.acc_inputs.specs.Scales.{IsWithin, is_within}
 use Rattle.acc_inputs.specs.declared.words.Form.{Form}
-use Rattle.acc_inputs.specs.declared.words.Form.TheVariants.{Files, Workers, Tpcc}
+use Rattle.acc_inputs.specs.declared.words.Form.TheVariants.{Files, Workers, Tpcc, Bench}
 use Rattle.acc_inputs.specs.declared.words.Command.{Command}
 use Rattle.acc_inputs.specs.declared.words.Command.TheVariants as command
 
--- what stands behind this verb: the names of the command's files alone; those of the files of `run` and then the number of workers; or,
--- behind `tpcc`, what is wanted of it and its numbers
+-- what stands behind this verb: the names of the command's files alone; those of the files of `run` and then the number of workers;
+-- behind `tpcc`, what is wanted of it and its numbers; or those of the files of `bench` and then the numbers of its mix
 unfoldable pub form_of : List ℕ → Option Form
 form_of verb =
     if bytes_eq verb (codes "play") then Some (Files command.Play) else
@@ -32,9 +32,10 @@ form_of verb =
     (if bytes_eq verb (codes "replies") then Some (Files command.Replies) else
     (if bytes_eq verb (codes "verify") then Some (Files command.Verify) else
     (if bytes_eq verb (codes "tpcc") then Some Tpcc else
+    (if bytes_eq verb (codes "bench") then Some Bench else
     (if bytes_eq verb (codes "--help") then Some (Files command.Help) else
     (if bytes_eq verb (codes "--version") then Some (Files command.Version) else
-    None))))))))))))))
+    None)))))))))))))))
 
 -- what this word wants of TPC-C
 unfoldable pub workload_of : List ℕ → Option Workload
@@ -61,6 +62,7 @@ file_count command.Verify = 2
 file_count command.TpccDesign = 0
 file_count (command.TpccLoad scale) = 0
 file_count (command.TpccMix mix) = 0
+file_count (command.Bench mix) = 2
 file_count command.Help = 0
 file_count command.Version = 0
 
@@ -84,6 +86,7 @@ is_journalled command.Verify = true
 is_journalled command.TpccDesign = false
 is_journalled (command.TpccLoad scale) = false
 is_journalled (command.TpccMix mix) = false
+is_journalled (command.Bench mix) = false
 is_journalled command.Help = false
 is_journalled command.Version = false
 
@@ -144,16 +147,20 @@ with_load (w ∷ i ∷ []) = None
 with_load (w ∷ i ∷ c ∷ []) = option_map command.TpccLoad (scale_of w i c)
 with_load (w ∷ i ∷ c ∷ more ∷ rest) = None
 
--- `tpcc mix`, if its scale stands behind it, how many transactions it has, and the number that they are drawn from
+-- the mix of five words: its scale, how many transactions it has, and the number that they are drawn from
+abbrev pub mix_of : List (List ℕ) → Option Mix
+mix_of [] = None
+mix_of (w ∷ []) = None
+mix_of (w ∷ i ∷ []) = None
+mix_of (w ∷ i ∷ c ∷ []) = None
+mix_of (w ∷ i ∷ c ∷ count ∷ []) = None
+mix_of (w ∷ i ∷ c ∷ count ∷ start ∷ []) =
+    mix_from (scale_of w i c) (number_of 0 MOST_TRANSACTIONS count) (number_of 0 LARGEST_START start)
+mix_of (w ∷ i ∷ c ∷ count ∷ start ∷ more ∷ rest) = None
+
+-- `tpcc mix`, if the words behind it tell a mix
 abbrev pub with_mix : List (List ℕ) → Option Command
-with_mix [] = None
-with_mix (w ∷ []) = None
-with_mix (w ∷ i ∷ []) = None
-with_mix (w ∷ i ∷ c ∷ []) = None
-with_mix (w ∷ i ∷ c ∷ count ∷ []) = None
-with_mix (w ∷ i ∷ c ∷ count ∷ start ∷ []) =
-    option_map command.TpccMix (mix_from (scale_of w i c) (number_of 0 MOST_TRANSACTIONS count) (number_of 0 LARGEST_START start))
-with_mix (w ∷ i ∷ c ∷ count ∷ start ∷ more ∷ rest) = None
+with_mix words = option_map command.TpccMix (mix_of words)
 
 abbrev pub with_workload : Option Workload → List (List ℕ) → Option Command
 with_workload None words = None
@@ -166,12 +173,17 @@ abbrev pub with_tpcc : List (List ℕ) → Option Command
 with_tpcc [] = None
 with_tpcc (wanted ∷ words) = with_workload (workload_of wanted) words
 
+-- `bench`, if two words name its files, and those behind them tell its mix
+abbrev pub with_bench : List (List ℕ) → Option Command
+with_bench words = option_map command.Bench (mix_of (drop 2 words))
+
 -- the command, if such words stand behind its verb
 abbrev pub with_form : Option Form → List (List ℕ) → Option Command
 with_form None words = None
 with_form (Some (Files c)) words = with_files c words
 with_form (Some Workers) words = with_workers words
 with_form (Some Tpcc) words = with_tpcc words
+with_form (Some Bench) words = with_bench words
 
 -- the command that the words ask for: its verb, and what stands behind that
 abbrev pub command_of : List (List ℕ) → Option Command
@@ -197,6 +209,7 @@ is_journal_form None = false
 is_journal_form (Some (Files c)) = is_journalled c
 is_journal_form (Some Workers) = true
 is_journal_form (Some Tpcc) = false
+is_journal_form (Some Bench) = false
 
 -- Whether the first word is the verb of a command over a journal. Then the program's own last word names the journal's file, and isn't one
 -- of the words of a form.

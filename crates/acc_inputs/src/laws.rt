@@ -1,7 +1,7 @@
 //! What holds of all commands.
 ghost use Rattle.acc_inputs.specs.Verbs.{EachHasVerb, EachHasHelp};
 
-/// Each command has a verb: with the names of its files behind it, and for `run` the number of its workers, it asks for the command.
+/// Each command has a verb: with the names of its files behind it, and the numbers that it has, it asks for the command.
 pub fn commands_have_verbs()
     ensures { EachHasVerb }
 {}

@@ -10,7 +10,7 @@ pub fn help_text(alloc: Global) -> Result<Vec<u8>, AllocError>
     ensures { IfOk result (λ text. text.items ≡ help_text) }
 {
     b"acc play DESIGN SCRIPT ORDER                plays the script in the order's turns, and prints the turns and the replies
-acc rehearse DESIGN CERT SCRIPT ORDER       the same by the rules of locks, if the certificate proves it sound; ends the rest
+acc rehearse DESIGN CERT SCRIPT ORDER       the same by rules of locks, if the certificate proves it sound; ends the rest
 acc print DESIGN                            prints the design in its one spelling
 acc check DESIGN CERT                       tells whether the certificate proves that the design is sound, and else why not
 acc prove DESIGN                            makes such a certificate, or tells which obligations stay open
@@ -22,8 +22,9 @@ acc dump DESIGN CERT JOURNAL                does the same, and prints the rows t
 acc replies DESIGN CERT JOURNAL             does the same, and prints how each transaction ended, by its number
 acc verify DESIGN CERT JOURNAL              does the same, and tells which of TPC-C's conditions 1 to 9 are true of its rows
 acc tpcc design                             prints the design of TPC-C's transactions that the program brings along
-acc tpcc load W ITEMS CUSTOMERS             prints a script that loads W warehouses of TPC-C, 1 to 10, as the standard fills them
-acc tpcc mix W ITEMS CUSTOMERS COUNT START  prints a script of COUNT of TPC-C's transactions behind that, drawn from the number START
+acc tpcc load W ITEMS CUSTOMERS             prints a script that fills W warehouses of TPC-C, 1 to 10, as the standard says
+acc tpcc mix W ITEMS CUSTOMERS COUNT START  prints a script of COUNT of TPC-C's transactions behind that, drawn from START
+acc bench DESIGN CERT W ITEMS CUSTOMERS COUNT START  runs both in memory, and tells whether TPC-C's conditions are true
 acc --help                                  prints these lines
 acc --version                               prints the version of acc, and of the toolchain that proved it
 README.md tells what acc is for, and docs/DESIGN-LANGUAGE.md how a design is written and how to mend one that is refused.

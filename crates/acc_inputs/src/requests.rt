@@ -83,6 +83,8 @@ pub enum Request<'a> {
     TpccDesign,
     TpccLoad(Scale),
     TpccMix(Mix),
+    /// With the numbers of its mix.
+    Bench(CertifiedFiles<'a>, Mix),
     Help,
     Version,
 }
@@ -122,6 +124,7 @@ impl<'a> Request<'a> {
             Command::TpccDesign => Request::TpccDesign,
             Command::TpccLoad(scale) => Request::TpccLoad(scale),
             Command::TpccMix(mix) => Request::TpccMix(mix),
+            Command::Bench(mix) => Request::Bench(CertifiedFiles::new(files), mix),
             Command::Help => Request::Help,
             Command::Version => Request::Version,
         }

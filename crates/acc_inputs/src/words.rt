@@ -2,8 +2,8 @@
 ghost use Rattle.std.specs.Prelude.{◌≡◌, ◌≢◌, ℕ, ◌+◌, ◌≤◌, MatchOption, map, length, string_bytes, decimal, IfSome};
 ghost use Rattle.std.specs.Str.{bytes_eq};
 ghost use Rattle.acc_inputs.specs.Scales.{IsWithin, is_within};
-ghost use Rattle.acc_inputs.specs.Words.{form_of, workload_of, file_count, is_journalled, number_of, scale_of};
-ghost use Rattle.acc_inputs.specs.Words.{with_files, with_workers, with_design, with_load, with_mix, with_tpcc, command_of};
+ghost use Rattle.acc_inputs.specs.Words.{form_of, workload_of, file_count, is_journalled, number_of, scale_of, mix_of};
+ghost use Rattle.acc_inputs.specs.Words.{with_files, with_workers, with_design, with_load, with_mix, with_tpcc, with_bench, command_of};
 ghost use Rattle.acc_inputs.specs.Words.{file_names, asks_journal};
 
 use crate::scales::{Mix, Scale};
@@ -46,6 +46,8 @@ pub enum Command {
     TpccLoad(Scale),
     /// `tpcc mix W ITEMS CUSTOMERS COUNT START`
     TpccMix(Mix),
+    /// `bench DESIGN CERT W ITEMS CUSTOMERS COUNT START`
+    Bench(Mix),
     /// `--help`
     Help,
     /// `--version`
@@ -61,6 +63,8 @@ enum Form {
     Workers,
     /// The word that says what is wanted of TPC-C, and the numbers of that.
     Tpcc,
+    /// The names of the files of `bench`, and the numbers of its mix.
+    Bench,
 }
 
 /// What is wanted of TPC-C.
@@ -92,6 +96,7 @@ fn form_of(verb: &str) -> Option<Form>
         "replies" => Some(Form::Files(Command::Replies)),
         "verify" => Some(Form::Files(Command::Verify)),
         "tpcc" => Some(Form::Tpcc),
+        "bench" => Some(Form::Bench),
         "--help" => Some(Form::Files(Command::Help)),
         "--version" => Some(Form::Files(Command::Version)),
         _ => None,
@@ -121,7 +126,7 @@ pub fn file_count(command: Command) -> usize
         Command::Rehearse | Command::Sched => 4,
         Command::Print | Command::Prove | Command::Init => 1,
         Command::Check | Command::Recover | Command::Dump => 2,
-        Command::Replies | Command::Verify => 2,
+        Command::Replies | Command::Verify | Command::Bench(_) => 2,
         Command::TpccDesign | Command::TpccLoad(_) | Command::TpccMix(_) => 0,
         Command::Help | Command::Version => 0,
     }
@@ -135,7 +140,7 @@ fn is_journalled(command: Command) -> bool
         Command::Init | Command::Sched | Command::Run(_) => true,
         Command::Recover | Command::Dump | Command::Replies | Command::Verify => true,
         Command::Play | Command::Rehearse | Command::Print | Command::Check => false,
-        Command::Prove | Command::Help | Command::Version => false,
+        Command::Prove | Command::Bench(_) | Command::Help | Command::Version => false,
         Command::TpccDesign | Command::TpccLoad(_) | Command::TpccMix(_) => false,
     }
 }
@@ -232,11 +237,9 @@ fn with_load(words: &[String]) -> Option<Command>
     Some(Command::TpccLoad(scale))
 }
 
-/// `tpcc mix`, if its scale stands behind it, and then its two numbers.
-#[tactic(auto, unfolding(crate::specs::Words::file_count))]
-fn with_mix(words: &[String]) -> Option<Command>
-    ensures command { result ≡ with_mix (map string_bytes words.now) }
-    ensures length { IfSome result (λ command. file_count command ≤ length words.now) }
+/// The mix that five words tell.
+fn mix_of(words: &[String]) -> Option<Mix>
+    ensures { result ≡ mix_of (map string_bytes words.now) }
 {
     let [warehouses, items, customers, count, start] = words else {
         return None;
@@ -244,11 +247,20 @@ fn with_mix(words: &[String]) -> Option<Command>
     let scale = scale_of(warehouses.as_str(), items.as_str(), customers.as_str())?;
     let count = number_of(0, MOST_TRANSACTIONS, count.as_str())?;
     let start = number_of(0, LARGEST_START, start.as_str())?;
-    Some(Command::TpccMix(Mix {
+    Some(Mix {
         scale,
         count,
         start,
-    }))
+    })
+}
+
+/// `tpcc mix`, if its numbers stand behind it.
+#[tactic(auto, unfolding(crate::specs::Words::file_count))]
+fn with_mix(words: &[String]) -> Option<Command>
+    ensures command { result ≡ with_mix (map string_bytes words.now) }
+    ensures length { IfSome result (λ command. file_count command ≤ length words.now) }
+{
+    Some(Command::TpccMix(mix_of(words)?))
 }
 
 /// The command of which the words behind `tpcc` say what is wanted.
@@ -266,8 +278,20 @@ fn with_tpcc(words: &[String]) -> Option<Command>
     }
 }
 
-/// The command that the words ask for: its verb, and behind it the names of its files, and for `run` the number of workers; or `tpcc`, and
-/// behind it what is wanted of that, with its numbers.
+/// `bench`, if the names of its files and its mix stand behind the verb.
+#[tactic(auto, unfolding(crate::specs::Words::file_count))]
+fn with_bench(words: &[String]) -> Option<Command>
+    ensures command { result ≡ with_bench (map string_bytes words.now) }
+    ensures length { IfSome result (λ command. file_count command ≤ length words.now) }
+{
+    let [_design, _certificate, behind @ ..] = words else {
+        return None;
+    };
+    Some(Command::Bench(mix_of(behind)?))
+}
+
+/// The command that the words ask for: its verb, and behind it the names of its files, and then for `run` the number of workers, for
+/// `bench` the numbers of its mix; or `tpcc`, and behind it what is wanted of that, with its numbers.
 pub fn command_of(words: &[String]) -> Option<Command>
     ensures command { result ≡ command_of (map string_bytes words.now) }
     ensures length { IfSome result (λ command. file_count command + 1 ≤ length words.now) }
@@ -279,6 +303,7 @@ pub fn command_of(words: &[String]) -> Option<Command>
         Form::Files(command) => with_files(command, behind),
         Form::Workers => with_workers(behind),
         Form::Tpcc => with_tpcc(behind),
+        Form::Bench => with_bench(behind),
     }
 }
 
@@ -302,6 +327,6 @@ pub fn asks_journal(words: &[String]) -> bool
     match form_of(verb.as_str()) {
         Some(Form::Files(command)) => is_journalled(command),
         Some(Form::Workers) => true,
-        Some(Form::Tpcc) | None => false,
+        Some(Form::Tpcc | Form::Bench) | None => false,
     }
 }

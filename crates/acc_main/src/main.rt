@@ -10,7 +10,7 @@ mod terminal;
 mod work;
 
 use crate::journal::{is_let_alone, journal_disk, take_journal, trouble_line, unlocked_line};
-use crate::streams::{hold_streams, write_error};
+use crate::streams::{hold_streams, tell_line, write_error};
 use crate::terminal::TerminalProgress;
 use crate::work::TerminalGate;
 use acc_cli::{IndexStore, acc, help_text};
@@ -66,13 +66,6 @@ fn tell_reason(rt: &HostRuntime, words: &[String]) {
     }
 }
 
-/// Writes a line to standard error, if memory lasted to make it.
-fn tell_line(rt: &HostRuntime, line: Result<String, AllocError>) {
-    if let Ok(line) = line {
-        write_error(rt, line.as_bytes());
-    }
-}
-
 /// Writes a line to standard error, if there is one, and memory lasted to make it.
 fn tell_if_any(rt: &HostRuntime, line: Result<Option<String>, AllocError>) {
     if let Ok(Some(line)) = line {
@@ -107,6 +100,7 @@ fn answer<'a, 'd, D: Disk, C: Crew<Engine<'d, IndexStore, D>>, S: Searchers>(
         &mut progress,
     );
     progress.end_line();
+    progress.tell_speed(done.history.len());
     Answered {
         status: done.status,
         disk: done.disk,
@@ -143,7 +137,7 @@ fn is_by_crew(words: &[String]) -> bool {
         Some(Command::Init | Command::Sched) => false,
         Some(Command::Recover | Command::Dump | Command::Replies | Command::Verify) => false,
         Some(Command::Play | Command::Rehearse | Command::Print | Command::Check) => false,
-        Some(Command::Prove) => false,
+        Some(Command::Prove | Command::Bench(_)) => false,
         Some(Command::TpccDesign | Command::TpccLoad(_) | Command::TpccMix(_)) => false,
         Some(Command::Help | Command::Version) | None => false,
     }

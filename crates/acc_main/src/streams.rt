@@ -1,4 +1,5 @@
 //! The standard streams: their descriptors, and what is written to standard error.
+use std::alloc::AllocError;
 use std::fs::File;
 use std::io::Write;
 use std::os::fd::AsRawFd;
@@ -28,5 +29,12 @@ pub fn hold_streams(rt: &HostRuntime) -> io::Result<Vec<File>> {
 pub fn write_error(rt: &HostRuntime, text: &[u8]) {
     match rt.stderr().write_all(text) {
         Ok(()) | Err(_) => {}
+    }
+}
+
+/// Writes a line to standard error, if memory lasted to make it.
+pub fn tell_line(rt: &HostRuntime, line: Result<String, AllocError>) {
+    if let Ok(line) = line {
+        write_error(rt, line.as_bytes());
     }
 }

@@ -1,10 +1,14 @@
 //! How far a long call is, on standard error, where that is a terminal.
-use crate::streams::write_error;
-use acc_diagnose::{found_line, replay_line, search_line};
-use acc_progress::{Found, Progress};
+use crate::streams::{tell_line, write_error};
+use acc_diagnose::{found_line, memory_line, part_line, replay_line, search_line, speed_line};
+use acc_progress::{BenchPart, Found, Progress};
 use std::alloc::AllocError;
+use std::fs;
 use std::io::IsTerminal;
 use std::time::Instant;
+
+/// Where Linux tells how much memory the process has.
+const MEMORY: &str = "/proc/self/status";
 
 /// A replay of fewer events isn't told of.
 const LONG_REPLAY: u64 = 65_536;
@@ -22,6 +26,7 @@ pub struct TerminalProgress<'a> {
     rt: &'a HostRuntime,
     is_terminal: bool,
     told: Option<Instant>,
+    begun: Option<Instant>,
     has_line: bool,
 }
 
@@ -32,6 +37,7 @@ impl<'a> TerminalProgress<'a> {
             rt,
             is_terminal: rt.stderr().is_terminal(),
             told: None,
+            begun: None,
             has_line: false,
         }
     }
@@ -41,6 +47,29 @@ impl<'a> TerminalProgress<'a> {
         if self.has_line {
             write_error(self.rt, b"\n");
             self.has_line = false;
+        }
+    }
+
+    /// Tells, to whatever standard error is, how fast a benchmark was that made so many events, if one came to its end, and how much memory
+    /// the program had.
+    pub fn tell_speed(&self, events: usize) {
+        let begun = match self.begun {
+            Some(begun) if events > 0 => begun,
+            Some(_) | None => return,
+        };
+        if let Ok(took) = begun.elapsed(self.rt) {
+            let millis = u64::try_from(took.as_millis()).unwrap_or(u64::MAX);
+            tell_line(self.rt, speed_line(self.rt.alloc(), events as u64, millis));
+        }
+        self.tell_memory();
+    }
+
+    /// Tells how much memory the program had at most, if the system tells that.
+    fn tell_memory(&self) {
+        if let Ok(told) = fs::read_to_string(self.rt, MEMORY) {
+            if let Ok(Some(line)) = memory_line(self.rt.alloc(), &told) {
+                tell_line(self.rt, Ok(line));
+            }
         }
     }
 
@@ -88,6 +117,16 @@ impl Progress for TerminalProgress<'_> {
         let is_first = self.told.is_none();
         if self.is_terminal && self.is_due(SECOND) && !is_first {
             self.put_line(search_line(self.rt.alloc(), done, obligations, open));
+        }
+    }
+
+    fn began(&mut self, part: BenchPart) {
+        if self.begun.is_none() {
+            self.begun = Instant::now(self.rt).ok();
+        }
+        if self.is_terminal {
+            write_error(self.rt, part_line(part));
+            self.has_line = true;
         }
     }
 }

@@ -4,5 +4,5 @@
 mod progress;
 mod silent;
 
-pub use progress::{Found, Progress};
+pub use progress::{BenchPart, Found, Progress};
 pub use silent::Silent;

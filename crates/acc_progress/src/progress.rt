@@ -9,6 +9,17 @@ pub struct Found {
     pub compensated: u64,
 }
 
+/// What a benchmark does, one part after the other.
+#[derive(Clone, Copy)]
+pub enum BenchPart {
+    /// It runs the calls of the load.
+    Load,
+    /// It runs the calls of the mix.
+    Mix,
+    /// It tries the consistency conditions.
+    Conditions,
+}
+
 /// Is told how far a long call is. What it does with that changes nothing of the call.
 pub trait Progress {
     /// So many of a journal's events are done again, of so many.
@@ -19,4 +30,7 @@ pub trait Progress {
 
     /// The search is through with so many of so many obligations, and so many of these are open.
     fn searched(&mut self, done: u64, obligations: u64, open: u64);
+
+    /// A benchmark has come to this part.
+    fn began(&mut self, part: BenchPart);
 }

@@ -1,4 +1,4 @@
-use crate::{Found, Progress};
+use crate::{BenchPart, Found, Progress};
 
 /// Tells nothing.
 #[derive(Clone, Copy)]
@@ -10,4 +10,6 @@ impl Progress for Silent {
     fn recovered(&mut self, _found: Found) {}
 
     fn searched(&mut self, _done: u64, _obligations: u64, _open: u64) {}
+
+    fn began(&mut self, _part: BenchPart) {}
 }

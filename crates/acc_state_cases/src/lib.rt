@@ -10,13 +10,17 @@
 //! - `replay EVENT; EVENT ..` does events again: how many there are then, and the rows; or which of them, from 0, isn't lawful.
 //! - `schedule SCRIPT -> ORDER` lets the script's calls run in the order, and tells the schedule's lines, or what isn't as it should be. In
 //!   a script ';' is a line feed.
+//! - `bench LOAD -> MIX -> ORDER` runs the load's calls one after the other, and behind them the mix's in the order, and tells the lines of
+//!   both, or what isn't as it should be. In both ';' is a line feed.
 //! - `compatible TYPE POINT LOCALS TYPE POINT LOCALS` tells by which entry two places aren't compatible.
 //! - `forbids TYPE POINT LOCALS SIDE TYPE POINT LOCALS` tells by which entry the first place forbids a step at the second.
 //! - `locks CALL; CALL ..` makes calls of an index in which no transaction is. `enter T TYPE POINT LOCALS`, `prepare ..` and `leave T`
 //!   tell that they are done, or why they can't be asked for; `change ..` prepares and changes. `first T TYPE POINT LOCALS TO` tells who
-//!   bars the step of transaction T there that leads to point TO of its type, and `first T TYPE POINT LOCALS` the step that leads to an end.
+//!   bars the step of transaction T there that leads to point TO of its type, and `first T TYPE POINT LOCALS` the step that leads to an
+//!   end.
 #![tactic(auto)]
 
+mod benches;
 mod entries;
 mod locks;
 mod replays;
@@ -39,6 +43,7 @@ fn push_answer(
         "state" => push_answers(alloc, out, design, rest),
         "replay" => replays::push_replayed(alloc, out, design, rest),
         "schedule" => schedules::push_schedule(alloc, out, design, rest),
+        "bench" => benches::push_bench(alloc, out, design, rest),
         "compatible" => entries::push_clash(alloc, out, design, rest),
         "locks" => locks::push_locks(alloc, out, design, rest),
         "forbids" => entries::push_forbidding(alloc, out, design, rest),

@@ -10,7 +10,7 @@ use std::alloc::{AllocError, Global};
 use std::fmt::Write;
 
 /// Pushes that one of these is refused.
-fn push_refusal(out: &mut String, error: ScriptError, what: &str) -> Result<(), AllocError> {
+pub fn push_refusal(out: &mut String, error: ScriptError, what: &str) -> Result<(), AllocError> {
     match error {
         ScriptError::Line(_) => write!(out, "refused {what}"),
         ScriptError::Memory => Err(AllocError),

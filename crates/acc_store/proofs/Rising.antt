@@ -58,18 +58,21 @@ module _ (t : ℕ) (p : List ℤ) where
 
   -- a part of an earlier place is not above the parts of later ones
   first_rises : (a : Place) (x : ℤ) (es : List Entry) → is_below t p a ≡ true → slice_get a.1 (length p) ≡ Some x →
-      AllByRecursion (λ q. place_cmp a q ≡ Less) (keys_of es) → AllByRecursion (λ y. x ≤ℤ y) (parts_at (length p) (live (entries_below t p es)))
+      AllByRecursion (λ q. place_cmp a q ≡ Less) (keys_of es) → AllByRecursion (λ y. x ≤ℤ y)
+      (parts_at (length p) (live (entries_below t p es)))
   first_rises a x [] ha ex h = tt
   first_rises a x (e ∷ es) ha ex h = by (is_below t p e.0) refl e.1.cells (first_rises a x es ha ex h.1)
     where
-      add : (v : Option ℤ) → ((y : ℤ) → v ≡ Some y → x ≤ℤ y) → AllByRecursion (λ y. x ≤ℤ y) (parts_at (length p) (live (entries_below t p es))) →
+      add : (v : Option ℤ) → ((y : ℤ) → v ≡ Some y → x ≤ℤ y) → AllByRecursion (λ y. x ≤ℤ y)
+          (parts_at (length p) (live (entries_below t p es))) →
           AllByRecursion (λ y. x ≤ℤ y) (with_part v (parts_at (length p) (live (entries_below t p es))))
       add None g ih = ih
       add (Some y) g ih = (g y refl, ih)
 
       by : (b : Bool) → is_below t p e.0 ≡ b → (v : Option (List ℤ)) →
           AllByRecursion (λ y. x ≤ℤ y) (parts_at (length p) (live (entries_below t p es))) →
-          AllByRecursion (λ y. x ≤ℤ y) (parts_at (length p) (live (cond b ((e.0, content v e.1.room) ∷ entries_below t p es) (entries_below t p es))))
+          AllByRecursion (λ y. x ≤ℤ y) (parts_at (length p) (live (cond b ((e.0, content v e.1.room) ∷ entries_below t p es)
+          (entries_below t p es))))
       by false g v ih = ih
       by true g None ih = ih
       by true g (Some c) ih = add (slice_get e.0.1 (length p)) (λ y ey. place_rises a e.0 ha g h.0 x y ex ey) ih
@@ -80,7 +83,8 @@ module _ (t : ℕ) (p : List ℤ) where
   parts_rise (e ∷ es) up = by (is_below t p e.0) refl e.1.cells (parts_rise es up.1)
     where
       add : (v : Option ℤ) → slice_get e.0.1 (length p) ≡ v → is_below t p e.0 ≡ true →
-          IsRising (parts_at (length p) (live (entries_below t p es))) → IsRising (with_part v (parts_at (length p) (live (entries_below t p es))))
+          IsRising (parts_at (length p) (live (entries_below t p es))) → IsRising
+          (with_part v (parts_at (length p) (live (entries_below t p es))))
       add None g b ih = ih
       add (Some x) g b ih = (first_rises e.0 x es b g up.0, ih)
 

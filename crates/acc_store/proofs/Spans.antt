@@ -103,7 +103,8 @@ live_below t p [] = refl
 live_below t p (e ∷ es) = by (is_below t p e.0) refl e.1.cells (live_below t p es)
   where
     by : (b : Bool) → is_below t p e.0 ≡ b → (v : Option (List ℤ)) → live (entries_below t p es) ≡ filter (is_under t p) (live es) →
-        live (cond b ((e.0, content v e.1.room) ∷ entries_below t p es) (entries_below t p es)) ≡ filter (is_under t p) (with_row e.0 v (live es))
+        live (cond b ((e.0, content v e.1.room) ∷ entries_below t p es) (entries_below t p es)) ≡ filter (is_under t p)
+        (with_row e.0 v (live es))
     by true h None ih = ih
     by false h None ih = ih
     by true h (Some c) ih = ap (λ rows. row_of e.0 c ∷ rows) ih ∙ sym
@@ -126,7 +127,8 @@ below_long : (t : ℕ) (p : List ℤ) (es : List Entry) → 6 < length p → Are
 below_long t p [] long fit = refl
 below_long t p (e ∷ es) long fit =
     let short = fit.0.short in
-    ap (λ b. cond b (e ∷ entries_below t p es) (entries_below t p es)) (none (e.0.0 == t) (starts_short e.0.1 p (omega arith))) ∙ below_long t p es long
+    ap (λ b. cond b (e ∷ entries_below t p es) (entries_below t p es)) (none (e.0.0 == t) (starts_short e.0.1 p (omega arith))) ∙ below_long
+    t p es long
     fit.1
   where
     none : (b : Bool) → starts_with int_eq e.0.1 p ≡ false → (b && starts_with int_eq e.0.1 p) ≡ false

@@ -1,4 +1,6 @@
 pub mod Bounds
+pub mod Changes
 pub mod Contents
 pub mod Places
 pub mod Rows
+pub mod Runs

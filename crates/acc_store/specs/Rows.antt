@@ -1,5 +1,5 @@
 -- The entries of a map as rows. A blank entry is no row.
-use Rattle.std.specs.Prelude.{◌≡◌, ℕ, ◌≤◌, ◌^◌, Bool, true, false, not, ◌&&◌, ◌||◌, ◌==◌, List, [], ◌∷◌, length, filter, Option, Some, None}
+use Rattle.std.specs.Prelude.{◌≡◌, ℕ, ◌≤◌, Bool, true, false, not, ◌&&◌, ◌||◌, ◌==◌, List, [], ◌∷◌, length, filter, Option, Some, None}
 use Rattle.std.specs.Prelude.{is_some, is_none, nat_le, slice_get, slice_index_or, ℤ, pos, ⊤, unsigned_abs, All, ◌≤ℤ◌}
 use Rattle.std.specs.List.{list_any, starts_with, sum_by, AllByRecursion}
 use Rattle.std.specs.Ordering.{int_eq}

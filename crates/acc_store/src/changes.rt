@@ -2,7 +2,8 @@
 ghost use Rattle.std.specs.Prelude.{◌≡◌, ◌≤◌, ◌<◌, length, map, OnOk, OnErr, All, true, false};
 ghost use Rattle.std.specs.Prelude.{IsOk};
 ghost use Rattle.std.specs.List.{list_all};
-ghost use Rattle.std.specs.BTreeMap.{keys, is_at as at};
+ghost use Rattle.std.specs.BTreeMap.{is_at as at};
+ghost use Rattle.std.specs.Map.{keys_of};
 ghost use Rattle.acc_base.specs.Tables.{place_cmp, place_of};
 ghost use Rattle.acc_base.specs.Tables.{put, drop_row};
 ghost use Rattle.acc_store.specs.Rows.{live, IsUp};
@@ -10,9 +11,9 @@ ghost use Rattle.acc_store.specs.Rows.{AreFit, IsFit, write as written_by, writt
 ghost use Rattle.acc_store.specs.Rows.{KeepsRoom, HasNoBlank, BlanksAre, AddsBlanks, ClearsBlanks, WritesBlanks, is_put, is_gone};
 ghost use Rattle.acc_store.specs.Rows.{leaves_blank, is_blank_at as is_blank_there};
 
-use crate::maps::Entries;
+use crate::entries::Entries;
 use crate::places::Place;
-use crate::slots::Slot;
+use crate::slots::{Change, Slot};
 use crate::writes::Write;
 use acc_base::bounds::{MOST_COLUMNS, MOST_KEY_PARTS};
 use acc_base::tables::Row;
@@ -37,12 +38,13 @@ fn make_blank(
     ensures fit { AreFit entries.new.entries }
 {
     let slot = Slot::blank(alloc, room)?;
-    entries.insert(place, slot)?;
+    entries.insert(alloc, place, slot)?;
     Ok(())
 }
 
 /// Makes room for some cells in the entry at a place, if there is one.
 fn widen(entries: &mut Entries, place: &Place, room: usize) -> Result<(), AllocError>
+    requires up { IsUp entries.old.entries }
     requires are_fit { AreFit entries.old.entries }
     ensures rows { live entries.new.entries ≡ live entries.old.entries }
     ensures room { has_entry entries.old.entries place.now ≡ true → OnOk result (has_room_at entries.new.entries place.now room ≡ true) }
@@ -52,10 +54,7 @@ fn widen(entries: &mut Entries, place: &Place, room: usize) -> Result<(), AllocE
     ensures up { IsUp entries.new.entries }
     ensures fit { AreFit entries.new.entries }
 {
-    match entries.get_mut(place) {
-        Some(slot) => slot.make_room(room),
-        None => Ok(()),
-    }
+    entries.change(place, &Change::Room(room))
 }
 
 /// Makes room for some cells at a place.
@@ -112,29 +111,25 @@ fn put_row(entries: &mut Entries, row: &Row)
     requires room { has_room_at entries.old.entries (place_of row.now) (length row.now.cols) ≡ true }
     requires up { IsUp entries.old.entries }
     ensures rows { live entries.new.entries ≡ put row.now (live entries.old.entries) }
-    ensures keys { keys entries.new ≡ keys entries.old }
+    ensures keys { keys_of entries.new.entries ≡ keys_of entries.old.entries }
     ensures kept { KeepsRoom entries.old.entries entries.new.entries }
     ensures blanks { ClearsBlanks (at (place_cmp (place_of row.now))) entries.old.entries entries.new.entries }
     ensures up { IsUp entries.new.entries }
 {
     let place = Place::new(row.table, row.key.parts.as_slice());
-    if let Some(slot) = entries.get_mut(&place) {
-        slot.put(row.cols.as_slice());
-    }
+    let _ = entries.change(&place, &Change::Put(row.cols.as_slice()));
 }
 
 /// Drops the row at a place, if there is one, and leaves a blank.
 fn drop_at(entries: &mut Entries, place: &Place)
     requires up { IsUp entries.old.entries }
     ensures rows { live entries.new.entries ≡ drop_row place.now.0 place.now.1 (live entries.old.entries) }
-    ensures keys { keys entries.new ≡ keys entries.old }
+    ensures keys { keys_of entries.new.entries ≡ keys_of entries.old.entries }
     ensures kept { KeepsRoom entries.old.entries entries.new.entries }
     ensures blanks { AddsBlanks (at (place_cmp place.now)) entries.old.entries entries.new.entries }
     ensures up { IsUp entries.new.entries }
 {
-    if let Some(slot) = entries.get_mut(place) {
-        slot.clear();
-    }
+    let _ = entries.change(place, &Change::Clear);
 }
 
 /// Drops a row, if there is one, and leaves a blank.
@@ -142,7 +137,7 @@ fn drop_one(entries: &mut Entries, table: u32, key: &[i64])
     requires up { IsUp entries.old.entries }
     requires are_fit { AreFit entries.old.entries }
     ensures rows { live entries.new.entries ≡ drop_row table key.now (live entries.old.entries) }
-    ensures keys { keys entries.new ≡ keys entries.old }
+    ensures keys { keys_of entries.new.entries ≡ keys_of entries.old.entries }
     ensures kept { KeepsRoom entries.old.entries entries.new.entries }
     ensures blanks { AddsBlanks (at (place_cmp (table, key.now))) entries.old.entries entries.new.entries }
     ensures up { IsUp entries.new.entries }
@@ -159,7 +154,7 @@ fn write_one(entries: &mut Entries, write: &Write)
     requires up { IsUp entries.old.entries }
     requires are_fit { AreFit entries.old.entries }
     ensures rows { live entries.new.entries ≡ written_by write.now (live entries.old.entries) }
-    ensures keys { keys entries.new ≡ keys entries.old }
+    ensures keys { keys_of entries.new.entries ≡ keys_of entries.old.entries }
     ensures kept { KeepsRoom entries.old.entries entries.new.entries }
     ensures blanks { WritesBlanks write.now entries.old.entries entries.new.entries }
     ensures up { IsUp entries.new.entries }

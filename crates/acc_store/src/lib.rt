@@ -2,12 +2,15 @@
 #![tactic(auto)]
 
 mod changes;
+mod entries;
 pub mod inline;
 mod maps;
 mod places;
+mod runs;
 mod slots;
 pub mod stores;
 mod sums;
+mod walks;
 pub mod writes;
 
 pub use inline::Inline;

@@ -9,16 +9,14 @@ ghost use Rattle.acc_store.specs.Rows.{live, cells_at as cells_there, column_in,
 ghost use Rattle.acc_store.specs.Rows.{AreFit};
 ghost use Rattle.acc_store.specs.Rows.{row_of as row_with, with_row};
 
+use crate::entries::Entries;
 use crate::places::Place;
+use crate::runs::Run;
 use crate::slots::Slot;
 use acc_base::bounds::MOST_COLUMNS;
 use acc_base::sequences::Seq;
 use acc_base::tables::{Key, Row};
 use std::alloc::{AllocError, Global};
-use std::collections::BTreeMap;
-
-/// Entries in the order of their places; a blank one is no row.
-pub type Entries = BTreeMap<Place, Slot>;
 
 /// The columns of the row at a place.
 fn cells_of<'a>(entries: &'a Entries, place: &Place) -> Option<&'a [i128]>
@@ -117,13 +115,23 @@ fn push_row(
     }
 }
 
+/// Adds the rows of a run.
+fn push_rows(rows: &mut Vec<Row>, alloc: Global, run: &Run) -> Result<(), AllocError>
+    ensures { OnOk result (rows.new.items ≡ rows.old.items ++ live run.now.entries) }
+{
+    for (place, slot) in run {
+        push_row(rows, alloc, place, slot)?;
+    }
+    Ok(())
+}
+
 /// The rows, in order.
 pub fn rows_of(entries: &Entries, alloc: Global) -> Result<Vec<Row>, AllocError>
     ensures { IfOk result (λ rows. rows.items ≡ live entries.now.entries) }
 {
     let mut rows = Vec::new(alloc);
-    for (place, slot) in entries {
-        push_row(&mut rows, alloc, place, slot)?;
+    for (_, run) in entries.runs() {
+        push_rows(&mut rows, alloc, run)?;
     }
     Ok(rows)
 }

@@ -1,9 +1,21 @@
 //! What stands at a place.
 ghost use Rattle.std.specs.Prelude.{◌≡◌, ◌≤◌, length, None, Some, IfOk, IfSome, IsOk, OnOk, option_copied};
+ghost use Rattle.acc_store.specs.Changes.{CanChange, HasChanged};
 
 use acc_base::bounds::MOST_COLUMNS;
 use std::alloc::{AllocError, Global};
 use std::marker::Model;
+
+/// What is done to a slot.
+#[derive(Drop)]
+pub enum Change<'a> {
+    /// Room is made for so many cells. Where there is room it takes no memory.
+    Room(usize),
+    /// It takes these cells, for which there is room.
+    Put(&'a [i128]),
+    /// It becomes a blank.
+    Clear,
+}
 
 /// The cells of a row, or a blank. Either way the memory for cells stays.
 #[derive(Drop)]
@@ -49,7 +61,7 @@ impl Slot {
     }
 
     /// Makes room for some cells. Where there is room it takes no memory.
-    pub fn make_room(&mut self, room: usize) -> Result<(), AllocError>
+    fn make_room(&mut self, room: usize) -> Result<(), AllocError>
         ensures cells { self.new.cells ≡ self.old.cells }
         ensures room { OnOk result (room ≤ self.new.room) }
         ensures enough { room ≤ self.old.room → IsOk result }
@@ -63,7 +75,7 @@ impl Slot {
     }
 
     /// Takes these cells, for which there is room.
-    pub fn put(&mut self, cells: &[i128])
+    fn put(&mut self, cells: &[i128])
         requires few { length cells.now ≤ MOST_COLUMNS }
         requires room { length cells.now ≤ self.old.room }
         ensures cells { self.new.cells ≡ Some cells.now }
@@ -74,11 +86,29 @@ impl Slot {
     }
 
     /// Makes it a blank.
-    pub fn clear(&mut self)
+    fn clear(&mut self)
         ensures cells { self.new.cells ≡ None }
         ensures kept { self.old.room ≤ self.new.room }
     {
         self.cells.clear();
         self.is_row = false;
+    }
+
+    /// Does a change, which takes memory only where room is made. Without it all stays.
+    pub fn change(&mut self, change: &Change) -> Result<(), AllocError>
+        requires { CanChange change.now self.old }
+        ensures { HasChanged change.now result self.old self.new }
+    {
+        match change {
+            Change::Room(room) => self.make_room(*room),
+            Change::Put(cells) => {
+                self.put(*cells);
+                Ok(())
+            }
+            Change::Clear => {
+                self.clear();
+                Ok(())
+            }
+        }
     }
 }

@@ -5,14 +5,14 @@ ghost use Rattle.acc_base.specs.Tables.{is_at, column_of, count_of, sum_of, leas
 ghost use Rattle.acc_store.specs.Rows.{columns_of, written, IsNarrow, SumsFit};
 
 use crate::changes::apply_writes;
-use crate::maps::{Entries, column_at, columns_at, has_row, rows_of};
+use crate::entries::Entries;
+use crate::maps::{column_at, columns_at, has_row, rows_of};
 use crate::sums::{count_under, greatest_under, least_under, sum_under};
 use crate::writes::Write;
 use acc_base::bounds::MOST_COLUMNS;
 use acc_base::sequences::Seq;
 use acc_base::tables::Plain;
 use std::alloc::{AllocError, Global};
-use std::collections::BTreeMap;
 use std::marker::Model;
 
 /// Why a store can't do what it was asked.
@@ -108,7 +108,7 @@ impl MapStore {
     {
         MapStore {
             alloc,
-            entries: BTreeMap::new(alloc),
+            entries: Entries::new(alloc),
         }
     }
 }

@@ -4,28 +4,37 @@ ghost use Rattle.std.specs.Prelude.{◌+◌, ◌+ℤ◌, unsigned_abs};
 ghost use Rattle.std.specs.List.{sum_by};
 ghost use Rattle.std.specs.Int.{int_min, int_max};
 ghost use Rattle.acc_base.specs.Numbers.{total};
-ghost use Rattle.std.specs.BTreeMap.{keys, is_at as at};
 ghost use Rattle.acc_base.specs.Tables.{count_of, sum_of, least_of, greatest_of, parts_at, cell};
 ghost use Rattle.acc_base.specs.Tables.{best};
 ghost use Rattle.acc_store.specs.Rows.{live, column_in, one_in, part_in, IsRising, SumsFit, IsUp};
 ghost use Rattle.acc_store.specs.Rows.{AreFit, entries_below};
+ghost use Rattle.acc_store.specs.Runs.{left, left_behind, IsForward};
 
-use crate::maps::{Entries, column};
+use crate::entries::Entries;
+use crate::maps::column;
 use crate::places::Place;
+use crate::runs::runs_between;
 use crate::slots::Slot;
+use crate::walks::Walk;
 use acc_base::bounds::{LARGEST_SUM, MOST_KEY_PARTS};
-use std::collections::btree_map::Range;
 
 /// The entries whose keys begin with a prefix.
-fn entries_below<'a>(entries: &'a Entries, table: u32, prefix: &[i64]) -> Range<'a, Place, Slot>
+fn entries_below<'a>(entries: &'a Entries, table: u32, prefix: &[i64]) -> Walk<'a>
     requires short { length prefix.now ≤ MOST_KEY_PARTS }
     requires fit { AreFit entries.now.entries }
-    ensures below { result ≡ entries_below table prefix.now entries.now.entries }
-    ensures few { length result < 2 ^ 63 }
+    ensures below { left result ≡ entries_below table prefix.now entries.now.entries }
+    ensures behind { left_behind result ≡ entries_below table prefix.now entries.now.entries }
+    ensures forward { IsForward result }
+    ensures few { length (left result) < 2 ^ 64 }
 {
     let start = Place::new(table, prefix);
     let last = Place::last(table, prefix);
-    entries.range(start..=last)
+    Walk {
+        runs: runs_between(entries.runs(), &start, &last),
+        start,
+        last,
+        open: None,
+    }
 }
 
 /// How many rows an entry is.
@@ -39,12 +48,14 @@ fn rows_in(slot: &Slot) -> u64
 }
 
 /// How many of the entries are rows.
-fn count_live(entries: Range<'_, Place, Slot>) -> u64
-    requires few { length entries < 2 ^ 63 }
-    ensures { result ≡ length (live entries.entry) }
+fn count_live(entries: Walk<'_>) -> u64
+    requires forward { IsForward entries }
+    requires few { length (left entries) < 2 ^ 64 }
+    ensures { result ≡ length (live (left entries.entry)) }
 {
     let mut count = 0;
-    for (_, slot) in entries {
+    let mut rest = entries;
+    while let Some((_, slot)) = rest.next() {
         count += rows_in(slot);
     }
     count
@@ -67,12 +78,14 @@ fn plus(a: i128, b: i128) -> i128
 }
 
 /// The sum of a column over the entries.
-fn sum_live(entries: Range<'_, Place, Slot>, col: u32) -> i128
-    requires fits { sum_by (λ r. unsigned_abs (cell col r)) (live entries) ≤ LARGEST_SUM }
-    ensures { result ≡ total (map (cell col) (live entries.entry)) }
+fn sum_live(entries: Walk<'_>, col: u32) -> i128
+    requires forward { IsForward entries }
+    requires fits { sum_by (λ r. unsigned_abs (cell col r)) (live (left entries)) ≤ LARGEST_SUM }
+    ensures { result ≡ total (map (cell col) (live (left entries.entry))) }
 {
     let mut sum = 0;
-    for (_, slot) in entries {
+    let mut rest = entries;
+    while let Some((_, slot)) = rest.next() {
         sum = plus(sum, value(slot, col));
     }
     sum
@@ -89,11 +102,13 @@ fn part_at(place: &Place, slot: &Slot, at: usize) -> Option<i64>
 }
 
 /// The least part at a place, where they rise.
-fn least_live(entries: Range<'_, Place, Slot>, at: usize) -> i64
-    requires rising { IsRising (parts_at at (live entries)) }
-    ensures { result ≡ best int_min (parts_at at (live entries.entry)) }
+fn least_live(entries: Walk<'_>, at: usize) -> i64
+    requires forward { IsForward entries }
+    requires rising { IsRising (parts_at at (live (left entries))) }
+    ensures { result ≡ best int_min (parts_at at (live (left entries.entry))) }
 {
-    for (place, slot) in entries {
+    let mut rest = entries;
+    while let Some((place, slot)) = rest.next() {
         if let Some(part) = part_at(place, slot, at) {
             return part;
         }
@@ -102,9 +117,10 @@ fn least_live(entries: Range<'_, Place, Slot>, at: usize) -> i64
 }
 
 /// The greatest part at a place, where they rise.
-fn greatest_live(entries: Range<'_, Place, Slot>, at: usize) -> i64
-    requires rising { IsRising (parts_at at (live entries)) }
-    ensures { result ≡ best int_max (parts_at at (live entries.entry)) }
+fn greatest_live(entries: Walk<'_>, at: usize) -> i64
+    requires forward { IsForward entries }
+    requires rising { IsRising (parts_at at (live (left_behind entries))) }
+    ensures { result ≡ best int_max (parts_at at (live (left_behind entries.entry))) }
 {
     let mut rest = entries;
     while let Some((place, slot)) = rest.next_back() {

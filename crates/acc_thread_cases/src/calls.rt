@@ -16,16 +16,19 @@ use acc_engine::{Drawn, Engine, EngineError};
 use acc_pass::{Opened, Pass, Room};
 use acc_shared::Shared;
 use acc_store::Store;
+use acc_workers::{Given, Turner, Why};
 use std::alloc::{AllocError, Global};
+use std::fmt::Write;
 use std::marker::Brand;
 use std::sync::Wait;
 
-/// What the two draws answered, and then the calls for the transaction that began first, in their order.
+/// What the two draws answered, then the calls for the transaction that began first, in their order, and a worker's draw behind a halt.
 #[derive(Drop)]
 struct Answers {
     first: Result<Drawn, EngineError>,
     second: Result<Drawn, EngineError>,
     calls: Option<Calls>,
+    given: Given,
 }
 
 /// What `ack`, `turn`, `ack` and `settle` answered.
@@ -68,6 +71,15 @@ fn push_calls(out: &mut String, calls: &Calls) -> Result<(), AllocError> {
     push_settled(out, calls.settled)
 }
 
+/// Pushes what a worker's draw gave.
+fn push_given(out: &mut String, given: Given) -> Result<(), AllocError> {
+    match given {
+        Given::Begun(t) => write!(out, "begun {t}"),
+        Given::NoMore => out.push_str("no more"),
+        Given::Halt(why) => write!(out, "halt {why:?}"),
+    }
+}
+
 /// What all of them answered, as a line.
 fn told(alloc: Global, answers: &Answers) -> Result<String, AllocError> {
     let mut out = String::new(alloc);
@@ -78,6 +90,8 @@ fn told(alloc: Global, answers: &Answers) -> Result<String, AllocError> {
     if let Some(calls) = &answers.calls {
         push_calls(&mut out, calls)?;
     }
+    out.push_str("; draw ")?;
+    push_given(&mut out, answers.given)?;
     Ok(out)
 }
 
@@ -105,8 +119,31 @@ fn call_for<'a, S: Store, D: Disk, B: Run<D>, W: Wait>(
     (pass, calls)
 }
 
-/// Splits the pass, draws by each of the two, lets them meet, makes the calls for the transaction that began first, and joins them.
-fn call_each<'a, S: Store, D: Disk, B: Run<D>, W: Wait>(
+/// How many events the calls made durable, 0 where they made none.
+fn settled_by(calls: &Option<Calls>) -> u64 {
+    match calls {
+        Some(calls) => calls.settled.unwrap_or(0),
+        None => 0,
+    }
+}
+
+/// Pauses while there are more events than there can be, which keeps nobody; halts the run; pauses while there are as many as were made
+/// durable, which a halted run keeps nobody in; and draws as a worker does.
+fn halt<'a, S: Store + Send, D: Disk + Send, B: Run<D> + Send + Sync, W: Wait>(
+    waits: &W,
+    shared: &Shared<'a, S, D, B>,
+    pass: Pass<B>,
+    settled: u64,
+) -> (Pass<B>, Given) {
+    let pass = shared.pause(waits, pass, u64::MAX);
+    let pass = shared.halt(waits, pass, Why::Memory);
+    let pass = shared.pause(waits, pass, settled);
+    Turner::draw(shared, waits, pass)
+}
+
+/// Splits the pass, draws by each of the two, lets them meet, makes the calls for the transaction that began first, joins them, and halts
+/// the run.
+fn call_each<'a, S: Store + Send, D: Disk + Send, B: Run<D> + Send + Sync, W: Wait>(
     waits: &W,
     shared: &Shared<'a, S, D, B>,
     pass: Pass<B>,
@@ -128,21 +165,26 @@ fn call_each<'a, S: Store, D: Disk, B: Run<D>, W: Wait>(
         },
         Err(_) => (one, None),
     };
+    let pass = shared.join(one, other);
+    let (pass, given) = halt(waits, shared, pass, settled_by(&calls));
     let answers = Answers {
         first,
         second,
         calls,
+        given,
     };
-    (shared.join(one, other), answers)
+    (pass, answers)
 }
 
 /// Shares an engine, makes the calls, and tells what they answered.
-fn share<'a, S: Store, D: Disk, B: Run<D>, R: Print + AllocGlobal, W: Wait>(
-    rt: &R,
-    waits: &W,
-    opened: Opened,
-    engine: Engine<'a, S, D>,
-) -> Engine<'a, S, D>
+fn share<
+    'a,
+    S: Store + Send,
+    D: Disk + Send,
+    B: Run<D> + Send + Sync,
+    R: Print + AllocGlobal,
+    W: Wait,
+>(rt: &R, waits: &W, opened: Opened, engine: Engine<'a, S, D>) -> Engine<'a, S, D>
     requires table { opened.table.shared.table_id ≡ B.table }
     requires seen { opened.seat.me.0.now.seen ≡ B.start }
     requires engine { B.engine ≡ Some engine }
@@ -164,7 +206,7 @@ fn share<'a, S: Store, D: Disk, B: Run<D>, R: Print + AllocGlobal, W: Wait>(
 }
 
 /// Works an engine by these calls; what they leave is for the caller.
-pub fn work_by_calls<'a, S: Store, D: Disk, R: Print + AllocGlobal, W: Wait>(
+pub fn work_by_calls<'a, S: Store + Send, D: Disk + Send, R: Print + AllocGlobal, W: Wait>(
     rt: &R,
     waits: &W,
     alloc: Global,

@@ -13,9 +13,13 @@
 //! ahead of its second turn until the other one is there: `interleaved`, or `missed` where one has waited in vain, as it does where each
 //! transaction is taken whole before the next.
 //!
+//! Behind `verifies` it is told how many replies the run has, which differ in their values, with its status; and what `verify` answers over
+//! the bytes that the disk held afterwards.
+//!
 //! Behind `shares` there is no worker: who holds two passes of the shared engine draws by each, lets them meet, and then asks for the reply
-//! of the transaction that began first, gives it a turn, asks for its reply again, and makes the history durable. A line tells what each of
-//! these calls answered; behind it stand the three of `threads`, where `run` has ended what was left.
+//! of the transaction that began first, gives it a turn, asks for its reply again, and makes the history durable. Then the run is halted,
+//! as for want of memory, between two pauses that keep nobody, and a worker draws. A line tells what each of these calls answered; behind
+//! it stand the three of `threads`, where `run` has ended what was left.
 #![tactic(auto)]
 
 mod answers;

@@ -183,6 +183,25 @@ fn tell_run<R: Files<File = File> + Print + AllocGlobal, T: Threads + Wait + Syn
     tell_answered(rt, case, &answered)
 }
 
+/// How many lines of what a run printed are replies: each begins with a place.
+fn reply_count(text: &str) -> usize {
+    text.lines()
+        .filter(|line| line.starts_with(|c: char| c.is_ascii_digit()))
+        .count()
+}
+
+/// Tells how many replies the run of a case by workers has and its status, and what `verify` answers over what it left.
+fn tell_verified<R: Files<File = File> + Print + AllocGlobal, T: Threads + Wait + Sync>(
+    rt: &R,
+    threads: &T,
+    case: Case<'_>,
+) -> io::Result<()> {
+    let answered = run(rt, threads, &OpenGate, case)?;
+    let replies = reply_count(answered.text.as_str());
+    println!(rt; "{replies} replies, status {}", answered.status)?;
+    tell_left(rt, "verify", case, answered.disk.bytes())
+}
+
 /// Tells of the run of a case by the calls of the shared engine.
 fn tell_calls<R: Files<File = File> + Print + AllocGlobal, W: Wait>(
     rt: &R,
@@ -221,6 +240,7 @@ pub fn tell<R: Files<File = File> + Print + AllocGlobal, T: Threads + Wait + Syn
         "searches" => tell_searches(rt, threads, rest),
         "interleaves" => tell_meeting(rt, threads, case_of(rest)),
         "shares" => tell_calls(rt, threads, case_of(rest)),
+        "verifies" => tell_verified(rt, threads, case_of(rest)),
         _ => tell_run(rt, threads, case_of(rest)),
     }
 }

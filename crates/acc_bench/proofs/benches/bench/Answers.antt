@@ -7,10 +7,10 @@ use Rattle.acc_bench.specs.Benches.{ComesTo}
 use Rattle.acc_bench.proofs.benches.bench.Goals as goal
 
 pub judge-requires : goal.judge-requires
-judge-requires c = record { schema = subst (IsSchemaOf c.args.tables.now) (sym c.in_ok-ran.ensures.design) c.requires.schema }
+judge-requires g c = record { schema = subst (IsSchemaOf c.args.tables.now) (sym c.in_ok-ran.ensures.design) c.requires.schema }
 
 pub returns : goal.returns
-returns c =
+returns g c =
     let d = c.args.accepted.now in
     let w = c.in_ok-ran.ran.state.world in
     let parts = c.benched.ensures.parts in

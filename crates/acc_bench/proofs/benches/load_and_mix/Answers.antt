@@ -6,7 +6,7 @@ use Rattle.acc_bench.proofs.Benching.{comes_to}
 use Rattle.acc_bench.proofs.benches.load_and_mix.Goals as goal
 
 pub returns-clause-comes : goal.returns-clause-comes
-returns-clause-comes c =
+returns-clause-comes g c =
     let loaded = c.in_ok-played.played in
     let mixed = subst (λ (x : Design). IsMix x c.args.mix.now c.args.order.now (play_of loaded.player.world loaded.board)
     c.in_ok-player.field-0) c.design.ensures.design c.in_ok-player.ensures in

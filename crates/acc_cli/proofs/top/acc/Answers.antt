@@ -1,6 +1,7 @@
 use Rattle.std.proofs.Common.{sym, ◌∙◌}
 use Rattle.acc_cli.proofs.CauseLemmas.{causes_of}
 use Rattle.acc_cli.proofs.PromiseLemmas.{promise_kept}
+use Rattle.acc_cli.proofs.BenchLemmas.{tells_bench, bench_promise}
 use Rattle.acc_cli.proofs.CreationLemmas.{is_created}
 use Rattle.acc_cli.proofs.ProvingLemmas.{is_proved}
 use Rattle.acc_cli.proofs.LineLemmas.{leaves_line, runs_line, works_line, tells_somehow, verified_somehow}
@@ -54,6 +55,14 @@ returns-clause-verified g c is =
     (λ nine. verified_somehow g.D.Disk.clock g.D.Disk.left_since g.D.Disk.told g.D.Disk.may_leave _ _ c.args.disk
     c.answer_line-closed.result.disk _ _ _ _ _ nine is c.answer_line-closed.ensures.leaves)
     c.answer_line-closed.ensures.answered)
+
+pub returns-clause-benched : goal.returns-clause-benched
+returns-clause-benched g c mix is =
+    rw c.code.ensures (tells_bench _ _ mix _ _ _ _ _ _ _ _ _ _ is c.answer_line-closed.ensures.answered)
+
+pub returns-clause-bench_promise : goal.returns-clause-bench_promise
+returns-clause-bench_promise g c mix is =
+    bench_promise _ _ mix _ _ _ _ (tells_bench _ _ mix _ _ _ _ _ _ _ _ _ _ is c.answer_line-closed.ensures.answered)
 
 pub returns-clause-unchanged : goal.returns-clause-unchanged
 returns-clause-unchanged g c four =

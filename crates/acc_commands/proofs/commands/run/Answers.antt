@@ -155,3 +155,16 @@ returns-in-TpccMix-clause-ends g c =
 pub returns-in-TpccMix-clause-lacking : goal.returns-in-TpccMix-clause-lacking
 returns-in-TpccMix-clause-lacking g c without =
     lacks_none c.unrun-in-TpccMix.result.answer _ _ c.unrun-in-TpccMix.ensures.none.0 c.unrun-in-TpccMix.ensures.none.1
+
+pub returns-in-Bench-clause-ends : goal.returns-in-Bench-clause-ends
+unfolding MeansOfFiles
+returns-in-Bench-clause-ends g c =
+    rw c.in-Bench.is
+    (ends_run g.D.Disk.clock g.D.Disk.left_since g.D.Disk.told g.D.Disk.may_leave g.D.Disk.faults (command.Bench c.in-Bench.mix)
+    (certified_texts c.in-Bench.files) refl c.args.disk _ c.ran-in-Bench.ensures.disk c.bench_files.result _ _ _
+    c.ran-in-Bench.ensures.tells c.ran-in-Bench.ensures.settled c.bench_files.ensures)
+
+pub returns-in-Bench-clause-lacking : goal.returns-in-Bench-clause-lacking
+returns-in-Bench-clause-lacking g c without =
+    IfErr-weaker c.ran-in-Bench.result.answer _ _ (λ e none. (none, c.ran-in-Bench.ensures.settled))
+    (lacks_run c.bench_files.result _ _ c.ran-in-Bench.ensures.tells)

@@ -1,45 +1,46 @@
-use Rattle.std.proofs.Common.{◌≡◌, ◌∙◌, sym, ap, Some, None}
-use Rattle.std.specs.Prelude.{is_some}
-use Rattle.std.specs.Option.{option_copied_mut}
+use Rattle.std.proofs.Common.{◌≡◌, ◌∙◌, sym, ap, subst, Some}
 use Rattle.std.specs.BTreeMap.{is_at as at}
-use Rattle.acc_base.specs.Tables.{place_cmp}
-use Rattle.acc_store.specs.Rows.{live, entry_at}
-use Rattle.acc_store.proofs.Live.{drop_there, live_absent}
+use Rattle.acc_base.specs.Tables.{place_cmp, drop_row}
+use Rattle.acc_store.specs.Rows.{live, KeepsRoom, AddsBlanks}
+use Rattle.acc_store.specs.Changes.{HasChanged}
 use Rattle.acc_store.proofs.Room.{kept_by, wide_there}
 use Rattle.acc_store.proofs.Blanks.{change_adds, same_adds}
+use Rattle.acc_store.proofs.Live.{drop_there, live_absent}
+use Rattle.acc_store.proofs.Changed.{alters_by, alters_keys, alters_up}
+use Rattle.acc_store.specs.declared.slots.Change.TheVariants.{Clear}
 use Rattle.acc_store.proofs.changes.drop_at.Goals as goal
 
-pub returns-in-Some-clause-rows : goal.returns-in-Some-clause-rows
-returns-in-Some-clause-rows c =
+pub returns-clause-rows : goal.returns-clause-rows
+returns-clause-rows c =
+    let p = c.args.place.now in
     let old = c.args.entries.now.entries in
-    let there : entry_at c.args.place.now old ≡ Some c.in-Some.slot.now = sym c.get_mut.ensures.value ∙ ap option_copied_mut c.in-Some.is in
-    ap live (c.get_mut.follows.holds c.clear.new.self).0 ∙ drop_there c.args.place.now c.in-Some.slot.now c.clear.new.self old c.requires.up
-    there c.clear.ensures.cells
+    let new = c.change.new.self.entries in
+    alters_by p (HasChanged Clear c.change.result) old new (live new ≡ drop_row p.0 p.1 (live old)) c.change.ensures.altered
+    (λ none same. ap live same ∙ live_absent p old c.requires.up none)
+    (λ s t there changed same all. ap live same ∙ drop_there p s t old c.requires.up there changed.0)
 
-pub returns-in-Some-clause-kept : goal.returns-in-Some-clause-kept
-returns-in-Some-clause-kept c =
-    let old = c.args.entries.now.entries in
-    let new = c.clear.new.self in
-    let there : entry_at c.args.place.now old ≡ Some c.in-Some.slot.now = sym c.get_mut.ensures.value ∙ ap option_copied_mut c.in-Some.is in
-    kept_by old (c.get_mut.follows.lender new).entries c.args.place.now new
-    (wide_there old c.args.place.now c.in-Some.slot.now new there c.clear.ensures.kept)
-    ((c.get_mut.follows.holds new).3 (ap is_some there)).0
+pub returns-clause-keys : goal.returns-clause-keys
+returns-clause-keys c = alters_keys c.args.place.now (HasChanged Clear c.change.result) c.args.entries.now.entries c.change.new.self.entries
+    c.change.ensures.altered
 
-pub returns-in_default-clause-rows : goal.returns-in_default-clause-rows
-returns-in_default-clause-rows c =
-    let old = c.args.entries.now.entries in
-    let none : entry_at c.args.place.now old ≡ None = sym c.get_mut.ensures.value ∙ ap option_copied_mut c.in_default.is in
-    ap (λ m. live m.entries) c.get_mut.follows.holds-at-none ∙ live_absent c.args.place.now old c.requires.up none
+pub returns-clause-up : goal.returns-clause-up
+returns-clause-up c = alters_up c.args.place.now (HasChanged Clear c.change.result) c.args.entries.now.entries c.change.new.self.entries
+    c.change.ensures.altered c.requires.up
 
-pub returns-in-Some-clause-blanks : goal.returns-in-Some-clause-blanks
-returns-in-Some-clause-blanks c =
+pub returns-clause-kept : goal.returns-clause-kept
+returns-clause-kept c =
+    let p = c.args.place.now in
     let old = c.args.entries.now.entries in
-    let new = c.clear.new.self in
-    let there : entry_at c.args.place.now old ≡ Some c.in-Some.slot.now = sym c.get_mut.ensures.value ∙ ap option_copied_mut c.in-Some.is in
-    change_adds old (c.get_mut.follows.lender new).entries c.args.place.now (Some new)
-    ((c.get_mut.follows.holds new).3 (ap is_some there)).0
+    let new = c.change.new.self.entries in
+    alters_by p (HasChanged Clear c.change.result) old new (KeepsRoom old new) c.change.ensures.altered
+    (λ none same. subst (KeepsRoom old) (sym same) (λ q n h. h))
+    (λ s t there changed same all. kept_by old new p t (wide_there old p s t there changed.1) all)
 
-pub returns-in_default-clause-blanks : goal.returns-in_default-clause-blanks
-returns-in_default-clause-blanks c =
+pub returns-clause-blanks : goal.returns-clause-blanks
+returns-clause-blanks c =
+    let p = c.args.place.now in
     let old = c.args.entries.now.entries in
-    same_adds (at (place_cmp c.args.place.now)) old _ (ap (λ m. m.entries) c.get_mut.follows.holds-at-none)
+    let new = c.change.new.self.entries in
+    alters_by p (HasChanged Clear c.change.result) old new (AddsBlanks (at (place_cmp p)) old new) c.change.ensures.altered
+    (λ none same. same_adds (at (place_cmp p)) old new same)
+    (λ s t there changed same all. change_adds old new p (Some t) all)

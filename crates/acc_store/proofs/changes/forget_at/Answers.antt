@@ -4,7 +4,8 @@ use Rattle.acc_store.proofs.Room.{fit_remove}
 use Rattle.acc_store.proofs.Blanks.{change_clears, none_clears}
 use Rattle.std.specs.BTreeMap.{is_at as at}
 use Rattle.acc_base.specs.Tables.{place_cmp}
-use Rattle.acc_store.specs.Rows.{live, AreFit}
+use Rattle.acc_store.specs.Rows.{live, AreFit, entry_at, IsUp}
+use Rattle.acc_store.proofs.Changed.{at_removed, up_removed}
 use Rattle.acc_store.proofs.changes.forget_at.Goals as goal
 
 pub returns-then-is_blank_at-clause-rows : goal.returns-then-is_blank_at-clause-rows
@@ -18,7 +19,13 @@ returns-then-is_blank_at-clause-fit c =
 
 pub returns-then-is_blank_at-clause-blanks : goal.returns-then-is_blank_at-clause-blanks
 returns-then-is_blank_at-clause-blanks c =
-    change_clears c.args.entries.now.entries c.remove.new.self.entries c.args.place.now None c.remove.ensures.updates.0 refl
+    let old = c.args.entries.now.entries in
+    change_clears old c.remove.new.self.entries c.args.place.now None (λ q. ap (entry_at q) c.remove.ensures.entries ∙ at_removed
+    c.args.place.now old c.requires.up q) refl
+
+pub returns-then-is_blank_at-clause-up : goal.returns-then-is_blank_at-clause-up
+returns-then-is_blank_at-clause-up c = subst IsUp (sym c.remove.ensures.entries)
+    (up_removed c.args.place.now c.args.entries.now.entries c.requires.up)
 
 pub returns-else-is_blank_at-clause-blanks : goal.returns-else-is_blank_at-clause-blanks
 returns-else-is_blank_at-clause-blanks c =

@@ -1,42 +1,59 @@
-use Rattle.std.proofs.Common.{◌≡◌, ◌∙◌, sym, ap, subst, Some}
-use Rattle.std.specs.Prelude.{is_some, is_none}
+use Rattle.std.proofs.Common.{◌≡◌, ◌∙◌, sym, ap, subst, Some, true, length}
+use Rattle.std.specs.Prelude.{is_none}
 use Rattle.std.specs.BTreeMap.{is_at as at}
-use Rattle.std.specs.Option.{option_copied_mut}
 use Rattle.acc_base.specs.Tables.{place_of, place_cmp, put}
-use Rattle.acc_store.specs.Rows.{live, entry_at, row_of, ClearsBlanks}
-use Rattle.acc_store.proofs.Live.{put_there}
-use Rattle.acc_store.proofs.Blanks.{change_clears}
+use Rattle.acc_store.specs.Rows.{live, row_of, has_room_at, KeepsRoom, ClearsBlanks}
+use Rattle.acc_store.specs.Changes.{HasChanged}
 use Rattle.acc_store.proofs.Room.{kept_by, wide_there}
+use Rattle.acc_store.proofs.Blanks.{change_clears}
+use Rattle.acc_store.proofs.Live.{put_there}
+use Rattle.acc_store.proofs.Changed.{alters_by, alters_keys, alters_up}
+use Rattle.acc_store.specs.declared.slots.Change.TheVariants.{Put}
+use Rattle.acc_store.proofs.Room.{none_absent}
+use Rattle.std.specs.Prelude.{is_some}
 use Rattle.acc_store.proofs.changes.put_row.Goals as goal
 
-pub returns-in-Some-clause-rows : goal.returns-in-Some-clause-rows
-returns-in-Some-clause-rows c =
-    let old = c.args.entries.now.entries in
+pub returns-clause-rows : goal.returns-clause-rows
+returns-clause-rows c =
     let row = c.args.row.now in
-    let place = c.new-place.result in
-    let same : place ≡ place_of row = c.new-place.ensures.place ∙ ap (λ k. (row.table, k)) c.as_slice.ensures in
-    let there : entry_at place old ≡ Some c.in-Some.slot.now = sym c.get_mut.ensures.value ∙ ap option_copied_mut c.in-Some.is in
-    ap live (c.get_mut.follows.holds c.put.new.self).0 ∙ put_there place row.cols c.in-Some.slot.now c.put.new.self old c.requires.up there
-    (c.put.ensures.cells ∙ ap Some c.as_slice-in-Some.ensures) ∙ ap (λ p. put (row_of p row.cols) (live old)) same
-
-pub returns-in-Some-clause-kept : goal.returns-in-Some-clause-kept
-returns-in-Some-clause-kept c =
+    let p = c.new-place.result in
     let old = c.args.entries.now.entries in
-    let new = c.put.new.self in
-    let there : entry_at c.new-place.result old ≡ Some c.in-Some.slot.now =
-    sym c.get_mut.ensures.value ∙ ap option_copied_mut c.in-Some.is in
-    kept_by old (c.get_mut.follows.lender new).entries c.new-place.result new
-    (wide_there old c.new-place.result c.in-Some.slot.now new there c.put.ensures.kept)
-    ((c.get_mut.follows.holds new).3 (ap is_some there)).0
+    let new = c.change.new.self.entries in
+    let same_place : p ≡ place_of row = c.new-place.ensures.place ∙ ap (λ k. (row.table, k)) c.as_slice.ensures in
+    let room : has_room_at old p (length row.cols) ≡ true = ap (λ q. has_room_at old q (length row.cols)) same_place ∙ c.requires.room in
+    alters_by p (HasChanged (Put c.as_slice-2.result) c.change.result) old new (live new ≡ put row (live old)) c.change.ensures.altered
+    (λ none same. absurd (none_absent old p (length row.cols) (ap is_some none) room))
+    (λ s t there changed same all. ap live same ∙ put_there p row.cols s t old c.requires.up there
+    (changed.0 ∙ ap Some c.as_slice-2.ensures) ∙
+    ap (λ q. put (row_of q row.cols) (live old)) same_place)
 
-pub returns-in-Some-clause-blanks : goal.returns-in-Some-clause-blanks
-returns-in-Some-clause-blanks c =
+pub returns-clause-keys : goal.returns-clause-keys
+returns-clause-keys c = alters_keys c.new-place.result (HasChanged (Put c.as_slice-2.result) c.change.result) c.args.entries.now.entries
+    c.change.new.self.entries c.change.ensures.altered
+
+pub returns-clause-up : goal.returns-clause-up
+returns-clause-up c = alters_up c.new-place.result (HasChanged (Put c.as_slice-2.result) c.change.result) c.args.entries.now.entries
+    c.change.new.self.entries c.change.ensures.altered c.requires.up
+
+pub returns-clause-kept : goal.returns-clause-kept
+returns-clause-kept c =
+    let p = c.new-place.result in
     let old = c.args.entries.now.entries in
-    let new = c.put.new.self in
+    let new = c.change.new.self.entries in
+    alters_by p (HasChanged (Put c.as_slice-2.result) c.change.result) old new (KeepsRoom old new) c.change.ensures.altered
+    (λ none same. subst (KeepsRoom old) (sym same) (λ q n h. h))
+    (λ s t there changed same all. kept_by old new p t (wide_there old p s t there changed.1) all)
+
+pub returns-clause-blanks : goal.returns-clause-blanks
+returns-clause-blanks c =
     let row = c.args.row.now in
-    let place = c.new-place.result in
-    let same : place ≡ place_of row = c.new-place.ensures.place ∙ ap (λ k. (row.table, k)) c.as_slice.ensures in
-    let fs = (c.get_mut.follows.lender new).entries in
-    let there : entry_at place old ≡ Some c.in-Some.slot.now = sym c.get_mut.ensures.value ∙ ap option_copied_mut c.in-Some.is in
-    subst (λ p. ClearsBlanks (at (place_cmp p)) old fs) same
-    (change_clears old fs place (Some new) ((c.get_mut.follows.holds new).3 (ap is_some there)).0 (ap is_none c.put.ensures.cells))
+    let p = c.new-place.result in
+    let old = c.args.entries.now.entries in
+    let new = c.change.new.self.entries in
+    let same_place : p ≡ place_of row = c.new-place.ensures.place ∙ ap (λ k. (row.table, k)) c.as_slice.ensures in
+    let room : has_room_at old p (length row.cols) ≡ true = ap (λ q. has_room_at old q (length row.cols)) same_place ∙ c.requires.room in
+    subst (λ q. ClearsBlanks (at (place_cmp q)) old new) same_place
+    (alters_by p (HasChanged (Put c.as_slice-2.result) c.change.result) old new (ClearsBlanks (at (place_cmp p)) old new)
+    c.change.ensures.altered
+    (λ none same. absurd (none_absent old p (length row.cols) (ap is_some none) room))
+    (λ s t there changed same all. change_clears old new p (Some t) all (ap is_none changed.0)))

@@ -1,40 +1,72 @@
-use Rattle.std.proofs.Common.{◌≡◌, ◌∙◌, sym, ap, Some}
-use Rattle.std.specs.Prelude.{is_some}
-use Rattle.std.specs.Option.{option_copied_mut}
-use Rattle.acc_store.specs.Rows.{live, entry_at}
+use Rattle.std.proofs.Common.{◌≡◌, ◌∙◌, sym, ap, subst, Some, true, false, is_some, cond}
+use Rattle.std.specs.Prelude.{OnOk, IsOk}
+use Rattle.std.specs.BTreeMap.{is_at as at}
+use Rattle.acc_base.specs.Tables.{place_cmp}
+use Rattle.acc_store.specs.Rows.{live, entry_at, has_room_at, can_hold, KeepsRoom, AddsBlanks}
+use Rattle.acc_store.specs.Changes.{HasChanged}
+use Rattle.acc_store.proofs.Room.{kept_by, wide_there, room_there}
+use Rattle.acc_store.proofs.Blanks.{change_adds, same_adds}
+use Rattle.std.proofs.lemmas.Bool.{le-leb}
 use Rattle.acc_store.proofs.Live.{same_there}
-use Rattle.acc_store.proofs.Blanks.{change_adds}
-use Rattle.acc_store.proofs.Room.{kept_by, room_there, wide_there}
+use Rattle.std.specs.Ordering.{is_eq}
+use Rattle.std.specs.Cmp.{tied_itself}
+use Rattle.acc_base.proofs.Places.{place_total}
+use Rattle.acc_store.proofs.Laid.{on_ok}
+use Rattle.acc_store.proofs.Changed.{alters_by, alters_up, alters_fit}
+use Rattle.acc_store.specs.declared.slots.Change.TheVariants.{Room}
 use Rattle.acc_store.proofs.changes.widen.Goals as goal
 
-pub returns-in-Some-clause-rows : goal.returns-in-Some-clause-rows
-returns-in-Some-clause-rows c =
+pub returns-clause-rows : goal.returns-clause-rows
+returns-clause-rows c =
+    let p = c.args.place.now in
     let old = c.args.entries.now.entries in
-    let place = c.args.place.now in
-    let there : entry_at place old ≡ Some c.in-Some.slot.now = sym c.get_mut.ensures.value ∙ ap option_copied_mut c.in-Some.is in
-    ap live (c.get_mut.follows.holds c.make_room.new.self).0 ∙ same_there place c.in-Some.slot.now c.make_room.new.self old there
-    c.make_room.ensures.cells
+    let new = c.change.new.self.entries in
+    alters_by p (HasChanged (Room c.args.room) c.change.result) old new (live new ≡ live old) c.change.ensures.altered
+    (λ none same. ap live same)
+    (λ s t there changed same all. ap live same ∙ same_there p s t old there changed.0)
 
-pub returns-in-Some-clause-kept : goal.returns-in-Some-clause-kept
-returns-in-Some-clause-kept c =
+pub returns-clause-room : goal.returns-clause-room
+returns-clause-room c = λ has.
+    let p = c.args.place.now in
     let old = c.args.entries.now.entries in
-    let new = c.make_room.new.self in
-    let place = c.args.place.now in
-    let there : entry_at place old ≡ Some c.in-Some.slot.now = sym c.get_mut.ensures.value ∙ ap option_copied_mut c.in-Some.is in
-    kept_by old (c.get_mut.follows.lender new).entries place new
-    (wide_there old place c.in-Some.slot.now new there c.make_room.ensures.kept) ((c.get_mut.follows.holds new).3 (ap is_some there)).0
+    let new = c.change.new.self.entries in
+    alters_by p (HasChanged (Room c.args.room) c.change.result) old new (OnOk c.change.result (has_room_at new p c.args.room ≡ true))
+    c.change.ensures.altered
+    (λ none same. let e : false ≡ true = sym (ap is_some none) ∙ has in cc)
+    (λ s t there changed same all. on_ok c.change.result (λ fits. ap (can_hold c.args.room) (all p ∙
+    ap (λ o. cond (is_eq o) (Some t) (entry_at p old)) (tied_itself place_total p)) ∙ le-leb c.args.room t.room fits) changed.2)
 
-pub returns-in-Some-clause-enough : goal.returns-in-Some-clause-enough
-returns-in-Some-clause-enough c = λ room.
+pub returns-clause-enough : goal.returns-clause-enough
+returns-clause-enough c = λ room.
+    let p = c.args.place.now in
     let old = c.args.entries.now.entries in
-    let place = c.args.place.now in
-    let there : entry_at place old ≡ Some c.in-Some.slot.now = sym c.get_mut.ensures.value ∙ ap option_copied_mut c.in-Some.is in
-    c.make_room.ensures.enough (room_there old place c.in-Some.slot.now c.args.room there room)
+    let new = c.change.new.self.entries in
+    alters_by p (HasChanged (Room c.args.room) c.change.result) old new (IsOk c.change.result) c.change.ensures.altered
+    (λ none same. let e : false ≡ true = sym (ap (can_hold c.args.room) none) ∙ room in cc)
+    (λ s t there changed same all. changed.3 (room_there old p s c.args.room there room))
 
-pub returns-in-Some-clause-blanks : goal.returns-in-Some-clause-blanks
-returns-in-Some-clause-blanks c =
+pub returns-clause-up : goal.returns-clause-up
+returns-clause-up c = alters_up c.args.place.now (HasChanged (Room c.args.room) c.change.result) c.args.entries.now.entries
+    c.change.new.self.entries c.change.ensures.altered c.requires.up
+
+pub returns-clause-fit : goal.returns-clause-fit
+returns-clause-fit c = alters_fit c.args.place.now (HasChanged (Room c.args.room) c.change.result) c.args.entries.now.entries
+    c.change.new.self.entries c.change.ensures.altered c.requires.are_fit
+
+pub returns-clause-kept : goal.returns-clause-kept
+returns-clause-kept c =
+    let p = c.args.place.now in
     let old = c.args.entries.now.entries in
-    let new = c.make_room.new.self in
-    let place = c.args.place.now in
-    let there : entry_at place old ≡ Some c.in-Some.slot.now = sym c.get_mut.ensures.value ∙ ap option_copied_mut c.in-Some.is in
-    change_adds old (c.get_mut.follows.lender new).entries place (Some new) ((c.get_mut.follows.holds new).3 (ap is_some there)).0
+    let new = c.change.new.self.entries in
+    alters_by p (HasChanged (Room c.args.room) c.change.result) old new (KeepsRoom old new) c.change.ensures.altered
+    (λ none same. subst (KeepsRoom old) (sym same) (λ q n h. h))
+    (λ s t there changed same all. kept_by old new p t (wide_there old p s t there changed.1) all)
+
+pub returns-clause-blanks : goal.returns-clause-blanks
+returns-clause-blanks c =
+    let p = c.args.place.now in
+    let old = c.args.entries.now.entries in
+    let new = c.change.new.self.entries in
+    alters_by p (HasChanged (Room c.args.room) c.change.result) old new (AddsBlanks (at (place_cmp p)) old new) c.change.ensures.altered
+    (λ none same. same_adds (at (place_cmp p)) old new same)
+    (λ s t there changed same all. change_adds old new p (Some t) all)

@@ -1,11 +1,16 @@
 use Rattle.std.proofs.Common.{◌≡◌, length}
 use Rattle.acc_store.specs.Rows.{live}
+use Rattle.acc_store.specs.Runs.{left_behind, IsForward}
 use Rattle.acc_base.specs.Tables.{parts_at}
 use Rattle.acc_store.proofs.sums.greatest_live.Given as goal
 
 -- what is left has the same parts
 abbrev pub invariant-loop-place : goal.invariant-loop-place
-invariant-loop-place l = parts_at l.at (live l.fn.entries) ≡ parts_at l.at (live l.rest)
+invariant-loop-place l =
+    record {
+      parts : parts_at l.at (live (left_behind l.fn.entries)) ≡ parts_at l.at (live (left_behind l.rest));
+      forward : IsForward l.rest;
+    }
 
 abbrev pub decreases-loop-place : goal.decreases-loop-place
-decreases-loop-place l = length l.rest
+decreases-loop-place l = length (left_behind l.rest)

@@ -10,6 +10,7 @@ use Rattle.acc_store.proofs.sums.least_below.Goals as goal
 pub least_live-requires : goal.least_live-requires
 least_live-requires c =
     record {
+      forward = c.entries_below.ensures.forward;
       rising = subst (λ es. IsRising (parts_at (length c.args.prefix.now) (live es))) (sym c.entries_below.ensures.below)
           (parts_rise c.args.table c.args.prefix.now c.args.entries.now.entries c.requires.up);
     }

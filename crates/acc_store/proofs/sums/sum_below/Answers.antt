@@ -20,7 +20,11 @@ sum_live-requires c =
     let less = under_sum t p size (live es) in
     let whole = c.requires.sums t c.args.col in
     let fits : sum_by size (filter (is_under t p) (live es)) ≤ 2 ^ 120 = omega arith in
-    record { fits = subst (λ rows. sum_by size rows ≤ 2 ^ 120) (sym (ap live c.entries_below.ensures.below ∙ live_below t p es)) fits }
+    record {
+      forward = c.entries_below.ensures.forward;
+      fits = subst (λ rows. sum_by size rows ≤ 2 ^ 120)
+          (sym (ap live c.entries_below.ensures.below ∙ live_below t p es)) fits;
+    }
 
 pub returns : goal.returns
 returns c =

@@ -3,7 +3,7 @@ use Rattle.std.specs.Int.{int_max}
 use Rattle.std.proofs.lemmas.Int.{to_z-of_z}
 use Rattle.acc_base.specs.Tables.{best, parts_at, with_part}
 use Rattle.acc_store.specs.Rows.{IsRising}
-use Rattle.acc_store.proofs.Walks.{best-last}
+use Rattle.acc_store.proofs.Steps.{best-last}
 use Rattle.tpcc_tables.proofs.Rising.{last_parts}
 use Rattle.tpcc_tables.proofs.amounts.greatest_part.Goals as goal
 

@@ -5,7 +5,7 @@ use Rattle.std.proofs.lemmas.Int.{to_z-of_z}
 use Rattle.acc_base.specs.declared.tables.Row.{Row}
 use Rattle.acc_base.specs.Tables.{best, parts_at, with_part}
 use Rattle.acc_store.specs.Rows.{IsRising}
-use Rattle.acc_store.proofs.Walks.{best-first}
+use Rattle.acc_store.proofs.Steps.{best-first}
 use Rattle.tpcc_tables.proofs.Rising.{next_parts}
 use Rattle.tpcc_tables.proofs.amounts.least_part.Goals as goal
 

@@ -1,8 +1,7 @@
-// A schedule by the rules of locks, in plain Rust: what `bench-sched` compares with. It has the design of counter.design for so many tables
-// of cells and so many types that bump the cells of each, reads a script and an order, and prints the lines that the schedule has. Rows
-// stand in a map with keys of their own.
+// Designs and the machine that runs them by the rules of locks, in plain Rust: what `bench-sched` and `bench-tpcc` compare with. Rows
+// stand in a map with keys of their own, or where a program that uses this keeps them.
 use std::collections::BTreeMap;
-use std::fmt::Write;
+use std::fmt::Write as _;
 
 const EDGE: i128 = 1 << 45;
 // No key has more parts.
@@ -10,12 +9,12 @@ const LONGEST_KEY: usize = 7;
 const MOST_EVENTS: usize = 1 << 20;
 const MOST_UNFINISHED: usize = 64;
 
-struct Linear {
-    terms: Vec<(usize, i64)>,
-    constant: i64,
+pub struct Linear {
+    pub terms: Vec<(usize, i64)>,
+    pub constant: i64,
 }
 
-enum Read {
+pub enum Read {
     Let(usize, Linear),
     Column(usize, u32, Vec<Linear>, usize),
     Has(usize, u32, Vec<Linear>),
@@ -28,7 +27,7 @@ enum Read {
     Div(usize, usize, i64),
 }
 
-enum Action {
+pub enum Action {
     Put(u32, Vec<Linear>, Vec<Linear>),
     Del(u32, Vec<Linear>),
     Set(u32, Vec<Linear>, usize, Linear),
@@ -36,7 +35,7 @@ enum Action {
 }
 
 #[derive(Clone, Copy)]
-enum Target {
+pub enum Target {
     Point(usize),
     Commit,
     Undone,
@@ -44,84 +43,84 @@ enum Target {
 }
 
 // A relation of a guard: that a linear value is 0, or at most 0.
-struct Relation {
-    linear: Linear,
-    equal: bool,
+pub struct Relation {
+    pub linear: Linear,
+    pub equal: bool,
 }
 
-struct Path {
-    guard: Vec<Relation>,
-    actions: Vec<Action>,
-    target: Target,
+pub struct Path {
+    pub guard: Vec<Relation>,
+    pub actions: Vec<Action>,
+    pub target: Target,
 }
 
-struct Step {
-    reads: Vec<Read>,
-    paths: Vec<Path>,
+pub struct Step {
+    pub reads: Vec<Read>,
+    pub paths: Vec<Path>,
 }
 
-struct Point {
-    name: &'static str,
-    next: Step,
-    undo: Step,
+pub struct Point {
+    pub name: String,
+    pub next: Step,
+    pub undo: Step,
 }
 
-struct Type {
-    name: String,
-    params: usize,
-    locals: usize,
-    points: Vec<Point>,
-    returns: Vec<usize>,
-    limit: u32,
-}
-
-#[derive(Clone, Copy, PartialEq)]
-struct At {
-    ty: usize,
-    point: usize,
+pub struct Type {
+    pub name: String,
+    pub params: usize,
+    pub locals: usize,
+    pub points: Vec<Point>,
+    pub returns: Vec<usize>,
+    pub limit: u32,
 }
 
 #[derive(Clone, Copy, PartialEq)]
-enum Side {
+pub struct At {
+    pub ty: usize,
+    pub point: usize,
+}
+
+#[derive(Clone, Copy, PartialEq)]
+pub enum Side {
     Next,
     Undo,
 }
 
-struct Entry {
-    held: At,
-    step: At,
-    side: Side,
-    pairs: Vec<(usize, usize)>,
+pub struct Entry {
+    pub held: At,
+    pub step: At,
+    pub side: Side,
+    pub pairs: Vec<(usize, usize)>,
 }
 
-struct Design {
-    types: Vec<Type>,
-    entries: Vec<Entry>,
+pub struct Design {
+    pub types: Vec<Type>,
+    pub entries: Vec<Entry>,
     // For each point the points that undo steps reach from it.
-    reached: Vec<Vec<Vec<bool>>>,
+    pub reached: Vec<Vec<Vec<bool>>>,
 }
 
 #[derive(Clone)]
-struct Call {
-    ty: usize,
-    params: Vec<i64>,
-    tape: Vec<i64>,
-    ask: Option<u32>,
+pub struct Call {
+    pub ty: usize,
+    pub params: Vec<i64>,
+    pub tape: Vec<i64>,
+    pub ask: Option<u32>,
 }
 
-struct Frame {
-    at: At,
-    side: Side,
-    locals: Vec<i64>,
-    tape: Vec<i64>,
-    pos: usize,
-    steps: u32,
-    ask: Option<u32>,
-    cause: Option<Cause>,
+pub struct Frame {
+    pub at: At,
+    pub side: Side,
+    pub locals: Vec<i64>,
+    pub tape: Vec<i64>,
+    pub pos: usize,
+    pub steps: u32,
+    pub ask: Option<u32>,
+    pub cause: Option<Cause>,
 }
 
 #[derive(Clone, Copy)]
-enum Cause {
+pub enum Cause {
     Refused(u32),
     Range,
     Limit,
@@ -129,19 +128,19 @@ enum Cause {
     Victim,
 }
 
-enum Event {
+pub enum Event {
     Begin(Call),
     Step(u64),
     Abort(u64, Cause),
     Undo(u64),
 }
 
-enum Outcome {
+pub enum Outcome {
     Committed(Vec<i64>),
     Compensated(Cause),
 }
 
-enum Turn {
+pub enum Turn {
     Stepped(At),
     Blocked(u64, usize),
     Turned(Cause),
@@ -149,19 +148,22 @@ enum Turn {
     Ended,
 }
 
-type Key = (u32, Vec<i64>);
+pub type Key = (u32, Vec<i64>);
 
-struct Effect {
-    locals: Vec<i64>,
-    pos: usize,
-    writes: Vec<(Key, Option<Vec<i128>>)>,
-    target: Target,
+// A row that is written, or none where it is dropped.
+pub type Write = (Key, Option<Vec<i128>>);
+
+pub struct Effect {
+    pub locals: Vec<i64>,
+    pub pos: usize,
+    pub writes: Vec<Write>,
+    pub target: Target,
 }
 
 // A number of a step is out of range.
-struct OutOfRange;
+pub struct OutOfRange;
 
-fn within(value: i128) -> Result<i64, OutOfRange> {
+pub fn within(value: i128) -> Result<i64, OutOfRange> {
     if -EDGE <= value && value <= EDGE { Ok(value as i64) } else { Err(OutOfRange) }
 }
 
@@ -179,46 +181,97 @@ impl Relation {
     }
 }
 
-fn key_of(parts: &[Linear], locals: &[i64], number: u64) -> Result<Vec<i64>, OutOfRange> {
+pub fn key_of(parts: &[Linear], locals: &[i64], number: u64) -> Result<Vec<i64>, OutOfRange> {
     parts.iter().map(|part| within(part.value(locals, number))).collect()
 }
 
-struct Machine {
-    design: Design,
-    rows: BTreeMap<Key, Vec<i128>>,
-    frames: BTreeMap<u64, Frame>,
-    replies: Vec<Option<Outcome>>,
-    events: Vec<Event>,
+// The rows that a machine works on.
+pub trait Rows {
+    // A column of a row, 0 where there is none.
+    fn column(&self, key: &Key, column: usize) -> i128;
+    fn has(&self, key: &Key) -> bool;
+    fn row(&self, key: &Key) -> Option<Vec<i128>>;
+    fn count(&self, table: u32, prefix: &[i64]) -> i128;
+    fn sum(&self, table: u32, prefix: &[i64], column: usize) -> i128;
+    // The first or last part behind a prefix, 0 where no key has it.
+    fn part(&self, table: u32, prefix: &[i64], last: bool) -> i64;
+    // Writes in order; none is a row that is dropped.
+    fn write(&mut self, writes: Vec<Write>);
 }
 
-impl Machine {
-    fn below(&self, table: u32, prefix: &[i64]) -> impl DoubleEndedIterator<Item = (&Key, &Vec<i128>)> {
+// Rows in a map.
+#[derive(Default)]
+pub struct MapRows(pub BTreeMap<Key, Vec<i128>>);
+
+impl MapRows {
+    pub fn below(&self, table: u32, prefix: &[i64]) -> impl DoubleEndedIterator<Item = (&Key, &Vec<i128>)> {
         let mut last = prefix.to_vec();
         last.resize(LONGEST_KEY, i64::MAX);
-        self.rows.range((table, prefix.to_vec())..=(table, last))
+        self.0.range((table, prefix.to_vec())..=(table, last))
+    }
+}
+
+impl Rows for MapRows {
+    fn column(&self, key: &Key, column: usize) -> i128 {
+        self.0.get(key).map_or(0, |columns| columns[column])
     }
 
-    // The first or last part behind a prefix, 0 where no key has it.
+    fn has(&self, key: &Key) -> bool {
+        self.0.contains_key(key)
+    }
+
+    fn row(&self, key: &Key) -> Option<Vec<i128>> {
+        self.0.get(key).cloned()
+    }
+
+    fn count(&self, table: u32, prefix: &[i64]) -> i128 {
+        self.below(table, prefix).count() as i128
+    }
+
+    fn sum(&self, table: u32, prefix: &[i64], column: usize) -> i128 {
+        self.below(table, prefix).map(|(_, columns)| columns[column]).sum()
+    }
+
     fn part(&self, table: u32, prefix: &[i64], last: bool) -> i64 {
         let mut below = self.below(table, prefix);
         let found = if last { below.next_back() } else { below.next() };
         found.map_or(0, |(key, _)| key.1[prefix.len()])
     }
 
+    fn write(&mut self, writes: Vec<Write>) {
+        for (key, columns) in writes {
+            match columns {
+                Some(columns) => self.0.insert(key, columns),
+                None => self.0.remove(&key),
+            };
+        }
+    }
+}
+
+pub struct Machine<R> {
+    pub design: Design,
+    pub rows: R,
+    pub frames: BTreeMap<u64, Frame>,
+    pub replies: Vec<Option<Outcome>>,
+    pub events: Vec<Event>,
+}
+
+impl<R: Rows> Machine<R> {
+    pub fn new(design: Design, rows: R) -> Self {
+        Machine { design, rows, frames: BTreeMap::new(), replies: Vec::new(), events: Vec::new() }
+    }
+
     fn read(&self, read: &Read, tape: &[i64], number: u64, locals: &mut [i64], pos: &mut usize) -> Result<(), OutOfRange> {
         let (x, value) = match read {
             Read::Let(x, linear) => (*x, linear.value(locals, number)),
             Read::Column(x, table, key, column) => {
-                let row = self.rows.get(&(*table, key_of(key, locals, number)?));
-                (*x, row.map_or(0, |columns| columns[*column]))
+                (*x, self.rows.column(&(*table, key_of(key, locals, number)?), *column))
             }
-            Read::Has(x, table, key) => (*x, self.rows.contains_key(&(*table, key_of(key, locals, number)?)).into()),
-            Read::Count(x, table, prefix) => (*x, self.below(*table, &key_of(prefix, locals, number)?).count() as i128),
-            Read::Sum(x, table, prefix, column) => {
-                (*x, self.below(*table, &key_of(prefix, locals, number)?).map(|(_, columns)| columns[*column]).sum())
-            }
-            Read::Least(x, table, prefix) => (*x, self.part(*table, &key_of(prefix, locals, number)?, false).into()),
-            Read::Greatest(x, table, prefix) => (*x, self.part(*table, &key_of(prefix, locals, number)?, true).into()),
+            Read::Has(x, table, key) => (*x, self.rows.has(&(*table, key_of(key, locals, number)?)).into()),
+            Read::Count(x, table, prefix) => (*x, self.rows.count(*table, &key_of(prefix, locals, number)?)),
+            Read::Sum(x, table, prefix, column) => (*x, self.rows.sum(*table, &key_of(prefix, locals, number)?, *column)),
+            Read::Least(x, table, prefix) => (*x, self.rows.part(*table, &key_of(prefix, locals, number)?, false).into()),
+            Read::Greatest(x, table, prefix) => (*x, self.rows.part(*table, &key_of(prefix, locals, number)?, true).into()),
             Read::Take(x) => {
                 let value = tape.get(*pos).copied().unwrap_or(0);
                 *pos = (*pos + 1).min(tape.len());
@@ -232,10 +285,10 @@ impl Machine {
     }
 
     // A row as the writes before this one leave it.
-    fn row(&self, writes: &[(Key, Option<Vec<i128>>)], key: &Key) -> Option<Vec<i128>> {
+    fn row(&self, writes: &[Write], key: &Key) -> Option<Vec<i128>> {
         match writes.iter().rev().find(|(written, _)| written == key) {
             Some((_, columns)) => columns.clone(),
-            None => self.rows.get(key).cloned(),
+            None => self.rows.row(key),
         }
     }
 
@@ -245,7 +298,7 @@ impl Machine {
         locals: &[i64],
         number: u64,
         side: Side,
-        writes: &mut Vec<(Key, Option<Vec<i128>>)>,
+        writes: &mut Vec<Write>,
     ) -> Result<(), OutOfRange> {
         match action {
             Action::Put(table, key, values) => {
@@ -358,7 +411,7 @@ impl Machine {
             })
     }
 
-    fn begin(&mut self, call: &Call) -> Option<u64> {
+    pub fn begin(&mut self, call: &Call) -> Option<u64> {
         if self.events.len() >= MOST_EVENTS || self.frames.len() >= MOST_UNFINISHED {
             return None;
         }
@@ -381,15 +434,6 @@ impl Machine {
         Turn::Turned(cause)
     }
 
-    fn write(&mut self, writes: Vec<(Key, Option<Vec<i128>>)>) {
-        for (key, columns) in writes {
-            match columns {
-                Some(columns) => self.rows.insert(key, columns),
-                None => self.rows.remove(&key),
-            };
-        }
-    }
-
     fn end(&mut self, t: u64, outcome: Outcome) -> Turn {
         self.frames.remove(&t);
         self.replies[t as usize - 1] = Some(outcome);
@@ -399,7 +443,7 @@ impl Machine {
     fn step(&mut self, t: u64, effect: Effect) -> Turn {
         let Effect { locals, pos, writes, target } = effect;
         self.events.push(Event::Step(t));
-        self.write(writes);
+        self.rows.write(writes);
         let frame = self.frames.get_mut(&t).expect("an unfinished transaction");
         match target {
             Target::Point(point) => {
@@ -423,7 +467,7 @@ impl Machine {
             unreachable!("no undo step leaves its range");
         };
         self.events.push(Event::Undo(t));
-        self.write(effect.writes);
+        self.rows.write(effect.writes);
         let frame = self.frames.get_mut(&t).expect("an unfinished transaction");
         match effect.target {
             Target::Point(point) => {
@@ -439,7 +483,7 @@ impl Machine {
         }
     }
 
-    fn turn(&mut self, t: u64) -> Turn {
+    pub fn turn(&mut self, t: u64) -> Turn {
         let frame = &self.frames[&t];
         if frame.side == Side::Undo {
             return self.undo(t);
@@ -456,27 +500,7 @@ impl Machine {
     }
 }
 
-// ---- the design
-
-fn local(x: usize) -> Linear {
-    Linear { terms: vec![(x, 1)], constant: 0 }
-}
-
-fn constant(constant: i64) -> Linear {
-    Linear { terms: Vec::new(), constant }
-}
-
-fn is(x: usize, value: i64) -> Vec<Relation> {
-    vec![Relation { linear: Linear { terms: vec![(x, 1)], constant: -value }, equal: true }]
-}
-
-fn path(guard: Vec<Relation>, actions: Vec<Action>, target: Target) -> Path {
-    Path { guard, actions, target }
-}
-
-fn undone() -> Step {
-    Step { reads: Vec::new(), paths: vec![path(Vec::new(), Vec::new(), Target::Undone)] }
-}
+// ---- designs
 
 fn reached(points: &[Point], from: usize) -> Vec<bool> {
     let mut reached = vec![false; points.len()];
@@ -494,58 +518,20 @@ fn reached(points: &[Point], from: usize) -> Vec<bool> {
     reached
 }
 
-// The type that makes a table's cells.
-fn make(table: u32) -> Type {
-    let next = Step {
-        reads: vec![Read::Has(1, table, vec![local(0)])],
-        paths: vec![
-            path(is(1, 0), vec![Action::Put(table, vec![local(0)], vec![constant(0)])], Target::Commit),
-            path(Vec::new(), Vec::new(), Target::Refuse(1)),
-        ],
-    };
-    let points = vec![Point { name: "start", next, undo: undone() }];
-    Type { name: format!("make{table}"), params: 1, locals: 2, points, returns: Vec::new(), limit: 1 }
-}
-
-// One of the types that bump a table's cells.
-fn bump(table: u32, kind: usize) -> Type {
-    let look = Step {
-        reads: vec![Read::Has(1, table, vec![local(0)]), Read::Column(2, table, vec![local(0)], 0)],
-        paths: vec![path(is(1, 1), Vec::new(), Target::Point(1)), path(Vec::new(), Vec::new(), Target::Refuse(1))],
-    };
-    let more = Linear { terms: vec![(2, 1)], constant: 1 };
-    let change = Step {
-        reads: Vec::new(),
-        paths: vec![path(Vec::new(), vec![Action::Set(table, vec![local(0)], 0, more)], Target::Commit)],
-    };
-    let points = vec![Point { name: "start", next: look, undo: undone() }, Point { name: "mid", next: change, undo: undone() }];
-    Type { name: format!("bump{table}_{kind}"), params: 1, locals: 3, points, returns: vec![2], limit: 2 }
-}
-
-fn counters(tables: u32, kinds: usize) -> Design {
-    let mut types = Vec::new();
-    let mut entries = Vec::new();
-    for table in 0..tables {
-        types.push(make(table));
-        let first = types.len();
-        types.extend((0..kinds).map(|kind| bump(table, kind)));
-        for held in first..types.len() {
-            let held = At { ty: held, point: 1 };
-            let steps = (first..types.len()).map(|ty| At { ty, point: 1 });
-            entries.extend(steps.map(|step| Entry { held, step, side: Side::Next, pairs: vec![(0, 0)] }));
-        }
+impl Design {
+    pub fn new(types: Vec<Type>, entries: Vec<Entry>) -> Self {
+        let reached = types.iter().map(|ty| (0..ty.points.len()).map(|point| reached(&ty.points, point)).collect()).collect();
+        Design { types, entries, reached }
     }
-    let reached = types.iter().map(|ty| (0..ty.points.len()).map(|point| reached(&ty.points, point)).collect()).collect();
-    Design { types, entries, reached }
 }
 
 // ---- scripts, orders and lines
 
-fn lines(text: &str) -> impl Iterator<Item = &str> {
+pub fn lines(text: &str) -> impl Iterator<Item = &str> {
     text.lines().map(str::trim).filter(|line| !line.is_empty() && !line.starts_with('#'))
 }
 
-fn call(design: &Design, line: &str) -> Call {
+pub fn call(design: &Design, line: &str) -> Call {
     let mut words = line.split_whitespace();
     let name = words.next().expect("a type");
     let ty = design.types.iter().position(|ty| ty.name == name).expect("a type of the design");
@@ -561,7 +547,7 @@ fn call(design: &Design, line: &str) -> Call {
     Call { ty, params, tape, ask }
 }
 
-fn push_cause(out: &mut String, cause: Cause) {
+pub fn push_cause(out: &mut String, cause: Cause) {
     match cause {
         Cause::Refused(n) => write!(out, "refused {n}").unwrap(),
         Cause::Range => out.push_str("range"),
@@ -571,12 +557,12 @@ fn push_cause(out: &mut String, cause: Cause) {
     }
 }
 
-fn push_at(out: &mut String, design: &Design, at: At) {
+pub fn push_at(out: &mut String, design: &Design, at: At) {
     let ty = &design.types[at.ty];
     write!(out, "{}.{}", ty.name, ty.points[at.point].name).unwrap();
 }
 
-fn push_turn(out: &mut String, design: &Design, places: &[usize], place: usize, turn: Turn) {
+pub fn push_turn(out: &mut String, design: &Design, places: &[usize], place: usize, turn: Turn) {
     write!(out, "{place} ").unwrap();
     match turn {
         Turn::Stepped(at) => {
@@ -597,7 +583,7 @@ fn push_turn(out: &mut String, design: &Design, places: &[usize], place: usize, 
     out.push('\n');
 }
 
-fn push_reply(out: &mut String, place: usize, outcome: &Outcome) {
+pub fn push_reply(out: &mut String, place: usize, outcome: &Outcome) {
     match outcome {
         Outcome::Committed(values) => {
             write!(out, "{place} committed").unwrap();
@@ -613,7 +599,7 @@ fn push_reply(out: &mut String, place: usize, outcome: &Outcome) {
     out.push('\n');
 }
 
-fn end_all(machine: &mut Machine) {
+pub fn end_all<R: Rows>(machine: &mut Machine<R>) {
     while !machine.frames.is_empty() {
         let numbers: Vec<u64> = machine.frames.keys().copied().collect();
         for t in numbers {
@@ -622,49 +608,4 @@ fn end_all(machine: &mut Machine) {
             }
         }
     }
-}
-
-fn main() {
-    let words: Vec<String> = std::env::args().collect();
-    let script = std::fs::read_to_string(&words[3]).expect("a script");
-    let order = std::fs::read_to_string(&words[4]).expect("an order");
-    let design = counters(words[1].parse().expect("a number of tables"), words[2].parse().expect("a number of types"));
-    let calls: Vec<Call> = lines(&script).map(|line| call(&design, line)).collect();
-    let order: Vec<usize> = lines(&order).flat_map(str::split_whitespace).map(|word| word.parse().expect("a place")).collect();
-    let mut machine =
-        Machine { design, rows: BTreeMap::new(), frames: BTreeMap::new(), replies: Vec::new(), events: Vec::new() };
-    let mut numbers: Vec<Option<u64>> = vec![None; calls.len()];
-    let mut places = Vec::new();
-    let mut out = String::new();
-    for place in order {
-        if numbers[place - 1].is_none() {
-            if let Some(t) = machine.begin(&calls[place - 1]) {
-                numbers[place - 1] = Some(t);
-                places.push(place);
-            }
-        }
-        match numbers[place - 1] {
-            Some(t) if machine.frames.contains_key(&t) => {
-                let turn = machine.turn(t);
-                push_turn(&mut out, &machine.design, &places, place, turn);
-            }
-            Some(_) => writeln!(out, "{place} over").unwrap(),
-            None => writeln!(out, "{place} full").unwrap(),
-        }
-    }
-    end_all(&mut machine);
-    for at in 0..calls.len() {
-        if numbers[at].is_none() {
-            numbers[at] = machine.begin(&calls[at]);
-            end_all(&mut machine);
-        }
-    }
-    for (at, number) in numbers.iter().enumerate() {
-        match number.and_then(|t| machine.replies[t as usize - 1].as_ref()) {
-            Some(outcome) => push_reply(&mut out, at + 1, outcome),
-            None => writeln!(out, "{} unbegun", at + 1).unwrap(),
-        }
-    }
-    writeln!(out, "events {}", machine.events.len()).unwrap();
-    print!("{out}");
 }

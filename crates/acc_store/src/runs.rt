@@ -1,0 +1,265 @@
+//! Runs of entries, each in a map of its own below one map of runs.
+//!
+//! A node of the map has 15 places, and where it is full it is split in halves. So a run that is full is parted where an entry comes in:
+//! entries that come in ascending order leave full runs behind them.
+ghost use Rattle.std.specs.Prelude.{◌≡◌, ◌≤◌, OnOk, OnErr, IfSome, Some, [], option_copied, true, false};
+ghost use Rattle.std.specs.Prelude.{is_some};
+ghost use Rattle.std.specs.Ordering.{is_gt};
+ghost use Rattle.std.specs.declared.cmp.Ordering.TheVariants.{Less};
+ghost use Rattle.std.specs.Map.{remove_entry, lookup};
+ghost use Rattle.std.specs.BTreeMap.{insert_entry, is_at as at};
+ghost use Rattle.acc_base.specs.Tables.{place_cmp};
+ghost use Rattle.acc_store.specs.Rows.{entry_at};
+ghost use Rattle.acc_store.specs.Runs.{seen, AreLaid, all_of, Alters, AreBelow, ArePast, IsRunKey, IsRun, IsMoved};
+ghost use Rattle.acc_store.specs.Runs.{between, joined};
+ghost use Rattle.acc_store.specs.Changes.{CanChange, HasChanged};
+
+use crate::places::Place;
+use crate::slots::{Change, Slot};
+use std::alloc::{AllocError, Global};
+use std::collections::BTreeMap;
+use std::collections::btree_map::Range;
+
+/// Entries in the order of their places.
+pub type Run = BTreeMap<Place, Slot>;
+
+/// Runs in the order of their keys. No entry of a run is before its key, and none of an earlier run isn't.
+pub type Runs = BTreeMap<Place, Run>;
+
+/// How many entries fill a node of a map.
+const FULL: usize = 15;
+
+/// The key of the run where a place belongs: the last key that isn't past the place.
+pub fn run_key(runs: &Runs, place: &Place) -> Option<Place>
+    ensures { IsRunKey place_cmp place.now (seen runs.now.entries) result }
+{
+    match runs.range(..=place).next_back() {
+        Some((key, _)) => Some(key.copied()),
+        None => None,
+    }
+}
+
+/// The run where a place belongs.
+fn run_for<'a>(runs: &'a Runs, place: &Place) -> Option<&'a Run>
+    ensures { IsRun place_cmp place.now (seen runs.now.entries) (option_copied result) }
+{
+    match runs.range(..=place).next_back() {
+        Some((_, run)) => Some(run),
+        None => None,
+    }
+}
+
+/// What stands at a place.
+pub fn slot_at<'a>(runs: &'a Runs, place: &Place) -> Option<&'a Slot>
+    requires laid { AreLaid runs.now }
+    ensures { option_copied result ≡ entry_at place.now (all_of runs.now) }
+{
+    match run_for(runs, place) {
+        Some(run) => run.get(place),
+        None => None,
+    }
+}
+
+/// Changes what stands at a place of a run.
+fn change_in(run: &mut Run, place: &Place, change: &Change) -> Result<(), AllocError>
+    requires can { IfSome (entry_at place.now run.old.entries) (CanChange change.now) }
+    ensures { Alters place.now (HasChanged change.now result) run.old.entries run.new.entries }
+{
+    match run.get_mut(place) {
+        Some(slot) => slot.change(change),
+        None => Ok(()),
+    }
+}
+
+/// Changes what stands at a place.
+pub fn change_at(runs: &mut Runs, place: &Place, change: &Change) -> Result<(), AllocError>
+    requires laid { AreLaid runs.old }
+    requires can { IfSome (entry_at place.now (all_of runs.old)) (CanChange change.now) }
+    ensures altered { Alters place.now (HasChanged change.now result) (all_of runs.old) (all_of runs.new) }
+    ensures laid { AreLaid runs.new }
+{
+    let Some(key) = run_key(runs, place) else {
+        return Ok(());
+    };
+    match runs.get_mut(&key) {
+        Some(run) => change_in(run, place, change),
+        None => Ok(()),
+    }
+}
+
+/// Where a run is parted for a place: at the first entry past it, or at the place where there is none.
+fn parting(run: &Run, place: &Place) -> Place
+    ensures least { is_gt (place_cmp place.now result) ≡ false }
+    ensures most { (q : _) → AreBelow place_cmp q run.now.entries → place_cmp place.now q ≡ Less → place_cmp result q ≡ Less }
+{
+    match run.range(place..).next() {
+        Some((key, _)) => key.copied(),
+        None => place.copied(),
+    }
+}
+
+/// Moves the entries of a run that aren't before a place to the run that has its key there.
+fn move_entries(runs: &mut Runs, key: &Place, at: &Place) -> Result<(), AllocError>
+    ensures ok { OnOk result (IsMoved key.now at.now (seen runs.old.entries) (seen runs.new.entries)) }
+    ensures err { OnErr result (seen runs.new.entries ≡ seen runs.old.entries) }
+{
+    let Some(run) = runs.get_mut(key) else {
+        return Ok(());
+    };
+    let moved = run.split_off(at)?;
+    if let Some(rest) = runs.get_mut(at) {
+        *rest = moved;
+    }
+    Ok(())
+}
+
+/// Parts a run at a place, if no run has its key there.
+fn part(runs: &mut Runs, alloc: Global, key: &Place, at: &Place) -> Result<(), AllocError>
+    requires laid { AreLaid runs.old }
+    requires run { IsRunKey place_cmp at.now (seen runs.old.entries) (Some key.now) }
+    ensures entries { all_of runs.new ≡ all_of runs.old }
+    ensures laid { AreLaid runs.new }
+{
+    if runs.contains_key(at) {
+        return Ok(());
+    }
+    runs.insert(at.copied(), BTreeMap::new(alloc))?;
+    match move_entries(runs, key, at) {
+        Ok(()) => Ok(()),
+        Err(error) => {
+            runs.remove(at);
+            Err(error)
+        }
+    }
+}
+
+/// Parts the run where a place belongs, if it is full.
+fn part_full(runs: &mut Runs, alloc: Global, place: &Place, key: &Place) -> Result<(), AllocError>
+    requires laid { AreLaid runs.old }
+    requires run { IsRunKey place_cmp place.now (seen runs.old.entries) (Some key.now) }
+    ensures entries { all_of runs.new ≡ all_of runs.old }
+    ensures laid { AreLaid runs.new }
+{
+    match runs.get(key) {
+        Some(run) if run.len() >= FULL => {
+            let at = parting(run, place);
+            part(runs, alloc, key, &at)
+        }
+        Some(_) | None => Ok(()),
+    }
+}
+
+/// Adds a run before all others, which has no entries yet.
+fn add_first(runs: &mut Runs, alloc: Global, place: &Place) -> Result<(), AllocError>
+    requires laid { AreLaid runs.old }
+    requires past { ArePast place_cmp place.now (seen runs.old.entries) }
+    ensures entries { all_of runs.new ≡ all_of runs.old }
+    ensures laid { AreLaid runs.new }
+{
+    runs.insert(Place::first(), BTreeMap::new(alloc))?;
+    Ok(())
+}
+
+/// Makes a run where a place belongs, if there is none, and parts it if it is full.
+fn make_way(runs: &mut Runs, alloc: Global, place: &Place) -> Result<(), AllocError>
+    requires laid { AreLaid runs.old }
+    ensures entries { all_of runs.new ≡ all_of runs.old }
+    ensures laid { AreLaid runs.new }
+{
+    match run_key(runs, place) {
+        Some(key) => part_full(runs, alloc, place, &key),
+        None => add_first(runs, alloc, place),
+    }
+}
+
+/// Adds an entry to the run where its place belongs.
+fn put_in(runs: &mut Runs, place: Place, slot: Slot) -> Result<(), AllocError>
+    requires laid { AreLaid runs.old }
+    ensures ok { OnOk result (all_of runs.new ≡ insert_entry place_cmp (all_of runs.old) place slot) }
+    ensures err { OnErr result (all_of runs.new ≡ all_of runs.old) }
+    ensures laid { AreLaid runs.new }
+{
+    let Some(key) = run_key(runs, &place) else {
+        return Err(AllocError);
+    };
+    match runs.get_mut(&key) {
+        Some(run) => {
+            run.insert(place, slot)?;
+            Ok(())
+        }
+        None => Err(AllocError),
+    }
+}
+
+/// Adds an entry. Where memory runs out the entries are as before.
+pub fn put_at(runs: &mut Runs, alloc: Global, place: Place, slot: Slot) -> Result<(), AllocError>
+    requires laid { AreLaid runs.old }
+    ensures ok { OnOk result (all_of runs.new ≡ insert_entry place_cmp (all_of runs.old) place slot) }
+    ensures err { OnErr result (all_of runs.new ≡ all_of runs.old) }
+    ensures laid { AreLaid runs.new }
+{
+    make_way(runs, alloc, &place)?;
+    put_in(runs, place, slot)
+}
+
+/// Whether there is a run with a key that has no entries.
+fn is_empty_at(runs: &Runs, key: &Place) -> bool
+    ensures { result ≡ true → lookup (at (place_cmp key.now)) (seen runs.now.entries) ≡ Some [] }
+{
+    match runs.get(key) {
+        Some(run) => run.is_empty(),
+        None => false,
+    }
+}
+
+/// Removes a run if it has no entries.
+fn forget_empty(runs: &mut Runs, key: &Place)
+    requires laid { AreLaid runs.old }
+    ensures entries { all_of runs.new ≡ all_of runs.old }
+    ensures laid { AreLaid runs.new }
+{
+    if is_empty_at(runs, key) {
+        runs.remove(key);
+    }
+}
+
+/// Takes the entry at a place out of the run with a key, and says whether there was one.
+fn take_from(runs: &mut Runs, key: &Place, place: &Place) -> bool
+    requires laid { AreLaid runs.old }
+    requires run { IsRunKey place_cmp place.now (seen runs.old.entries) (Some key.now) }
+    ensures there { result ≡ is_some (entry_at place.now (all_of runs.old)) }
+    ensures entries { all_of runs.new ≡ remove_entry (at (place_cmp place.now)) (all_of runs.old) }
+    ensures laid { AreLaid runs.new }
+{
+    match runs.get_mut(key) {
+        Some(run) => run.remove(place).is_some(),
+        None => false,
+    }
+}
+
+/// Removes the entry at a place, and says whether there was one.
+pub fn remove_at(runs: &mut Runs, place: &Place) -> bool
+    requires laid { AreLaid runs.old }
+    ensures there { result ≡ is_some (entry_at place.now (all_of runs.old)) }
+    ensures entries { all_of runs.new ≡ remove_entry (at (place_cmp place.now)) (all_of runs.old) }
+    ensures laid { AreLaid runs.new }
+{
+    let Some(key) = run_key(runs, place) else {
+        return false;
+    };
+    let was_there = take_from(runs, &key, place);
+    forget_empty(runs, &key);
+    was_there
+}
+
+/// The runs that may hold entries between two places.
+pub fn runs_between<'a>(runs: &'a Runs, start: &Place, last: &Place) -> Range<'a, Place, Run>
+    requires laid { AreLaid runs.now }
+    requires forward { is_gt (place_cmp start.now last.now) ≡ false }
+    ensures { between start.now last.now (joined (seen result)) ≡ between start.now last.now (all_of runs.now) }
+{
+    match run_key(runs, start) {
+        Some(key) => runs.range(&key..=last),
+        None => runs.range(start..=last),
+    }
+}
