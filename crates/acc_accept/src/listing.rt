@@ -1,5 +1,5 @@
 //! The obligations of a design.
-ghost use Rattle.acc_formed.specs.WellFormed.{IsWellFormed};
+ghost use Rattle.acc_places.specs.ManyEntries.{IsFormedButEntries};
 ghost use Rattle.acc_oblig.specs.Laws.{drafts_of};
 ghost use Rattle.acc_path_rules.specs.Causes.{Adds};
 ghost use Rattle.acc_accept.specs.Obligations.{AreObligations};
@@ -21,7 +21,7 @@ use std::alloc::Global;
 
 /// Adds the obligations of a design, rule by rule.
 fn add_rules(alloc: Global, out: &mut Seq<Sequent>, d: &Design) -> Result<(), ObligError>
-    requires { IsWellFormed d.now }
+    requires { IsFormedButEntries d.now }
     ensures { Adds result out.old out.new (drafts_of d.now) }
 {
     add_begins(alloc, out, d)?;
@@ -39,7 +39,7 @@ fn add_rules(alloc: Global, out: &mut Seq<Sequent>, d: &Design) -> Result<(), Ob
 ///
 /// `Wide` with the origin of the first obligation that has a number that is too large. `Memory` where memory ran out.
 pub fn obligations(alloc: Global, d: &Design) -> Result<Seq<Sequent>, ObligError>
-    requires { IsWellFormed d.now }
+    requires { IsFormedButEntries d.now }
     ensures { AreObligations d.now result }
 {
     let mut out = Seq::new(alloc);

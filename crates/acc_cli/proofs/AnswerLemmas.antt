@@ -20,7 +20,7 @@ use Rattle.acc_commands.specs.Requests.{command_in, texts_in}
 use Rattle.acc_commands.specs.Text.{IsEarly}
 use Rattle.acc_commands.specs.Request.{Request}
 use Rattle.acc_commands.specs.Request.TheVariants.{Play, Rehearse, Print, Check, Prove, Init, Sched, Run, Recover, Dump, Replies}
-use Rattle.acc_commands.specs.Request.TheVariants.{Verify, TpccDesign, TpccLoad, TpccMix, Bench, Help, Version}
+use Rattle.acc_commands.specs.Request.TheVariants.{Verify, TpccDesign, TpccLoad, TpccMix, BookingDesign, Bench, Help, Version}
 use Rattle.acc_journalled.specs.declared.answers.Answer.{Answer}
 use Rattle.acc_journalled.specs.declared.answers.Ending.{Ending}
 use Rattle.acc_journalled.specs.declared.answers.Ending.TheVariants.{Done, DiskFailed}
@@ -113,6 +113,7 @@ texts_count (Dump files) = refl
 texts_count (Replies files) = refl
 texts_count (Verify files) = refl
 texts_count TpccDesign = refl
+texts_count BookingDesign = refl
 texts_count (TpccLoad scale) = refl
 texts_count (TpccMix mix) = refl
 texts_count (Bench files mix) = refl

@@ -191,6 +191,7 @@ of_command held words command.Replies w disk disk' old new code (design ∷ []) 
 of_command held words command.Replies w disk disk' old new code (design ∷ certificate ∷ more ∷ rest) t is given h = absurd h
 of_command held words command.Verify w disk disk' old new code files t is given h = absurd cc
 of_command held words command.TpccDesign w disk disk' old new code files t is given h = absurd cc
+of_command held words command.BookingDesign w disk disk' old new code files t is given h = absurd cc
 of_command held words (command.TpccLoad scale) w disk disk' old new code files t is given h = absurd cc
 of_command held words (command.TpccMix mix) w disk disk' old new code files t is given h = absurd cc
 of_command held words (command.Bench mix) w disk disk' old new code files t is given h = absurd cc

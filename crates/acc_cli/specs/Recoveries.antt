@@ -24,6 +24,7 @@ wanted_by command.Dump = Some wanted.Rows
 wanted_by command.Replies = Some wanted.Replies
 wanted_by command.Verify = None
 wanted_by command.TpccDesign = None
+wanted_by command.BookingDesign = None
 wanted_by (command.TpccLoad scale) = None
 wanted_by (command.TpccMix mix) = None
 wanted_by (command.Bench mix) = None

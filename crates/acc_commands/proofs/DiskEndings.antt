@@ -42,6 +42,7 @@ ends_over_disk command.Verify (design ∷ certificate ∷ []) old new t h =
     (verify_ends old new t design certificate h)
 ends_over_disk command.Verify (design ∷ certificate ∷ more ∷ rest) old new t h = absurd h
 ends_over_disk command.TpccDesign files old new t h = absurd h
+ends_over_disk command.BookingDesign files old new t h = absurd h
 ends_over_disk (command.TpccLoad scale) files old new t h = absurd h
 ends_over_disk (command.TpccMix mix) files old new t h = absurd h
 ends_over_disk (command.Bench mix) files old new t h = absurd h

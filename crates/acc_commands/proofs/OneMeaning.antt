@@ -22,6 +22,7 @@ use Rattle.acc_journal_commands.specs.Notes.{help_text, version_text}
 use Rattle.acc_journal_commands.specs.Scripts.{SaysOfScript}
 use Rattle.acc_file_commands.specs.PlayFiles.{SaysPlay, PlaysFiles}
 use Rattle.acc_file_commands.specs.ShippedText.{shipped_design}
+use Rattle.acc_file_commands.specs.BookingText.{booking_design}
 use Rattle.acc_file_commands.specs.Workloads.{load_said, mix_said}
 use Rattle.acc_file_commands.specs.ScheduleFiles.{SaysOfCertificate, SchedulesFiles}
 use Rattle.acc_file_commands.specs.PrintFiles.{PrintsFile}
@@ -116,7 +117,9 @@ one_of_files command.Dump files a b h k = absurd h
 one_of_files command.Replies files a b h k = absurd h
 one_of_files command.Verify files a b h k = absurd h
 one_of_files command.TpccDesign [] a b h k = inl (said_same Done (printed shipped_design) (printed shipped_design) a b refl h.says k.says)
+one_of_files command.BookingDesign [] a b h k = inl (said_same Done (printed booking_design) (printed booking_design) a b refl h.says k.says)
 one_of_files command.TpccDesign (more ∷ rest) a b h k = absurd h
+one_of_files command.BookingDesign (more ∷ rest) a b h k = absurd h
 one_of_files (command.TpccLoad scale) [] a b h k = inl (said_same Done (load_said scale) (load_said scale) a b refl h k)
 one_of_files (command.TpccMix mix) [] a b h k = inl (said_same Done (mix_said mix) (mix_said mix) a b refl h k)
 one_of_files (command.TpccLoad scale) (more ∷ rest) a b h k = absurd h
@@ -281,6 +284,7 @@ one_over_disk command.Verify (design ∷ certificate ∷ []) old one other a b a
     inl (one_verify old one other a b all design certificate h k)
 one_over_disk command.Verify (design ∷ certificate ∷ more ∷ rest) old one other a b all h k = absurd h
 one_over_disk command.TpccDesign files old one other a b all h k = absurd h
+one_over_disk command.BookingDesign files old one other a b all h k = absurd h
 one_over_disk (command.TpccLoad scale) files old one other a b all h k = absurd h
 one_over_disk (command.TpccMix mix) files old one other a b all h k = absurd h
 one_over_disk (command.Bench mix) files old one other a b all h k = absurd h

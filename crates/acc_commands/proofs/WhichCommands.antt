@@ -162,7 +162,9 @@ module _ (other : Ending) (done_other : Done ≢ other) (design_other : DesignRe
   ends_scheduled command.Replies files said e h = absurd h
   ends_scheduled command.Verify files said e h = absurd h
   ends_scheduled command.TpccDesign [] said e h = absurd (not_so Done said done_other h.says.0 e)
+  ends_scheduled command.BookingDesign [] said e h = absurd (not_so Done said done_other h.says.0 e)
   ends_scheduled command.TpccDesign (more ∷ rest) said e h = absurd h
+  ends_scheduled command.BookingDesign (more ∷ rest) said e h = absurd h
   ends_scheduled (command.TpccLoad scale) [] said e h = absurd (not_so Done said done_other h.0 e)
   ends_scheduled (command.TpccMix mix) [] said e h = absurd (not_so Done said done_other h.0 e)
   ends_scheduled (command.TpccLoad scale) (more ∷ rest) said e h = absurd h

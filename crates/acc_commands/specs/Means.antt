@@ -19,7 +19,7 @@ use Rattle.acc_file_commands.specs.ScheduleFiles.{SchedulesFiles}
 use Rattle.acc_file_commands.specs.PrintFiles.{PrintsFile}
 use Rattle.acc_file_commands.specs.CheckFiles.{ChecksFiles}
 use Rattle.acc_file_commands.specs.ProveFiles.{ProvesFile}
-use Rattle.acc_file_commands.specs.Workloads.{PrintsShipped, PrintsLoad, PrintsMix}
+use Rattle.acc_file_commands.specs.Workloads.{PrintsShipped, PrintsBooking, PrintsLoad, PrintsMix}
 use Rattle.acc_file_commands.specs.BenchFiles.{BenchesFiles}
 use Rattle.acc_journal_commands.specs.InitFiles.{InitsFile, InitLeaves, InitLeft}
 use Rattle.acc_journal_commands.specs.RecoverFiles.{RecoversFiles, RecoverLeaves, RecoverLeft}
@@ -34,6 +34,7 @@ MeansOfFiles command.Print (design ∷ []) = PrintsFile design
 MeansOfFiles command.Check (design ∷ certificate ∷ []) = ChecksFiles design certificate
 MeansOfFiles command.Prove (design ∷ []) = ProvesFile design
 MeansOfFiles command.TpccDesign [] = PrintsShipped
+MeansOfFiles command.BookingDesign [] = PrintsBooking
 MeansOfFiles (command.TpccLoad scale) [] = PrintsLoad scale
 MeansOfFiles (command.TpccMix mix) [] = PrintsMix mix
 MeansOfFiles (command.Bench mix) (design ∷ certificate ∷ []) = BenchesFiles mix design certificate
@@ -52,6 +53,7 @@ MeansOfFiles command.Dump files = λ said. ⊥
 MeansOfFiles command.Replies files = λ said. ⊥
 MeansOfFiles command.Verify files = λ said. ⊥
 MeansOfFiles command.TpccDesign files = λ said. ⊥
+MeansOfFiles command.BookingDesign files = λ said. ⊥
 MeansOfFiles (command.TpccLoad scale) files = λ said. ⊥
 MeansOfFiles (command.TpccMix mix) files = λ said. ⊥
 MeansOfFiles (command.Bench mix) files = λ said. ⊥
@@ -80,6 +82,7 @@ MeansOverDisk command.Dump files = λ old new t. ⊥
 MeansOverDisk command.Replies files = λ old new t. ⊥
 MeansOverDisk command.Verify files = λ old new t. ⊥
 MeansOverDisk command.TpccDesign files = λ old new t. ⊥
+MeansOverDisk command.BookingDesign files = λ old new t. ⊥
 MeansOverDisk (command.TpccLoad scale) files = λ old new t. ⊥
 MeansOverDisk (command.TpccMix mix) files = λ old new t. ⊥
 MeansOverDisk (command.Bench mix) files = λ old new t. ⊥
@@ -116,6 +119,7 @@ LeavesOfFile command.Dump files = λ file image. image ≡ file
 LeavesOfFile command.Replies files = λ file image. image ≡ file
 LeavesOfFile command.Verify files = λ file image. image ≡ file
 LeavesOfFile command.TpccDesign files = λ file image. image ≡ file
+LeavesOfFile command.BookingDesign files = λ file image. image ≡ file
 LeavesOfFile (command.TpccLoad scale) files = λ file image. image ≡ file
 LeavesOfFile (command.TpccMix mix) files = λ file image. image ≡ file
 LeavesOfFile (command.Bench mix) files = λ file image. image ≡ file
@@ -152,6 +156,7 @@ module _ {D : Type 0} (clock : D → ℕ) (left_since : D → ℕ → List ℕ �
     LeavesOf command.Replies files = LeavesDisk
     LeavesOf command.Verify files = LeavesDisk
     LeavesOf command.TpccDesign files = LeavesDisk
+    LeavesOf command.BookingDesign files = LeavesDisk
     LeavesOf (command.TpccLoad scale) files = LeavesDisk
     LeavesOf (command.TpccMix mix) files = LeavesDisk
     LeavesOf (command.Bench mix) files = LeavesDisk

@@ -17,7 +17,7 @@ use acc_file_commands::memory_runs::Run;
 use acc_file_commands::plays::play_files;
 use acc_file_commands::provings::prove_file;
 use acc_file_commands::schedules::schedule_files;
-use acc_file_commands::workloads::{print_load, print_mix, print_shipped};
+use acc_file_commands::workloads::{print_booking, print_load, print_mix, print_shipped};
 use acc_journal_commands::journals::init_file;
 use acc_journal_commands::recoveries::recover_files;
 use acc_journal_commands::runs::{run_files, work_files};
@@ -108,6 +108,7 @@ pub fn run<'a, D: Disk, C: Crew<Engine<'a, IndexStore, D>>, S: Searchers, P: Pro
         Request::Replies(files) => recover_files(alloc, files, Wanted::Replies, disk, progress),
         Request::Verify(files) => verify_files(alloc, files, disk, progress),
         Request::TpccDesign => unrun(alloc, disk, print_shipped(alloc)),
+        Request::BookingDesign => unrun(alloc, disk, print_booking(alloc)),
         Request::TpccLoad(scale) => unrun(alloc, disk, print_load(alloc, scale)),
         Request::TpccMix(mix) => unrun(alloc, disk, print_mix(alloc, mix)),
         Request::Bench(files, mix) => {

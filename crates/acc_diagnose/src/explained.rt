@@ -134,7 +134,7 @@ fn asks_tables(command: Command) -> Option<&'static [u8]> {
         Command::Recover | Command::Dump | Command::Replies => None,
         Command::Play | Command::Print | Command::Prove | Command::Init => None,
         Command::TpccDesign | Command::TpccLoad(_) | Command::TpccMix(_) => None,
-        Command::Help | Command::Version => None,
+        Command::BookingDesign | Command::Help | Command::Version => None,
     }
 }
 
@@ -146,7 +146,7 @@ fn is_certified(command: Command) -> bool {
         Command::Bench(_) => true,
         Command::Play | Command::Print | Command::Prove | Command::Init => false,
         Command::TpccDesign | Command::TpccLoad(_) | Command::TpccMix(_) => false,
-        Command::Help | Command::Version => false,
+        Command::BookingDesign | Command::Help | Command::Version => false,
     }
 }
 
@@ -279,7 +279,7 @@ fn push_done<H: Shelf>(
         Command::Init | Command::Sched | Command::Run(_) => Ok(()),
         Command::Recover | Command::Dump | Command::Replies | Command::Verify => Ok(()),
         Command::TpccDesign | Command::TpccLoad(_) | Command::TpccMix(_) => Ok(()),
-        Command::Bench(_) | Command::Help | Command::Version => Ok(()),
+        Command::BookingDesign | Command::Bench(_) | Command::Help | Command::Version => Ok(()),
     }
 }
 

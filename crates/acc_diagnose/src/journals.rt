@@ -80,6 +80,7 @@ fn standing(command: Command) -> &'static [u8] {
         Command::Play | Command::Rehearse | Command::Print | Command::Check => b"",
         Command::Prove | Command::Bench(_) | Command::Help | Command::Version => b"",
         Command::TpccDesign | Command::TpccLoad(_) | Command::TpccMix(_) => b"",
+        Command::BookingDesign => b"",
     }
 }
 

@@ -34,6 +34,7 @@ fn push_mark(out: &mut Page, file: File, mark: &Marked) {
 }
 
 /// The place of the obligation that comes from here.
+#[tactic(auto, using(acc_places::proofs::ManyEntries::formed_but_entries))]
 fn place_of(alloc: Global, d: &Design, origin: &Origin) -> Result<Option<Place>, AllocError>
     requires { IsWellFormed d.now }
 {

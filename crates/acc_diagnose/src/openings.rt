@@ -169,6 +169,7 @@ fn push_columns(alloc: Global, out: &mut Page, d: &Design, design: File) {
 
 /// Says which obligations of a design stay open, by the lines that were printed of them, and which columns no assertion speaks of; or which
 /// obligation has a number that is too large. The search is made anew for those that have a line.
+#[tactic(auto, using(acc_places::proofs::ManyEntries::formed_but_entries))]
 pub fn push_unproved(
     alloc: Global,
     out: &mut Page,

@@ -104,13 +104,17 @@ fn push_false(out: &mut Page, printed: &[u8]) {
     }
 }
 
+/// What is said of a workload with a call that its design hasn't.
+const FOREIGN_CALL: &[u8] =
+    b"the load that `acc tpcc load` prints, or else the mix of `acc tpcc mix`, has a call in that line that isn't one of the design";
+
 /// Says that a design lacks a call of the workload, if a generated line of that is told as refused.
 fn push_unfit(out: &mut Page, design: File, printed: &[u8]) {
     if printed.starts_with(b"refused script ") {
         push_note(
             out,
             design.name,
-            b"the load that `acc tpcc load` prints, or else the mix of `acc tpcc mix`, has a call in that line that isn't one of the design",
+            FOREIGN_CALL,
             b"`acc tpcc design` prints a design that has all of their calls",
         );
     }

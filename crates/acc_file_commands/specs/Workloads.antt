@@ -1,4 +1,5 @@
--- The commands of `tpcc`: the design that the program brings along, in its one printed spelling; and scripts of its calls.
+-- The commands of `tpcc` and `booking`: the designs that the program brings along, in their one printed spelling; and scripts of the
+-- calls of TPC-C.
 use Rattle.std.specs.Prelude.{ℕ, List, [], if◌then◌else◌}
 use Rattle.acc_inputs.specs.Scales.{is_scale, is_mix}
 use Rattle.acc_inputs.specs.declared.scales.Scale.{Scale}
@@ -10,11 +11,17 @@ use Rattle.acc_inputs.specs.Text.{Said, Says}
 use Rattle.tpcc_gen.specs.Loads.{load_text}
 use Rattle.tpcc_gen.specs.Mixes.{mix_text}
 use Rattle.tpcc_steps.specs.ShippedText.{shipped_design}
+use Rattle.acc_booking.specs.BookingText.{booking_design}
 
 -- the printed spelling is said, which is a text of the same design
 pub record PrintsShipped (said : Said) : Type 0 where
   pub says : Says Done (printed shipped_design) said
   pub same : IsDesignText (printed shipped_design) shipped_design
+
+-- the same of the booking design
+pub record PrintsBooking (said : Said) : Type 0 where
+  pub says : Says Done (printed booking_design) said
+  pub same : IsDesignText (printed booking_design) booking_design
 
 -- the script of the load, where there may be such a one, and else nothing
 abbrev pub load_said : Scale → List ℕ

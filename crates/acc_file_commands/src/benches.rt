@@ -54,7 +54,8 @@ fn mix_order(alloc: Global, asked: Mix) -> Result<Seq<u64>, AllocError>
 
 /// What is said of a load and a mix, and their events.
 fn benched_run(alloc: Global, benched: Benched) -> Result<Run, AllocError>
-    ensures { IfOk result (λ r. told_by r ≡ record { ending = bench_ending benched; text = bench_text benched; history = benched.history }) }
+    ensures { IfOk result (λ r. told_by r ≡
+        record { ending = bench_ending benched; text = bench_text benched; history = benched.history }) }
 {
     let answer = bench_answer(alloc, &benched)?;
     let Benched {

@@ -1,8 +1,9 @@
-//! The design of TPC-C that the program brings along, and scripts of its calls.
+//! The designs that the program brings along, and scripts of TPC-C's calls.
 ghost use Rattle.std.specs.Prelude.{◌≡◌, IfOk};
 ghost use Rattle.acc_inputs.specs.Answers.{said_alone};
-ghost use Rattle.acc_file_commands.specs.Workloads.{PrintsShipped, load_said, PrintsLoad, mix_said, PrintsMix};
+ghost use Rattle.acc_file_commands.specs.Workloads.{PrintsShipped, PrintsBooking, load_said, PrintsLoad, mix_said, PrintsMix};
 
+use acc_booking::BookError;
 use acc_inputs::{Mix, Scale};
 use acc_journalled::{Answer, Ending};
 use std::alloc::{AllocError, Global};
@@ -19,6 +20,19 @@ pub fn print_shipped(alloc: Global) -> Result<Answer, AllocError>
             text,
         }),
         Err(StepsError::Memory) => Err(AllocError),
+    }
+}
+
+/// Prints the shipped booking design.
+pub fn print_booking(alloc: Global) -> Result<Answer, AllocError>
+    ensures { IfOk result (λ a. PrintsBooking (said_alone a)) }
+{
+    match acc_booking::text(alloc) {
+        Ok(text) => Ok(Answer {
+            ending: Ending::Done,
+            text,
+        }),
+        Err(BookError::Memory) => Err(AllocError),
     }
 }
 

@@ -42,7 +42,7 @@ impl IndexStore {
     {
         IndexStore {
             alloc,
-            rows: MapStore::new(alloc),
+            rows: MapStore::compact(alloc),
             indexes: Vec::new(alloc),
         }
     }
@@ -53,7 +53,7 @@ impl IndexStore {
     {
         Ok(IndexStore {
             alloc,
-            rows: MapStore::new(alloc),
+            rows: MapStore::compact(alloc),
             indexes: empty_indexes(alloc, kept)?,
         })
     }

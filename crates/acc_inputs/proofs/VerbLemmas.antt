@@ -41,6 +41,13 @@ unfolding form_of workload_of
 design_given [] none = refl
 design_given (name ∷ names) none = absurd (omega (arith, none))
 
+-- nor does `booking design`
+booking_given : (names : List (List ℕ)) → length names ≡ 0
+    → command_of (codes "booking" ∷ codes "design" ∷ (names ++ [])) ≡ Some command.BookingDesign
+unfolding form_of
+booking_given [] none = refl
+booking_given (name ∷ names) none = absurd (omega (arith, none))
+
 -- a scale is told by the numerals of its numbers
 scale_given : (s : Scale) → is_scale s ≡ true
     → scale_of (decimal s.warehouses) (decimal s.items) (decimal s.customers) ≡ Some s
@@ -100,6 +107,7 @@ verbs command.Dump names few count = verb_given command.Dump (codes "dump") name
 verbs command.Replies names few count = verb_given command.Replies (codes "replies") names refl count
 verbs command.Verify names few count = verb_given command.Verify (codes "verify") names refl count
 verbs command.TpccDesign names few count = design_given names count
+verbs command.BookingDesign names few count = booking_given names count
 verbs (command.TpccLoad s) names few count = load_given s names few count
 verbs (command.TpccMix m) names few count = mix_given m names few count
 verbs (command.Bench m) names few count = bench_given m names few count
@@ -132,6 +140,7 @@ help command.Verify = line_at 11 (codes "acc verify ") (omega arith) refl
 help command.TpccDesign = line_at 12 (codes "acc tpcc design ") (omega arith) refl
 help (command.TpccLoad scale) = line_at 13 (codes "acc tpcc load ") (omega arith) refl
 help (command.TpccMix mix) = line_at 14 (codes "acc tpcc mix ") (omega arith) refl
-help (command.Bench mix) = line_at 15 (codes "acc bench ") (omega arith) refl
-help command.Help = line_at 16 (codes "acc --help ") (omega arith) refl
-help command.Version = line_at 17 (codes "acc --version ") (omega arith) refl
+help command.BookingDesign = line_at 15 (codes "acc booking design ") (omega arith) refl
+help (command.Bench mix) = line_at 16 (codes "acc bench ") (omega arith) refl
+help command.Help = line_at 17 (codes "acc --help ") (omega arith) refl
+help command.Version = line_at 18 (codes "acc --version ") (omega arith) refl

@@ -21,6 +21,7 @@ help_lines =
     codes "acc tpcc design                             prints the design of TPC-C's transactions that the program brings along" ∷
     codes "acc tpcc load W ITEMS CUSTOMERS             prints a script that fills W warehouses of TPC-C, 1 to 10, as the standard says" ∷
     codes "acc tpcc mix W ITEMS CUSTOMERS COUNT START  prints a script of COUNT of TPC-C's transactions behind that, drawn from START" ∷
+    codes "acc booking design                          prints the design of bookings of seats and rooms that the program brings along" ∷
     codes "acc bench DESIGN CERT W ITEMS CUSTOMERS COUNT START  runs both in memory, and tells whether TPC-C's conditions are true" ∷
     codes "acc --help                                  prints these lines" ∷
     codes "acc --version                               prints the version of acc, and of the toolchain that proved it" ∷

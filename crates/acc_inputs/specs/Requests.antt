@@ -9,7 +9,7 @@ use Rattle.acc_inputs.specs.declared.requests.WorkerFiles.{WorkerFiles}
 use Rattle.acc_inputs.specs.declared.requests.Request.{Request}
 use Rattle.acc_inputs.specs.declared.requests.Request.TheVariants.{Play, Rehearse, Print, Check, Prove, Init, Sched, Run}
 use Rattle.acc_inputs.specs.declared.requests.Request.TheVariants.{Recover, Dump, Replies, Verify}
-use Rattle.acc_inputs.specs.declared.requests.Request.TheVariants.{TpccDesign, TpccLoad, TpccMix, Bench, Help, Version}
+use Rattle.acc_inputs.specs.declared.requests.Request.TheVariants.{TpccDesign, TpccLoad, TpccMix, BookingDesign, Bench, Help, Version}
 
 abbrev pub command_in : Request → Command
 command_in (Play files) = command.Play
@@ -25,6 +25,7 @@ command_in (Dump files) = command.Dump
 command_in (Replies files) = command.Replies
 command_in (Verify files) = command.Verify
 command_in TpccDesign = command.TpccDesign
+command_in BookingDesign = command.BookingDesign
 command_in (TpccLoad scale) = command.TpccLoad scale
 command_in (TpccMix mix) = command.TpccMix mix
 command_in (Bench files mix) = command.Bench mix
@@ -58,6 +59,7 @@ texts_in (Dump files) = certified_texts files
 texts_in (Replies files) = certified_texts files
 texts_in (Verify files) = certified_texts files
 texts_in TpccDesign = []
+texts_in BookingDesign = []
 texts_in (TpccLoad scale) = []
 texts_in (TpccMix mix) = []
 texts_in (Bench files mix) = certified_texts files

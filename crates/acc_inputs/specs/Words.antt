@@ -11,12 +11,12 @@ use Rattle.acc_inputs.specs.declared.words.Workload.{Workload}
 use Rattle.acc_inputs.specs.declared.words.Workload.TheVariants.{Design, Load, Mix as MixOf}
 use Rattle.acc_inputs.specs.Scales.{IsWithin, is_within}
 use Rattle.acc_inputs.specs.declared.words.Form.{Form}
-use Rattle.acc_inputs.specs.declared.words.Form.TheVariants.{Files, Workers, Tpcc, Bench}
+use Rattle.acc_inputs.specs.declared.words.Form.TheVariants.{Files, Workers, Tpcc, Booking, Bench}
 use Rattle.acc_inputs.specs.declared.words.Command.{Command}
 use Rattle.acc_inputs.specs.declared.words.Command.TheVariants as command
 
 -- what stands behind this verb: the names of the command's files alone; those of the files of `run` and then the number of workers;
--- behind `tpcc`, what is wanted of it and its numbers; or those of the files of `bench` and then the numbers of its mix
+-- behind `tpcc` or `booking`, what is wanted of it and its numbers; or those of the files of `bench` and then the numbers of its mix
 unfoldable pub form_of : List ℕ → Option Form
 form_of verb =
     if bytes_eq verb (codes "play") then Some (Files command.Play) else
@@ -32,10 +32,11 @@ form_of verb =
     (if bytes_eq verb (codes "replies") then Some (Files command.Replies) else
     (if bytes_eq verb (codes "verify") then Some (Files command.Verify) else
     (if bytes_eq verb (codes "tpcc") then Some Tpcc else
+    (if bytes_eq verb (codes "booking") then Some Booking else
     (if bytes_eq verb (codes "bench") then Some Bench else
     (if bytes_eq verb (codes "--help") then Some (Files command.Help) else
     (if bytes_eq verb (codes "--version") then Some (Files command.Version) else
-    None)))))))))))))))
+    None))))))))))))))))
 
 -- what this word wants of TPC-C
 unfoldable pub workload_of : List ℕ → Option Workload
@@ -60,6 +61,7 @@ file_count command.Dump = 2
 file_count command.Replies = 2
 file_count command.Verify = 2
 file_count command.TpccDesign = 0
+file_count command.BookingDesign = 0
 file_count (command.TpccLoad scale) = 0
 file_count (command.TpccMix mix) = 0
 file_count (command.Bench mix) = 2
@@ -84,6 +86,7 @@ is_journalled command.Dump = true
 is_journalled command.Replies = true
 is_journalled command.Verify = true
 is_journalled command.TpccDesign = false
+is_journalled command.BookingDesign = false
 is_journalled (command.TpccLoad scale) = false
 is_journalled (command.TpccMix mix) = false
 is_journalled (command.Bench mix) = false
@@ -173,6 +176,12 @@ abbrev pub with_tpcc : List (List ℕ) → Option Command
 with_tpcc [] = None
 with_tpcc (wanted ∷ words) = with_workload (workload_of wanted) words
 
+-- `booking design`, if this word stands behind the verb, and nothing else
+abbrev pub with_booking : List (List ℕ) → Option Command
+with_booking [] = None
+with_booking (wanted ∷ []) = if bytes_eq wanted (codes "design") then Some command.BookingDesign else None
+with_booking (wanted ∷ more ∷ rest) = None
+
 -- `bench`, if two words name its files, and those behind them tell its mix
 abbrev pub with_bench : List (List ℕ) → Option Command
 with_bench words = option_map command.Bench (mix_of (drop 2 words))
@@ -183,6 +192,7 @@ with_form None words = None
 with_form (Some (Files c)) words = with_files c words
 with_form (Some Workers) words = with_workers words
 with_form (Some Tpcc) words = with_tpcc words
+with_form (Some Booking) words = with_booking words
 with_form (Some Bench) words = with_bench words
 
 -- the command that the words ask for: its verb, and what stands behind that
@@ -209,6 +219,7 @@ is_journal_form None = false
 is_journal_form (Some (Files c)) = is_journalled c
 is_journal_form (Some Workers) = true
 is_journal_form (Some Tpcc) = false
+is_journal_form (Some Booking) = false
 is_journal_form (Some Bench) = false
 
 -- Whether the first word is the verb of a command over a journal. Then the program's own last word names the journal's file, and isn't one

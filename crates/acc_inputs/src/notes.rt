@@ -24,6 +24,7 @@ acc verify DESIGN CERT JOURNAL              does the same, and tells which of TP
 acc tpcc design                             prints the design of TPC-C's transactions that the program brings along
 acc tpcc load W ITEMS CUSTOMERS             prints a script that fills W warehouses of TPC-C, 1 to 10, as the standard says
 acc tpcc mix W ITEMS CUSTOMERS COUNT START  prints a script of COUNT of TPC-C's transactions behind that, drawn from START
+acc booking design                          prints the design of bookings of seats and rooms that the program brings along
 acc bench DESIGN CERT W ITEMS CUSTOMERS COUNT START  runs both in memory, and tells whether TPC-C's conditions are true
 acc --help                                  prints these lines
 acc --version                               prints the version of acc, and of the toolchain that proved it

@@ -81,6 +81,7 @@ pub enum Request<'a> {
     Replies(CertifiedFiles<'a>),
     Verify(CertifiedFiles<'a>),
     TpccDesign,
+    BookingDesign,
     TpccLoad(Scale),
     TpccMix(Mix),
     /// With the numbers of its mix.
@@ -122,6 +123,7 @@ impl<'a> Request<'a> {
             Command::Replies => Request::Replies(CertifiedFiles::new(files)),
             Command::Verify => Request::Verify(CertifiedFiles::new(files)),
             Command::TpccDesign => Request::TpccDesign,
+            Command::BookingDesign => Request::BookingDesign,
             Command::TpccLoad(scale) => Request::TpccLoad(scale),
             Command::TpccMix(mix) => Request::TpccMix(mix),
             Command::Bench(mix) => Request::Bench(CertifiedFiles::new(files), mix),

@@ -1,9 +1,9 @@
 //! The forms of the command line.
-ghost use Rattle.std.specs.Prelude.{◌≡◌, ◌≢◌, ℕ, ◌+◌, ◌≤◌, MatchOption, map, length, string_bytes, decimal, IfSome};
+ghost use Rattle.std.specs.Prelude.{◌≡◌, ◌≢◌, ℕ, ◌+◌, ◌≤◌, MatchOption, map, length, string_bytes, decimal, IfSome, codes};
 ghost use Rattle.std.specs.Str.{bytes_eq};
 ghost use Rattle.acc_inputs.specs.Scales.{IsWithin, is_within};
 ghost use Rattle.acc_inputs.specs.Words.{form_of, workload_of, file_count, is_journalled, number_of, scale_of, mix_of};
-ghost use Rattle.acc_inputs.specs.Words.{with_files, with_workers, with_design, with_load, with_mix, with_tpcc, with_bench, command_of};
+ghost use Rattle.acc_inputs.specs.Words.{with_files, with_workers, with_design, with_load, with_mix, with_tpcc, with_booking, with_bench, command_of};
 ghost use Rattle.acc_inputs.specs.Words.{file_names, asks_journal};
 
 use crate::scales::{Mix, Scale};
@@ -46,6 +46,8 @@ pub enum Command {
     TpccLoad(Scale),
     /// `tpcc mix W ITEMS CUSTOMERS COUNT START`
     TpccMix(Mix),
+    /// `booking design`
+    BookingDesign,
     /// `bench DESIGN CERT W ITEMS CUSTOMERS COUNT START`
     Bench(Mix),
     /// `--help`
@@ -63,6 +65,8 @@ enum Form {
     Workers,
     /// The word that says what is wanted of TPC-C, and the numbers of that.
     Tpcc,
+    /// The word that says what is wanted of the booking design.
+    Booking,
     /// The names of the files of `bench`, and the numbers of its mix.
     Bench,
 }
@@ -96,6 +100,7 @@ fn form_of(verb: &str) -> Option<Form>
         "replies" => Some(Form::Files(Command::Replies)),
         "verify" => Some(Form::Files(Command::Verify)),
         "tpcc" => Some(Form::Tpcc),
+        "booking" => Some(Form::Booking),
         "bench" => Some(Form::Bench),
         "--help" => Some(Form::Files(Command::Help)),
         "--version" => Some(Form::Files(Command::Version)),
@@ -128,7 +133,7 @@ pub fn file_count(command: Command) -> usize
         Command::Check | Command::Recover | Command::Dump => 2,
         Command::Replies | Command::Verify | Command::Bench(_) => 2,
         Command::TpccDesign | Command::TpccLoad(_) | Command::TpccMix(_) => 0,
-        Command::Help | Command::Version => 0,
+        Command::BookingDesign | Command::Help | Command::Version => 0,
     }
 }
 
@@ -142,6 +147,7 @@ fn is_journalled(command: Command) -> bool
         Command::Play | Command::Rehearse | Command::Print | Command::Check => false,
         Command::Prove | Command::Bench(_) | Command::Help | Command::Version => false,
         Command::TpccDesign | Command::TpccLoad(_) | Command::TpccMix(_) => false,
+        Command::BookingDesign => false,
     }
 }
 
@@ -278,6 +284,32 @@ fn with_tpcc(words: &[String]) -> Option<Command>
     }
 }
 
+/// Whether a word asks for the design that the program brings along.
+fn is_design(word: &str) -> bool
+    ensures { result ≡ bytes_eq word.now (codes "design") }
+{
+    match word {
+        "design" => true,
+        _ => false,
+    }
+}
+
+/// `booking design`, if this word stands behind the verb, and nothing else.
+#[tactic(auto, unfolding(crate::specs::Words::file_count))]
+fn with_booking(words: &[String]) -> Option<Command>
+    ensures command { result ≡ with_booking (map string_bytes words.now) }
+    ensures length { IfSome result (λ command. file_count command ≤ length words.now) }
+{
+    let [wanted] = words else {
+        return None;
+    };
+    if is_design(wanted.as_str()) {
+        Some(Command::BookingDesign)
+    } else {
+        None
+    }
+}
+
 /// `bench`, if the names of its files and its mix stand behind the verb.
 #[tactic(auto, unfolding(crate::specs::Words::file_count))]
 fn with_bench(words: &[String]) -> Option<Command>
@@ -291,7 +323,7 @@ fn with_bench(words: &[String]) -> Option<Command>
 }
 
 /// The command that the words ask for: its verb, and behind it the names of its files, and then for `run` the number of workers, for
-/// `bench` the numbers of its mix; or `tpcc`, and behind it what is wanted of that, with its numbers.
+/// `bench` the numbers of its mix; or `tpcc` or `booking`, and behind it what is wanted of that, with its numbers.
 pub fn command_of(words: &[String]) -> Option<Command>
     ensures command { result ≡ command_of (map string_bytes words.now) }
     ensures length { IfSome result (λ command. file_count command + 1 ≤ length words.now) }
@@ -303,6 +335,7 @@ pub fn command_of(words: &[String]) -> Option<Command>
         Form::Files(command) => with_files(command, behind),
         Form::Workers => with_workers(behind),
         Form::Tpcc => with_tpcc(behind),
+        Form::Booking => with_booking(behind),
         Form::Bench => with_bench(behind),
     }
 }
@@ -327,6 +360,6 @@ pub fn asks_journal(words: &[String]) -> bool
     match form_of(verb.as_str()) {
         Some(Form::Files(command)) => is_journalled(command),
         Some(Form::Workers) => true,
-        Some(Form::Tpcc | Form::Bench) | None => false,
+        Some(Form::Tpcc | Form::Booking | Form::Bench) | None => false,
     }
 }

@@ -14,6 +14,7 @@ use Rattle.acc_base.specs.Machine.{World}
 use Rattle.acc_store.specs.Bounds.{IsWithin, AreWithin}
 use Rattle.acc_store.specs.Rows.{SumsFit}
 use Rattle.acc_store.proofs.Withins.{sums_fit}
+use Rattle.tpcc_tables.proofs.RowFacts.{none_passes, one_passes}
 use Rattle.tpcc_tables.specs.Conditions.{is_wrong, IsTrueOf}
 use Rattle.tpcc_tables.specs.Schema.{IsSchemaOf, number_in}
 use Rattle.tpcc_tables.specs.declared.kinds.Condition.TheVariants.{WarehouseDistricts}
@@ -26,26 +27,6 @@ use Rattle.acc_journalled.proofs.Numbered.{flat_more}
 use Rattle.acc_journalled.specs.Conditions.{false_key, condition_line, AreConsistent, EndsByRows, ending_by}
 
 -- ---- a row that shows it
-
--- no item passes where none is found, and one does where one is found
-none_passes : {X : Type 0} (p : X → Bool) (xs : List X) → find p xs ≡ None → All (λ x. p x ≡ false) xs
-none_passes p [] e = All-nil (λ x. p x ≡ false)
-none_passes p (x ∷ xs) e = by (p x) refl (none_passes p xs) e
-  where
-    by : (b : Bool) → p x ≡ b → (find p xs ≡ None → All (λ y. p y ≡ false) xs) → cond b (Some x) (find p xs) ≡ None
-        → All (λ y. p y ≡ false) (x ∷ xs)
-    by true is rest h = absurd (none-some x (sym h))
-    by false is rest h = All-cons (λ y. p y ≡ false) x xs is (rest h)
-
-one_passes : {X : Type 0} (p : X → Bool) (xs : List X) → find p xs ≢ None → All (λ x. p x ≡ false) xs → ⊥
-one_passes p [] found all = found refl
-one_passes p (x ∷ xs) found all =
-    by (p x) refl (All-head (λ y. p y ≡ false) x xs all)
-    (λ later. one_passes p xs later (All-tail (λ y. p y ≡ false) x xs all)) found
-  where
-    by : (b : Bool) → p x ≡ b → p x ≡ false → (find p xs ≢ None → ⊥) → cond b (Some x) (find p xs) ≢ None → ⊥
-    by true is none rest h = (let e : true ≡ false = sym is ∙ none in cc)
-    by false is none rest h = rest h
 
 -- a key is found where a row is
 no_key : (o : Option Row) → option_map (λ r. r.key) o ≡ None → o ≡ None

@@ -1,5 +1,7 @@
 //! Whose step is held up.
 ghost use Rattle.std.specs.Prelude.{◌≡◌, ◌≤◌, ◌^◌, List, length, slice_get, IfOk};
+ghost use Rattle.std.specs.Prelude.{◌==◌};
+ghost use Rattle.std.specs.List.{list_all};
 ghost use Rattle.acc_base.specs.declared.machines.Frame.{Frame as Shown};
 ghost use Rattle.acc_base.specs.Tables.{IsInOrder};
 ghost use Rattle.acc_base.specs.Runnable.{IsRunnable, IsSmallFrame};
@@ -54,7 +56,15 @@ fn ahead<S: Store>(d: &Design, f: &Frame, s: &S, places: &mut [i64; MOST_LOCALS]
     }
 }
 
-/// Who blocks a frame's forward step that nothing stops, the first of the frames that does, and its lowest entry. It takes no memory.
+/// Whether no frame is of another transaction.
+fn are_all_of(frames: &[Frame], t: u64) -> bool
+    ensures { result ≡ list_all (λ h. h.t == t) frames.now }
+{
+    frames.iter().all(|h| h.t == t)
+}
+
+/// Who blocks a frame's forward step that nothing stops, the first of the frames that does, and its lowest entry. It takes no memory, and
+/// looks at no row where no frame is of another transaction.
 pub fn held_up<S: Store>(d: &Design, frames: &[Frame], f: &Frame, s: &S) -> Option<(u64, u32)>
     requires formed { IsWellFormed d.now }
     requires runnable { IsRunnable d.now }
@@ -64,6 +74,9 @@ pub fn held_up<S: Store>(d: &Design, frames: &[Frame], f: &Frame, s: &S) -> Opti
     requires holders { AreAtPoints d.now frames.now }
     ensures { TellsHeldUp d.now (S.rows s.now) frames.now f.now result }
 {
+    if are_all_of(frames, f.t) {
+        return None;
+    }
     let mut places = [0; MOST_LOCALS];
     let outlook = ahead(d, f, s, &mut places)?;
     blocker(d, frames, f, &places[..f.locals.len()], outlook)

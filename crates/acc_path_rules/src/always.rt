@@ -1,6 +1,6 @@
 //! The obligations that a path keeps what holds always.
 ghost use Rattle.std.specs.Prelude.{◌≡◌, ◌+◌, ◌<◌, ◌^◌, map, All};
-ghost use Rattle.acc_formed.specs.WellFormed.{IsWellFormed};
+ghost use Rattle.acc_places.specs.ManyEntries.{IsFormedButEntries};
 ghost use Rattle.acc_oblig.specs.PathPromises.{always_at, always_drafts};
 ghost use Rattle.acc_goals.specs.Causes.{Adds};
 ghost use Rattle.acc_places.specs.Rooms.{HasFewVars, IsSmallDesign, IsSmallPathPlace};
@@ -67,7 +67,7 @@ fn add_clause_always(
 
 /// Adds the obligations that each path keeps what holds always, clause by clause and then path by path.
 pub fn add_always(alloc: Global, out: &mut Seq<Sequent>, d: &Design) -> Result<(), ObligError>
-    requires { IsWellFormed d.now }
+    requires { IsFormedButEntries d.now }
     ensures { Adds result out.old out.new (always_drafts d.now) }
 {
     let paths = all_paths(alloc, d)?;

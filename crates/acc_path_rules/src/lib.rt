@@ -13,5 +13,5 @@ pub mod there;
 pub use acc_goals::ObligError;
 pub use always::add_always;
 pub use promises::add_promises;
-pub use spares::add_spares;
+pub use spares::{add_spare_among, add_spares};
 pub use there::add_there;

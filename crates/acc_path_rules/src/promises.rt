@@ -1,7 +1,7 @@
 //! The obligations that a path leaves what its target promises.
 ghost use Rattle.std.specs.Prelude.{◌≡◌, ◌<◌, map, All, slice_get};
 ghost use Rattle.acc_base.specs.declared.bounds.TheConstants.{MOST_CLAUSES};
-ghost use Rattle.acc_formed.specs.WellFormed.{IsWellFormed};
+ghost use Rattle.acc_places.specs.ManyEntries.{IsFormedButEntries};
 ghost use Rattle.acc_oblig.specs.PathPromises.{point_clauses, promised, promise_at, promise_drafts};
 ghost use Rattle.acc_goals.specs.Causes.{Adds};
 ghost use Rattle.acc_places.specs.Rooms.{HasFewVars, IsSmallDesign, IsSmallPathPlace, IsSmallType};
@@ -91,7 +91,7 @@ fn add_number_promises(
 
 /// Adds the obligations that each path leaves what its target promises, by the clause's number and then path by path.
 pub fn add_promises(alloc: Global, out: &mut Seq<Sequent>, d: &Design) -> Result<(), ObligError>
-    requires { IsWellFormed d.now }
+    requires { IsFormedButEntries d.now }
     ensures { Adds result out.old out.new (promise_drafts d.now) }
 {
     let paths = all_paths(alloc, d)?;

@@ -1,12 +1,12 @@
 //! The obligations that a path keeps what holds at the points of others.
 ghost use Rattle.std.specs.Prelude.{◌≡◌, ◌+◌, ◌++◌, ◌≤◌, ◌<◌, ◌^◌, length, map, All, IfOk};
 ghost use Rattle.acc_base.specs.declared.bounds.TheConstants.{MOST_LOCALS, MOST_VARIABLES};
-ghost use Rattle.acc_formed.specs.WellFormed.{IsWellFormed};
+ghost use Rattle.acc_places.specs.ManyEntries.{IsFormedButEntries, with_entries};
 ghost use Rattle.acc_oblig.specs.Naming.{own_clauses};
 ghost use Rattle.acc_oblig.specs.Settings.{step_vars, step_hyps, step_rels, step_bounds, frame_bounds};
 ghost use Rattle.acc_oblig.specs.Spares.{held_names, spare_drafts, spare_at, held_drafts, all_spare_drafts};
 ghost use Rattle.acc_goals.specs.Causes.{Adds, at_case};
-ghost use Rattle.acc_places.specs.Rooms.{HasFewVars, IsSmallDesign, IsSmallPathPlace, IsSmallPointPlace};
+ghost use Rattle.acc_places.specs.Rooms.{HasFewVars, IsSmallDesign, IsSmallEntry, IsSmallPathPlace, IsSmallPointPlace};
 ghost use Rattle.acc_obligations.specs.Seen.{seen, HasRoom};
 ghost use Rattle.acc_places.specs.SeenPlaces.{point_place, path_place};
 ghost use Rattle.acc_places.specs.DesignPlaces.{joined, at_path_place, at_point_place, path_places};
@@ -15,7 +15,7 @@ ghost use Rattle.acc_path_rules.specs.Helds.{ordered_of};
 use crate::entries::open_by;
 use crate::orders::{Ordered, add_clause};
 use crate::tables::clause_names;
-use acc_base::designs::Design;
+use acc_base::designs::{Design, Entry};
 use acc_base::forms::{Clause, Rel};
 use acc_base::sequences::Seq;
 use acc_base::sequents::{Origin, Rule, Sequent};
@@ -132,6 +132,46 @@ fn add_spare(
     add_clause(alloc, out, ordered, actions.as_slice(), &n, c)
 }
 
+/// Adds the obligations that a path keeps a clause of a held point, if the clause names a table that the path changes, where the design
+/// had these entries in place of its own.
+///
+/// `Wide` with the origin of the first that has a number that is too large. `Memory` where memory ran out.
+pub fn add_spare_among(
+    alloc: Global,
+    out: &mut Seq<Sequent>,
+    d: &Design,
+    entries: &[Entry],
+    q: &PathPlace<'_>,
+    held: &PointPlace<'_>,
+    k: u32,
+    c: &Clause,
+) -> Result<(), ObligError>
+    requires design { IsSmallDesign d.now }
+    requires entries { All IsSmallEntry entries.now }
+    requires small { IsSmallPathPlace (path_place q.now) }
+    requires held { IsSmallPointPlace (point_place held.now) }
+    requires number { k + 1 < 2 ^ 32 }
+    requires few { HasFewVars c.now }
+    ensures { Adds result out.old out.new (at_path_place
+        (spare_at (with_entries d.now entries.now) held.now.at held.now.ty.now held.now.point.now k c.now) (path_place q.now)) }
+{
+    if !clause_names(q.path.actions.as_slice(), c) {
+        return Ok(());
+    }
+    let s = path_setting(d, q);
+    match open_by(alloc, entries, held.at, q, &s)? {
+        None => Ok(()),
+        Some(pairs) => {
+            let cause = Cause {
+                rule: Rule::Spares,
+                held: Some(held.at),
+                clause: k,
+            };
+            add_spare(alloc, out, path_origin(cause, q), &s, held, pairs, c)
+        }
+    }
+}
+
 /// Adds the obligations that a path keeps a clause of a held point, if the clause names a table that the path changes.
 fn add_path_spare(
     alloc: Global,
@@ -150,21 +190,7 @@ fn add_path_spare(
     ensures { Adds result out.old out.new
         (at_path_place (spare_at d.now held.now.at held.now.ty.now held.now.point.now k c.now) (path_place q.now)) }
 {
-    if !clause_names(q.path.actions.as_slice(), c) {
-        return Ok(());
-    }
-    let s = path_setting(d, q);
-    match open_by(alloc, d.entries.as_slice(), held.at, q, &s)? {
-        None => Ok(()),
-        Some(pairs) => {
-            let cause = Cause {
-                rule: Rule::Spares,
-                held: Some(held.at),
-                clause: k,
-            };
-            add_spare(alloc, out, path_origin(cause, q), &s, held, pairs, c)
-        }
-    }
+    add_spare_among(alloc, out, d, d.entries.as_slice(), q, held, k, c)
 }
 
 /// Adds the obligations that paths keep a clause of a held point.
@@ -215,7 +241,7 @@ fn add_point_spares(
 /// Adds the obligations that each path keeps what holds at the points of others, where no entry forbids its step: by held point
 /// and clause, and then path by path.
 pub fn add_spares(alloc: Global, out: &mut Seq<Sequent>, d: &Design) -> Result<(), ObligError>
-    requires { IsWellFormed d.now }
+    requires { IsFormedButEntries d.now }
     ensures { Adds result out.old out.new (all_spare_drafts d.now) }
 {
     let listed = points_of(alloc, d)?;

@@ -1,7 +1,7 @@
 //! The obligations that the row of each `set` and `add` is there.
 ghost use Rattle.std.specs.Prelude.{◌≡◌, ◌<◌, length, map, take, All, IfOk};
 ghost use Rattle.acc_base.specs.declared.bounds.TheConstants.{MOST_ACTIONS};
-ghost use Rattle.acc_formed.specs.WellFormed.{IsWellFormed};
+ghost use Rattle.acc_places.specs.ManyEntries.{IsFormedButEntries};
 ghost use Rattle.acc_oblig.specs.Drafts.{setting_of};
 ghost use Rattle.acc_oblig.specs.PathPromises.{row_there, there_at, there_drafts};
 ghost use Rattle.acc_goals.specs.Causes.{Adds};
@@ -128,7 +128,7 @@ fn add_rows(
 
 /// Adds the obligations that the rows of `set` and `add` are there, by the action's number and then path by path.
 pub fn add_there(alloc: Global, out: &mut Seq<Sequent>, d: &Design) -> Result<(), ObligError>
-    requires { IsWellFormed d.now }
+    requires { IsFormedButEntries d.now }
     ensures { Adds result out.old out.new (there_drafts d.now) }
 {
     let paths = all_paths(alloc, d)?;

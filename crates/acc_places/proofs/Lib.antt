@@ -1,3 +1,4 @@
+pub mod ManyEntries
 pub mod Small
 pub mod SmallPlaces
 pub mod EachPath

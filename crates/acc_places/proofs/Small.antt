@@ -1,9 +1,10 @@
--- The points and paths of a well-formed design are small.
+-- The points and paths of a design are small where it is well-formed but for the number of its entries.
 use Rattle.std.proofs.Common.{◌≡◌, ℕ, zero, suc, ◌+◌, ◌<◌, ◌≤◌, Bool, true, false, List, [], ◌∷◌, ◌++◌, length, subst, refl, arith, Option}
 use Rattle.std.proofs.Common.{Some, None}
 use Rattle.std.specs.Prelude.{slice_get, slice_index_or, nat_le, nat_lt, All, ◌&&◌, ◌==◌}
 use Rattle.std.specs.List.{AllByRecursion, list_all}
 use Rattle.std.proofs.lemmas.Bool.{and_parts, leb-true, ltb-true}
+use Rattle.std.proofs.lemmas.List.Sums.{AllPass-from_list_all}
 use Rattle.acc_base.specs.declared.forms.Clause.{Clause}
 use Rattle.acc_base.specs.declared.tables.Table.{Table}
 use Rattle.acc_base.specs.declared.steps.Step.{Step}
@@ -15,13 +16,14 @@ use Rattle.acc_base.specs.declared.designs.TxType.{TxType}
 use Rattle.acc_base.specs.declared.designs.Entry.{Entry}
 use Rattle.acc_base.specs.declared.designs.Design.{Design}
 use Rattle.acc_base.specs.Effects.{step_at}
-use Rattle.acc_oblig.specs.FormedRanges.{locals_of}
+use Rattle.acc_oblig.specs.FormedRanges.{locals_of, entry_in}
 use Rattle.acc_oblig.specs.Sizes.{is_short, rel_small, clause_small, table_small}
-use Rattle.acc_oblig.specs.WellFormed.{AreClausesFormed, IsStepFormed, IsPointFormed, IsTypeFormed, IsWellFormed}
-use Rattle.acc_oblig.proofs.InRange.{design_range}
+use Rattle.acc_oblig.specs.WellFormed.{AreClausesFormed, IsStepFormed, IsPointFormed, IsTypeFormed}
+use Rattle.acc_oblig.proofs.InRange.{entry_range}
 use Rattle.acc_oblig.proofs.Runs.{table_is_small}
 use Rattle.acc_oblig.specs.Drafts.{each_from, each, step_paths}
 use Rattle.acc_oblig.proofs.OnPath.{numbered_at}
+use Rattle.acc_places.specs.ManyEntries.{IsFormedButEntries}
 use Rattle.acc_places.specs.Rooms.{HasFewVars, IsSmallEntry, IsSmallStep, IsSmallTable, IsSmallDesign, IsSmallPoint, IsSmallType}
 use Rattle.acc_places.specs.Rooms.{IsSmallAt, IsSmallPointPlace, IsSmallPathPlace}
 use Rattle.acc_places.specs.DesignPlaces.{PointPlace, joined, point_place_alone, path_place_alone, places_of_point, point_places}
@@ -100,13 +102,13 @@ small_path_places q s =
     (step_paths path_place_alone q.at Undo q.x q.p (step_at Undo q.p))
     (small_steps q.at Next q.x q.p q.p.next s.at s.x s.p s.p.next) (small_steps q.at Undo q.x q.p q.p.undo s.at s.x s.p s.p.undo)
 
-module _ (d : Design) (wf : IsWellFormed d) where
+module _ (d : Design) (wf : IsFormedButEntries d) where
   pub small_point_places : AllByRecursion IsSmallPointPlace (point_places d)
   small_point_places =
       all_from IsSmallPointPlace (λ ty x. each (λ i p. point_place_alone ty x i p) x.points) 0 d.types
       (λ k x l. let y : TxType = slice_index_or d.types k x in
-      let f : IsTypeFormed d.tables d.types k y = wf.types k x l in
-      let few_types = wf.few_types in
+      let f : IsTypeFormed d.tables d.types k y = wf.rest.types k x l in
+      let few_types = wf.rest.few_types in
       let few_points = f.few_points in
       all_from IsSmallPointPlace (λ i p. point_place_alone (0 + k) y i p) 0 y.points
       (λ i p m. (
@@ -123,12 +125,12 @@ module _ (d : Design) (wf : IsWellFormed d) where
     where
       by : (o : Option TxType) → slice_get d.types t ≡ o → locals_of o ≤ 48
       by None e = omega arith
-      by (Some x) e = (numbered_at (IsTypeFormed d.tables d.types) d.types t x wf.types e).few_locals
+      by (Some x) e = (numbered_at (IsTypeFormed d.tables d.types) d.types t x wf.rest.types e).few_locals
 
   entries_small : All IsSmallEntry d.entries
   entries_small = λ k e l. λ j p m.
-      let pairs = (design_range d wf.in_range).entries k e l in
       let entry : Entry = slice_index_or d.entries k e in
+      let pairs = entry_range d.types entry (AllPass-from_list_all (entry_in d.types) d.entries wf.in_range k e l) in
       let pair : ℕ × ℕ = slice_index_or entry.pairs j p in
       let held = locals_of (slice_get d.types entry.held.ty) in
       let step = locals_of (slice_get d.types entry.step.ty) in
@@ -147,17 +149,17 @@ module _ (d : Design) (wf : IsWellFormed d) where
   tables_small : All IsSmallTable d.tables
   tables_small = λ k t l.
       let table : Table = slice_index_or d.tables k t in
-      let limits = (wf.tables k t l).limits in
+      let limits = (wf.rest.tables k t l).limits in
       record { some = table_width table limits; few = (table_is_small table limits).width }
 
   pub design_small : IsSmallDesign d
   design_small =
       record {
-        few_tables = wf.few_tables;
+        few_tables = wf.rest.few_tables;
         tables = tables_small;
-        few_always = wf.always.few;
-        always = clauses_small d.tables [] 128 d.always wf.always;
-        few_types = wf.few_types;
-        types = λ k x l. small_type d.tables d.types k (slice_index_or d.types k x) (wf.types k x l);
+        few_always = wf.rest.always.few;
+        always = clauses_small d.tables [] 128 d.always wf.rest.always;
+        few_types = wf.rest.few_types;
+        types = λ k x l. small_type d.tables d.types k (slice_index_or d.types k x) (wf.rest.types k x l);
         entries = entries_small;
       }

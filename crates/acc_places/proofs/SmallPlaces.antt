@@ -1,13 +1,13 @@
--- The listed points and paths of a well-formed design are small.
+-- The listed points and paths of such a design are small.
 use Rattle.std.proofs.Common.{◌≡◌, ℕ, ◌<◌, ◌≤◌, List, [], ◌∷◌, map, length, get_or, sym, ap, subst, ◌∙◌}
 use Rattle.std.specs.Prelude.{All}
 use Rattle.std.specs.List.{AllByRecursion}
 use Rattle.std.proofs.lemmas.List.Elements.{All-from_recursion, recursion_from_All}
 use Rattle.acc_base.specs.declared.designs.TxType.{TxType}
 use Rattle.acc_base.specs.declared.designs.Design.{Design}
-use Rattle.acc_oblig.specs.WellFormed.{IsWellFormed}
 use Rattle.acc_places.specs.declared.places.PointPlace.{PointPlace}
 use Rattle.acc_places.specs.declared.places.PathPlace.{PathPlace}
+use Rattle.acc_places.specs.ManyEntries.{IsFormedButEntries}
 use Rattle.acc_places.specs.Rooms.{IsSmallPointPlace, IsSmallPathPlace}
 use Rattle.acc_places.specs.SeenPlaces.{point_place, path_place}
 use Rattle.acc_places.specs.DesignPlaces.{joined, places_of_point, point_places}
@@ -23,7 +23,7 @@ module _ {S T : Type 0} (f : T → S) (P : S → Type 0) where
   all_over (x ∷ xs) h = (h.0, all_over xs h.1)
 
 pub points_small :
-    (d : Design) → IsWellFormed d → (ps : List PointPlace) → map point_place ps ≡ point_places d → All
+    (d : Design) → IsFormedButEntries d → (ps : List PointPlace) → map point_place ps ≡ point_places d → All
     (λ (q : PointPlace). IsSmallPointPlace (point_place q)) ps
 points_small d wf ps e =
     All-from_recursion (λ (q : PointPlace). IsSmallPointPlace (point_place q)) ps
@@ -41,10 +41,10 @@ paths_small ps qs h e =
     (all_joined IsSmallPathPlace IsSmallPointPlace places_of_point (map point_place ps) small_path_places small)))
 
 pub few_points :
-    (d : Design) → IsWellFormed d → (xs : List TxType) → xs ≡ d.types → (i : ℕ) → i < length xs → (x : TxType) → x ≡ get_or xs i x
+    (d : Design) → IsFormedButEntries d → (xs : List TxType) → xs ≡ d.types → (i : ℕ) → i < length xs → (x : TxType) → x ≡ get_or xs i x
     → length x.points ≤ 32
 few_points d wf xs e i l x f =
     let within : i < length d.types = subst (λ (ys : List TxType). i < length ys) e l in
     let same : x ≡ get_or d.types i x = f ∙ ap (λ (ys : List TxType). get_or ys i x) e in
-    let few = (wf.types i x within).few_points in
+    let few = (wf.rest.types i x within).few_points in
     subst (λ (y : TxType). length y.points ≤ 32) (sym same) few

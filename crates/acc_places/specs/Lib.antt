@@ -1,3 +1,4 @@
+pub mod ManyEntries
 pub mod Rooms
 pub mod SeenPlaces
 pub mod DesignPlaces

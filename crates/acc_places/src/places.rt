@@ -1,8 +1,8 @@
 //! The points and the paths of a design, each with where it stands.
 ghost use Rattle.std.specs.Prelude.{◌≡◌, ◌++◌, ◌≤◌, length, map, All, IfOk, OnOk};
 ghost use Rattle.acc_base.specs.declared.bounds.TheConstants.{MOST_TYPES, MOST_POINTS, MOST_PATHS};
-ghost use Rattle.acc_oblig.specs.WellFormed.{IsWellFormed};
 ghost use Rattle.acc_oblig.specs.Drafts.{each, step_paths};
+ghost use Rattle.acc_places.specs.ManyEntries.{IsFormedButEntries};
 ghost use Rattle.acc_places.specs.Rooms.{IsSmallPathPlace, IsSmallPointPlace};
 ghost use Rattle.acc_places.specs.SeenPlaces.{point_place, path_place};
 ghost use Rattle.acc_places.specs.DesignPlaces.{point_places, path_places, point_place_alone, path_place_alone, joined, places_of_point};
@@ -55,7 +55,7 @@ fn add_points<'a>(
 
 /// The points of a design, type by type.
 pub fn points_of<'a>(alloc: Global, d: &'a Design) -> Result<Vec<PointPlace<'a>>, AllocError>
-    requires { IsWellFormed d.now }
+    requires { IsFormedButEntries d.now }
     ensures value { IfOk result (λ v. map point_place v.items ≡ point_places d.now) }
     ensures small { IfOk result (λ v. All (λ q. IsSmallPointPlace (point_place q)) v.items) }
 {
@@ -64,7 +64,7 @@ pub fn points_of<'a>(alloc: Global, d: &'a Design) -> Result<Vec<PointPlace<'a>>
 }
 
 fn listed_points<'a>(alloc: Global, d: &'a Design) -> Result<Vec<PointPlace<'a>>, AllocError>
-    requires { IsWellFormed d.now }
+    requires { IsFormedButEntries d.now }
     ensures { IfOk result (λ v. map point_place v.items ≡ point_places d.now) }
 {
     let mut out = Vec::new(alloc);
@@ -139,7 +139,7 @@ fn listed_paths<'a>(
 
 /// The paths of a design, type by type and point by point.
 pub fn all_paths<'a>(alloc: Global, d: &'a Design) -> Result<Vec<PathPlace<'a>>, AllocError>
-    requires { IsWellFormed d.now }
+    requires { IsFormedButEntries d.now }
     ensures value { IfOk result (λ v. map path_place v.items ≡ path_places d.now) }
     ensures small { IfOk result (λ v. All (λ q. IsSmallPathPlace (path_place q)) v.items) }
 {

@@ -2,7 +2,7 @@
 ghost use Rattle.std.specs.Prelude.{◌≡◌, ◌+◌, ◌-◌, ◌<◌, ◌^◌, [], ◌++◌, length, slice_get, IfOk, OnOk, All};
 ghost use Rattle.acc_base.specs.declared.bounds.TheConstants.{MOST_CLAUSES};
 ghost use Rattle.acc_base.specs.Items.{numbers_from};
-ghost use Rattle.acc_formed.specs.WellFormed.{IsWellFormed};
+ghost use Rattle.acc_places.specs.ManyEntries.{IsFormedButEntries};
 ghost use Rattle.acc_oblig.specs.Drafts.{each, each_number};
 ghost use Rattle.acc_oblig.specs.PathPromises.{point_clauses};
 ghost use Rattle.acc_oblig.specs.PointRules.{begin_at, begin_drafts, begin_origin, begin_rels, zeros};
@@ -163,7 +163,7 @@ fn add_first_begins(
 /// Adds the obligations that a transaction which begins has its start point's assertion, by the clause's number and then type by
 /// type.
 pub fn add_begins(alloc: Global, out: &mut Seq<Sequent>, d: &Design) -> Result<(), ObligError>
-    requires { IsWellFormed d.now }
+    requires { IsFormedButEntries d.now }
     ensures { Adds result out.old out.new (begin_drafts d.now) }
 {
     add_first_begins(alloc, out, d, MOST_CLAUSES as u32)

@@ -4,7 +4,7 @@ ghost use Rattle.std.specs.List.{list_any};
 ghost use Rattle.acc_base.specs.declared.bounds.TheConstants.{MOST_KEY_PARTS};
 ghost use Rattle.acc_base.specs.PrivateRows.{puts_into, step_puts, type_puts};
 ghost use Rattle.acc_base.specs.Items.{numbers_from};
-ghost use Rattle.acc_formed.specs.WellFormed.{IsWellFormed};
+ghost use Rattle.acc_places.specs.ManyEntries.{IsFormedButEntries};
 ghost use Rattle.acc_oblig.specs.Relations.{alone};
 ghost use Rattle.acc_oblig.specs.PointRules.{clear_at, clear_drafts, is_end, none_of};
 ghost use Rattle.acc_goals.specs.Causes.{Adds};
@@ -188,7 +188,7 @@ fn add_table_clears(
 /// Adds the obligations that a transaction which ends leaves no row of its own in a private table that its type puts into, table by
 /// table and then path by path.
 pub fn add_clears(alloc: Global, out: &mut Seq<Sequent>, d: &Design) -> Result<(), ObligError>
-    requires { IsWellFormed d.now }
+    requires { IsFormedButEntries d.now }
     ensures { Adds result out.old out.new (clear_drafts d.now) }
 {
     let paths = all_paths(alloc, d)?;

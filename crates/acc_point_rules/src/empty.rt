@@ -1,6 +1,6 @@
 //! The obligations that what holds always holds of no rows.
 ghost use Rattle.std.specs.Prelude.{◌≡◌, ◌+◌, ◌<◌, ◌^◌};
-ghost use Rattle.acc_formed.specs.WellFormed.{IsWellFormed};
+ghost use Rattle.acc_places.specs.ManyEntries.{IsFormedButEntries};
 ghost use Rattle.acc_oblig.specs.PathPromises.{empty_origin, empty_drafts};
 ghost use Rattle.acc_goals.specs.Causes.{Adds};
 ghost use Rattle.acc_places.specs.Rooms.{HasFewVars};
@@ -55,7 +55,7 @@ fn add_empty_clause(
 
 /// Adds the obligations that what holds always holds of no rows, clause by clause.
 pub fn add_empty(alloc: Global, out: &mut Seq<Sequent>, d: &Design) -> Result<(), ObligError>
-    requires { IsWellFormed d.now }
+    requires { IsFormedButEntries d.now }
     ensures { Adds result out.old out.new (empty_drafts d.now) }
 {
     let clauses = d.always.as_slice();

@@ -2,7 +2,7 @@
 ghost use Rattle.std.specs.Prelude.{◌≡◌, ◌+◌, ◌<◌, ◌^◌, [], ◌∷◌, map, All, IfOk, slice_get, option_copied, MatchOption, ⊤, pos, negsuc};
 ghost use Rattle.std.specs.Prelude.{◌+ℤ◌, ◌*ℤ◌};
 ghost use Rattle.acc_base.specs.Sums.{form_sum, is_sum_wide, TellsWide};
-ghost use Rattle.acc_formed.specs.WellFormed.{IsWellFormed};
+ghost use Rattle.acc_places.specs.ManyEntries.{IsFormedButEntries};
 ghost use Rattle.acc_oblig.specs.Naming.{named_lin};
 ghost use Rattle.acc_oblig.specs.Settings.{step_naming};
 ghost use Rattle.acc_oblig.specs.Relations.{lin_form, plus_number};
@@ -312,7 +312,7 @@ fn add_both_bounds(
 /// Adds the obligations that the variant is at least 0, point by point, that it is at most 65,536, and that an undo path to a point
 /// makes it fall, path by path.
 pub fn add_variants(alloc: Global, out: &mut Seq<Sequent>, d: &Design) -> Result<(), ObligError>
-    requires { IsWellFormed d.now }
+    requires { IsFormedButEntries d.now }
     ensures { Adds result out.old out.new (variant_drafts d.now) }
 {
     let points = points_of(alloc, d)?;

@@ -22,7 +22,7 @@ pub struct Finding {
 }
 
 /// The search for the proof of an obligation, with its hints.
-#[tactic(auto, using(acc_places::proofs::Small::design_small))]
+#[tactic(auto, using(acc_places::proofs::Small::design_small, acc_places::proofs::ManyEntries::formed_but_entries))]
 pub fn searched(alloc: Global, d: &Design, q: &Sequent) -> Result<Found, SearchError>
     requires { IsWellFormed d.now }
     ensures kind { Tells result (searched d.now q.now) }

@@ -224,6 +224,7 @@ fn wide_line(alloc: Global, d: &Design, origin: &Origin) -> Result<Vec<u8>, Allo
 /// searches `progress` is told how many obligations are done, and how many of these are open.
 ///
 /// Besides the searches it takes the time of the obligations' length, and of what is written; and it waits for its searchers.
+#[tactic(auto, using(acc_places::proofs::ManyEntries::formed_but_entries))]
 pub fn prove<S: Searchers, P: Progress>(
     alloc: Global,
     d: &Design,

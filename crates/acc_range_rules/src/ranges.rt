@@ -1,7 +1,7 @@
 //! The obligations that the numbers of undo steps stay within the range.
 ghost use Rattle.std.specs.Prelude.{◌≡◌, ◌+◌, ◌≤◌, ◌<◌, ◌^◌, map, All, IfOk, pos, neg_ℤ};
 ghost use Rattle.acc_base.specs.declared.bounds.TheConstants.{MOST_READS};
-ghost use Rattle.acc_formed.specs.WellFormed.{IsWellFormed};
+ghost use Rattle.acc_places.specs.ManyEntries.{IsFormedButEntries};
 ghost use Rattle.acc_oblig.specs.Relations.{lin_form, negated, plus_number};
 ghost use Rattle.acc_oblig.specs.Settings.{step_vars};
 ghost use Rattle.acc_oblig.specs.Drafts.{each_number};
@@ -257,7 +257,7 @@ fn add_first_ranges(
     d: &Design,
     count: u32,
 ) -> Result<(), ObligError>
-    requires { IsWellFormed d.now }
+    requires { IsFormedButEntries d.now }
     ensures { Adds result out.old out.new (each_number 0 count (λ k. each_point d.now (range_at d.now k))) }
 {
     let points = points_of(alloc, d)?;
@@ -270,7 +270,7 @@ fn add_first_ranges(
 /// Adds the obligations that the numbers of undo steps stay within the range, by a number's place and then point by point: first
 /// those of the reads, and behind them those of each path's actions.
 pub fn add_ranges(alloc: Global, out: &mut Seq<Sequent>, d: &Design) -> Result<(), ObligError>
-    requires { IsWellFormed d.now }
+    requires { IsFormedButEntries d.now }
     ensures { Adds result out.old out.new (range_drafts d.now) }
 {
     add_first_ranges(alloc, out, d, MOST_NUMBERS as u32)

@@ -1,6 +1,6 @@
 //! Changes of rows in an ordered map.
 ghost use Rattle.std.specs.Prelude.{◌≡◌, ◌≤◌, ◌<◌, length, map, OnOk, OnErr, All, true, false};
-ghost use Rattle.std.specs.Prelude.{IsOk};
+ghost use Rattle.std.specs.Prelude.{IsOk, IfNone, IfSome, ℕ};
 ghost use Rattle.std.specs.List.{list_all};
 ghost use Rattle.std.specs.BTreeMap.{is_at as at};
 ghost use Rattle.std.specs.Map.{keys_of};
@@ -57,6 +57,18 @@ fn widen(entries: &mut Entries, place: &Place, room: usize) -> Result<(), AllocE
     entries.change(place, &Change::Room(room))
 }
 
+/// For how many cells there is room in the entry at a place, if there is one.
+fn room_there(entries: &Entries, place: &Place) -> Option<usize>
+    ensures none { IfNone result (has_entry entries.now.entries place.now ≡ false) }
+    ensures some { IfSome result (λ room. has_entry entries.now.entries place.now ≡ true) }
+    ensures room { IfSome result (λ room. (n : ℕ) → n ≤ room → has_room_at entries.now.entries place.now n ≡ true) }
+{
+    match entries.get(place) {
+        Some(slot) => Some(slot.room()),
+        None => None,
+    }
+}
+
 /// Makes room for some cells at a place.
 fn make_room_at(
     entries: &mut Entries,
@@ -75,10 +87,10 @@ fn make_room_at(
     ensures up { IsUp entries.new.entries }
     ensures fit { AreFit entries.new.entries }
 {
-    if entries.contains_key(&place) {
-        widen(entries, &place, room)
-    } else {
-        make_blank(entries, alloc, place, room)
+    match room_there(entries, &place) {
+        Some(found) if found >= room => Ok(()),
+        Some(_) => widen(entries, &place, room),
+        None => make_blank(entries, alloc, place, room),
     }
 }
 

@@ -9,7 +9,7 @@ ghost use Rattle.acc_store.specs.Runs.{Alters, AreLaid, all_of};
 ghost use Rattle.acc_store.specs.Changes.{CanChange, HasChanged};
 
 use crate::places::Place;
-use crate::runs::{Runs, change_at, put_at, remove_at, slot_at};
+use crate::runs::{Layout, Runs, change_at, put_at, remove_at, slot_at};
 use crate::slots::{Change, Slot};
 use std::alloc::{AllocError, Global};
 use std::collections::BTreeMap;
@@ -19,6 +19,7 @@ use std::marker::Model;
 #[derive(Drop)]
 pub struct Entries {
     runs: Runs,
+    layout: Layout,
     /// How many entries there are.
     len: usize,
 }
@@ -36,11 +37,12 @@ impl Model for Entries {
 
 impl Entries {
     /// No entries.
-    pub fn new(alloc: Global) -> Self
+    pub fn new(alloc: Global, layout: Layout) -> Self
         ensures { result.entries ≡ [] }
     {
         Entries {
             runs: BTreeMap::new(alloc),
+            layout,
             len: 0,
         }
     }
@@ -62,13 +64,6 @@ impl Entries {
         slot_at(&self.runs, place)
     }
 
-    /// Whether there is an entry at a place.
-    pub fn contains_key(&self, place: &Place) -> bool
-        ensures { result ≡ is_some (entry_at place.now self.now.entries) }
-    {
-        self.get(place).is_some()
-    }
-
     /// Changes what stands at a place.
     pub fn change(&mut self, place: &Place, change: &Change) -> Result<(), AllocError>
         requires can { IfSome (entry_at place.now self.old.entries) (CanChange change.now) }
@@ -86,7 +81,7 @@ impl Entries {
         if self.len == usize::MAX {
             return Err(AllocError);
         }
-        put_at(&mut self.runs, alloc, place, slot)?;
+        put_at(&mut self.runs, alloc, self.layout, place, slot)?;
         self.len += 1;
         Ok(())
     }

@@ -1,8 +1,8 @@
 //! Runs of entries, each in a map of its own below one map of runs.
 //!
-//! A node of the map has 15 places, and where it is full it is split in halves. So a run that is full is parted where an entry comes in:
-//! entries that come in ascending order leave full runs behind them.
-ghost use Rattle.std.specs.Prelude.{◌≡◌, ◌≤◌, OnOk, OnErr, IfSome, Some, [], option_copied, true, false};
+//! A node of the map has 15 places, and where it is full it is split in halves. So where memory counts a run that is full is parted where
+//! an entry comes in: entries that come in ascending order leave full runs behind them. Where speed counts there is one run.
+ghost use Rattle.std.specs.Prelude.{◌≡◌, ◌≤◌, OnOk, OnErr, IfOk, IfSome, Some, [], option_copied, true, false};
 ghost use Rattle.std.specs.Prelude.{is_some};
 ghost use Rattle.std.specs.Ordering.{is_gt};
 ghost use Rattle.std.specs.declared.cmp.Ordering.TheVariants.{Less};
@@ -28,6 +28,25 @@ pub type Runs = BTreeMap<Place, Run>;
 
 /// How many entries fill a node of a map.
 const FULL: usize = 15;
+
+/// How entries stand in runs.
+#[derive(Clone, Copy)]
+pub enum Layout {
+    /// All in one run: a look-up goes down one map. Where places come in ascending order half of the map's nodes stays empty.
+    Whole,
+    /// In runs that fill a node each: they take less memory, and a look-up goes down two maps.
+    Parted,
+}
+
+impl Layout {
+    /// How many entries fill a run.
+    fn full(self) -> usize {
+        match self {
+            Layout::Whole => usize::MAX,
+            Layout::Parted => FULL,
+        }
+    }
+}
 
 /// The key of the run where a place belongs: the last key that isn't past the place.
 pub fn run_key(runs: &Runs, place: &Place) -> Option<Place>
@@ -133,73 +152,108 @@ fn part(runs: &mut Runs, alloc: Global, key: &Place, at: &Place) -> Result<(), A
     }
 }
 
-/// Parts the run where a place belongs, if it is full.
-fn part_full(runs: &mut Runs, alloc: Global, place: &Place, key: &Place) -> Result<(), AllocError>
+/// Whether the run with a key is full.
+fn is_full(runs: &Runs, layout: Layout, key: &Place) -> bool {
+    match runs.get(key) {
+        Some(run) => run.len() >= layout.full(),
+        None => false,
+    }
+}
+
+/// Parts the run with a key, where a place belongs, at that place.
+fn part_for(runs: &mut Runs, alloc: Global, place: &Place, key: &Place) -> Result<(), AllocError>
     requires laid { AreLaid runs.old }
     requires run { IsRunKey place_cmp place.now (seen runs.old.entries) (Some key.now) }
     ensures entries { all_of runs.new ≡ all_of runs.old }
     ensures laid { AreLaid runs.new }
 {
     match runs.get(key) {
-        Some(run) if run.len() >= FULL => {
+        Some(run) => {
             let at = parting(run, place);
             part(runs, alloc, key, &at)
         }
-        Some(_) | None => Ok(()),
+        None => Ok(()),
     }
 }
 
-/// Adds a run before all others, which has no entries yet.
-fn add_first(runs: &mut Runs, alloc: Global, place: &Place) -> Result<(), AllocError>
+/// Adds a run before all others, which has no entries yet, and gives its key.
+fn add_first(runs: &mut Runs, alloc: Global, place: &Place) -> Result<Place, AllocError>
     requires laid { AreLaid runs.old }
     requires past { ArePast place_cmp place.now (seen runs.old.entries) }
+    ensures run { IfOk result (λ key. IsRunKey place_cmp place.now (seen runs.new.entries) (Some key)) }
     ensures entries { all_of runs.new ≡ all_of runs.old }
     ensures laid { AreLaid runs.new }
 {
-    runs.insert(Place::first(), BTreeMap::new(alloc))?;
-    Ok(())
+    let first = Place::first();
+    runs.insert(first.copied(), BTreeMap::new(alloc))?;
+    Ok(first)
 }
 
-/// Makes a run where a place belongs, if there is none, and parts it if it is full.
-fn make_way(runs: &mut Runs, alloc: Global, place: &Place) -> Result<(), AllocError>
+/// The key of the run where a place belongs. If there is none, it is made.
+fn key_for(runs: &mut Runs, alloc: Global, place: &Place) -> Result<Place, AllocError>
     requires laid { AreLaid runs.old }
+    ensures run { IfOk result (λ key. IsRunKey place_cmp place.now (seen runs.new.entries) (Some key)) }
     ensures entries { all_of runs.new ≡ all_of runs.old }
     ensures laid { AreLaid runs.new }
 {
     match run_key(runs, place) {
-        Some(key) => part_full(runs, alloc, place, &key),
+        Some(key) => Ok(key),
         None => add_first(runs, alloc, place),
     }
 }
 
-/// Adds an entry to the run where its place belongs.
-fn put_in(runs: &mut Runs, place: Place, slot: Slot) -> Result<(), AllocError>
+/// The key of the run where a place belongs, which is parted first if it is full. If there is none, it is made.
+fn open_run(
+    runs: &mut Runs,
+    alloc: Global,
+    layout: Layout,
+    place: &Place,
+) -> Result<Place, AllocError>
     requires laid { AreLaid runs.old }
+    ensures run { IfOk result (λ key. IsRunKey place_cmp place.now (seen runs.new.entries) (Some key)) }
+    ensures entries { all_of runs.new ≡ all_of runs.old }
+    ensures laid { AreLaid runs.new }
+{
+    let key = key_for(runs, alloc, place)?;
+    if !is_full(runs, layout, &key) {
+        return Ok(key);
+    }
+    part_for(runs, alloc, place, &key)?;
+    key_for(runs, alloc, place)
+}
+
+/// Adds an entry to the run with a key, where its place belongs.
+fn put_in(runs: &mut Runs, key: &Place, place: Place, slot: Slot) -> Result<(), AllocError>
+    requires laid { AreLaid runs.old }
+    requires run { IsRunKey place_cmp place (seen runs.old.entries) (Some key.now) }
     ensures ok { OnOk result (all_of runs.new ≡ insert_entry place_cmp (all_of runs.old) place slot) }
     ensures err { OnErr result (all_of runs.new ≡ all_of runs.old) }
     ensures laid { AreLaid runs.new }
 {
-    let Some(key) = run_key(runs, &place) else {
-        return Err(AllocError);
-    };
-    match runs.get_mut(&key) {
+    match runs.get_mut(key) {
         Some(run) => {
             run.insert(place, slot)?;
             Ok(())
         }
-        None => Err(AllocError),
+        None => unreachable!(),
     }
 }
 
 /// Adds an entry. Where memory runs out the entries are as before.
-pub fn put_at(runs: &mut Runs, alloc: Global, place: Place, slot: Slot) -> Result<(), AllocError>
+pub fn put_at(
+    runs: &mut Runs,
+    alloc: Global,
+    layout: Layout,
+    place: Place,
+    slot: Slot,
+) -> Result<(), AllocError>
     requires laid { AreLaid runs.old }
     ensures ok { OnOk result (all_of runs.new ≡ insert_entry place_cmp (all_of runs.old) place slot) }
     ensures err { OnErr result (all_of runs.new ≡ all_of runs.old) }
     ensures laid { AreLaid runs.new }
 {
-    make_way(runs, alloc, &place)?;
-    put_in(runs, place, slot)
+    let key = open_run(runs, alloc, layout, &place)?;
+    put_in(runs, &key, place, slot)
 }
 
 /// Whether there is a run with a key that has no entries.

@@ -60,6 +60,13 @@ impl Slot {
         }
     }
 
+    /// For how many cells there is room.
+    pub fn room(&self) -> usize
+        ensures { result ≡ self.now.room }
+    {
+        self.cells.capacity()
+    }
+
     /// Makes room for some cells. Where there is room it takes no memory.
     fn make_room(&mut self, room: usize) -> Result<(), AllocError>
         ensures cells { self.new.cells ≡ self.old.cells }

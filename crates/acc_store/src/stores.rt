@@ -7,6 +7,7 @@ ghost use Rattle.acc_store.specs.Rows.{columns_of, written, IsNarrow, SumsFit};
 use crate::changes::apply_writes;
 use crate::entries::Entries;
 use crate::maps::{column_at, columns_at, has_row, rows_of};
+use crate::runs::Layout;
 use crate::sums::{count_under, greatest_under, least_under, sum_under};
 use crate::writes::Write;
 use acc_base::bounds::MOST_COLUMNS;
@@ -103,13 +104,27 @@ impl Model for MapStore {
 
 impl MapStore {
     /// A store without rows.
-    pub fn new(alloc: Global) -> Self
+    fn laid(alloc: Global, layout: Layout) -> Self
         ensures { result ≡ [] }
     {
         MapStore {
             alloc,
-            entries: Entries::new(alloc),
+            entries: Entries::new(alloc, layout),
         }
+    }
+
+    /// A store without rows, made for speed.
+    pub fn new(alloc: Global) -> Self
+        ensures { result ≡ [] }
+    {
+        MapStore::laid(alloc, Layout::Whole)
+    }
+
+    /// A store without rows, made for little memory: where keys come in ascending order a row takes two thirds of what it takes else.
+    pub fn compact(alloc: Global) -> Self
+        ensures { result ≡ [] }
+    {
+        MapStore::laid(alloc, Layout::Parted)
     }
 }
 

@@ -15,10 +15,10 @@ use Rattle.acc_base.specs.PrivateRows.{is_own_table}
 use Rattle.acc_base.specs.Annotated.{IsIdle}
 use Rattle.acc_base.proofs.RowOrder.{InOrder, order_from}
 use Rattle.tpcc_tables.proofs.RowFacts.{Among, contained, none_counted, no_sum, under_is, zero_or_one}
-use Rattle.tpcc_steps.specs.Amounts.{clause_of}
+use Rattle.acc_shipped.specs.Amounts.{clause_of}
 use Rattle.tpcc_steps.specs.Shipped
 use Rattle.tpcc_steps.specs.Shipped.{HasShipped, shipped_tables, shipped_always}
-use Rattle.tpcc_steps.proofs.Worths.{says}
+use Rattle.acc_shipped.proofs.Worths.{says}
 
 pub record IsShippedIdle (db : List Row) : Type 0 where
   pub order : InOrder db

@@ -1,7 +1,5 @@
-pub mod Worths
 pub mod Facts
 pub mod Holding
 pub mod Theorem
 pub mod Clones
-pub mod OwnScan
 pub mod Reading

@@ -1,4 +1,3 @@
-pub mod Amounts
 pub mod Shipped
 pub mod ShippedText
 pub mod Law

@@ -3,7 +3,7 @@ use Rattle.std.specs.Prelude.{◌≡◌, true, false, List, [], ◌∷◌, ℕ, 
 use Rattle.acc_base.specs.declared.tables.Table.{Table}
 use Rattle.acc_base.specs.declared.forms.Clause.{Clause}
 use Rattle.acc_base.specs.declared.designs.Design.{Design}
-use Rattle.tpcc_steps.specs.Amounts.{Assertion, Var, Has, Col, Count, Sum, plus, minus, times, none, most, for_all, clause_of}
+use Rattle.acc_shipped.specs.Amounts.{Assertion, Var, Has, Col, Count, Sum, plus, minus, times, none, most, for_all, clause_of}
 
 abbrev table : List ℕ → ℕ → List (List ℕ) → Table
 table name width cols = record { name = name; width = width; cols = cols; own = false }

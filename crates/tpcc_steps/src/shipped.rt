@@ -5,8 +5,8 @@ ghost use Rattle.tpcc_steps.specs.ShippedText.{shipped_design};
 
 use crate::texts::source;
 use acc_base::designs::Design;
-use acc_parse::{ParseError, parse};
 use acc_print::{PrintError, print};
+use acc_shipped::spelled;
 use std::alloc::{AllocError, Global};
 
 /// Why the shipped design isn't handed out.
@@ -30,26 +30,12 @@ impl From<PrintError> for StepsError {
     }
 }
 
-/// Memory ran out while a text was read.
-fn lacking(error: ParseError) -> StepsError
-    requires { error ≡ ParseError.Memory }
-    ensures { result ≡ StepsError.Memory }
-{
-    match error {
-        ParseError::Memory => StepsError::Memory,
-        ParseError::Syntax(_) | ParseError::Name(_) | ParseError::Limit(_, _) => unreachable!(),
-    }
-}
-
 /// The shipped design: the tables, transactions and assertions that the text spells.
 pub fn shipped(alloc: Global) -> Result<Design, StepsError>
     ensures { IfOk result (λ d. d ≡ shipped_design) }
 {
     let text = source(alloc)?;
-    match parse(alloc, text.as_slice()) {
-        Ok(design) => Ok(design),
-        Err(error) => Err(lacking(error)),
-    }
+    Ok(spelled(alloc, text.as_slice())?)
 }
 
 /// The printed text of the shipped design.

@@ -2,7 +2,7 @@
 use Rattle.std.proofs.Common.{◌≡◌, ◌⊎◌, inl, inr, ℕ, ◌+◌, ◌≤◌, Bool, true, false, cond, List, [], ◌∷◌, length, map, refl, ap, sym, ◌∙◌}
 use Rattle.std.proofs.Common.{subst, arith}
 use Rattle.std.proofs.Common.{Option, Some, None, ℤ, pos, ◌+ℤ◌, ◌<ℤ◌, ◌≤ℤ◌, ◌==◌, Contains, All, if◌then◌else◌, take}
-use Rattle.std.specs.Prelude.{find, filter, count_by, slice_get, ◌&&◌, ◌||◌}
+use Rattle.std.specs.Prelude.{◌≢◌, find, filter, count_by, slice_get, ◌&&◌, ◌||◌}
 use Rattle.std.specs.List.{list_any, starts_with}
 use Rattle.std.specs.Int.{int_min, int_max}
 use Rattle.std.specs.Ordering.{int_eq, is_eq, ordering_reverse}
@@ -10,9 +10,10 @@ use Rattle.std.specs.declared.cmp.Ordering.{Ordering}
 use Rattle.std.specs.declared.cmp.Ordering.TheVariants.{Less, Equal, Greater}
 use Rattle.std.proofs.lemmas.Int.{ints, int_min_is, int_max_is}
 use Rattle.std.proofs.lemmas.Bool.{false≢true}
+use Rattle.std.proofs.lemmas.Option.{none-some}
 use Rattle.std.proofs.lemmas.Bool.Decides.{Decides-int_eq, Decides-eqb}
 use Rattle.std.proofs.lemmas.List.Sums.{sum_by-cons}
-use Rattle.std.proofs.lemmas.List.Elements.{All-nil, All-cons, Contains-append_right}
+use Rattle.std.proofs.lemmas.List.Elements.{All-nil, All-cons, All-head, All-tail, Contains-append_right}
 use Rattle.std.specs.Cmp.{first_so, second_so}
 use Rattle.acc_base.specs.declared.tables.Row.{Row}
 use Rattle.acc_base.specs.Numbers.{total}
@@ -41,6 +42,26 @@ pub contained : {X : Type 0} (x : X) (xs : List X) → Among x xs → Contains x
 contained x [] m = absurd m
 contained x (y ∷ xs) (inl e) = (0, omega arith, e)
 contained x (y ∷ xs) (inr m) = Contains-append_right (y ∷ []) xs x (contained x xs m)
+
+-- no item passes where none is found, and one does where one is found
+pub none_passes : {X : Type 0} (p : X → Bool) (xs : List X) → find p xs ≡ None → All (λ x. p x ≡ false) xs
+none_passes p [] e = All-nil (λ x. p x ≡ false)
+none_passes p (x ∷ xs) e = by (p x) refl (none_passes p xs) e
+  where
+    by : (b : Bool) → p x ≡ b → (find p xs ≡ None → All (λ y. p y ≡ false) xs) → cond b (Some x) (find p xs) ≡ None
+        → All (λ y. p y ≡ false) (x ∷ xs)
+    by true is rest h = absurd (none-some x (sym h))
+    by false is rest h = All-cons (λ y. p y ≡ false) x xs is (rest h)
+
+pub one_passes : {X : Type 0} (p : X → Bool) (xs : List X) → find p xs ≢ None → All (λ x. p x ≡ false) xs → ⊥
+one_passes p [] found all = found refl
+one_passes p (x ∷ xs) found all =
+    by (p x) refl (All-head (λ y. p y ≡ false) x xs all)
+    (λ later. one_passes p xs later (All-tail (λ y. p y ≡ false) x xs all)) found
+  where
+    by : (b : Bool) → p x ≡ b → p x ≡ false → (find p xs ≢ None → ⊥) → cond b (Some x) (find p xs) ≢ None → ⊥
+    by true is none rest h = (let e : true ≡ false = sym is ∙ none in cc)
+    by false is none rest h = rest h
 
 -- ---- what stands at a key
 

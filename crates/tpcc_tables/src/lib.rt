@@ -1,7 +1,7 @@
 //! The tables of TPC-C, and its consistency conditions 1 to 9.
 #![tactic(auto)]
 
-mod amounts;
+pub mod amounts;
 mod checks;
 pub mod columns;
 pub mod conditions;

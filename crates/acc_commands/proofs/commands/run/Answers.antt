@@ -132,6 +132,18 @@ pub returns-in-TpccDesign-clause-lacking : goal.returns-in-TpccDesign-clause-lac
 returns-in-TpccDesign-clause-lacking g c without =
     lacks_none c.unrun-in-TpccDesign.result.answer _ _ c.unrun-in-TpccDesign.ensures.none.0 c.unrun-in-TpccDesign.ensures.none.1
 
+pub returns-in-BookingDesign-clause-ends : goal.returns-in-BookingDesign-clause-ends
+unfolding MeansOfFiles
+returns-in-BookingDesign-clause-ends g c =
+    rw c.in-BookingDesign.is
+    (ends_alone g.D.Disk.clock g.D.Disk.left_since g.D.Disk.told g.D.Disk.may_leave g.D.Disk.faults command.BookingDesign [] refl c.args.disk _
+    c.unrun-in-BookingDesign.ensures.disk c.print_booking.result _ c.unrun-in-BookingDesign.ensures.answer _ _
+    c.unrun-in-BookingDesign.ensures.none.0 c.unrun-in-BookingDesign.ensures.none.1 c.print_booking.ensures)
+
+pub returns-in-BookingDesign-clause-lacking : goal.returns-in-BookingDesign-clause-lacking
+returns-in-BookingDesign-clause-lacking g c without =
+    lacks_none c.unrun-in-BookingDesign.result.answer _ _ c.unrun-in-BookingDesign.ensures.none.0 c.unrun-in-BookingDesign.ensures.none.1
+
 pub returns-in-TpccLoad-clause-ends : goal.returns-in-TpccLoad-clause-ends
 unfolding MeansOfFiles
 returns-in-TpccLoad-clause-ends g c =

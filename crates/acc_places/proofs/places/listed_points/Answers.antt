@@ -3,7 +3,7 @@ use Rattle.acc_places.proofs.SmallPlaces.{few_points}
 use Rattle.acc_places.proofs.places.listed_points.Goals as goal
 
 pub add_points-requires-clause-type_fits : goal.add_points-requires-clause-type_fits
-add_points-requires-clause-type_fits c = let n = ap length c.as_slice-types.ensures in let few = c.requires.few_types in omega arith
+add_points-requires-clause-type_fits c = let n = ap length c.as_slice-types.ensures in let few = c.requires.rest.few_types in omega arith
 
 pub add_points-requires-clause-few : goal.add_points-requires-clause-few
 add_points-requires-clause-few c =

@@ -15,8 +15,8 @@ use Rattle.acc_base.specs.Numbers.{total}
 use Rattle.acc_base.specs.Tables.{has_row, column_of, count_of, sum_of}
 use Rattle.acc_base.specs.Linear.{var, lin_value, lin_values, meets}
 use Rattle.acc_base.specs.Truth.{atom_value, form_value, rel_true, product_value, ClauseTrue}
-use Rattle.tpcc_steps.specs.Amounts.{Amount, Var, Has, Col, Count, Sum, Share, Relation, Assertion, variable, key, atom_of, unknown_of}
-use Rattle.tpcc_steps.specs.Amounts.{rel_of, clause_of}
+use Rattle.acc_shipped.specs.Amounts.{Amount, Var, Has, Col, Count, Sum, Share, Relation, Assertion, variable, key, atom_of, unknown_of}
+use Rattle.acc_shipped.specs.Amounts.{rel_of, clause_of}
 
 times_one : (x : ℤ) → x *ℤ pos 1 ≡ x
 unfolding one

@@ -5,7 +5,7 @@ use Rattle.acc_base.specs.Tables.{place_cmp}
 use Rattle.acc_base.proofs.Places.{place_total}
 use Rattle.acc_store.specs.Runs.{seen, AreBelow}
 use Rattle.acc_store.proofs.Laid.{parted_for, run_found, same_run}
-use Rattle.acc_store.proofs.runs.part_full.Goals as goal
+use Rattle.acc_store.proofs.runs.part_for.Goals as goal
 
 pub part-requires-clause-run : goal.part-requires-clause-run
 part-requires-clause-run c =

@@ -1,0 +1,11 @@
+pub mod StepSpares
+pub mod Trying
+pub mod Entering
+pub mod Widths
+pub mod Growing
+pub mod Pairing
+pub mod Nothing
+pub mod Owning
+pub mod OtherRules
+pub mod Owned
+pub mod Leaving

@@ -1,0 +1,4 @@
+pub mod Reading
+pub mod Facts
+pub mod Theorem
+pub mod Oversold

@@ -1,0 +1,4 @@
+pub mod BookingText
+pub mod Seats
+pub mod Asserted
+pub mod Law
