@@ -1,9 +1,9 @@
 //! The pairs that an entry may have.
 ghost use Rattle.std.specs.Prelude.{◌≡◌, ◌≤◌, ◌<◌, ◌^◌, ◌++◌, ◌&&◌, length, slice_get, IfOk, OnOk};
-ghost use Rattle.std.specs.List.{list_all, AllByRecursion};
+ghost use Rattle.std.specs.List.{AllByRecursion};
 ghost use Rattle.std.specs.Str.{bytes_eq};
 ghost use Rattle.acc_base.specs.declared.bounds.TheConstants.{MOST_LOCALS};
-ghost use Rattle.acc_formed.specs.Entries.{read_keeps, undo_keeps, undos_keep};
+ghost use Rattle.acc_formed.specs.Entries.{undos_keep};
 ghost use Rattle.acc_oblig.specs.Drafts.{each};
 ghost use Rattle.acc_places.specs.Rooms.{HasFewLocals};
 ghost use Rattle.acc_advise.specs.Candidates.{candidates, pair_of, pairs_in};
@@ -11,34 +11,10 @@ ghost use Rattle.acc_advise.specs.Cases.{IsCase};
 
 use crate::advice::Question;
 use crate::spares::Case;
-use acc_base::designs::{Point, TxType};
+use acc_base::designs::TxType;
 use acc_base::sequences::{Seq, Text};
-use acc_base::steps::Read;
+use acc_form::undos_keep;
 use std::alloc::{AllocError, Global};
-
-fn reads_keep(x: u32, reads: &[Read]) -> bool
-    ensures { result ≡ list_all (read_keeps x) reads.now }
-{
-    reads.iter().all(|r| r.assigned() != x)
-}
-
-fn points_keep(x: u32, points: &[Point]) -> bool
-    ensures { result ≡ list_all (undo_keeps x) points.now }
-{
-    points
-        .iter()
-        .all(|p| reads_keep(x, p.undo.reads.as_slice()))
-}
-
-/// Whether no undo step of a type assigns a local.
-fn undos_keep(types: &[TxType], ty: u32, x: u32) -> bool
-    ensures { result ≡ undos_keep (slice_get types.now ty) x }
-{
-    match types.get(ty as usize) {
-        None => false,
-        Some(t) => points_keep(x, t.points.as_slice()),
-    }
-}
 
 /// Whether a held local and one of the step may stand in a pair.
 fn may_pair(types: &[TxType], question: Question, pair: (u32, u32)) -> bool

@@ -62,7 +62,8 @@ fn all_undos_keep(x: u32, points: &[Point]) -> bool
         .all(|p| all_reads_keep(x, p.undo.reads.as_slice()))
 }
 
-fn undos_keep(types: &[TxType], ty: u32, x: u32) -> bool
+/// Whether no undo step of a type assigns a local.
+pub fn undos_keep(types: &[TxType], ty: u32, x: u32) -> bool
     ensures { result ≡ undos_keep (slice_get types.now ty) x }
 {
     match types.get(ty as usize) {

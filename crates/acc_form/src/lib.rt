@@ -15,4 +15,5 @@ mod walks;
 mod widths;
 
 pub use designs::well_formed;
+pub use entries::undos_keep;
 pub use rules::FormError;
