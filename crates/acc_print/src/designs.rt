@@ -85,7 +85,16 @@ fn push_pairs(out: &mut Page, held: &Scope, step: &Scope, pairs: &[(u32, u32)])
     }
 }
 
-fn push_entry(out: &mut Page, d: &Design, entry: &Entry)
+/// A pair of a local of the type of a held point and one of the type of a step's, as an entry for these has it.
+pub fn push_pair_of(out: &mut Page, d: &Design, held: At, step: At, pair: (u32, u32))
+    ensures { Adds out.old out.new (pair_text (scope_at d.now held).names (scope_at d.now step).names pair) }
+{
+    let (left, right) = pair;
+    push_pair(out, &scope_at(d, held), &scope_at(d, step), left, right)
+}
+
+/// An entry: its statement, as a line.
+pub fn push_entry(out: &mut Page, d: &Design, entry: &Entry)
     ensures { Adds out.old out.new (entry_line d.now entry.now) }
 {
     let (held, step) = (scope_at(d, entry.held), scope_at(d, entry.step));

@@ -9,4 +9,4 @@ mod sums;
 mod types;
 mod values;
 
-pub use designs::{PrintError, print};
+pub use designs::{PrintError, print, push_entry, push_pair_of};
