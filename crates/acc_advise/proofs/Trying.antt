@@ -1,12 +1,14 @@
 -- What the searches for the proofs of obligations come to.
-use Rattle.std.proofs.Common.{◌≡◌, List, [], ◌∷◌, ◌++◌, Ok, Err, Option, Some, None, refl, sym, ap, subst, ◌∙◌, inl, inr}
+use Rattle.std.proofs.Common.{◌≡◌, ℕ, List, [], ◌∷◌, ◌++◌, Ok, Err, Option, Some, None, refl, sym, ap, subst, ◌∙◌, inl, inr}
 use Rattle.std.specs.Prelude.{◌≢◌, ◌⊎◌, Result, IfOk, IfErr}
 use Rattle.std.specs.List.{AllByRecursion}
 use Rattle.std.proofs.lemmas.Option.{none-some, same_Some}
 use Rattle.acc_base.specs.declared.designs.Design.{Design}
 use Rattle.acc_base.specs.declared.sequents.Origin.{Origin}
 use Rattle.acc_base.specs.declared.sequents.Sequent.{Sequent}
+use Rattle.acc_axioms.specs.declared.nodes.Node.{Node}
 use Rattle.acc_axioms.specs.declared.nodes.Proof.{Proof}
+use Rattle.acc_prover.specs.BranchCourses.{Course}
 use Rattle.acc_prover.specs.Courses.{IsProof}
 use Rattle.acc_prover.specs.Tellings.{Closes, Tells, IfProved}
 use Rattle.acc_prover.specs.declared.found.Found.{Found}
@@ -19,6 +21,8 @@ use Rattle.acc_prove.specs.Founds.{found_proofs}
 use Rattle.acc_prove.specs.Findings.{AreFindings, HasEnded, finding_proofs}
 use Rattle.acc_oblig.specs.Drafts.{Draft}
 use Rattle.acc_goals.specs.Causes.{sequents, first_wide}
+use Rattle.acc_advise.specs.declared.advice.Beyond.{Beyond}
+use Rattle.acc_advise.specs.declared.advice.Question.{Question}
 use Rattle.acc_advise.specs.declared.advice.Why.{Why}
 use Rattle.acc_advise.specs.declared.advice.AdviseError.{AdviseError}
 use Rattle.acc_advise.specs.declared.trials.Trial.{Trial}
@@ -26,6 +30,8 @@ use Rattle.acc_advise.specs.declared.trials.Trial.TheVariants as trial
 use Rattle.acc_advise.specs.declared.spares.Case.{Case}
 use Rattle.acc_advise.specs.Stops.{stop_in, AllProved, IsFirstOpen, AreProofs, Tries, why_of, stop_by, stop_of, stop_or, first_stop, Ends}
 use Rattle.acc_advise.specs.Cases.{TellsWide, IsMemory, TriesAll}
+use Rattle.acc_advise.specs.Advices.{IsBeyond, IsEnough}
+use Rattle.acc_advise.specs.TriedDesigns.{keyed_drafts}
 
 -- ---- findings, one after the other
 
@@ -129,12 +135,31 @@ pub tries_all :
 tries_all c ds qs (Ok t) e none h memory = (subst (λ (xs : List Sequent). Tries c.d.now xs t) e h, none)
 tries_all c ds qs (Err e) f none h memory = subst (TellsWide ds) (sym memory) tt
 
+closed_stop : (c : Course (List Node)) (w : Why) → Closes c → stop_in c ≡ Some w → ⊥
+closed_stop (Ok nodes) w h e = none-some w e
+closed_stop (Err e) w h g = h
+
 -- what stops a search isn't closed
 pub open_not_proved : (d : Design) (qs : List Sequent) (o : Origin) (w : Why) → IsFirstOpen d qs o w → ¬ AllProved d qs
 open_not_proved d [] o w h all = h
-open_not_proved d (q ∷ qs) o w (inl here) all = closed_stop (searched d q) all.0 here.1
-  where
-    closed_stop : (c : _) → Closes c → stop_in c ≡ Some w → ⊥
-    closed_stop (Ok nodes) h e = none-some w e
-    closed_stop (Err e) h g = h
+open_not_proved d (q ∷ qs) o w (inl here) all = closed_stop (searched d q) w all.0 here.1
 open_not_proved d (q ∷ qs) o w (inr later) all = open_not_proved d qs o w later.1 all.1
+
+-- the first that is open is one, and so is what stops it
+one_open : (d : Design) (qs : List Sequent) (o p : Origin) (v w : Why) → IsFirstOpen d qs o v → IsFirstOpen d qs p w → (o ≡ p) × (v ≡ w)
+one_open d [] o p v w h g = absurd h
+one_open d (q ∷ qs) o p v w (inl h) (inl g) = (sym h.0 ∙ g.0, same_Some v w (sym h.1 ∙ g.1))
+one_open d (q ∷ qs) o p v w (inl h) (inr g) = absurd (closed_stop (searched d q) v g.0 h.1)
+one_open d (q ∷ qs) o p v w (inr h) (inl g) = absurd (closed_stop (searched d q) w h.0 g.1)
+one_open d (q ∷ qs) o p v w (inr h) (inr g) = one_open d qs o p v w h.1 g.1
+
+module _ (d : Design) (q : Question) (set : List (ℕ × ℕ)) (pair : ℕ × ℕ) (b : Beyond) (h : IsBeyond d q set pair b) where
+  pub beyond_not_enough : ¬ IsEnough d q (set ++ pair ∷ [])
+  beyond_not_enough = open_not_proved d (sequents (keyed_drafts d q (set ++ pair ∷ []))) b.origin b.why h.first
+
+  pub beyond_once : (other : Beyond) → IsBeyond d q set pair other → other ≡ b
+  beyond_once other g =
+      let (o, w) = one_open d (sequents (keyed_drafts d q (set ++ pair ∷ []))) other.origin b.origin other.why b.why g.first h.first in
+      ap (λ (x : ℕ × ℕ). record { pair = x; origin = other.origin; why = other.why }) (g.is ∙ sym h.is)
+      ∙ ap (λ (x : Origin). record { pair = b.pair; origin = x; why = other.why }) o
+      ∙ ap (λ (x : Why). record { pair = b.pair; origin = b.origin; why = x }) w

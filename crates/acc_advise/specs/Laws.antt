@@ -1,12 +1,14 @@
--- What an entry leaves as it is, and that the obligations that are tried are the design's own.
-use Rattle.std.specs.Prelude.{◌≡◌, ◌≢◌, ◌⊎◌, ℕ, List, [], Some}
+-- What an entry leaves as it is, that the obligations that are tried are the design's own, and that a try is told by the set alone.
+use Rattle.std.specs.Prelude.{◌≡◌, ◌≢◌, ◌⊎◌, ℕ, List, [], ◌∷◌, ◌++◌, Some}
 use Rattle.std.specs.List.{AllByRecursion, Contains}
 use Rattle.acc_base.specs.declared.designs.Design.{Design}
 use Rattle.acc_base.specs.declared.sequents.Origin.{Origin}
 use Rattle.acc_base.specs.declared.sequents.Rule.TheVariants.{Spares}
 use Rattle.acc_oblig.specs.Laws.{drafts_of}
 use Rattle.acc_goals.specs.Causes.{first_wide}
+use Rattle.acc_advise.specs.declared.advice.Beyond.{Beyond}
 use Rattle.acc_advise.specs.declared.advice.Question.{Question}
+use Rattle.acc_advise.specs.Advices.{IsBeyond, IsEnough}
 use Rattle.acc_advise.specs.TriedDesigns.{with_entry, without_entry, keyed, spares_in, free_drafts, keyed_drafts}
 
 -- where a number of an obligation is too large with an entry that has pairs, it is so without one, and the same is the first
@@ -37,3 +39,9 @@ pub record LeavesElsewhere (d : Design) (q : Question) (pairs : List (ℕ × ℕ
 
 abbrev pub EntriesLeaveOthers : Type 0
 EntriesLeaveOthers = (d : Design) (q : Question) (pairs : List (ℕ × ℕ)) → LeavesElsewhere d q pairs
+
+-- a pair that can't be added to a set can't be added to it when it is tried again, and what is first open is the same
+abbrev pub KnownStays : Type 0
+KnownStays =
+    (d : Design) (q : Question) (set : List (ℕ × ℕ)) (pair : ℕ × ℕ) (b : Beyond) → IsBeyond d q set pair b
+    → (¬ IsEnough d q (set ++ pair ∷ [])) × ((other : Beyond) → IsBeyond d q set pair other → other ≡ b)

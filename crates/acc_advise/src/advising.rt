@@ -108,7 +108,9 @@ fn advise_held<'a, S: Searchers>(
 ///
 /// `Wide` with the origin of the first obligation that has a number that is too large. `Memory` where memory ran out.
 ///
-/// Each pass tries each pair that isn't in the set, and each try makes and searches all that the step has to spare.
+/// A pass tries a pair again only where the set has grown since its last try, and a try makes and searches all that the step has to
+/// spare. So no obligation is searched twice: each has the relation that a pair of its set differs, and two different sets have none in
+/// common. Where the set hasn't grown, what is known stays: `known_stays`.
 pub fn advise<S: Searchers>(
     alloc: Global,
     d: &Design,

@@ -1,7 +1,7 @@
 //! What the definitions say by themselves.
 ghost use Rattle.acc_base.specs.declared.designs.Design.{Design};
 ghost use Rattle.acc_advise.specs.declared.advice.Question.{Question};
-ghost use Rattle.acc_advise.specs.Laws.{EntriesLeaveOthers, EntriesLeaveWidths, TriesOwn};
+ghost use Rattle.acc_advise.specs.Laws.{EntriesLeaveOthers, EntriesLeaveWidths, KnownStays, TriesOwn};
 
 /// The numbers of the obligations that a step spares a held point don't depend on the pairs of an entry.
 pub fn entries_leave_widths()
@@ -17,4 +17,9 @@ pub fn own_obligations()
 /// An entry for what is asked changes no obligation that comes from elsewhere.
 pub fn entries_leave_others()
     ensures { EntriesLeaveOthers }
+{}
+
+/// What stops a pair beside a set depends on the set alone: where the set hasn't grown, to try the pair again would tell the same.
+pub fn known_stays()
+    ensures { KnownStays }
 {}

@@ -4,9 +4,8 @@ ghost use Rattle.std.specs.List.{AllByRecursion};
 ghost use Rattle.acc_goals.specs.Causes.{first_wide};
 ghost use Rattle.acc_places.specs.Rooms.{HasFewLocals};
 ghost use Rattle.acc_advise.specs.TriedDesigns.{free_drafts, keyed};
-ghost use Rattle.acc_advise.specs.Advices.{Passes, pairs_of};
 ghost use Rattle.acc_advise.specs.Cases.{IsCase};
-ghost use Rattle.acc_advise.specs.Steps.{IsBacked, IsSettled, Steps, Tells};
+ghost use Rattle.acc_advise.specs.Steps.{HasPassed, IsKnown, IsSettled, Steps, Tells, reasons, tried_pairs};
 
 use crate::advice::{AdviseError, Beyond, Question};
 use crate::spares::Case;
@@ -22,6 +21,13 @@ use std::alloc::{AllocError, Global};
 pub struct Grown {
     pub pairs: Seq<(u32, u32)>,
     pub proofs: Seq<Proof>,
+}
+
+/// A pair that was tried beside a set and can't be added to it: what stopped it, and how many pairs the set had. A set grows at its end.
+#[derive(Drop)]
+pub struct Tried {
+    pub beyond: Beyond,
+    pub among: usize,
 }
 
 /// The entry with a set of pairs and one more, alone.
@@ -79,13 +85,20 @@ fn add_pair(grown: &mut Grown, pair: (u32, u32), proofs: Seq<Proof>) -> Result<(
     Ok(())
 }
 
-/// Adds a pair to a set if all is proved with it, and else says what is first open.
+/// Keeps what stopped a pair beside a set of so many pairs.
+fn keep(left: &mut Seq<Tried>, beyond: Beyond, among: usize) -> Result<(), AllocError>
+    ensures { OnOk result (left.new ≡ left.old ++ record { beyond = beyond; among = among } ∷ []) }
+{
+    left.push(Tried { beyond, among })
+}
+
+/// Adds a pair to a set if all is proved with it, and else keeps what is first open.
 fn try_pair<S: Searchers>(
     alloc: Global,
     case: &Case<'_>,
     searchers: &S,
     grown: &mut Grown,
-    beyond: &mut Seq<Beyond>,
+    left: &mut Seq<Tried>,
     pair: (u32, u32),
 ) -> Result<(), AllocError>
     requires searching { S.ready searchers.now }
@@ -93,47 +106,95 @@ fn try_pair<S: Searchers>(
     requires narrow { first_wide (free_drafts case.now.d.now case.now.question) ≡ None }
     requires set { AllByRecursion HasFewLocals grown.old.pairs }
     requires one { HasFewLocals pair }
-    ensures { OnOk result (Steps case.now pair grown.old grown.new beyond.old beyond.new) }
+    ensures { OnOk result (Steps case.now pair grown.old grown.new left.old left.new) }
 {
+    let among = grown.pairs.len();
     match tried_with(alloc, case, searchers, &grown.pairs, pair) {
         Ok(Trial::Proved(proofs)) => add_pair(grown, pair, proofs),
-        Ok(Trial::Stopped(origin, why)) => beyond.push(Beyond { pair, origin, why }),
+        Ok(Trial::Stopped(origin, why)) => keep(left, Beyond { pair, origin, why }, among),
         Err(AllocError) => Err(AllocError),
     }
 }
 
-/// A pass over pairs that aren't in a set: adds each with which all is proved, and says of each other what is first open.
+/// Tries a pair again if the set has grown since it was tried, and else keeps what is known: the obligations would be the same.
+fn try_again<S: Searchers>(
+    alloc: Global,
+    case: &Case<'_>,
+    searchers: &S,
+    grown: &mut Grown,
+    left: &mut Seq<Tried>,
+    known: Tried,
+) -> Result<(), AllocError>
+    requires searching { S.ready searchers.now }
+    requires case { IsCase case.now }
+    requires narrow { first_wide (free_drafts case.now.d.now case.now.question) ≡ None }
+    requires set { AllByRecursion HasFewLocals grown.old.pairs }
+    requires one { HasFewLocals known.beyond.pair }
+    requires known { IsKnown case.now grown.old.pairs known }
+    ensures { OnOk result (Steps case.now known.beyond.pair grown.old grown.new left.old left.new) }
+{
+    if known.among == grown.pairs.len() {
+        left.push(known)
+    } else {
+        try_pair(alloc, case, searchers, grown, left, known.beyond.pair)
+    }
+}
+
+/// The first pass: tries each candidate, adds those with which all is proved, and keeps what is first open with each other.
+fn first_pass<S: Searchers>(
+    alloc: Global,
+    case: &Case<'_>,
+    searchers: &S,
+    grown: &mut Grown,
+    candidates: &[(u32, u32)],
+) -> Result<Seq<Tried>, AllocError>
+    requires searching { S.ready searchers.now }
+    requires case { IsCase case.now }
+    requires narrow { first_wide (free_drafts case.now.d.now case.now.question) ≡ None }
+    requires set { AllByRecursion HasFewLocals grown.old.pairs }
+    requires others { AllByRecursion HasFewLocals candidates.now }
+    ensures { IfOk result (HasPassed case.now grown.old candidates.now grown.new) }
+{
+    let mut left = Seq::new(alloc);
+    for pair in candidates {
+        try_pair(alloc, case, searchers, grown, &mut left, *pair)?;
+    }
+    Ok(left)
+}
+
+/// A pass over pairs that were tried and aren't in a set: tries again each since whose try the set has grown, adds those with which all is
+/// proved, and keeps what is first open with each other.
 fn pass<S: Searchers>(
     alloc: Global,
     case: &Case<'_>,
     searchers: &S,
     grown: &mut Grown,
-    outside: &[(u32, u32)],
-) -> Result<Seq<Beyond>, AllocError>
+    outside: Seq<Tried>,
+) -> Result<Seq<Tried>, AllocError>
     requires searching { S.ready searchers.now }
     requires case { IsCase case.now }
     requires narrow { first_wide (free_drafts case.now.d.now case.now.question) ≡ None }
     requires set { AllByRecursion HasFewLocals grown.old.pairs }
-    requires others { AllByRecursion HasFewLocals outside.now }
-    ensures passes { IfOk result (Passes case.now.d.now case.now.question grown.old.pairs outside.now grown.new.pairs) }
-    ensures backed { OnOk result (IsBacked case.now grown.old → IsBacked case.now grown.new) }
+    requires others { AllByRecursion HasFewLocals (tried_pairs outside) }
+    requires known { AllByRecursion (IsKnown case.now grown.old.pairs) outside }
+    ensures { IfOk result (HasPassed case.now grown.old (tried_pairs outside) grown.new) }
 {
-    let mut beyond = Seq::new(alloc);
-    for pair in outside {
-        try_pair(alloc, case, searchers, grown, &mut beyond, *pair)?;
+    let mut left = Seq::new(alloc);
+    for known in outside.into_vec() {
+        try_again(alloc, case, searchers, grown, &mut left, known)?;
     }
-    Ok(beyond)
+    Ok(left)
 }
 
-/// The pairs that are beyond.
-fn pairs_of(alloc: Global, beyond: &[Beyond]) -> Result<Seq<(u32, u32)>, AllocError>
-    ensures { IfOk result (λ pairs. pairs ≡ pairs_of beyond.now) }
+/// What stopped the pairs that were tried.
+fn reasons(alloc: Global, left: Seq<Tried>) -> Result<Seq<Beyond>, AllocError>
+    ensures { IfOk result (λ bs. bs ≡ reasons left) }
 {
-    let mut pairs = Seq::new(alloc);
-    for b in beyond {
-        pairs.push(b.pair)?;
+    let mut all = Seq::new(alloc);
+    for known in left.into_vec() {
+        all.push(known.beyond)?;
     }
-    Ok(pairs)
+    Ok(all)
 }
 
 /// The set that grows from nothing by passes over pairs, until a pass adds none; with what is beyond.
@@ -153,12 +214,12 @@ pub fn settled<S: Searchers>(
         pairs: Seq::new(alloc),
         proofs: Seq::new(alloc),
     };
-    let mut beyond = pass(alloc, case, searchers, &mut grown, candidates)?;
+    let mut left = first_pass(alloc, case, searchers, &mut grown, candidates)?;
     let mut passed = candidates.len();
-    while beyond.len() < passed {
-        passed = beyond.len();
-        let outside = pairs_of(alloc, beyond.as_slice())?;
-        beyond = pass(alloc, case, searchers, &mut grown, outside.as_slice())?;
+    while left.len() < passed {
+        passed = left.len();
+        left = pass(alloc, case, searchers, &mut grown, left)?;
     }
+    let beyond = reasons(alloc, left)?;
     Ok((grown, beyond))
 }

@@ -1,10 +1,10 @@
 -- What is answered to a command line, from what is answered to its words, its files and its command.
-use Rattle.std.proofs.Common.{◌≡◌, ℕ, ◌+◌, ◌-◌, Bool, List, [], length, map, take, drop, Option, None, Some, Result, Ok, Err, Vec, Global}
+use Rattle.std.proofs.Common.{◌≡◌, ◌≤◌, ℕ, Bool, List, [], length, map, drop, Option, None, Some, Result, Ok, Err, Vec, Global}
 use Rattle.std.proofs.Common.{inl, inr, refl, sym, ap, subst, ◌∙◌, arith}
 use Rattle.std.specs.Prelude.{◌≢◌, ◌⊎◌, false, IfOk, IfErr, codes}
 use Rattle.std.specs.declared.alloc.AllocError.{AllocError}
 use Rattle.std.specs.Io.KnownBytes.{Keeps, Appends}
-use Rattle.std.proofs.lemmas.List.{take-map, drop-map, length-map}
+use Rattle.std.proofs.lemmas.List.{length-map, length-drop, length-take-le}
 use Rattle.std.proofs.lemmas.Result.{IfOk-weaker}
 use Rattle.acc_base.specs.declared.machines.Event.{Event}
 use Rattle.acc_base.specs.Lines.{line}
@@ -14,13 +14,14 @@ use Rattle.acc_io.specs.Sinks.{WritesFront}
 use Rattle.acc_io.specs.declared.counts.Counts.{Counts}
 use Rattle.acc_io.specs.declared.shelf.ShelfError.{ShelfError}
 use Rattle.acc_commands.specs.Command.{Command}
-use Rattle.acc_commands.specs.Words.{command_of, file_count, files_of, is_journalled, is_over_journal}
+use Rattle.acc_commands.specs.Words.{verb_of, command_of, file_count, word_count, files_of, points_of, is_journalled, is_over_journal}
 use Rattle.acc_commands.specs.Files.{AreFiles, IsFirstRefused, SaysRefused}
 use Rattle.acc_commands.specs.Requests.{command_in, texts_in}
 use Rattle.acc_commands.specs.Text.{IsEarly}
 use Rattle.acc_commands.specs.Request.{Request}
-use Rattle.acc_commands.specs.Request.TheVariants.{Play, Rehearse, Print, Check, Prove, Init, Sched, Run, Recover, Dump, Replies}
-use Rattle.acc_commands.specs.Request.TheVariants.{Verify, TpccDesign, TpccLoad, TpccMix, BookingDesign, Bench, Help, Version}
+use Rattle.acc_commands.specs.Request.TheVariants.{Play, Rehearse, Print, Check, Prove, Advise, Init, Sched, Run, Recover, Dump}
+use Rattle.acc_commands.specs.Request.TheVariants.{Replies, Verify, TpccDesign, TpccLoad, TpccMix, BookingDesign, BookingVerify}
+use Rattle.acc_commands.specs.Request.TheVariants.{Bench, Help, Version}
 use Rattle.acc_journalled.specs.declared.answers.Answer.{Answer}
 use Rattle.acc_journalled.specs.declared.answers.Ending.{Ending}
 use Rattle.acc_journalled.specs.declared.answers.Ending.TheVariants.{Done, DiskFailed}
@@ -73,11 +74,13 @@ module _ (held : List ℕ → Told) (counts counts' : Counts) (disk disk' : Seen
       (inl (refl, (refl, refl, untouched), (name, error, first, says)))) says
 
   -- a command whose files are given
-  pub command_means : (command : Command) (files : List (List ℕ)) → command_of words ≡ Some command
-      → AreFiles held (files_of command words) files → counts' ≡ after_files (length (files_of command words)) counts → (reply : Reply)
-      → RunsSo command files disk disk' reply → Meant held counts counts' disk disk' words reply
-  command_means command files is given counted reply runs =
-      subst (λ (o : Option Command). MeansForm held counts counts' disk disk' words o reply) (sym is) (inr (files, given, counted, runs))
+  pub command_means : (command : Command) (points files : List (List ℕ)) → command_of words ≡ Some command
+      → points ≡ points_of command words → AreFiles held (files_of command words) files
+      → counts' ≡ after_files (length (files_of command words)) counts → (reply : Reply) → RunsSo command points files disk disk' reply
+      → Meant held counts counts' disk disk' words reply
+  command_means command points files is named given counted reply runs =
+      subst (λ (o : Option Command). MeansForm held counts counts' disk disk' words o reply) (sym is)
+      (inr (files, given, counted, subst (λ (ps : List (List ℕ)). RunsSo command ps files disk disk' reply) named runs))
 
 -- whether it goes over a journal
 pub over_same : (words : List (List ℕ)) (command : Command) → command_of words ≡ Some command
@@ -86,16 +89,14 @@ over_same words command is = ap is_over_journal (sym is)
 
 -- ---- the files
 
--- the names are those of the command's files
-module _ {X : Type 0} (f : X → List ℕ) (words : List X) (n : ℕ) (command : Command) (is : n ≡ file_count command) where
-  pub names_are : map f (take (n + 1 - 1) (drop 1 words)) ≡ files_of command (map f words)
-  names_are =
-      let count : n + 1 - 1 ≡ file_count command = omega (arith, is) in
-      ap (λ (k : ℕ). map f (take k (drop 1 words))) count ∙ sym (take-map f (file_count command) (drop 1 words))
-      ∙ ap (take (file_count command)) (sym (drop-map f 1 words))
-
-  pub names_count : length (take (n + 1 - 1) (drop 1 words)) ≡ length (files_of command (map f words))
-  names_count = sym (length-map (take (n + 1 - 1) (drop 1 words)) f) ∙ ap length names_are
+-- as many words name the files of a command as it has
+pub files_count : {X : Type 0} (f : X → List ℕ) (names words : List X) (command : Command) → map f names ≡ files_of command (map f words)
+    → word_count command ≤ length words → length names ≡ file_count command
+files_count f names words command is few =
+    let behind = drop (length (verb_of command)) (map f words) in
+    let enough : file_count command ≤ length behind =
+    omega (arith, length-drop (length (verb_of command)) (map f words), length-map words f, few) in
+    sym (length-map names f) ∙ ap length is ∙ length-take-le (file_count command) behind enough
 
 -- a request has as many files as its command
 pub texts_count : (r : Request) → length (texts_in r) ≡ file_count (command_in r)
@@ -105,6 +106,7 @@ texts_count (Rehearse files) = refl
 texts_count (Print design) = refl
 texts_count (Check files) = refl
 texts_count (Prove design) = refl
+texts_count (Advise files side) = refl
 texts_count (Init design) = refl
 texts_count (Sched files) = refl
 texts_count (Run files workers) = refl
@@ -114,6 +116,7 @@ texts_count (Replies files) = refl
 texts_count (Verify files) = refl
 texts_count TpccDesign = refl
 texts_count BookingDesign = refl
+texts_count (BookingVerify files) = refl
 texts_count (TpccLoad scale) = refl
 texts_count (TpccMix mix) = refl
 texts_count (Bench files mix) = refl
@@ -136,17 +139,17 @@ ends_printed old new fault status given history settled text shown same is front
     settled) same
     (record { given_is = is; history_is = refl; settled_is = refl; front = front; whole = whole; done = done })
 
-module _ (over : Bool) (command : Command) (files : List (List ℕ)) (disk disk' : Seen) (answer : Result Answer AllocError)
+module _ (over : Bool) (command : Command) (points files : List (List ℕ)) (disk disk' : Seen) (answer : Result Answer AllocError)
     (history : List Event) (settled : ℕ) (old : Option (List ℕ)) (fault : Type 0) where
   -- what is said is printed
   pub command_answered : (new : Option (List ℕ)) (given : Status) (a : Answer) → answer ≡ Ok a
-      → IfOk answer (λ a. Means command files disk disk' (telling_of a history settled))
+      → IfOk answer (λ a. Means command points files disk disk' (telling_of a history settled))
       → Ends (record { status = Ran a.ending; text = a.text.items; history = history; settled = settled }) old new fault given history
       settled
-      → Answered over (RunsSo command files disk disk') old new fault given history settled
+      → Answered over (RunsSo command points files disk disk') old new fault given history settled
   command_answered new given a is means ends =
-      let says : Means command files disk disk' (telling_of a history settled) =
-      subst (λ (r : Result Answer AllocError). IfOk r (λ a. Means command files disk disk' (telling_of a history settled))) is means in
+      let says : Means command points files disk disk' (telling_of a history settled) =
+      subst (λ (r : Result Answer AllocError). IfOk r (λ a. Means command points files disk disk' (telling_of a history settled))) is means in
       inr (
         record { status = Ran a.ending; text = a.text.items; history = history; settled = settled },
         (a.ending, refl, says),
@@ -155,7 +158,7 @@ module _ (over : Bool) (command : Command) (files : List (List ℕ)) (disk disk'
 
   -- memory ran out
   pub command_lacking : (e : AllocError) → answer ≡ Err e → (over ≡ false → IfErr answer (λ e. (history ≡ []) × (settled ≡ 0)))
-      → Answered over (RunsSo command files disk disk') old old fault Memory history settled
+      → Answered over (RunsSo command points files disk disk') old old fault Memory history settled
   command_lacking e is lacks = inl (
     refl,
     keeps_same old,

@@ -26,7 +26,7 @@ use Rattle.acc_commands.specs.Mix.{Mix}
 use Rattle.acc_commands.specs.Overs.{IsRunOf}
 use Rattle.acc_commands.specs.Text.{Said}
 use Rattle.acc_commands.specs.Texts.{IsDesignText}
-use Rattle.acc_commands.specs.Words.{command_of, files_of, is_over_journal}
+use Rattle.acc_commands.specs.Words.{command_of, files_of, points_of, is_over_journal}
 use Rattle.acc_commands.specs.Workloads.{load_said}
 use Rattle.acc_commands.proofs.JournalEndings.{refusal_ends, refusal_tells_none}
 use Rattle.acc_cli.specs.declared.status.Status.{Status}
@@ -96,13 +96,13 @@ module _ (held : List ℕ → Told) (words : List (List ℕ)) (m : Mix) where
             run = run;
           })) (of_tables m said h.d r.says)
 
-  of_command : (files : List (List ℕ)) (said : Said) → AreFiles held (files_of (command.Bench m) words) files
-      → MeansOfFiles (command.Bench m) files said → IsRefused said ⊎ HasRun said
+  of_command : (points files : List (List ℕ)) (said : Said) → AreFiles held (files_of (command.Bench m) words) files
+      → MeansOfFiles (command.Bench m) points files said → IsRefused said ⊎ HasRun said
   unfolding MeansOfFiles
-  of_command [] said given h = absurd h
-  of_command (design ∷ []) said given h = absurd h
-  of_command (design ∷ certificate ∷ []) said given h = of_files design certificate said given h
-  of_command (design ∷ certificate ∷ more ∷ rest) said given h = absurd h
+  of_command points [] said given h = absurd h
+  of_command points (design ∷ []) said given h = absurd h
+  of_command points (design ∷ certificate ∷ []) said given h = of_files design certificate said given h
+  of_command points (design ∷ certificate ∷ more ∷ rest) said given h = absurd h
 
   -- ---- the program's answer
 
@@ -181,7 +181,8 @@ module _ (held : List ℕ → Told) (words : List (List ℕ)) (m : Mix) where
         by (inr sunk) = (let e : File ≡ Ran Done = sym refused.0 ∙ sunk.0 in absurd cc)
     of_form counts counts' disk disk' meant (inr (files, given, counted, (ending, is, means))) ends =
         ⊎_elim (refused_told meant ends ending is) (run_told meant ends ending is)
-        (of_command files (record { ending = ending; text = meant.text; history = meant.history }) given means.2)
+        (of_command (points_of (command.Bench m) words) files
+        (record { ending = ending; text = meant.text; history = meant.history }) given means.2)
 
     pub tells_bench : (counts counts' : Counts) (disk disk' : Seen) → command_of words ≡ Some (command.Bench m)
         → Answered (is_over_journal (command_of words)) (Meant held counts counts' disk disk' words) old new fault status history settled

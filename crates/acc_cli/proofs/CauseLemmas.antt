@@ -12,7 +12,7 @@ use Rattle.acc_cli.specs.declared.status.Status.{Status}
 use Rattle.acc_cli.specs.declared.status.Status.TheVariants.{Usage, File, Sink, Memory, Ran}
 use Rattle.acc_cli.specs.Replies.{Reply}
 use Rattle.acc_commands.specs.Disks.{Seen}
-use Rattle.acc_commands.specs.Words.{command_of, files_of}
+use Rattle.acc_commands.specs.Words.{command_of, files_of, points_of}
 use Rattle.acc_cli.specs.Meant.{Runs, MeansForm, Meant}
 use Rattle.acc_cli.specs.Answered.{Answered}
 use Rattle.acc_cli.specs.Causes.{EndsSo, LeavesInMemory, LeavesUnbegun, FindsJournal, RefusesRecovering, RefusesJournal}
@@ -25,7 +25,7 @@ use Rattle.acc_commands.proofs.WhichCommands.{LeftAnyhow, leaves_unbegun, leaves
 module _ (held : List ℕ → Told) (counts counts' : Counts) (disk disk' : Seen) (words : List (List ℕ)) where
   -- the files were given, and the command ended so
   ends_so : (command : Command) (reply : Reply) (ending : Ending) → command_of words ≡ Some command
-      → (runs : Runs held counts counts' disk disk' command (files_of command words) reply) → runs.3.0 ≡ ending
+      → (runs : Runs held counts counts' disk disk' command (points_of command words) (files_of command words) reply) → runs.3.0 ≡ ending
       → EndsSo held counts counts' disk disk' words ending
   ends_so command reply ending is runs same = record {
     command = command;
@@ -41,7 +41,7 @@ module _ (held : List ℕ → Told) (counts counts' : Counts) (disk disk' : Seen
   -- the schedule left a place unbegun
   left_unbegun : EndsSo held counts counts' disk disk' words Unbegun → LeavesUnbegun held counts counts' disk disk' words
   left_unbegun ends =
-      record { ends = ends; left = by (leaves_unbegun ends.command ends.files disk disk' ends.said ends.ending_is ends.meant) }
+      record { ends = ends; left = by (leaves_unbegun ends.command (points_of ends.command words) ends.files disk disk' ends.said ends.ending_is ends.meant) }
     where
       by : LeftAnyhow ends.command ends.said
           → LeavesInMemory ends.command ends.said ⊎ LeavesBy ends.command ends.said ⊎ LeavesBench ends.command ends.said
@@ -51,7 +51,7 @@ module _ (held : List ℕ → Told) (counts counts' : Counts) (disk disk' : Seen
   -- a journal was there, or none is recovered
   refused_journal : EndsSo held counts counts' disk disk' words JournalRefused → RefusesJournal held counts counts' disk disk' words
   refused_journal ends =
-      record { ends = ends; why = by (refuses_journal ends.command ends.files disk disk' ends.said ends.ending_is ends.meant) }
+      record { ends = ends; why = by (refuses_journal ends.command (points_of ends.command words) ends.files disk disk' ends.said ends.ending_is ends.meant) }
     where
       by : RefusesOver ends.command disk disk' ends.said
           → FindsJournal ends.command disk disk' ⊎ RefusesRecovering ends.command disk disk'
@@ -73,16 +73,16 @@ module _ (held : List ℕ → Told) (counts counts' : Counts) (disk disk' : Seen
   -- obligations stay open
   stays_open : EndsSo held counts counts' disk disk' words Open → LeavesOpen held counts counts' disk disk' words
   stays_open ends =
-      let left = leaves_open ends.command ends.files disk disk' ends.said ends.ending_is ends.meant in
+      let left = leaves_open ends.command (points_of ends.command words) ends.files disk disk' ends.said ends.ending_is ends.meant in
       record { ends = ends; is_prove = left.0; design = left.2; file = left.3; stays = left.4 }
 
   -- a condition is false
   is_false : EndsSo held counts counts' disk disk' words ConditionFalse → FindsConditionFalse held counts counts' disk disk' words
   is_false ends =
-      record { ends = ends; finds = finds_false ends.command ends.files disk disk' ends.said ends.ending_is ends.meant }
+      record { ends = ends; finds = finds_false ends.command (points_of ends.command words) ends.files disk disk' ends.said ends.ending_is ends.meant }
 
   failed_disk : EndsSo held counts counts' disk disk' words DiskFailed → Rose disk.faults disk'.faults
-  failed_disk ends = fails_by_disk ends.command ends.files disk disk' ends.said ends.ending_is ends.meant
+  failed_disk ends = fails_by_disk ends.command (points_of ends.command words) ends.files disk disk' ends.said ends.ending_is ends.meant
 
   same_ending : (a b : Ending) (status : Status) → status ≡ Ran a → status ≡ Ran b → a ≡ b
   same_ending a b status h k = let e : Ran a ≡ Ran b = sym h ∙ k in cc

@@ -15,7 +15,7 @@ use Rattle.acc_journalled.specs.declared.answers.Ending.TheVariants.{Done}
 use Rattle.acc_commands.specs.Command.{Command}
 use Rattle.acc_commands.specs.Command.TheVariants.{Check, Prove}
 use Rattle.acc_commands.specs.Text.{Said}
-use Rattle.acc_commands.specs.Words.{files_of}
+use Rattle.acc_commands.specs.Words.{files_of, points_of}
 use Rattle.acc_commands.specs.Disks.{Seen}
 use Rattle.acc_commands.specs.Means.{MeansOfFiles}
 use Rattle.acc_commands.proofs.Completeness.{accepted_is_told, closed_is_told}
@@ -28,25 +28,25 @@ use Rattle.acc_cli.proofs.OneAnswer.{one_files, given_and_refused}
 module _ (held : List ℕ → Told) (counts now : Counts) (disk disk' : Seen) (words : List (List ℕ)) (reply : Reply) where
   -- a command whose files are given runs with them
   module _ (command : Command) (files : List (List ℕ)) (g : IsGiven held counts now words command files) where
-    of_form : MeansForm held counts now disk disk' words (Some command) reply → RunsSo command files disk disk' reply
+    of_form : MeansForm held counts now disk disk' words (Some command) reply → RunsSo command (points_of command words) files disk disk' reply
     of_form (inl h) =
         absurd (given_and_refused held g.tells counts now now g.no_fault g.no_fault disk disk' disk' (files_of command words) files now disk'
         reply g.no_fault g.given h)
     of_form (inr h) =
-        subst (λ fs. RunsSo command fs disk disk' reply) (one_files held g.tells (files_of command words) h.0 files h.1 g.given) h.3
+        subst (λ fs. RunsSo command (points_of command words) fs disk disk' reply) (one_files held g.tells (files_of command words) h.0 files h.1 g.given) h.3
 
-    runs_with : Meant held counts now disk disk' words reply → RunsSo command files disk disk' reply
+    runs_with : Meant held counts now disk disk' words reply → RunsSo command (points_of command words) files disk disk' reply
     runs_with h = of_form (subst (λ (form : Option Command). MeansForm held counts now disk disk' words form reply) g.form h)
 
   module _ (meant : Meant held counts now disk disk' words reply) where
     check_said : (design certificate : List ℕ) (d : Design) (said : Said) → IsDesignText design d → IsAcceptedWith d certificate
-        → MeansOfFiles Check (design ∷ certificate ∷ []) said → (said.ending ≡ Done) × (said.text ≡ line (codes "accepted"))
+        → MeansOfFiles Check (points_of Check words) (design ∷ certificate ∷ []) said → (said.ending ≡ Done) × (said.text ≡ line (codes "accepted"))
     unfolding MeansOfFiles
     check_said design certificate d said is_text with_bytes h =
         let told = accepted_is_told design certificate d said is_text with_bytes h in (told.0, told.1)
 
     prove_said : (design : List ℕ) (d : Design) (said : Said) → IsDesignText design d → IsWellFormed d → first_wide (drafts_of d) ≡ None
-        → AllClose d (sequents_of d) → MeansOfFiles Prove (design ∷ []) said → (said.ending ≡ Done) × IsCertified d said.text
+        → AllClose d (sequents_of d) → MeansOfFiles Prove (points_of Prove words) (design ∷ []) said → (said.ending ≡ Done) × IsCertified d said.text
     unfolding MeansOfFiles
     prove_said design d said is_text formed narrow closes h =
         let told = closed_is_told design d said is_text formed narrow closes h in (told.0, told.1)

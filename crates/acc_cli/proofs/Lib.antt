@@ -9,6 +9,7 @@ pub mod ProvingLemmas
 pub mod RecoveryLemmas
 pub mod VerificationLemmas
 pub mod BenchLemmas
+pub mod BookingLemmas
 pub mod AnswerLemmas
 pub mod LineLemmas
 pub mod Surviving

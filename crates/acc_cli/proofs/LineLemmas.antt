@@ -4,14 +4,15 @@ use Rattle.std.specs.Prelude.{◌≢◌}
 use Rattle.std.proofs.lemmas.Option.{same_Some}
 use Rattle.acc_base.specs.declared.machines.Event.{Event}
 use Rattle.acc_io.specs.Shelves.{Told}
-use Rattle.acc_journalled.specs.declared.answers.Wanted.{Wanted}
 use Rattle.acc_journalled.specs.declared.answers.Wanted.TheVariants as wanted
+use Rattle.acc_journalled.specs.Recovering.{text_of}
 use Rattle.acc_commands.specs.Command.{Command}
 use Rattle.acc_commands.specs.Command.TheVariants as command
 use Rattle.acc_commands.specs.Words.{command_of, file_count, files_of}
 use Rattle.acc_commands.specs.Files.{AreFiles}
 use Rattle.acc_commands.specs.Disks.{LeavesSo}
-use Rattle.acc_commands.specs.RecoverFiles.{TellsDesign, TellsNoneOr}
+use Rattle.acc_commands.specs.BookingFiles.{say_seats}
+use Rattle.acc_commands.specs.RecoverFiles.{Saying, TellsDesign, TellsNoneOr}
 use Rattle.acc_commands.specs.VerifyFiles.{TellsVerifiedDesign}
 use Rattle.acc_commands.proofs.Disks.{leaves_weaker}
 use Rattle.acc_commands.specs.Means.{LeavesOfFile, LeavesOf}
@@ -91,11 +92,11 @@ module _ {D : Type 0} (clock : D → ℕ) (left_since : D → ℕ → List ℕ �
   -- ---- a recovery, of which nothing is said
 
   module _ (out out' : Option (List ℕ)) (code : ℕ) (unsaid : code ≢ 0) where
-    abbrev TellsSomehow : Command → Wanted → Type 0
+    abbrev TellsSomehow : Command → Saying → Type 0
     TellsSomehow c w =
         ((history ≡ []) × (settled ≡ 0)) ⊎ IsRecovered held words c w (told old) (told new) out out' code history settled
 
-    of_design : (c : Command) (w v : Wanted) (design certificate : List ℕ) → v ≡ w
+    of_design : (c : Command) (w v : Saying) (design certificate : List ℕ) → v ≡ w
         → AreFiles held (files_of c words) (design ∷ certificate ∷ [])
         → TellsNoneOr (TellsDesign v design certificate (told old) (told new) history settled) history settled → TellsSomehow c w
     of_design c w v design certificate same given (inl none) = inl none
@@ -111,24 +112,30 @@ module _ {D : Type 0} (clock : D → ℕ) (left_since : D → ℕ → List ℕ �
       says = λ zero. absurd (unsaid zero);
     }))
 
-    of_recovering : (c : Command) (w : Wanted) (files : List (List ℕ)) → wanted_by c ≡ Some w → OfCommand c files → TellsSomehow c w
+    of_recovering : (c : Command) (w : Saying) (files : List (List ℕ)) → wanted_by c ≡ Some w → OfCommand c files → TellsSomehow c w
     unfolding LeavesOf file_count
     of_recovering command.Recover w [] by h = absurd (omega (arith, h.0))
     of_recovering command.Recover w (design ∷ []) by h = absurd (omega (arith, h.0))
     of_recovering command.Recover w (design ∷ certificate ∷ []) by h =
-        of_design command.Recover w wanted.Counts design certificate (same_Some wanted.Counts w by) h.1 h.2.tells
+        of_design command.Recover w (text_of wanted.Counts) design certificate (same_Some (text_of wanted.Counts) w by) h.1 h.2.tells
     of_recovering command.Recover w (design ∷ certificate ∷ more ∷ rest) by h = absurd (omega (arith, h.0))
     of_recovering command.Dump w [] by h = absurd (omega (arith, h.0))
     of_recovering command.Dump w (design ∷ []) by h = absurd (omega (arith, h.0))
     of_recovering command.Dump w (design ∷ certificate ∷ []) by h =
-        of_design command.Dump w wanted.Rows design certificate (same_Some wanted.Rows w by) h.1 h.2.tells
+        of_design command.Dump w (text_of wanted.Rows) design certificate (same_Some (text_of wanted.Rows) w by) h.1 h.2.tells
     of_recovering command.Dump w (design ∷ certificate ∷ more ∷ rest) by h = absurd (omega (arith, h.0))
     of_recovering command.Replies w [] by h = absurd (omega (arith, h.0))
     of_recovering command.Replies w (design ∷ []) by h = absurd (omega (arith, h.0))
     of_recovering command.Replies w (design ∷ certificate ∷ []) by h =
-        of_design command.Replies w wanted.Replies design certificate (same_Some wanted.Replies w by) h.1 h.2.tells
+        of_design command.Replies w (text_of wanted.Replies) design certificate (same_Some (text_of wanted.Replies) w by) h.1 h.2.tells
     of_recovering command.Replies w (design ∷ certificate ∷ more ∷ rest) by h = absurd (omega (arith, h.0))
     of_recovering command.Verify w files by h = absurd cc
+    of_recovering command.BookingVerify w [] by h = absurd (omega (arith, h.0))
+    of_recovering command.BookingVerify w (design ∷ []) by h = absurd (omega (arith, h.0))
+    of_recovering command.BookingVerify w (design ∷ certificate ∷ []) by h =
+        of_design command.BookingVerify w say_seats design certificate (same_Some say_seats w by) h.1 h.2.tells
+    of_recovering command.BookingVerify w (design ∷ certificate ∷ more ∷ rest) by h = absurd (omega (arith, h.0))
+    of_recovering (command.Advise side) w files by h = absurd cc
     of_recovering command.TpccDesign w files by h = absurd cc
     of_recovering command.BookingDesign w files by h = absurd cc
     of_recovering (command.TpccLoad scale) w files by h = absurd cc
@@ -145,7 +152,7 @@ module _ {D : Type 0} (clock : D → ℕ) (left_since : D → ℕ → List ℕ �
     of_recovering command.Help w files by h = absurd cc
     of_recovering command.Version w files by h = absurd cc
 
-    pub tells_somehow : (c : Command) (w : Wanted) → command_of words ≡ Some c → wanted_by c ≡ Some w
+    pub tells_somehow : (c : Command) (w : Saying) → command_of words ≡ Some c → wanted_by c ≡ Some w
         → LeavesLine clock left_since told may_leave held words old new history settled → TellsSomehow c w
     tells_somehow c w is by (inl none) = inl (none.1, none.2)
     tells_somehow c w is by (inr g) =

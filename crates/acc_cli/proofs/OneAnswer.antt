@@ -14,7 +14,7 @@ use Rattle.acc_cli.specs.declared.status.Status.TheVariants.{Ran}
 use Rattle.acc_journalled.specs.Tellings.{Telling}
 use Rattle.acc_commands.specs.Disks.{Seen, TellsAll}
 use Rattle.acc_cli.specs.Replies.{Reply}
-use Rattle.acc_commands.specs.Words.{command_of, files_of, is_journalled, is_over_journal}
+use Rattle.acc_commands.specs.Words.{command_of, files_of, points_of, is_journalled, is_over_journal}
 use Rattle.acc_commands.specs.Files.{AreFiles, SaysRefused}
 use Rattle.acc_commands.specs.Means.{Means}
 use Rattle.acc_commands.specs.Alike.{AreAlike as Alike}
@@ -178,15 +178,15 @@ module _ (held : List ℕ → Told) (tells : (name : List ℕ) → held name ≢
 
   both_run : (command : Command) (words : List (List ℕ)) (a b : Reply) → command_of words ≡ Some command
       → (is_journalled command ≡ true → TellsAll disk disk_one disk_other)
-      → Runs held counts one disk disk_one command (files_of command words) a
-      → Runs held counts other disk disk_other command (files_of command words) b → AreAlike words a b
+      → Runs held counts one disk disk_one command (points_of command words) (files_of command words) a
+      → Runs held counts other disk disk_other command (points_of command words) (files_of command words) b → AreAlike words a b
   both_run command words a b is all (files, given, counted, (ending, status, means))
       (files', given', counted', (ending', status', means')) =
       let same : files' ≡ files = one_files held tells (files_of command words) files' files given' given in
-      alike command a b ending ending' status status' words is (one_meaning command files disk disk_one disk_other
+      alike command a b ending ending' status status' words is (one_meaning command (points_of command words) files disk disk_one disk_other
       (record { ending = ending; text = a.text; history = a.history; settled = a.settled })
       (record { ending = ending'; text = b.text; history = b.history; settled = b.settled }) all means
-      (subst (λ fs. Means command fs disk disk_other
+      (subst (λ fs. Means command (points_of command words) fs disk disk_other
       (record { ending = ending'; text = b.text; history = b.history; settled = b.settled })) same means'))
 
   pub of_form : (form : Option Command) (words : List (List ℕ)) (a b : Reply) → command_of words ≡ form

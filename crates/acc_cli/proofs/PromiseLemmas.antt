@@ -15,7 +15,7 @@ use Rattle.acc_commands.specs.Command.TheVariants as command
 use Rattle.acc_cli.specs.declared.status.Status.{Status}
 use Rattle.acc_commands.specs.Text.{Said}
 use Rattle.acc_cli.specs.Replies.{Reply}
-use Rattle.acc_commands.specs.Words.{command_of, files_of, is_over_journal}
+use Rattle.acc_commands.specs.Words.{command_of, files_of, points_of, is_over_journal}
 use Rattle.acc_commands.specs.Files.{AreFiles}
 use Rattle.acc_commands.specs.Refusals.{SaysError, RefusesDesign}
 use Rattle.acc_commands.specs.Scripts.{SaysOfScript, SaysOfOrder}
@@ -83,16 +83,16 @@ module _ (held : List ℕ → Told) (words : List (List ℕ)) where
       by (inr a) = of_accepted a (of_script h.d script order said a.says)
 
   of_means :
-      (files : List (List ℕ)) (said : Said) → AreFiles held (files_of command.Rehearse words) files
-      → MeansOfFiles command.Rehearse files said
+      (points files : List (List ℕ)) (said : Said) → AreFiles held (files_of command.Rehearse words) files
+      → MeansOfFiles command.Rehearse points files said
       → KeepsPromise held words command.Rehearse said.history
   unfolding MeansOfFiles
-  of_means [] said given h = absurd h
-  of_means (design ∷ []) said given h = absurd h
-  of_means (design ∷ certificate ∷ []) said given h = absurd h
-  of_means (design ∷ certificate ∷ script ∷ []) said given h = absurd h
-  of_means (design ∷ certificate ∷ script ∷ order ∷ []) said given h = of_files design certificate script order said given h
-  of_means (design ∷ certificate ∷ script ∷ order ∷ more ∷ rest) said given h = absurd h
+  of_means points [] said given h = absurd h
+  of_means points (design ∷ []) said given h = absurd h
+  of_means points (design ∷ certificate ∷ []) said given h = absurd h
+  of_means points (design ∷ certificate ∷ script ∷ []) said given h = absurd h
+  of_means points (design ∷ certificate ∷ script ∷ order ∷ []) said given h = of_files design certificate script order said given h
+  of_means points (design ∷ certificate ∷ script ∷ order ∷ more ∷ rest) said given h = absurd h
 
   of_form :
       (counts counts' : Counts) (disk disk' : Seen) (reply : Reply)
@@ -100,7 +100,7 @@ module _ (held : List ℕ → Told) (words : List (List ℕ)) where
       → KeepsPromise held words command.Rehearse reply.history
   of_form counts counts' disk disk' reply (inl refused) = inl refused.1.0
   of_form counts counts' disk disk' reply (inr (files, given, counted, (ending, status, means))) =
-      of_means files (record { ending = ending; text = reply.text; history = reply.history }) given means.2
+      of_means (points_of command.Rehearse words) files (record { ending = ending; text = reply.text; history = reply.history }) given means.2
 
   pub promise_kept :
       (counts counts' : Counts) (disk disk' : Seen) (old new : Option (List ℕ)) (fault : Type 0) (status : Status) (history : List Event)

@@ -10,7 +10,7 @@ use Rattle.acc_commands.specs.Command.TheVariants as command
 use Rattle.acc_journalled.specs.declared.answers.Ending.TheVariants.{Done, DesignRefused, Open}
 use Rattle.acc_commands.specs.Text.{Said}
 use Rattle.acc_commands.specs.Disks.{Seen}
-use Rattle.acc_commands.specs.Words.{command_of, files_of}
+use Rattle.acc_commands.specs.Words.{command_of, files_of, points_of}
 use Rattle.acc_commands.specs.Files.{AreFiles}
 use Rattle.acc_commands.specs.ProveFiles.{EndsProving, ProvesFile}
 use Rattle.acc_commands.specs.Means.{MeansOfFiles}
@@ -43,12 +43,12 @@ module _ (held : List ℕ → Told) (words : List (List ℕ)) (old new : Option 
       by (inr (inl k)) = (let e : Done ≡ Open = sym done ∙ k.0 in absurd cc)
       by (inr (inr k)) = (let e : Done ≡ DesignRefused = sym done ∙ k.0 in absurd cc)
 
-  of_files : (files : List (List ℕ)) (said : Said) → said.ending ≡ Done → AreFiles held (files_of command.Prove words) files
-      → Appends old new said.text → MeansOfFiles command.Prove files said → IsProved held words old new
+  of_files : (points files : List (List ℕ)) (said : Said) → said.ending ≡ Done → AreFiles held (files_of command.Prove words) files
+      → Appends old new said.text → MeansOfFiles command.Prove points files said → IsProved held words old new
   unfolding MeansOfFiles
-  of_files [] said done given appends h = absurd h
-  of_files (design ∷ []) said done given appends h = of_file design said done given appends h
-  of_files (design ∷ more ∷ rest) said done given appends h = absurd h
+  of_files points [] said done given appends h = absurd h
+  of_files points (design ∷ []) said done given appends h = of_file design said done given appends h
+  of_files points (design ∷ more ∷ rest) said done given appends h = absurd h
 
   of_form : (counts counts' : Counts) (disk disk' : Seen) (reply : Reply)
       → MeansForm held counts counts' disk disk' words (Some command.Prove) reply
@@ -57,7 +57,7 @@ module _ (held : List ℕ → Told) (words : List (List ℕ)) (old new : Option 
       (let e : Ran Done ≡ File = sym done ∙ refused.0 in absurd cc)
   of_form counts counts' disk disk' reply (inr (files, given, counted, (ending, status, means))) done appends =
       let same : ending ≡ Done = (let e : Ran ending ≡ Ran Done = sym status ∙ done in cc) in
-      of_files files (record { ending = ending; text = reply.text; history = reply.history }) same given appends means.2
+      of_files (points_of command.Prove words) files (record { ending = ending; text = reply.text; history = reply.history }) same given appends means.2
 
   pub is_proved : (counts counts' : Counts) (disk disk' : Seen) (over : Bool) (fault : Type 0) (status : Status) (history : List Event)
       (settled : ℕ) → command_of words ≡ Some command.Prove → status ≡ Ran Done

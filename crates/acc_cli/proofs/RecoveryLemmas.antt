@@ -1,7 +1,8 @@
 -- What `recover` and `dump` tell, and what a refused journal is afterwards.
-use Rattle.std.proofs.Common.{◌≡◌, ℕ, Bool, List, [], ◌∷◌, Option, Some, inl, inr, sym, subst, ◌∙◌, refl}
+use Rattle.std.proofs.Common.{◌≡◌, ℕ, Bool, List, [], ◌∷◌, Option, Some, inl, inr, ⊎_elim, sym, subst, ◌∙◌, refl}
 use Rattle.std.specs.Prelude.{◌≢◌, ◌⊎◌}
 use Rattle.std.specs.Io.KnownBytes.{Appends}
+use Rattle.std.proofs.lemmas.Option.{same_Some}
 use Rattle.acc_base.specs.declared.designs.Design.{Design}
 use Rattle.acc_base.specs.declared.machines.Event.{Event}
 use Rattle.acc_io.specs.Causes.{Rose}
@@ -18,7 +19,6 @@ use Rattle.acc_recover.specs.declared.errors.RecoverError.{RecoverError}
 use Rattle.acc_recover.specs.declared.errors.RecoverError.TheVariants as recovery
 use Rattle.acc_journalled.specs.declared.answers.Ending.{Ending}
 use Rattle.acc_journalled.specs.declared.answers.Ending.TheVariants.{Done, DesignRefused, JournalRefused, DiskFailed}
-use Rattle.acc_journalled.specs.declared.answers.Wanted.{Wanted}
 use Rattle.acc_journalled.specs.declared.answers.Wanted.TheVariants as wanted
 use Rattle.acc_journalled.specs.Recovering.{SaysNotRead, SaysNotRecovered, RecoversJournal, text_of}
 use Rattle.acc_journalled.specs.Tellings.{Telling}
@@ -26,11 +26,12 @@ use Rattle.acc_commands.specs.Command.{Command}
 use Rattle.acc_commands.specs.Command.TheVariants as command
 use Rattle.acc_commands.specs.Text.{said_in}
 use Rattle.acc_commands.specs.Disks.{Seen}
-use Rattle.acc_commands.specs.Words.{command_of, files_of}
+use Rattle.acc_commands.specs.Words.{command_of, files_of, points_of}
+use Rattle.acc_commands.specs.BookingFiles.{say_seats}
 use Rattle.acc_commands.specs.Files.{AreFiles}
-use Rattle.acc_commands.specs.RecoverFiles.{RecoversCertified, RecoversFiles}
+use Rattle.acc_commands.specs.RecoverFiles.{Saying, RecoversCertified, RecoversFiles}
 use Rattle.acc_commands.specs.Means.{MeansOverDisk, Means}
-use Rattle.acc_commands.proofs.JournalEndings.{refusal_ends, refusal_tells_none}
+use Rattle.acc_commands.proofs.JournalEndings.{refusal_ends, refusal_tells_none, refused_or_recovered}
 use Rattle.acc_cli.specs.declared.status.Status.{Status}
 use Rattle.acc_cli.specs.declared.status.Status.TheVariants.{File, Sink, Memory, Ran}
 use Rattle.acc_cli.specs.Replies.{Reply}
@@ -90,7 +91,7 @@ unrecovered_none recovery.Memory t says = absurd says
 
 -- ---- what is recovered is told
 
-module _ (held : List ℕ → Told) (words : List (List ℕ)) (c : Command) (w : Wanted) (disk disk' : Seen) (old new : Option (List ℕ)) where
+module _ (held : List ℕ → Told) (words : List (List ℕ)) (c : Command) (w : Saying) (disk disk' : Seen) (old new : Option (List ℕ)) where
   -- of a telling: it tells none, or what is recovered
   abbrev OfTelling : ℕ → Telling → Type 0
   OfTelling code t = TellsNone t
@@ -104,7 +105,7 @@ module _ (held : List ℕ → Told) (words : List (List ℕ)) (c : Command) (w :
   of_files code design certificate t given (inr h) = certified h.says
     where
       over : (d : Design) → IsDesignText design d → IsAcceptedWith d certificate
-          → RecoversJournal (text_of w d) d disk.told disk'.told (Rose disk.faults disk'.faults) t → OfTelling code t
+          → RecoversJournal (w d) d disk.told disk'.told (Rose disk.faults disk'.faults) t → OfTelling code t
       over d is_text accepted (inl r) = inr (
         r.says.0,
         λ says. record {
@@ -164,49 +165,59 @@ module _ (held : List ℕ → Told) (words : List (List ℕ)) (c : Command) (w :
       (subst (λ n. IsRecovered held words c w disk.told disk'.told old new (code_of status) meant.history n) (sym ends.settled_is)
       (tells.1 (λ zero. ends.done (zero_is_done status zero)))))
 
-of_command : (held : List ℕ → Told) (words : List (List ℕ)) (c : Command) (w : Wanted) (disk disk' : Seen) (old new : Option (List ℕ))
-    (code : ℕ) (files : List (List ℕ)) (t : Telling) → wanted_by c ≡ Some w → AreFiles held (files_of c words) files
-    → Means c files disk disk' t → OfTelling held words c w disk disk' old new code t
+of_command : (held : List ℕ → Told) (words : List (List ℕ)) (c : Command) (w : Saying) (disk disk' : Seen) (old new : Option (List ℕ))
+    (code : ℕ) (points files : List (List ℕ)) (t : Telling) → wanted_by c ≡ Some w → AreFiles held (files_of c words) files
+    → Means c points files disk disk' t → OfTelling held words c w disk disk' old new code t
 unfolding MeansOverDisk
-of_command held words command.Recover w disk disk' old new code (design ∷ certificate ∷ []) t is given h =
-    let same : wanted.Counts ≡ w = cc in
+of_command held words command.Recover w disk disk' old new code points (design ∷ certificate ∷ []) t is given h =
+    let same : text_of wanted.Counts ≡ w = same_Some (text_of wanted.Counts) w is in
     of_files held words command.Recover w disk disk' old new code design certificate t given
     (subst (λ x. RecoversFiles x design certificate disk disk' t) same h)
-of_command held words command.Recover w disk disk' old new code [] t is given h = absurd h
-of_command held words command.Recover w disk disk' old new code (design ∷ []) t is given h = absurd h
-of_command held words command.Recover w disk disk' old new code (design ∷ certificate ∷ more ∷ rest) t is given h = absurd h
-of_command held words command.Dump w disk disk' old new code (design ∷ certificate ∷ []) t is given h =
-    let same : wanted.Rows ≡ w = cc in
+of_command held words command.Recover w disk disk' old new code points [] t is given h = absurd h
+of_command held words command.Recover w disk disk' old new code points (design ∷ []) t is given h = absurd h
+of_command held words command.Recover w disk disk' old new code points (design ∷ certificate ∷ more ∷ rest) t is given h = absurd h
+of_command held words command.Dump w disk disk' old new code points (design ∷ certificate ∷ []) t is given h =
+    let same : text_of wanted.Rows ≡ w = same_Some (text_of wanted.Rows) w is in
     of_files held words command.Dump w disk disk' old new code design certificate t given
     (subst (λ x. RecoversFiles x design certificate disk disk' t) same h)
-of_command held words command.Dump w disk disk' old new code [] t is given h = absurd h
-of_command held words command.Dump w disk disk' old new code (design ∷ []) t is given h = absurd h
-of_command held words command.Dump w disk disk' old new code (design ∷ certificate ∷ more ∷ rest) t is given h = absurd h
-of_command held words command.Replies w disk disk' old new code (design ∷ certificate ∷ []) t is given h =
-    let same : wanted.Replies ≡ w = cc in
+of_command held words command.Dump w disk disk' old new code points [] t is given h = absurd h
+of_command held words command.Dump w disk disk' old new code points (design ∷ []) t is given h = absurd h
+of_command held words command.Dump w disk disk' old new code points (design ∷ certificate ∷ more ∷ rest) t is given h = absurd h
+of_command held words command.Replies w disk disk' old new code points (design ∷ certificate ∷ []) t is given h =
+    let same : text_of wanted.Replies ≡ w = same_Some (text_of wanted.Replies) w is in
     of_files held words command.Replies w disk disk' old new code design certificate t given
     (subst (λ x. RecoversFiles x design certificate disk disk' t) same h)
-of_command held words command.Replies w disk disk' old new code [] t is given h = absurd h
-of_command held words command.Replies w disk disk' old new code (design ∷ []) t is given h = absurd h
-of_command held words command.Replies w disk disk' old new code (design ∷ certificate ∷ more ∷ rest) t is given h = absurd h
-of_command held words command.Verify w disk disk' old new code files t is given h = absurd cc
-of_command held words command.TpccDesign w disk disk' old new code files t is given h = absurd cc
-of_command held words command.BookingDesign w disk disk' old new code files t is given h = absurd cc
-of_command held words (command.TpccLoad scale) w disk disk' old new code files t is given h = absurd cc
-of_command held words (command.TpccMix mix) w disk disk' old new code files t is given h = absurd cc
-of_command held words (command.Bench mix) w disk disk' old new code files t is given h = absurd cc
-of_command held words command.Init w disk disk' old new code files t is given h = absurd cc
-of_command held words command.Play w disk disk' old new code files t is given h = absurd cc
-of_command held words command.Rehearse w disk disk' old new code files t is given h = absurd cc
-of_command held words (command.Run workers) w disk disk' old new code files t is given h = absurd cc
-of_command held words command.Sched w disk disk' old new code files t is given h = absurd cc
-of_command held words command.Print w disk disk' old new code files t is given h = absurd cc
-of_command held words command.Prove w disk disk' old new code files t is given h = absurd cc
-of_command held words command.Check w disk disk' old new code files t is given h = absurd cc
-of_command held words command.Help w disk disk' old new code files t is given h = absurd cc
-of_command held words command.Version w disk disk' old new code files t is given h = absurd cc
+of_command held words command.Replies w disk disk' old new code points [] t is given h = absurd h
+of_command held words command.Replies w disk disk' old new code points (design ∷ []) t is given h = absurd h
+of_command held words command.Replies w disk disk' old new code points (design ∷ certificate ∷ more ∷ rest) t is given h = absurd h
+of_command held words command.Verify w disk disk' old new code points files t is given h = absurd cc
+of_command held words command.BookingVerify w disk disk' old new code points (design ∷ certificate ∷ []) t is given h =
+    let same : say_seats ≡ w = same_Some say_seats w is in
+    subst (λ x. OfTelling held words command.BookingVerify x disk disk' old new code t) same
+    (⊎_elim (λ other. inl (none_of DesignRefused t (λ e. cc) other.2.0 other.2.2 other.0))
+    (λ found. of_files held words command.BookingVerify say_seats disk disk' old new code design certificate t given found)
+    (refused_or_recovered disk disk' t design certificate h))
+of_command held words command.BookingVerify w disk disk' old new code points [] t is given h = absurd h
+of_command held words command.BookingVerify w disk disk' old new code points (design ∷ []) t is given h = absurd h
+of_command held words command.BookingVerify w disk disk' old new code points (design ∷ certificate ∷ more ∷ rest) t is given h = absurd h
+of_command held words (command.Advise side) w disk disk' old new code points files t is given h = absurd cc
+of_command held words command.TpccDesign w disk disk' old new code points files t is given h = absurd cc
+of_command held words command.BookingDesign w disk disk' old new code points files t is given h = absurd cc
+of_command held words (command.TpccLoad scale) w disk disk' old new code points files t is given h = absurd cc
+of_command held words (command.TpccMix mix) w disk disk' old new code points files t is given h = absurd cc
+of_command held words (command.Bench mix) w disk disk' old new code points files t is given h = absurd cc
+of_command held words command.Init w disk disk' old new code points files t is given h = absurd cc
+of_command held words command.Play w disk disk' old new code points files t is given h = absurd cc
+of_command held words command.Rehearse w disk disk' old new code points files t is given h = absurd cc
+of_command held words (command.Run workers) w disk disk' old new code points files t is given h = absurd cc
+of_command held words command.Sched w disk disk' old new code points files t is given h = absurd cc
+of_command held words command.Print w disk disk' old new code points files t is given h = absurd cc
+of_command held words command.Prove w disk disk' old new code points files t is given h = absurd cc
+of_command held words command.Check w disk disk' old new code points files t is given h = absurd cc
+of_command held words command.Help w disk disk' old new code points files t is given h = absurd cc
+of_command held words command.Version w disk disk' old new code points files t is given h = absurd cc
 
-module _ (held : List ℕ → Told) (words : List (List ℕ)) (c : Command) (w : Wanted) (disk disk' : Seen) (old new : Option (List ℕ))
+module _ (held : List ℕ → Told) (words : List (List ℕ)) (c : Command) (w : Saying) (disk disk' : Seen) (old new : Option (List ℕ))
     (fault : Type 0) (status : Status) (history : List Event) (settled : ℕ) (tells : wanted_by c ≡ Some w) where
   of_form : (counts counts' : Counts) (meant : Reply) → MeansForm held counts counts' disk disk' words (Some c) meant
       → Ends meant old new fault status history settled
@@ -217,7 +228,7 @@ module _ (held : List ℕ → Told) (words : List (List ℕ)) (c : Command) (w :
       refused.1.0 refused.1.1 ends
   of_form counts counts' meant (inr (files, given, counted, (ending, is, means))) ends =
       of_telling held words c w disk disk' old new meant ending fault status history settled is ends
-      (of_command held words c w disk disk' old new (code_of status) files
+      (of_command held words c w disk disk' old new (code_of status) (points_of c words) files
       (record { ending = ending; text = meant.text; history = meant.history; settled = meant.settled }) tells given means)
 
   pub tells_recovery : (over : Bool) (counts counts' : Counts) → command_of words ≡ Some c

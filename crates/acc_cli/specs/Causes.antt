@@ -17,7 +17,7 @@ use Rattle.acc_journalled.specs.declared.answers.Ending.{Ending}
 use Rattle.acc_journalled.specs.declared.answers.Ending.TheVariants.{Done, JournalRefused, DiskFailed, Unbegun, Open, ConditionFalse}
 use Rattle.acc_cli.specs.declared.status.Status.{Status}
 use Rattle.acc_cli.specs.declared.status.Status.TheVariants.{Usage, File, Sink, Memory, Ran}
-use Rattle.acc_commands.specs.Words.{command_of, files_of}
+use Rattle.acc_commands.specs.Words.{command_of, files_of, points_of}
 use Rattle.acc_commands.specs.Files.{AreFiles, IsFirstRefused, SaysRefused}
 use Rattle.acc_commands.specs.Means.{Means}
 use Rattle.acc_commands.specs.Overs.{IsRecovering, LeavesBy, FindsFalse, LeavesBench, BenchFindsFalse}
@@ -46,7 +46,7 @@ pub record EndsSo (held : List ℕ → Told) (counts counts' : Counts) (disk dis
   pub counted : counts' ≡ after_files (length (files_of command words)) counts
   pub said : Telling
   pub ending_is : said.ending ≡ ending
-  pub meant : Means command files disk disk' said
+  pub meant : Means command (points_of command words) files disk disk' said
 
 -- it is `rehearse`, and its schedule leaves a place that couldn't begin, since the history is full
 pub record LeavesInMemory (c : Command) (said : Telling) : Type 0 where
@@ -67,7 +67,7 @@ pub record FindsJournal (c : Command) (disk disk' : Seen) : Type 0 where
   pub there : IfSome disk.told IsThere
   pub same : disk'.told ≡ disk.told
 
--- It is `sched`, `run`, `recover`, `dump`, `replies` or `verify`, and the bytes of the disk give this cause why nothing is recovered. What
+-- It is a command that recovers a journal, and the bytes of the disk give this cause why nothing is recovered. What
 -- is no journal is left as it is; a journal that is refused counts what it counted.
 pub record RefusesRecovering (c : Command) (disk disk' : Seen) : Type 0 where
   pub is_over : IsRecovering c

@@ -11,5 +11,6 @@ pub mod Creations
 pub mod Recoveries
 pub mod Verifications
 pub mod Benches
+pub mod Bookings
 pub mod Runs
 pub mod Headline

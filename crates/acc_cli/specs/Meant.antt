@@ -9,7 +9,7 @@ use Rattle.acc_journalled.specs.declared.answers.Ending.{Ending}
 use Rattle.acc_cli.specs.declared.status.Status.TheVariants.{Usage, File, Ran}
 use Rattle.acc_base.specs.Lines.{line}
 use Rattle.acc_cli.specs.Replies.{Reply}
-use Rattle.acc_commands.specs.Words.{command_of, files_of}
+use Rattle.acc_commands.specs.Words.{command_of, files_of, points_of}
 use Rattle.acc_commands.specs.Disks.{Seen}
 use Rattle.acc_commands.specs.Means.{Means, LeavesOfFile}
 use Rattle.acc_commands.specs.Files.{AreFiles, IsFirstRefused, SaysRefused}
@@ -23,16 +23,16 @@ abbrev pub RefusesFile : (List ℕ → Told) → Counts → Counts → Seen → 
 RefusesFile held counts counts' disk disk' names reply = (reply.status ≡ File) × RunsNothing disk disk' reply ×
     ((name : List ℕ) × (error : ShelfError) × IsFirstRefused held counts counts' names name error × SaysRefused name error reply.text)
 
--- the command says this of its files and of the disk, and the status tells how it ends
-abbrev pub RunsSo : Command → List (List ℕ) → Seen → Seen → Reply → Type 0
-RunsSo command files disk disk' reply = (ending : Ending) × (reply.status ≡ Ran ending) × Means command files disk disk'
+-- the command says this of the words that name points, of its files and of the disk, and the status tells how it ends
+abbrev pub RunsSo : Command → List (List ℕ) → List (List ℕ) → Seen → Seen → Reply → Type 0
+RunsSo command points files disk disk' reply = (ending : Ending) × (reply.status ≡ Ran ending) × Means command points files disk disk'
     (record { ending = ending; text = reply.text; history = reply.history; settled = reply.settled })
 
 -- all files are given, each by one read
-abbrev pub Runs : (List ℕ → Told) → Counts → Counts → Seen → Seen → Command → List (List ℕ) → Reply → Type 0
-Runs held counts counts' disk disk' command names reply =
+abbrev pub Runs : (List ℕ → Told) → Counts → Counts → Seen → Seen → Command → List (List ℕ) → List (List ℕ) → Reply → Type 0
+Runs held counts counts' disk disk' command points names reply =
     (files : List (List ℕ)) × AreFiles held names files × (counts' ≡ after_files (length names) counts)
-    × RunsSo command files disk disk' reply
+    × RunsSo command points files disk disk' reply
 
 -- the words are no form, and nothing is read
 abbrev pub SaysUsage : Counts → Counts → Seen → Seen → Reply → Type 0
@@ -44,7 +44,7 @@ abbrev pub MeansForm : (List ℕ → Told) → Counts → Counts → Seen → Se
 MeansForm held counts counts' disk disk' words None reply = SaysUsage counts counts' disk disk' reply
 MeansForm held counts counts' disk disk' words (Some command) reply =
     RefusesFile held counts counts' disk disk' (files_of command words) reply
-    ⊎ Runs held counts counts' disk disk' command (files_of command words) reply
+    ⊎ Runs held counts counts' disk disk' command (points_of command words) (files_of command words) reply
 
 abbrev pub Meant : (List ℕ → Told) → Counts → Counts → Seen → Seen → List (List ℕ) → Reply → Type 0
 Meant held counts counts' disk disk' words = MeansForm held counts counts' disk disk' words (command_of words)

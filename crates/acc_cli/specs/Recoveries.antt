@@ -1,4 +1,4 @@
--- What stands behind the answers of `recover`, `dump` and `replies`, and what a refused journal is afterwards.
+-- What stands behind the answers of `recover`, `dump`, `replies` and `booking verify`, and what a refused journal is afterwards.
 use Rattle.std.specs.Prelude.{◌≡◌, ◌≢◌, ◌⊎◌, ℕ, List, [], ◌∷◌, Option, Some, None, IfSome}
 use Rattle.std.specs.Io.KnownBytes.{Appends}
 use Rattle.acc_base.specs.declared.designs.Design.{Design}
@@ -9,19 +9,21 @@ use Rattle.acc_commands.specs.Admissions.{IsAcceptedWith}
 use Rattle.acc_wal.specs.Journals.{Counts}
 use Rattle.acc_recover.specs.Refusals.{CountsSame}
 use Rattle.acc_journalled.specs.declared.answers.Ending.TheVariants.{Done}
-use Rattle.acc_journalled.specs.declared.answers.Wanted.{Wanted}
 use Rattle.acc_journalled.specs.declared.answers.Wanted.TheVariants as wanted
 use Rattle.acc_journalled.specs.Recovering.{Recovers, text_of}
 use Rattle.acc_commands.specs.Command.{Command}
 use Rattle.acc_commands.specs.Command.TheVariants as command
+use Rattle.acc_commands.specs.BookingFiles.{say_seats}
+use Rattle.acc_commands.specs.RecoverFiles.{Saying}
 use Rattle.acc_commands.specs.Words.{files_of}
 use Rattle.acc_commands.specs.Files.{AreFiles}
 
--- what a command tells of a recovered journal, if it recovers one
-abbrev pub wanted_by : Command → Option Wanted
-wanted_by command.Recover = Some wanted.Counts
-wanted_by command.Dump = Some wanted.Rows
-wanted_by command.Replies = Some wanted.Replies
+-- what a command says of a recovered state, if it recovers a journal and says something of that alone
+abbrev pub wanted_by : Command → Option Saying
+wanted_by command.Recover = Some (text_of wanted.Counts)
+wanted_by command.Dump = Some (text_of wanted.Rows)
+wanted_by command.Replies = Some (text_of wanted.Replies)
+wanted_by command.BookingVerify = Some say_seats
 wanted_by command.Verify = None
 wanted_by command.TpccDesign = None
 wanted_by command.BookingDesign = None
@@ -33,6 +35,7 @@ wanted_by command.Rehearse = None
 wanted_by command.Print = None
 wanted_by command.Check = None
 wanted_by command.Prove = None
+wanted_by (command.Advise side) = None
 wanted_by command.Init = None
 wanted_by command.Sched = None
 wanted_by (command.Run workers) = None
@@ -42,7 +45,7 @@ wanted_by command.Version = None
 -- The files spell this design, which is accepted with its certificate, and the disk held a journal of it. This is the recovered history,
 -- all of it durable: the disk holds a journal of just that now. With status 0 what is wanted of it was said; where memory ran out, the text
 -- is one that could be said.
-pub record IsRecovered (held : List ℕ → Told) (words : List (List ℕ)) (c : Command) (w : Wanted) (told told' : Option (List ℕ))
+pub record IsRecovered (held : List ℕ → Told) (words : List (List ℕ)) (c : Command) (say : Saying) (told told' : Option (List ℕ))
     (old new : Option (List ℕ)) (code : ℕ) (history : List Event) (settled : ℕ) : Type 0 where
   pub design : List ℕ
   pub certificate : List ℕ
@@ -51,15 +54,15 @@ pub record IsRecovered (held : List ℕ → Told) (words : List (List ℕ)) (c :
   pub is_text : IsDesignText design d
   pub accepted : IsAcceptedWith d certificate
   pub text : List ℕ
-  pub recovers : Recovers (text_of w d) d told told' (record { ending = Done; text = text; history = history; settled = settled })
+  pub recovers : Recovers (say d) d told told' (record { ending = Done; text = text; history = history; settled = settled })
   pub says : code ≡ 0 → Appends old new text
 
 -- nothing is recovered, and so no history is told; or this one is
-abbrev pub TellsRecovery : (List ℕ → Told) → List (List ℕ) → Command → Wanted → Option (List ℕ) → Option (List ℕ) → Option (List ℕ)
+abbrev pub TellsRecovery : (List ℕ → Told) → List (List ℕ) → Command → Saying → Option (List ℕ) → Option (List ℕ) → Option (List ℕ)
     → Option (List ℕ) → ℕ → List Event → ℕ → Type 0
-TellsRecovery held words c w told told' old new code history settled =
+TellsRecovery held words c say told told' old new code history settled =
     ((code ≢ 0) × (code ≢ 7) × (history ≡ []) × (settled ≡ 0))
-    ⊎ IsRecovered held words c w told told' old new code history settled
+    ⊎ IsRecovered held words c say told told' old new code history settled
 
 -- the bytes are a journal
 abbrev pub IsJournal : List ℕ → Type 0

@@ -19,24 +19,25 @@ ghost use Rattle.acc_cli.specs.Promises.{KeepsPromise};
 ghost use Rattle.acc_cli.specs.Runs.{RunsLine, WorksLine};
 ghost use Rattle.acc_cli.specs.Creations.{IsCreated};
 ghost use Rattle.acc_cli.specs.Provings.{IsProved};
+ghost use Rattle.acc_cli.specs.Bookings.{SellsOnce};
 ghost use Rattle.acc_cli.specs.Recoveries.{wanted_by, TellsRecovery, LeavesRefused};
 ghost use Rattle.acc_cli.specs.Verifications.{TellsVerification};
 ghost use Rattle.acc_cli.specs.Benches.{TellsBench};
-ghost use Rattle.acc_journalled.specs.declared.answers.Wanted.{Wanted};
+ghost use Rattle.acc_commands.specs.RecoverFiles.{Saying};
 ghost use Rattle.acc_commands.specs.Command.{Command as TheCommand};
 ghost use Rattle.acc_commands.specs.Disks.{seen, IsUntouched};
 ghost use Rattle.acc_commands.specs.Words.{command_of, is_journalled, is_over_journal};
-ghost use Rattle.acc_commands.specs.Requests.{command_in, texts_in};
+ghost use Rattle.acc_commands.specs.Requests.{command_in, texts_in, points_in};
 ghost use Rattle.acc_commands.specs.Means.{LeavesOf};
-ghost use Rattle.acc_commands.specs.Command.TheVariants.{Rehearse, Sched, Run, Init, Prove, Verify, Bench};
+ghost use Rattle.acc_commands.specs.Command.TheVariants.{Rehearse, Sched, Run, Init, Prove, Verify, BookingVerify, Bench};
 ghost use Rattle.acc_commands.specs.Mix.{Mix};
 
 use crate::status::Status;
 use acc_base::machines::Event;
 use acc_base::sequences::Seq;
 use acc_commands::{
-    Crew, Ended, Ending, Engine, IndexStore, Request, Searchers, command_of, file_count, read_all,
-    run,
+    Crew, Ended, Ending, Engine, IndexStore, Request, Searchers, command_of, files_in, points_in,
+    read_all, run,
 };
 use acc_disk::Disk;
 use acc_io::{Shelf, ShelfError, Sink, write_all};
@@ -162,7 +163,7 @@ fn answer_command<
     requires ready { C.ready crew.now }
     requires searching { S.ready searchers.now }
     ensures answered { Answered (is_journalled (command_in request.entry))
-        (RunsSo (command_in request.entry) (texts_in request.entry) (seen (D.told disk) (D.faults disk))
+        (RunsSo (command_in request.entry) (points_in request.entry) (texts_in request.entry) (seen (D.told disk) (D.faults disk))
         (seen (D.told result.disk) (D.faults result.disk)))
         (K.bytes out.old) (K.bytes out.new) (Rose (K.faults out.old) (K.faults out.new)) result.status result.history result.settled }
     ensures leaves { LeavesOf D.clock D.left_since D.told D.may_leave (command_in request.entry) (texts_in request.entry)
@@ -235,10 +236,9 @@ fn answer_line<
     let Some(command) = command_of(words) else {
         return refuse(alloc, Status::Usage, usage(alloc), out, disk);
     };
-    let names = &words[1..=file_count(command)];
-    match read_all(alloc, shelf, names) {
+    match read_all(alloc, shelf, files_in(command, words)) {
         Ok(files) => {
-            let request = Request::new(command, &files);
+            let request = Request::new(command, &files, points_in(command, words));
             answer_command(alloc, request, out, disk, crew, searchers, slot, progress)
         }
         Err(refusal) => {
@@ -257,8 +257,9 @@ fn answer_line<
 ///
 /// An accepted design is kept in the slot while a crew works, since its engine borrows it; nothing is read there.
 ///
-/// `run` lets the crew work, and so waits for whom the crew waits; `prove` lets the searchers search, and waits for them; no other command
-/// asks either for anything. With a crew and searchers that wait for nobody (`Alone`, `InTurn`) the call returns, whatever the words.
+/// `run` lets the crew work, and so waits for whom the crew waits; `prove` and `advise` let the searchers search, and wait for them; no
+/// other command asks either for anything. With a crew and searchers that wait for nobody (`Alone`, `InTurn`) the call returns, whatever
+/// the words.
 pub fn acc<
     'a,
     H: Shelf,
@@ -310,10 +311,11 @@ pub fn acc<
     // Where `prove` ended with status 0, what it said is a certificate with which the design is accepted, and so it is sound.
     ensures proved { command_of (map string_bytes words.now) ≡ Some Prove → result.status ≡ 0
         → IsProved (H.held shelf.old) (map string_bytes words.now) (K.bytes out.old) (K.bytes out.new) }
-    // Where `recover`, `dump` or `replies` ended with status 0 or 7, the history is the recovered one, all of it durable, and the disk
-    // holds a journal of just that; with 0 what is wanted of it was said. Else none is told, or, where memory ran out, that one.
-    ensures recovered { (c : TheCommand) (w : Wanted) → command_of (map string_bytes words.now) ≡ Some c → wanted_by c ≡ Some w
-        → TellsRecovery (H.held shelf.old) (map string_bytes words.now) c w (D.told disk) (D.told result.disk) (K.bytes out.old)
+    // Where `recover`, `dump`, `replies` or `booking verify` ended with status 0 or 7, the history is the recovered one, all of it durable,
+    // and the disk holds a journal of just that; with 0 what is wanted of it was said. Else none is told, or, where memory ran out, that
+    // one.
+    ensures recovered { (c : TheCommand) (say : Saying) → command_of (map string_bytes words.now) ≡ Some c → wanted_by c ≡ Some say
+        → TellsRecovery (H.held shelf.old) (map string_bytes words.now) c say (D.told disk) (D.told result.disk) (K.bytes out.old)
         (K.bytes out.new) result.status result.history result.settled }
     // Where `verify` ended with status 0, 7 or 10, the history is the recovered one, all of it durable, and the disk holds a journal of
     // just that; with 10 a condition is false of its rows, and else each is true. With 0 a line for each was said, with 10 these or a
@@ -321,6 +323,9 @@ pub fn acc<
     ensures verified { command_of (map string_bytes words.now) ≡ Some Verify
         → TellsVerification (H.held shelf.old) (map string_bytes words.now) (D.told disk) (D.told result.disk) (K.bytes out.old)
         (K.bytes out.new) result.status result.history result.settled }
+    // Where `booking verify` ended with status 0 or 7, the design is the shipped one, and nothing of the recovered rows is oversold.
+    ensures booked { command_of (map string_bytes words.now) ≡ Some BookingVerify → (result.status ≡ 0) ⊎ (result.status ≡ 7)
+        → SellsOnce (H.held shelf.old) (map string_bytes words.now) (D.told disk) (D.told result.disk) result.history result.settled }
     // Where `bench` ended with status 0, 7, 8 or 10, the history is that of its load and its mix in the generated order. The status tells
     // how they ended, and the lines what they came to: with 10 a condition is false of the rows at the end, and else each is true. Else
     // none is told.

@@ -5,12 +5,13 @@ use Rattle.acc_journal_commands.specs.Command.{Command}
 use Rattle.acc_journal_commands.specs.Command.TheVariants as command
 use Rattle.acc_journalled.specs.declared.answers.Ending.TheVariants.{ConditionFalse}
 use Rattle.acc_journalled.specs.declared.answers.Wanted.TheVariants.{Counts, Rows, Replies}
+use Rattle.acc_journalled.specs.Recovering.{text_of}
 use Rattle.acc_journalled.specs.Tellings.{Telling}
 use Rattle.acc_journal_commands.specs.Disks.{Seen}
 use Rattle.acc_commands.specs.Means.{MeansOverDisk}
 use Rattle.acc_commands.specs.Overs.{FindsFalse}
 use Rattle.acc_commands.proofs.VerifyOvers.{verify_false}
-use Rattle.acc_journal_commands.proofs.JournalEndings.{EndsOverDisk, init_ends, recover_ends, run_ends, work_ends, verify_ends}
+use Rattle.acc_journal_commands.proofs.JournalEndings.{EndsOverDisk, init_ends, recover_ends, book_ends, run_ends, work_ends, verify_ends}
 
 -- as others do, or it is `verify`, and a condition is false
 abbrev pub EndsAnyhow : Command → Seen → Seen → Telling → Type 0
@@ -25,15 +26,15 @@ ends_over_disk command.Init (design ∷ []) old new t h = inl (init_ends design 
 ends_over_disk command.Init (design ∷ more ∷ rest) old new t h = absurd h
 ends_over_disk command.Recover [] old new t h = absurd h
 ends_over_disk command.Recover (design ∷ []) old new t h = absurd h
-ends_over_disk command.Recover (design ∷ certificate ∷ []) old new t h = inl (recover_ends Counts old new t design certificate h)
+ends_over_disk command.Recover (design ∷ certificate ∷ []) old new t h = inl (recover_ends (text_of Counts) old new t design certificate h)
 ends_over_disk command.Recover (design ∷ certificate ∷ more ∷ rest) old new t h = absurd h
 ends_over_disk command.Dump [] old new t h = absurd h
 ends_over_disk command.Dump (design ∷ []) old new t h = absurd h
-ends_over_disk command.Dump (design ∷ certificate ∷ []) old new t h = inl (recover_ends Rows old new t design certificate h)
+ends_over_disk command.Dump (design ∷ certificate ∷ []) old new t h = inl (recover_ends (text_of Rows) old new t design certificate h)
 ends_over_disk command.Dump (design ∷ certificate ∷ more ∷ rest) old new t h = absurd h
 ends_over_disk command.Replies [] old new t h = absurd h
 ends_over_disk command.Replies (design ∷ []) old new t h = absurd h
-ends_over_disk command.Replies (design ∷ certificate ∷ []) old new t h = inl (recover_ends Replies old new t design certificate h)
+ends_over_disk command.Replies (design ∷ certificate ∷ []) old new t h = inl (recover_ends (text_of Replies) old new t design certificate h)
 ends_over_disk command.Replies (design ∷ certificate ∷ more ∷ rest) old new t h = absurd h
 ends_over_disk command.Verify [] old new t h = absurd h
 ends_over_disk command.Verify (design ∷ []) old new t h = absurd h
@@ -41,6 +42,11 @@ ends_over_disk command.Verify (design ∷ certificate ∷ []) old new t h =
     ⊎_elim (λ others. inl others) (λ is. inr (refl, is, verify_false old new t design certificate is h))
     (verify_ends old new t design certificate h)
 ends_over_disk command.Verify (design ∷ certificate ∷ more ∷ rest) old new t h = absurd h
+ends_over_disk command.BookingVerify [] old new t h = absurd h
+ends_over_disk command.BookingVerify (design ∷ []) old new t h = absurd h
+ends_over_disk command.BookingVerify (design ∷ certificate ∷ []) old new t h = inl (book_ends old new t design certificate h)
+ends_over_disk command.BookingVerify (design ∷ certificate ∷ more ∷ rest) old new t h = absurd h
+ends_over_disk (command.Advise side) files old new t h = absurd h
 ends_over_disk command.TpccDesign files old new t h = absurd h
 ends_over_disk command.BookingDesign files old new t h = absurd h
 ends_over_disk (command.TpccLoad scale) files old new t h = absurd h

@@ -29,6 +29,8 @@ module _ {D : Type 0} (clock : D → ℕ) (left_since : D → ℕ → List ℕ �
   leaves_disk command.Dump files old new history settled is same none = (let e : true ≡ false = is in absurd cc)
   leaves_disk command.Replies files old new history settled is same none = (let e : true ≡ false = is in absurd cc)
   leaves_disk command.Verify files old new history settled is same none = (let e : true ≡ false = is in absurd cc)
+  leaves_disk command.BookingVerify files old new history settled is same none = (let e : true ≡ false = is in absurd cc)
+  leaves_disk (command.Advise side) files old new history settled is same none = (same, none)
   leaves_disk command.TpccDesign files old new history settled is same none = (same, none)
   leaves_disk command.BookingDesign files old new history settled is same none = (same, none)
   leaves_disk (command.TpccLoad scale) files old new history settled is same none = (same, none)
@@ -43,15 +45,15 @@ module _ {D : Type 0} (clock : D → ℕ) (left_since : D → ℕ → List ℕ �
   leaves_disk command.Version files old new history settled is same none = (same, none)
 
   -- the disk is handed back as it is, and no event is durable
-  pub ends_in_memory : (c : Command) (files : List (List ℕ)) → is_journalled c ≡ false → (old new : D) → new ≡ old
+  pub ends_in_memory : (c : Command) (points files : List (List ℕ)) → is_journalled c ≡ false → (old new : D) → new ≡ old
       → (answer : Result Answer AllocError) (history : List Event) (settled : ℕ) → settled ≡ 0
-      → IfOk answer (λ a. MeansOfFiles c files (said_of a history))
-      → Ends told may_leave faults (Means c files) (LeavesOf clock left_since told may_leave c files) old new answer history settled
-  ends_in_memory c files is old new same answer history settled none says = record {
+      → IfOk answer (λ a. MeansOfFiles c points files (said_of a history))
+      → Ends told may_leave faults (Means c points files) (LeavesOf clock left_since told may_leave c files) old new answer history settled
+  ends_in_memory c points files is old new same answer history settled none says = record {
     means = IfOk-weaker answer _ _
         (λ a means. subst
-        (λ (x : D). Means c files (seen (told old) (faults old)) (seen (told x) (faults x)) (telling_of a history settled)) (sym same)
-        (means_without c files (seen (told old) (faults old)) (telling_of a history settled) is none means)) says;
+        (λ (x : D). Means c points files (seen (told old) (faults old)) (seen (told x) (faults x)) (telling_of a history settled)) (sym same)
+        (means_without c points files (seen (told old) (faults old)) (telling_of a history settled) is none means)) says;
     refused = IfOk-weaker answer _ _ (λ a means early. same) says;
     leaves = leaves_disk c files old new history settled is same none;
     calm = IfOk-weaker answer _ _
@@ -60,27 +62,27 @@ module _ {D : Type 0} (clock : D → ℕ) (left_since : D → ℕ → List ℕ �
   }
 
   -- of an answer alone
-  pub ends_alone : (c : Command) (files : List (List ℕ)) → is_journalled c ≡ false → (old new : D) → new ≡ old
+  pub ends_alone : (c : Command) (points files : List (List ℕ)) → is_journalled c ≡ false → (old new : D) → new ≡ old
       → (given answer : Result Answer AllocError) → answer ≡ given → (history : List Event) (settled : ℕ) → history ≡ [] → settled ≡ 0
-      → IfOk given (λ a. MeansOfFiles c files (said_alone a))
-      → Ends told may_leave faults (Means c files) (LeavesOf clock left_since told may_leave c files) old new answer history settled
-  ends_alone c files is old new same given answer answered history settled empty none says =
-      ends_in_memory c files is old new same answer history settled none
-      (subst (λ (h : List Event). IfOk answer (λ a. MeansOfFiles c files (said_of a h))) (sym empty)
-      (subst (λ (r : Result Answer AllocError). IfOk r (λ a. MeansOfFiles c files (said_alone a))) (sym answered) says))
+      → IfOk given (λ a. MeansOfFiles c points files (said_alone a))
+      → Ends told may_leave faults (Means c points files) (LeavesOf clock left_since told may_leave c files) old new answer history settled
+  ends_alone c points files is old new same given answer answered history settled empty none says =
+      ends_in_memory c points files is old new same answer history settled none
+      (subst (λ (h : List Event). IfOk answer (λ a. MeansOfFiles c points files (said_of a h))) (sym empty)
+      (subst (λ (r : Result Answer AllocError). IfOk r (λ a. MeansOfFiles c points files (said_alone a))) (sym answered) says))
 
   -- of a run in memory
-  pub ends_run : (c : Command) (files : List (List ℕ)) → is_journalled c ≡ false → (old new : D) → new ≡ old
+  pub ends_run : (c : Command) (points files : List (List ℕ)) → is_journalled c ≡ false → (old new : D) → new ≡ old
       → (run : Result Run AllocError) (answer : Result Answer AllocError) (history : List Event) (settled : ℕ)
-      → TellsInMemory run answer history → settled ≡ 0 → IfOk run (λ r. MeansOfFiles c files (told_by r))
-      → Ends told may_leave faults (Means c files) (LeavesOf clock left_since told may_leave c files) old new answer history settled
-  ends_run c files is old new same (Ok r) answer history settled tells none says =
-      ends_in_memory c files is old new same answer history settled none
-      (subst (λ (h : List Event). IfOk answer (λ a. MeansOfFiles c files (said_of a h))) (sym tells.1)
-      (subst (λ (x : Result Answer AllocError). IfOk x (λ a. MeansOfFiles c files (said_of a r.history))) (sym tells.0) says))
-  ends_run c files is old new same (Err e) answer history settled tells none says =
-      ends_in_memory c files is old new same answer history settled none
-      (subst (λ (x : Result Answer AllocError). IfOk x (λ a. MeansOfFiles c files (said_of a history))) (sym tells.0) tt)
+      → TellsInMemory run answer history → settled ≡ 0 → IfOk run (λ r. MeansOfFiles c points files (told_by r))
+      → Ends told may_leave faults (Means c points files) (LeavesOf clock left_since told may_leave c files) old new answer history settled
+  ends_run c points files is old new same (Ok r) answer history settled tells none says =
+      ends_in_memory c points files is old new same answer history settled none
+      (subst (λ (h : List Event). IfOk answer (λ a. MeansOfFiles c points files (said_of a h))) (sym tells.1)
+      (subst (λ (x : Result Answer AllocError). IfOk x (λ a. MeansOfFiles c points files (said_of a r.history))) (sym tells.0) says))
+  ends_run c points files is old new same (Err e) answer history settled tells none says =
+      ends_in_memory c points files is old new same answer history settled none
+      (subst (λ (x : Result Answer AllocError). IfOk x (λ a. MeansOfFiles c points files (said_of a history))) (sym tells.0) tt)
 
 -- where memory lacks for a run, no event is told
 pub lacks_run : (run : Result Run AllocError) (answer : Result Answer AllocError) (history : List Event) → TellsInMemory run answer history

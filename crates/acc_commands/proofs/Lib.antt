@@ -2,6 +2,7 @@ pub use Rattle.acc_journal_commands.proofs.Again
 pub use Rattle.acc_journal_commands.proofs.Disks
 pub use Rattle.acc_journal_commands.proofs.JournalEndings
 pub use Rattle.acc_journal_commands.proofs.Tails
+pub mod Bookings
 pub mod OneRun
 pub mod OneBenching
 pub mod BenchOvers

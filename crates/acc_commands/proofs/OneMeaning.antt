@@ -1,16 +1,18 @@
 -- A command says one thing of its files.
 use Rattle.std.proofs.Common.{◌≡◌, ◌<◌, ◌^◌, length, arith, ℕ, Bool, true, false, List, [], ◌∷◌, Option, None, Some}
 use Rattle.std.proofs.Common.{◌⊎◌, ⊎_elim, refl, sym, ap, subst, ◌∙◌, inl, inr}
+use Rattle.std.specs.Prelude.{codes}
 use Rattle.acc_base.specs.declared.designs.Design.{Design}
+use Rattle.acc_base.specs.declared.designs.Side.{Side}
 use Rattle.acc_base.specs.declared.machines.Call.{Call}
+use Rattle.acc_base.specs.Lines.{line}
 use Rattle.acc_print.specs.Designs.{printed}
 use Rattle.acc_journal_commands.proofs.OneReported.{reports_once}
 use Rattle.acc_journal_commands.specs.Reports.{Reports}
 use Rattle.acc_journal_commands.specs.Command.{Command}
 use Rattle.acc_journal_commands.specs.Command.TheVariants as command
 use Rattle.acc_io.specs.Causes.{Rose}
-use Rattle.acc_journalled.specs.declared.answers.Ending.TheVariants.{Done}
-use Rattle.acc_journalled.specs.declared.answers.Wanted.{Wanted}
+use Rattle.acc_journalled.specs.declared.answers.Ending.TheVariants.{Done, DesignRefused}
 use Rattle.acc_journalled.specs.declared.answers.Wanted.TheVariants.{Counts, Rows, Replies}
 use Rattle.acc_journalled.specs.Making.{MakesJournal}
 use Rattle.acc_journalled.specs.Recovering.{RecoversJournal, text_of}
@@ -27,12 +29,14 @@ use Rattle.acc_file_commands.specs.Workloads.{load_said, mix_said}
 use Rattle.acc_file_commands.specs.ScheduleFiles.{SaysOfCertificate, SchedulesFiles}
 use Rattle.acc_file_commands.specs.PrintFiles.{PrintsFile}
 use Rattle.acc_file_commands.specs.CheckFiles.{ChecksFiles, ending_by}
+use Rattle.acc_journal_commands.specs.BookingFiles.{say_seats, BooksSchema, BooksCertified, BooksFiles}
 use Rattle.acc_journal_commands.specs.InitFiles.{InitsJournal, InitsFile}
-use Rattle.acc_journal_commands.specs.RecoverFiles.{RecoversSeen, RecoversCertified, RecoversFiles}
+use Rattle.acc_journal_commands.specs.RecoverFiles.{Saying, RecoversSeen, RecoversCertified, RecoversFiles}
 use Rattle.acc_commands.specs.Alike.{IsWhole, AreByWorkers, AreAlike}
 use Rattle.acc_journal_commands.specs.Words.{is_journalled}
-use Rattle.acc_commands.specs.Means.{MeansOfFiles, MeansOverDisk, MeansBy, Means}
+use Rattle.acc_commands.specs.Means.{AdvisesGiven, MeansOfFiles, MeansOverDisk, MeansBy, Means}
 use Rattle.acc_journal_commands.proofs.OneDesign.{said_same, one_design, one_refusal, formed_or_refused}
+use Rattle.acc_file_commands.proofs.OneAdvice.{one_advice}
 use Rattle.acc_commands.proofs.OneProving.{SaidAlike, one_prove}
 use Rattle.acc_commands.proofs.OneVerifying.{telling_same, one_verify}
 use Rattle.acc_commands.proofs.OneBenching.{one_bench_of}
@@ -84,54 +88,66 @@ one_scheduled design certificate script order a b (inr h) (inr k) =
 
 -- ---- commands without a journal
 
+-- two words name points, and one text is the design
+one_advice_given :
+    (side : Side) (points files : List (List ℕ)) (a b : Said) → AdvisesGiven side points files a → AdvisesGiven side points files b → a ≡ b
+one_advice_given side (held ∷ step ∷ []) (design ∷ []) a b h k = one_advice design held step side a b h k
+one_advice_given side [] files a b h k = absurd h
+one_advice_given side (held ∷ []) files a b h k = absurd h
+one_advice_given side (held ∷ step ∷ []) [] a b h k = absurd h
+one_advice_given side (held ∷ step ∷ []) (design ∷ more ∷ rest) a b h k = absurd h
+one_advice_given side (held ∷ step ∷ more ∷ rest) files a b h k = absurd h
+
 one_of_files :
-    (c : Command) (files : List (List ℕ)) (a b : Said) → MeansOfFiles c files a → MeansOfFiles c files b → SaidAlike c a b
+    (c : Command) (points files : List (List ℕ)) (a b : Said) → MeansOfFiles c points files a → MeansOfFiles c points files b → SaidAlike c a b
 unfolding MeansOfFiles
-one_of_files command.Play [] a b h k = absurd h
-one_of_files command.Play (design ∷ []) a b h k = absurd h
-one_of_files command.Play (design ∷ script ∷ []) a b h k = absurd h
-one_of_files command.Play (design ∷ script ∷ order ∷ []) a b h k = inl (one_play_of design script order a b h k)
-one_of_files command.Play (design ∷ script ∷ order ∷ more ∷ rest) a b h k = absurd h
-one_of_files command.Rehearse [] a b h k = absurd h
-one_of_files command.Rehearse (design ∷ []) a b h k = absurd h
-one_of_files command.Rehearse (design ∷ certificate ∷ []) a b h k = absurd h
-one_of_files command.Rehearse (design ∷ certificate ∷ script ∷ []) a b h k = absurd h
-one_of_files command.Rehearse (design ∷ certificate ∷ script ∷ order ∷ []) a b h k =
+one_of_files command.Play points [] a b h k = absurd h
+one_of_files command.Play points (design ∷ []) a b h k = absurd h
+one_of_files command.Play points (design ∷ script ∷ []) a b h k = absurd h
+one_of_files command.Play points (design ∷ script ∷ order ∷ []) a b h k = inl (one_play_of design script order a b h k)
+one_of_files command.Play points (design ∷ script ∷ order ∷ more ∷ rest) a b h k = absurd h
+one_of_files command.Rehearse points [] a b h k = absurd h
+one_of_files command.Rehearse points (design ∷ []) a b h k = absurd h
+one_of_files command.Rehearse points (design ∷ certificate ∷ []) a b h k = absurd h
+one_of_files command.Rehearse points (design ∷ certificate ∷ script ∷ []) a b h k = absurd h
+one_of_files command.Rehearse points (design ∷ certificate ∷ script ∷ order ∷ []) a b h k =
     inl (one_scheduled design certificate script order a b h k)
-one_of_files command.Rehearse (design ∷ certificate ∷ script ∷ order ∷ more ∷ rest) a b h k = absurd h
-one_of_files command.Print [] a b h k = absurd h
-one_of_files command.Print (design ∷ []) a b h k = inl (one_print design a b h k)
-one_of_files command.Print (design ∷ more ∷ rest) a b h k = absurd h
-one_of_files command.Check [] a b h k = absurd h
-one_of_files command.Check (design ∷ []) a b h k = absurd h
-one_of_files command.Check (design ∷ certificate ∷ []) a b h k = inl (one_check design certificate a b h k)
-one_of_files command.Check (design ∷ certificate ∷ more ∷ rest) a b h k = absurd h
-one_of_files command.Prove [] a b h k = absurd h
-one_of_files command.Prove (design ∷ []) a b h k = one_prove design a b h k
-one_of_files command.Prove (design ∷ more ∷ rest) a b h k = absurd h
-one_of_files command.Init files a b h k = absurd h
-one_of_files command.Sched files a b h k = absurd h
-one_of_files (command.Run workers) files a b h k = absurd h
-one_of_files command.Recover files a b h k = absurd h
-one_of_files command.Dump files a b h k = absurd h
-one_of_files command.Replies files a b h k = absurd h
-one_of_files command.Verify files a b h k = absurd h
-one_of_files command.TpccDesign [] a b h k = inl (said_same Done (printed shipped_design) (printed shipped_design) a b refl h.says k.says)
-one_of_files command.BookingDesign [] a b h k = inl (said_same Done (printed booking_design) (printed booking_design) a b refl h.says k.says)
-one_of_files command.TpccDesign (more ∷ rest) a b h k = absurd h
-one_of_files command.BookingDesign (more ∷ rest) a b h k = absurd h
-one_of_files (command.TpccLoad scale) [] a b h k = inl (said_same Done (load_said scale) (load_said scale) a b refl h k)
-one_of_files (command.TpccMix mix) [] a b h k = inl (said_same Done (mix_said mix) (mix_said mix) a b refl h k)
-one_of_files (command.TpccLoad scale) (more ∷ rest) a b h k = absurd h
-one_of_files (command.TpccMix mix) (more ∷ rest) a b h k = absurd h
-one_of_files (command.Bench mix) [] a b h k = absurd h
-one_of_files (command.Bench mix) (design ∷ []) a b h k = absurd h
-one_of_files (command.Bench mix) (design ∷ certificate ∷ []) a b h k = inl (one_bench_of mix design certificate a b h k)
-one_of_files (command.Bench mix) (design ∷ certificate ∷ more ∷ rest) a b h k = absurd h
-one_of_files command.Help [] a b h k = inl (said_same Done help_text help_text a b refl h k)
-one_of_files command.Help (more ∷ rest) a b h k = absurd h
-one_of_files command.Version [] a b h k = inl (said_same Done version_text version_text a b refl h k)
-one_of_files command.Version (more ∷ rest) a b h k = absurd h
+one_of_files command.Rehearse points (design ∷ certificate ∷ script ∷ order ∷ more ∷ rest) a b h k = absurd h
+one_of_files command.Print points [] a b h k = absurd h
+one_of_files command.Print points (design ∷ []) a b h k = inl (one_print design a b h k)
+one_of_files command.Print points (design ∷ more ∷ rest) a b h k = absurd h
+one_of_files command.Check points [] a b h k = absurd h
+one_of_files command.Check points (design ∷ []) a b h k = absurd h
+one_of_files command.Check points (design ∷ certificate ∷ []) a b h k = inl (one_check design certificate a b h k)
+one_of_files command.Check points (design ∷ certificate ∷ more ∷ rest) a b h k = absurd h
+one_of_files command.Prove points [] a b h k = absurd h
+one_of_files command.Prove points (design ∷ []) a b h k = one_prove design a b h k
+one_of_files command.Prove points (design ∷ more ∷ rest) a b h k = absurd h
+one_of_files (command.Advise side) points files a b h k = inl (one_advice_given side points files a b h k)
+one_of_files command.Init points files a b h k = absurd h
+one_of_files command.Sched points files a b h k = absurd h
+one_of_files (command.Run workers) points files a b h k = absurd h
+one_of_files command.Recover points files a b h k = absurd h
+one_of_files command.Dump points files a b h k = absurd h
+one_of_files command.Replies points files a b h k = absurd h
+one_of_files command.Verify points files a b h k = absurd h
+one_of_files command.TpccDesign points [] a b h k = inl (said_same Done (printed shipped_design) (printed shipped_design) a b refl h.says k.says)
+one_of_files command.BookingDesign points [] a b h k = inl (said_same Done (printed booking_design) (printed booking_design) a b refl h.says k.says)
+one_of_files command.TpccDesign points (more ∷ rest) a b h k = absurd h
+one_of_files command.BookingVerify points files a b h k = absurd h
+one_of_files command.BookingDesign points (more ∷ rest) a b h k = absurd h
+one_of_files (command.TpccLoad scale) points [] a b h k = inl (said_same Done (load_said scale) (load_said scale) a b refl h k)
+one_of_files (command.TpccMix mix) points [] a b h k = inl (said_same Done (mix_said mix) (mix_said mix) a b refl h k)
+one_of_files (command.TpccLoad scale) points (more ∷ rest) a b h k = absurd h
+one_of_files (command.TpccMix mix) points (more ∷ rest) a b h k = absurd h
+one_of_files (command.Bench mix) points [] a b h k = absurd h
+one_of_files (command.Bench mix) points (design ∷ []) a b h k = absurd h
+one_of_files (command.Bench mix) points (design ∷ certificate ∷ []) a b h k = inl (one_bench_of mix design certificate a b h k)
+one_of_files (command.Bench mix) points (design ∷ certificate ∷ more ∷ rest) a b h k = absurd h
+one_of_files command.Help points [] a b h k = inl (said_same Done help_text help_text a b refl h k)
+one_of_files command.Help points (more ∷ rest) a b h k = absurd h
+one_of_files command.Version points [] a b h k = inl (said_same Done version_text version_text a b refl h k)
+one_of_files command.Version points (more ∷ rest) a b h k = absurd h
 
 -- ---- journals
 
@@ -144,13 +160,13 @@ module _ (old one other : Seen) (a b : Telling) (all : TellsAll old one other) w
       (subst (λ t. MakesJournal d t one.told (Rose old.faults one.faults) a) is h)
       (subst (λ t. MakesJournal d t other.told (Rose old.faults other.faults) b) is k)
 
-  one_recovery_of : (told : Option (List ℕ)) (wanted : Wanted) (d : Design) → old.told ≡ told → RecoversSeen wanted d old one a
-      → RecoversSeen wanted d old other b → a ≡ b
-  one_recovery_of None wanted d is h k = absurd (all.0 is)
-  one_recovery_of (Some file) wanted d is h k =
-      recovering_once d file (text_of wanted d) one.told other.told a b (Rose old.faults one.faults) (Rose old.faults other.faults)
-      all.1 all.2 (subst (λ t. RecoversJournal (text_of wanted d) d t one.told (Rose old.faults one.faults) a) is h)
-      (subst (λ t. RecoversJournal (text_of wanted d) d t other.told (Rose old.faults other.faults) b) is k)
+  one_recovery_of : (told : Option (List ℕ)) (say : Saying) (d : Design) → old.told ≡ told → RecoversSeen say d old one a
+      → RecoversSeen say d old other b → a ≡ b
+  one_recovery_of None say d is h k = absurd (all.0 is)
+  one_recovery_of (Some file) say d is h k =
+      recovering_once d file (say d) one.told other.told a b (Rose old.faults one.faults) (Rose old.faults other.faults)
+      all.1 all.2 (subst (λ t. RecoversJournal (say d) d t one.told (Rose old.faults one.faults) a) is h)
+      (subst (λ t. RecoversJournal (say d) d t other.told (Rose old.faults other.faults) b) is k)
 
   one_init : (design : List ℕ) → InitsFile design old one a → InitsFile design old other b → a ≡ b
   one_init design (inl h) (inl k) = telling_same a b (one_refusal design (said_in a) (said_in b) h.2 k.2) (h.0 ∙ sym k.0)
@@ -160,26 +176,53 @@ module _ (old one other : Seen) (a b : Telling) (all : TellsAll old one other) w
       one_journal old.told k.d refl
       (subst (λ (d : Design). InitsJournal d old one a) (one_design design h.d k.d h.is_text k.is_text) h.ends) k.ends
 
-  one_certified_recovery : (wanted : Wanted) (d : Design) (certificate : List ℕ) → RecoversCertified wanted d certificate old one a
-      → RecoversCertified wanted d certificate old other b → a ≡ b
-  one_certified_recovery wanted d certificate (inl h) (inl k) =
+  one_certified_recovery : (say : Saying) (d : Design) (certificate : List ℕ) → RecoversCertified say d certificate old one a
+      → RecoversCertified say d certificate old other b → a ≡ b
+  one_certified_recovery say d certificate (inl h) (inl k) =
       telling_same a b (one_certificate_refusal d certificate (said_in a) (said_in b) h.2 k.2) (h.0 ∙ sym k.0)
-  one_certified_recovery wanted d certificate (inl h) (inr k) =
+  one_certified_recovery say d certificate (inl h) (inr k) =
       absurd (accepted_or_refused d certificate (said_in a) k.accepted h.2)
-  one_certified_recovery wanted d certificate (inr h) (inl k) =
+  one_certified_recovery say d certificate (inr h) (inl k) =
       absurd (accepted_or_refused d certificate (said_in b) h.accepted k.2)
-  one_certified_recovery wanted d certificate (inr h) (inr k) = one_recovery_of old.told wanted d refl h.ends k.ends
+  one_certified_recovery say d certificate (inr h) (inr k) = one_recovery_of old.told say d refl h.ends k.ends
 
-  one_recover : (wanted : Wanted) (design certificate : List ℕ) → RecoversFiles wanted design certificate old one a
-      → RecoversFiles wanted design certificate old other b → a ≡ b
-  one_recover wanted design certificate (inl h) (inl k) =
+  one_recover : (say : Saying) (design certificate : List ℕ) → RecoversFiles say design certificate old one a
+      → RecoversFiles say design certificate old other b → a ≡ b
+  one_recover say design certificate (inl h) (inl k) =
       telling_same a b (one_refusal design (said_in a) (said_in b) h.2 k.2) (h.0 ∙ sym k.0)
-  one_recover wanted design certificate (inl h) (inr k) = absurd (formed_or_refused design k.d (said_in a) k.is_text k.formed h.2)
-  one_recover wanted design certificate (inr h) (inl k) = absurd (formed_or_refused design h.d (said_in b) h.is_text h.formed k.2)
-  one_recover wanted design certificate (inr h) (inr k) =
-      one_certified_recovery wanted k.d certificate
-      (subst (λ (d : Design). RecoversCertified wanted d certificate old one a) (one_design design h.d k.d h.is_text k.is_text) h.says)
+  one_recover say design certificate (inl h) (inr k) = absurd (formed_or_refused design k.d (said_in a) k.is_text k.formed h.2)
+  one_recover say design certificate (inr h) (inl k) = absurd (formed_or_refused design h.d (said_in b) h.is_text h.formed k.2)
+  one_recover say design certificate (inr h) (inr k) =
+      one_certified_recovery say k.d certificate
+      (subst (λ (d : Design). RecoversCertified say d certificate old one a) (one_design design h.d k.d h.is_text k.is_text) h.says)
       k.says
+
+  -- ---- bookings
+
+  one_by_schema : (d : Design) → BooksSchema d old one a → BooksSchema d old other b → a ≡ b
+  one_by_schema d (inl h) (inl k) =
+      telling_same a b
+      (said_same DesignRefused (line (codes "refused schema 1")) (line (codes "refused schema 1")) (said_in a) (said_in b) refl h.2.says k.2.says)
+      (h.0 ∙ sym k.0)
+  one_by_schema d (inl h) (inr k) = absurd (h.2.other k.shipped)
+  one_by_schema d (inr h) (inl k) = absurd (k.2.other h.shipped)
+  one_by_schema d (inr h) (inr k) = one_recovery_of old.told say_seats d refl h.ends k.ends
+
+  one_by_certificate : (d : Design) (certificate : List ℕ) → BooksCertified d certificate old one a → BooksCertified d certificate old other b
+      → a ≡ b
+  one_by_certificate d certificate (inl h) (inl k) =
+      telling_same a b (one_certificate_refusal d certificate (said_in a) (said_in b) h.2 k.2) (h.0 ∙ sym k.0)
+  one_by_certificate d certificate (inl h) (inr k) = absurd (accepted_or_refused d certificate (said_in a) k.accepted h.2)
+  one_by_certificate d certificate (inr h) (inl k) = absurd (accepted_or_refused d certificate (said_in b) h.accepted k.2)
+  one_by_certificate d certificate (inr h) (inr k) = one_by_schema d h.says k.says
+
+  one_book : (design certificate : List ℕ) → BooksFiles design certificate old one a → BooksFiles design certificate old other b → a ≡ b
+  one_book design certificate (inl h) (inl k) = telling_same a b (one_refusal design (said_in a) (said_in b) h.2 k.2) (h.0 ∙ sym k.0)
+  one_book design certificate (inl h) (inr k) = absurd (formed_or_refused design k.d (said_in a) k.is_text k.formed h.2)
+  one_book design certificate (inr h) (inl k) = absurd (formed_or_refused design h.d (said_in b) h.is_text h.formed k.2)
+  one_book design certificate (inr h) (inr k) =
+      one_by_certificate k.d certificate
+      (subst (λ (d : Design). BooksCertified d certificate old one a) (one_design design h.d k.d h.is_text k.is_text) h.says) k.says
 
 -- ---- runs over a journal
 
@@ -266,23 +309,29 @@ one_over_disk command.Init (design ∷ more ∷ rest) old one other a b all h k 
 one_over_disk command.Recover [] old one other a b all h k = absurd h
 one_over_disk command.Recover (design ∷ []) old one other a b all h k = absurd h
 one_over_disk command.Recover (design ∷ certificate ∷ []) old one other a b all h k =
-    inl (one_recover old one other a b all Counts design certificate h k)
+    inl (one_recover old one other a b all (text_of Counts) design certificate h k)
 one_over_disk command.Recover (design ∷ certificate ∷ more ∷ rest) old one other a b all h k = absurd h
 one_over_disk command.Dump [] old one other a b all h k = absurd h
 one_over_disk command.Dump (design ∷ []) old one other a b all h k = absurd h
 one_over_disk command.Dump (design ∷ certificate ∷ []) old one other a b all h k =
-    inl (one_recover old one other a b all Rows design certificate h k)
+    inl (one_recover old one other a b all (text_of Rows) design certificate h k)
 one_over_disk command.Dump (design ∷ certificate ∷ more ∷ rest) old one other a b all h k = absurd h
 one_over_disk command.Replies [] old one other a b all h k = absurd h
 one_over_disk command.Replies (design ∷ []) old one other a b all h k = absurd h
 one_over_disk command.Replies (design ∷ certificate ∷ []) old one other a b all h k =
-    inl (one_recover old one other a b all Replies design certificate h k)
+    inl (one_recover old one other a b all (text_of Replies) design certificate h k)
 one_over_disk command.Replies (design ∷ certificate ∷ more ∷ rest) old one other a b all h k = absurd h
 one_over_disk command.Verify [] old one other a b all h k = absurd h
 one_over_disk command.Verify (design ∷ []) old one other a b all h k = absurd h
 one_over_disk command.Verify (design ∷ certificate ∷ []) old one other a b all h k =
     inl (one_verify old one other a b all design certificate h k)
 one_over_disk command.Verify (design ∷ certificate ∷ more ∷ rest) old one other a b all h k = absurd h
+one_over_disk command.BookingVerify [] old one other a b all h k = absurd h
+one_over_disk command.BookingVerify (design ∷ []) old one other a b all h k = absurd h
+one_over_disk command.BookingVerify (design ∷ certificate ∷ []) old one other a b all h k =
+    inl (one_book old one other a b all design certificate h k)
+one_over_disk command.BookingVerify (design ∷ certificate ∷ more ∷ rest) old one other a b all h k = absurd h
+one_over_disk (command.Advise side) files old one other a b all h k = absurd h
 one_over_disk command.TpccDesign files old one other a b all h k = absurd h
 one_over_disk command.BookingDesign files old one other a b all h k = absurd h
 one_over_disk (command.TpccLoad scale) files old one other a b all h k = absurd h
@@ -322,14 +371,16 @@ alike_telling c a b (inr (is, one, other, history)) settled =
     inr (inl (record { is_prove = is; one_done = one; other_done = other; history = history; settled = settled }))
 
 one_by :
-    (over : Bool) (c : Command) (files : List (List ℕ)) (old one other : Seen) (a b : Telling) → (over ≡ true → TellsAll old one other)
-    → MeansBy over c files old one a → MeansBy over c files old other b → AreAlike c a b
-one_by true c files old one other a b all h k =
+    (over : Bool) (c : Command) (points files : List (List ℕ)) (old one other : Seen) (a b : Telling)
+    → (over ≡ true → TellsAll old one other) → MeansBy over c points files old one a → MeansBy over c points files old other b
+    → AreAlike c a b
+one_by true c points files old one other a b all h k =
     ⊎_elim (λ same. inl same) (λ free. inr (inr free)) (one_over_disk c files old one other a b (all refl) h k)
-one_by false c files old one other a b all h k =
-    alike_telling c a b (one_of_files c files (said_in a) (said_in b) h.2 k.2) (h.0 ∙ sym k.0)
+one_by false c points files old one other a b all h k =
+    alike_telling c a b (one_of_files c points files (said_in a) (said_in b) h.2 k.2) (h.0 ∙ sym k.0)
 
 pub one_meaning :
-    (c : Command) (files : List (List ℕ)) (old one other : Seen) (a b : Telling) → (is_journalled c ≡ true → TellsAll old one other)
-    → Means c files old one a → Means c files old other b → AreAlike c a b
+    (c : Command) (points files : List (List ℕ)) (old one other : Seen) (a b : Telling)
+    → (is_journalled c ≡ true → TellsAll old one other) → Means c points files old one a → Means c points files old other b
+    → AreAlike c a b
 one_meaning c = one_by (is_journalled c) c

@@ -1,5 +1,5 @@
 -- Which journal is refused, and which run leaves a place unbegun.
-use Rattle.std.proofs.Common.{◌≡◌, ℕ, Bool, true, false, List, [], ◌∷◌, inl, inr, sym, ◌∙◌, refl}
+use Rattle.std.proofs.Common.{◌≡◌, ℕ, Bool, true, false, List, [], ◌∷◌, inl, inr, sym, ◌∙◌, refl, ⊎_elim}
 use Rattle.std.specs.Prelude.{◌⊎◌}
 use Rattle.acc_io.specs.Causes.{Rose}
 use Rattle.acc_base.specs.declared.designs.Design.{Design}
@@ -8,7 +8,6 @@ use Rattle.acc_base.specs.Machine.{World}
 use Rattle.acc_base.specs.Plays.{Play}
 use Rattle.acc_journalled.specs.declared.answers.Ending.TheVariants.{Done, DesignRefused, ScriptRefused, JournalRefused}
 use Rattle.acc_journalled.specs.declared.answers.Ending.TheVariants.{DiskFailed, Unbegun}
-use Rattle.acc_journalled.specs.declared.answers.Wanted.{Wanted}
 use Rattle.acc_journalled.specs.declared.answers.Wanted.TheVariants.{Counts, Rows, Replies}
 use Rattle.acc_journalled.specs.Making.{FindsOne}
 use Rattle.acc_journalled.specs.Recovering.{RefusesSo, text_of}
@@ -17,17 +16,18 @@ use Rattle.acc_journal_commands.specs.Command.{Command}
 use Rattle.acc_journal_commands.specs.Command.TheVariants as command
 use Rattle.acc_journal_commands.specs.Text.{said_in}
 use Rattle.acc_journal_commands.specs.Disks.{Seen}
+use Rattle.acc_journal_commands.specs.BookingFiles.{say_seats, BooksFiles}
 use Rattle.acc_journal_commands.specs.InitFiles.{InitsJournal, InitsFile}
 use Rattle.acc_journal_commands.specs.Engines.{ending_at}
 use Rattle.acc_file_commands.specs.Schedules.{TellsScheduleFrom}
 use Rattle.acc_journal_commands.specs.Running.{RunsFrom, IsOpening, WorkersLeave}
 use Rattle.acc_journal_commands.specs.RunFiles.{RunsOfOrder, WorksSeen, RunsOfScript, RunsCertified, RunsTexts}
-use Rattle.acc_journal_commands.specs.RecoverFiles.{RecoversSeen, RecoversCertified, RecoversFiles}
+use Rattle.acc_journal_commands.specs.RecoverFiles.{Saying, RecoversSeen, RecoversCertified, RecoversFiles}
 use Rattle.acc_commands.specs.Means.{MeansOverDisk}
 use Rattle.acc_commands.specs.Overs.{IsRecovering, LeavesOver, LeavesBy}
 use Rattle.acc_commands.proofs.VerifyOvers.{verify_refused, verify_unbegun}
 use Rattle.acc_journal_commands.proofs.JournalEndings.{other_end, refusal_ends, making_ends, recovering_ends, unrecovered_ends}
-use Rattle.acc_journal_commands.proofs.JournalEndings.{over_unbegun}
+use Rattle.acc_journal_commands.proofs.JournalEndings.{over_unbegun, refused_or_recovered}
 
 -- ---- which journal is refused
 
@@ -47,21 +47,29 @@ init_refused design old new t (inr h) e = by h.ends
     by (inr (inl k)) = k
     by (inr (inr k)) = absurd (other_end DiskFailed JournalRefused t (λ e. cc) k.says.0 e)
 
-module _ (wanted : Wanted) (old new : Seen) (t : Telling) (so : t.ending ≡ JournalRefused) where
-  seen_refused : (d : Design) → RecoversSeen wanted d old new t → RefusesSo d old.told new.told (Rose old.faults new.faults) t
+module _ (say : Saying) (old new : Seen) (t : Telling) (so : t.ending ≡ JournalRefused) where
+  seen_refused : (d : Design) → RecoversSeen say d old new t → RefusesSo d old.told new.told (Rose old.faults new.faults) t
   seen_refused d (inl h) = absurd (other_end Done JournalRefused t (λ e. cc) h.says.0 so)
   seen_refused d (inr h) = h
 
-  certified_refused : (d : Design) (certificate : List ℕ) → RecoversCertified wanted d certificate old new t
+  certified_refused : (d : Design) (certificate : List ℕ) → RecoversCertified say d certificate old new t
       → RefusesSo d old.told new.told (Rose old.faults new.faults) t
   certified_refused d certificate (inl h) = absurd (other_end DesignRefused JournalRefused t (λ e. cc) h.2.ending so)
   certified_refused d certificate (inr h) = seen_refused d h.ends
 
-  recover_refused : (design certificate : List ℕ) → RecoversFiles wanted design certificate old new t
+  recover_refused : (design certificate : List ℕ) → RecoversFiles say design certificate old new t
       → (d : Design) × RefusesSo d old.told new.told (Rose old.faults new.faults) t
   recover_refused design certificate (inl h) =
       absurd (other_end DesignRefused JournalRefused t (λ e. cc) (refusal_ends design (said_in t) h.2) so)
   recover_refused design certificate (inr h) = (h.d, certified_refused h.d certificate h.says)
+
+-- ---- of `booking verify`
+
+book_refused : (design certificate : List ℕ) (old new : Seen) (t : Telling) → t.ending ≡ JournalRefused → BooksFiles design certificate old new t
+    → (d : Design) × RefusesSo d old.told new.told (Rose old.faults new.faults) t
+book_refused design certificate old new t so h =
+    ⊎_elim (λ other. absurd (other_end DesignRefused JournalRefused t (λ e. cc) other.2.0 so))
+    (λ found. recover_refused say_seats old new t so design certificate found) (refused_or_recovered old new t design certificate h)
 
 -- ---- of a run
 
@@ -113,23 +121,29 @@ refused_over command.Init (design ∷ more ∷ rest) old new t e h = absurd h
 refused_over command.Recover [] old new t e h = absurd h
 refused_over command.Recover (design ∷ []) old new t e h = absurd h
 refused_over command.Recover (design ∷ certificate ∷ []) old new t e h =
-    let r = recover_refused Counts old new t e design certificate h in inr (inr (inl refl), r.0, r.1)
+    let r = recover_refused (text_of Counts) old new t e design certificate h in inr (inr (inl refl), r.0, r.1)
 refused_over command.Recover (design ∷ certificate ∷ more ∷ rest) old new t e h = absurd h
 refused_over command.Dump [] old new t e h = absurd h
 refused_over command.Dump (design ∷ []) old new t e h = absurd h
 refused_over command.Dump (design ∷ certificate ∷ []) old new t e h =
-    let r = recover_refused Rows old new t e design certificate h in inr (inr (inr (inl refl)), r.0, r.1)
+    let r = recover_refused (text_of Rows) old new t e design certificate h in inr (inr (inr (inl refl)), r.0, r.1)
 refused_over command.Dump (design ∷ certificate ∷ more ∷ rest) old new t e h = absurd h
 refused_over command.Replies [] old new t e h = absurd h
 refused_over command.Replies (design ∷ []) old new t e h = absurd h
 refused_over command.Replies (design ∷ certificate ∷ []) old new t e h =
-    let r = recover_refused Replies old new t e design certificate h in inr (inr (inr (inr (inl refl))), r.0, r.1)
+    let r = recover_refused (text_of Replies) old new t e design certificate h in inr (inr (inr (inr (inl refl))), r.0, r.1)
 refused_over command.Replies (design ∷ certificate ∷ more ∷ rest) old new t e h = absurd h
 refused_over command.Verify [] old new t e h = absurd h
 refused_over command.Verify (design ∷ []) old new t e h = absurd h
 refused_over command.Verify (design ∷ certificate ∷ []) old new t e h =
     let r = verify_refused old new t design certificate e h in inr (inr (inr (inr (inr (inl refl)))), r.0, r.1)
 refused_over command.Verify (design ∷ certificate ∷ more ∷ rest) old new t e h = absurd h
+refused_over command.BookingVerify [] old new t e h = absurd h
+refused_over command.BookingVerify (design ∷ []) old new t e h = absurd h
+refused_over command.BookingVerify (design ∷ certificate ∷ []) old new t e h =
+    let r = book_refused design certificate old new t e h in inr (inr (inr (inr (inr (inr (inl refl))))), r.0, r.1)
+refused_over command.BookingVerify (design ∷ certificate ∷ more ∷ rest) old new t e h = absurd h
+refused_over (command.Advise side) files old new t e h = absurd h
 refused_over command.TpccDesign files old new t e h = absurd h
 refused_over command.BookingDesign files old new t e h = absurd h
 refused_over (command.TpccLoad scale) files old new t e h = absurd h
@@ -150,7 +164,7 @@ refused_over (command.Run workers) (design ∷ []) old new t e h = absurd h
 refused_over (command.Run workers) (design ∷ certificate ∷ []) old new t e h = absurd h
 refused_over (command.Run workers) (design ∷ certificate ∷ script ∷ []) old new t e h =
     let r = texts_refused old new t e WorksSeen (workers_refused old new t e) design certificate script h in
-    inr (inr (inr (inr (inr (inr (workers, refl))))), r.0, r.1)
+    inr (inr (inr (inr (inr (inr (inr (workers, refl)))))), r.0, r.1)
 refused_over (command.Run workers) (design ∷ certificate ∷ script ∷ more ∷ rest) old new t e h = absurd h
 refused_over command.Print files old new t e h = absurd h
 refused_over command.Check files old new t e h = absurd h
@@ -211,16 +225,21 @@ module _ (old new : Seen) (t : Telling) (so : t.ending ≡ Unbegun) where
   init_unbegun design (inr h) =
       over_unbegun (Rose old.faults new.faults) t (making_ends h.d old.told new.told (Rose old.faults new.faults) t h.ends) so
 
-  recover_certified_unbegun : (wanted : Wanted) (d : Design) (certificate : List ℕ) → RecoversCertified wanted d certificate old new t → ⊥
-  recover_certified_unbegun wanted d certificate (inl h) = other_end DesignRefused Unbegun t (λ e. cc) h.2.ending so
-  recover_certified_unbegun wanted d certificate (inr h) =
+  recover_certified_unbegun : (say : Saying) (d : Design) (certificate : List ℕ) → RecoversCertified say d certificate old new t → ⊥
+  recover_certified_unbegun say d certificate (inl h) = other_end DesignRefused Unbegun t (λ e. cc) h.2.ending so
+  recover_certified_unbegun say d certificate (inr h) =
       over_unbegun (Rose old.faults new.faults) t
-      (recovering_ends (text_of wanted d) d old.told new.told (Rose old.faults new.faults) t h.ends) so
+      (recovering_ends (say d) d old.told new.told (Rose old.faults new.faults) t h.ends) so
 
-  recover_unbegun : (wanted : Wanted) (design certificate : List ℕ) → RecoversFiles wanted design certificate old new t → ⊥
-  recover_unbegun wanted design certificate (inl h) =
+  recover_unbegun : (say : Saying) (design certificate : List ℕ) → RecoversFiles say design certificate old new t → ⊥
+  recover_unbegun say design certificate (inl h) =
       other_end DesignRefused Unbegun t (λ e. cc) (refusal_ends design (said_in t) h.2) so
-  recover_unbegun wanted design certificate (inr h) = recover_certified_unbegun wanted h.d certificate h.says
+  recover_unbegun say design certificate (inr h) = recover_certified_unbegun say h.d certificate h.says
+
+  book_unbegun : (design certificate : List ℕ) → BooksFiles design certificate old new t → ⊥
+  book_unbegun design certificate h =
+      ⊎_elim (λ other. other_end DesignRefused Unbegun t (λ e. cc) other.2.0 so)
+      (λ found. recover_unbegun say_seats design certificate found) (refused_or_recovered old new t design certificate h)
 
 pub unbegun_over : (c : Command) (files : List (List ℕ)) (old new : Seen) (t : Telling) → t.ending ≡ Unbegun
     → MeansOverDisk c files old new t → LeavesBy c t
@@ -251,21 +270,26 @@ unbegun_over (command.Run workers) (design ∷ certificate ∷ script ∷ []) ol
 unbegun_over (command.Run workers) (design ∷ certificate ∷ script ∷ more ∷ rest) old new t e h = absurd h
 unbegun_over command.Recover [] old new t e h = absurd h
 unbegun_over command.Recover (design ∷ []) old new t e h = absurd h
-unbegun_over command.Recover (design ∷ certificate ∷ []) old new t e h = absurd (recover_unbegun old new t e Counts design certificate h)
+unbegun_over command.Recover (design ∷ certificate ∷ []) old new t e h = absurd (recover_unbegun old new t e (text_of Counts) design certificate h)
 unbegun_over command.Recover (design ∷ certificate ∷ more ∷ rest) old new t e h = absurd h
 unbegun_over command.Dump [] old new t e h = absurd h
 unbegun_over command.Dump (design ∷ []) old new t e h = absurd h
-unbegun_over command.Dump (design ∷ certificate ∷ []) old new t e h = absurd (recover_unbegun old new t e Rows design certificate h)
+unbegun_over command.Dump (design ∷ certificate ∷ []) old new t e h = absurd (recover_unbegun old new t e (text_of Rows) design certificate h)
 unbegun_over command.Dump (design ∷ certificate ∷ more ∷ rest) old new t e h = absurd h
 unbegun_over command.Replies [] old new t e h = absurd h
 unbegun_over command.Replies (design ∷ []) old new t e h = absurd h
-unbegun_over command.Replies (design ∷ certificate ∷ []) old new t e h = absurd (recover_unbegun old new t e Replies design certificate h)
+unbegun_over command.Replies (design ∷ certificate ∷ []) old new t e h = absurd (recover_unbegun old new t e (text_of Replies) design certificate h)
 unbegun_over command.Replies (design ∷ certificate ∷ more ∷ rest) old new t e h = absurd h
 unbegun_over command.Rehearse files old new t e h = absurd h
 unbegun_over command.Verify [] old new t e h = absurd h
 unbegun_over command.Verify (design ∷ []) old new t e h = absurd h
 unbegun_over command.Verify (design ∷ certificate ∷ []) old new t e h = absurd (verify_unbegun old new t design certificate e h)
 unbegun_over command.Verify (design ∷ certificate ∷ more ∷ rest) old new t e h = absurd h
+unbegun_over command.BookingVerify [] old new t e h = absurd h
+unbegun_over command.BookingVerify (design ∷ []) old new t e h = absurd h
+unbegun_over command.BookingVerify (design ∷ certificate ∷ []) old new t e h = absurd (book_unbegun old new t e design certificate h)
+unbegun_over command.BookingVerify (design ∷ certificate ∷ more ∷ rest) old new t e h = absurd h
+unbegun_over (command.Advise side) files old new t e h = absurd h
 unbegun_over command.TpccDesign files old new t e h = absurd h
 unbegun_over command.BookingDesign files old new t e h = absurd h
 unbegun_over (command.TpccLoad scale) files old new t e h = absurd h

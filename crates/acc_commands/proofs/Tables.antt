@@ -7,6 +7,6 @@ use Rattle.acc_journal_commands.specs.Disks.{Seen}
 use Rattle.acc_journal_commands.specs.Words.{is_journalled}
 use Rattle.acc_commands.specs.Means.{MeansOfFiles, MeansBy, Means}
 
-pub means_without : (c : Command) (files : List (List ℕ)) (disk : Seen) (t : Telling) → is_journalled c ≡ false → t.settled ≡ 0
-    → MeansOfFiles c files (said_in t) → Means c files disk disk t
-means_without c files disk t is settled h = subst (λ over. MeansBy over c files disk disk t) (sym is) (settled, refl, h)
+pub means_without : (c : Command) (points files : List (List ℕ)) (disk : Seen) (t : Telling) → is_journalled c ≡ false → t.settled ≡ 0
+    → MeansOfFiles c points files (said_in t) → Means c points files disk disk t
+means_without c points files disk t is settled h = subst (λ over. MeansBy over c points files disk disk t) (sym is) (settled, refl, h)

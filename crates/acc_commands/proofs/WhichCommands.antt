@@ -1,8 +1,10 @@
 -- Which command ends so.
-use Rattle.std.proofs.Common.{◌≡◌, ℕ, Bool, true, false, List, [], ◌∷◌, inl, inr, refl, sym, subst, ◌∙◌, ⊎_elim}
+use Rattle.std.proofs.Common.{◌≡◌, ℕ, Bool, true, false, List, [], ◌∷◌, Option, Some, None, inl, inr, refl, sym, subst, ◌∙◌, ⊎_elim}
 use Rattle.std.specs.Prelude.{◌≢◌, ◌⊎◌}
 use Rattle.acc_io.specs.Causes.{Rose}
+use Rattle.acc_base.specs.declared.designs.At.{At}
 use Rattle.acc_base.specs.declared.designs.Design.{Design}
+use Rattle.acc_base.specs.declared.designs.Side.{Side}
 use Rattle.acc_base.specs.declared.machines.Call.{Call}
 use Rattle.acc_journal_commands.specs.ParseError.{ParseError}
 use Rattle.acc_journal_commands.specs.ParseError.TheVariants as errors
@@ -17,13 +19,14 @@ use Rattle.acc_journal_commands.specs.Text.{Said, said_in}
 use Rattle.acc_journal_commands.specs.Disks.{Seen}
 use Rattle.acc_journal_commands.specs.Refusals.{SaysError, RefusesDesign}
 use Rattle.acc_journal_commands.specs.Scripts.{SaysOfOrder, SaysOfScript}
+use Rattle.acc_file_commands.specs.Advising.{held_at, step_at, SaysOfPoints, AdvisesFile}
 use Rattle.acc_file_commands.specs.PlayFiles.{SaysPlay, PlaysFiles}
 use Rattle.acc_file_commands.specs.ScheduleFiles.{SaysSchedule, SaysOfCertificate, SchedulesFiles, ending_at}
 use Rattle.acc_file_commands.specs.PrintFiles.{PrintsFile}
 use Rattle.acc_file_commands.specs.CheckFiles.{ChecksFiles, ending_by}
 use Rattle.acc_file_commands.specs.ProveFiles.{EndsProving, StaysOpen, ProvesFile}
 use Rattle.acc_journal_commands.specs.Words.{is_journalled}
-use Rattle.acc_commands.specs.Means.{MeansOfFiles, MeansBy, Means}
+use Rattle.acc_commands.specs.Means.{AdvisesGiven, MeansOfFiles, MeansBy, Means}
 use Rattle.acc_commands.specs.Overs.{LeavesBy, FindsFalse, RunsBench, LeavesBench, BenchFindsFalse}
 use Rattle.acc_commands.proofs.BenchOvers.{runs_bench, never_bench, leaves_bench, bench_finds_false}
 use Rattle.acc_journal_commands.proofs.JournalEndings.{failed_by, never_false, never_open, other_end}
@@ -128,56 +131,76 @@ module _ (other : Ending) (done_other : Done ≢ other) (design_other : DesignRe
   sched_so design certificate script order said so (inl h) = absurd (refusal_other design said h so)
   sched_so design certificate script order said so (inr h) = certified_so h.d certificate script order said so h.says
 
+  advice_other : (design held step : List ℕ) (side : Side) (said : Said) → said.ending ≡ other → AdvisesFile design held step side said → ⊥
+  advice_other design held step side said so (inl h) = refusal_other design said h so
+  advice_other design held step side said so (inr h) = by (held_at h.d held) (step_at h.d side step) h.says
+    where
+      by : (p q : Option At) → SaysOfPoints h.d held step side p q said → ⊥
+      by None q k = not_so ScriptRefused said script_other k.0 so
+      by (Some p) None k = not_so ScriptRefused said script_other k.0 so
+      by (Some p) (Some q) (inl k) = not_so Done said done_other k.says.0 so
+      by (Some p) (Some q) (inr k) = not_so DesignRefused said design_other k.says.0 so
+
+  given_other : (side : Side) (points files : List (List ℕ)) (said : Said) → said.ending ≡ other → AdvisesGiven side points files said → ⊥
+  given_other side (held ∷ step ∷ []) (design ∷ []) said so h = advice_other design held step side said so h
+  given_other side [] files said so h = h
+  given_other side (held ∷ []) files said so h = h
+  given_other side (held ∷ step ∷ []) [] said so h = h
+  given_other side (held ∷ step ∷ []) (design ∷ more ∷ rest) said so h = h
+  given_other side (held ∷ step ∷ more ∷ rest) files said so h = h
+
   pub ends_scheduled :
-      (c : Command) (files : List (List ℕ)) (said : Said) → said.ending ≡ other → MeansOfFiles c files said
+      (c : Command) (points files : List (List ℕ)) (said : Said) → said.ending ≡ other → MeansOfFiles c points files said
       → EndsOtherwise c files said
   unfolding MeansOfFiles
-  ends_scheduled command.Play [] said e h = absurd h
-  ends_scheduled command.Play (design ∷ []) said e h = absurd h
-  ends_scheduled command.Play (design ∷ script ∷ []) said e h = absurd h
-  ends_scheduled command.Play (design ∷ script ∷ order ∷ []) said e h = absurd (play_other design script order said e h)
-  ends_scheduled command.Play (design ∷ script ∷ order ∷ more ∷ rest) said e h = absurd h
-  ends_scheduled command.Rehearse [] said e h = absurd h
-  ends_scheduled command.Rehearse (design ∷ []) said e h = absurd h
-  ends_scheduled command.Rehearse (design ∷ certificate ∷ []) said e h = absurd h
-  ends_scheduled command.Rehearse (design ∷ certificate ∷ script ∷ []) said e h = absurd h
-  ends_scheduled command.Rehearse (design ∷ certificate ∷ script ∷ order ∷ []) said e h =
+  ends_scheduled command.Play points [] said e h = absurd h
+  ends_scheduled command.Play points (design ∷ []) said e h = absurd h
+  ends_scheduled command.Play points (design ∷ script ∷ []) said e h = absurd h
+  ends_scheduled command.Play points (design ∷ script ∷ order ∷ []) said e h = absurd (play_other design script order said e h)
+  ends_scheduled command.Play points (design ∷ script ∷ order ∷ more ∷ rest) said e h = absurd h
+  ends_scheduled command.Rehearse points [] said e h = absurd h
+  ends_scheduled command.Rehearse points (design ∷ []) said e h = absurd h
+  ends_scheduled command.Rehearse points (design ∷ certificate ∷ []) said e h = absurd h
+  ends_scheduled command.Rehearse points (design ∷ certificate ∷ script ∷ []) said e h = absurd h
+  ends_scheduled command.Rehearse points (design ∷ certificate ∷ script ∷ order ∷ []) said e h =
       inl (sched_so design certificate script order said e h)
-  ends_scheduled command.Rehearse (design ∷ certificate ∷ script ∷ order ∷ more ∷ rest) said e h = absurd h
-  ends_scheduled command.Print [] said e h = absurd h
-  ends_scheduled command.Print (design ∷ []) said e h = absurd (print_other design said e h)
-  ends_scheduled command.Print (design ∷ more ∷ rest) said e h = absurd h
-  ends_scheduled command.Check [] said e h = absurd h
-  ends_scheduled command.Check (design ∷ []) said e h = absurd h
-  ends_scheduled command.Check (design ∷ certificate ∷ []) said e h = absurd (check_other design certificate said e h)
-  ends_scheduled command.Check (design ∷ certificate ∷ more ∷ rest) said e h = absurd h
-  ends_scheduled command.Prove [] said e h = absurd h
-  ends_scheduled command.Prove (design ∷ []) said e h = inr (inl (opens_so design said e h))
-  ends_scheduled command.Prove (design ∷ more ∷ rest) said e h = absurd h
-  ends_scheduled command.Init files said e h = absurd h
-  ends_scheduled command.Sched files said e h = absurd h
-  ends_scheduled (command.Run workers) files said e h = absurd h
-  ends_scheduled command.Recover files said e h = absurd h
-  ends_scheduled command.Dump files said e h = absurd h
-  ends_scheduled command.Replies files said e h = absurd h
-  ends_scheduled command.Verify files said e h = absurd h
-  ends_scheduled command.TpccDesign [] said e h = absurd (not_so Done said done_other h.says.0 e)
-  ends_scheduled command.BookingDesign [] said e h = absurd (not_so Done said done_other h.says.0 e)
-  ends_scheduled command.TpccDesign (more ∷ rest) said e h = absurd h
-  ends_scheduled command.BookingDesign (more ∷ rest) said e h = absurd h
-  ends_scheduled (command.TpccLoad scale) [] said e h = absurd (not_so Done said done_other h.0 e)
-  ends_scheduled (command.TpccMix mix) [] said e h = absurd (not_so Done said done_other h.0 e)
-  ends_scheduled (command.TpccLoad scale) (more ∷ rest) said e h = absurd h
-  ends_scheduled (command.TpccMix mix) (more ∷ rest) said e h = absurd h
-  ends_scheduled (command.Bench mix) [] said e h = absurd h
-  ends_scheduled (command.Bench mix) (design ∷ []) said e h = absurd h
-  ends_scheduled (command.Bench mix) (design ∷ certificate ∷ []) said e h =
+  ends_scheduled command.Rehearse points (design ∷ certificate ∷ script ∷ order ∷ more ∷ rest) said e h = absurd h
+  ends_scheduled command.Print points [] said e h = absurd h
+  ends_scheduled command.Print points (design ∷ []) said e h = absurd (print_other design said e h)
+  ends_scheduled command.Print points (design ∷ more ∷ rest) said e h = absurd h
+  ends_scheduled command.Check points [] said e h = absurd h
+  ends_scheduled command.Check points (design ∷ []) said e h = absurd h
+  ends_scheduled command.Check points (design ∷ certificate ∷ []) said e h = absurd (check_other design certificate said e h)
+  ends_scheduled command.Check points (design ∷ certificate ∷ more ∷ rest) said e h = absurd h
+  ends_scheduled command.Prove points [] said e h = absurd h
+  ends_scheduled command.Prove points (design ∷ []) said e h = inr (inl (opens_so design said e h))
+  ends_scheduled command.Prove points (design ∷ more ∷ rest) said e h = absurd h
+  ends_scheduled (command.Advise side) points files said e h = absurd (given_other side points files said e h)
+  ends_scheduled command.Init points files said e h = absurd h
+  ends_scheduled command.Sched points files said e h = absurd h
+  ends_scheduled (command.Run workers) points files said e h = absurd h
+  ends_scheduled command.Recover points files said e h = absurd h
+  ends_scheduled command.Dump points files said e h = absurd h
+  ends_scheduled command.Replies points files said e h = absurd h
+  ends_scheduled command.Verify points files said e h = absurd h
+  ends_scheduled command.BookingVerify points files said e h = absurd h
+  ends_scheduled command.TpccDesign points [] said e h = absurd (not_so Done said done_other h.says.0 e)
+  ends_scheduled command.BookingDesign points [] said e h = absurd (not_so Done said done_other h.says.0 e)
+  ends_scheduled command.TpccDesign points (more ∷ rest) said e h = absurd h
+  ends_scheduled command.BookingDesign points (more ∷ rest) said e h = absurd h
+  ends_scheduled (command.TpccLoad scale) points [] said e h = absurd (not_so Done said done_other h.0 e)
+  ends_scheduled (command.TpccMix mix) points [] said e h = absurd (not_so Done said done_other h.0 e)
+  ends_scheduled (command.TpccLoad scale) points (more ∷ rest) said e h = absurd h
+  ends_scheduled (command.TpccMix mix) points (more ∷ rest) said e h = absurd h
+  ends_scheduled (command.Bench mix) points [] said e h = absurd h
+  ends_scheduled (command.Bench mix) points (design ∷ []) said e h = absurd h
+  ends_scheduled (command.Bench mix) points (design ∷ certificate ∷ []) said e h =
       inr (inr (runs_bench other design_other script_other mix said e design certificate h))
-  ends_scheduled (command.Bench mix) (design ∷ certificate ∷ more ∷ rest) said e h = absurd h
-  ends_scheduled command.Help [] said e h = absurd (not_so Done said done_other h.0 e)
-  ends_scheduled command.Help (more ∷ rest) said e h = absurd h
-  ends_scheduled command.Version [] said e h = absurd (not_so Done said done_other h.0 e)
-  ends_scheduled command.Version (more ∷ rest) said e h = absurd h
+  ends_scheduled (command.Bench mix) points (design ∷ certificate ∷ more ∷ rest) said e h = absurd h
+  ends_scheduled command.Help points [] said e h = absurd (not_so Done said done_other h.0 e)
+  ends_scheduled command.Help points (more ∷ rest) said e h = absurd h
+  ends_scheduled command.Version points [] said e h = absurd (not_so Done said done_other h.0 e)
+  ends_scheduled command.Version points (more ∷ rest) said e h = absurd h
 
 -- ---- what ends so
 
@@ -214,13 +237,13 @@ left_of c files t e (inl (is, d, calls, order, says)) =
     inl (is, d, calls, order, subst (TellsSchedule d calls order t.text t.history) begun says.tells)
 
 pub leaves_unbegun :
-    (c : Command) (files : List (List ℕ)) (old new : Seen) (t : Telling) → t.ending ≡ Unbegun → Means c files old new t
+    (c : Command) (points files : List (List ℕ)) (old new : Seen) (t : Telling) → t.ending ≡ Unbegun → Means c points files old new t
     → LeftAnyhow c t
-leaves_unbegun c files old new t e = by (is_journalled c)
+leaves_unbegun c points files old new t e = by (is_journalled c)
   where
-    by : (over : Bool) → MeansBy over c files old new t → LeftAnyhow c t
+    by : (over : Bool) → MeansBy over c points files old new t → LeftAnyhow c t
     by true h = inr (inl (unbegun_over c files old new t e h))
-    by false h = left_of c files t e (ends_scheduled Unbegun done_unbegun (λ e. cc) (λ e. cc) c files (said_in t) e h.2)
+    by false h = left_of c files t e (ends_scheduled Unbegun done_unbegun (λ e. cc) (λ e. cc) c points files (said_in t) e h.2)
 
 not_scheduled :
     (other : Ending) → Done ≢ other → Unbegun ≢ other → (c : Command) (t : Telling) → t.ending ≡ other → Scheduled c (said_in t) → ⊥
@@ -235,45 +258,45 @@ neither other done unbegun differs judged c files t e (inr (inl h)) = never_open
 neither other done unbegun differs judged c files t e (inr (inr h)) = never_bench c t h other done unbegun judged e
 
 pub refuses_journal :
-    (c : Command) (files : List (List ℕ)) (old new : Seen) (t : Telling) → t.ending ≡ JournalRefused → Means c files old new t
+    (c : Command) (points files : List (List ℕ)) (old new : Seen) (t : Telling) → t.ending ≡ JournalRefused → Means c points files old new t
     → RefusesOver c old new t
-refuses_journal c files old new t e = by (is_journalled c)
+refuses_journal c points files old new t e = by (is_journalled c)
   where
-    by : (over : Bool) → MeansBy over c files old new t → RefusesOver c old new t
+    by : (over : Bool) → MeansBy over c points files old new t → RefusesOver c old new t
     by true h = refused_over c files old new t e h
     by false h =
         absurd (neither JournalRefused (λ e. cc) (λ e. cc) (λ e. cc) (λ e. cc) c files t e
-        (ends_scheduled JournalRefused (λ e. cc) (λ e. cc) (λ e. cc) c files (said_in t) e h.2))
+        (ends_scheduled JournalRefused (λ e. cc) (λ e. cc) (λ e. cc) c points files (said_in t) e h.2))
 
 pub fails_by_disk :
-    (c : Command) (files : List (List ℕ)) (old new : Seen) (t : Telling) → t.ending ≡ DiskFailed → Means c files old new t
+    (c : Command) (points files : List (List ℕ)) (old new : Seen) (t : Telling) → t.ending ≡ DiskFailed → Means c points files old new t
     → Rose old.faults new.faults
-fails_by_disk c files old new t e = by (is_journalled c)
+fails_by_disk c points files old new t e = by (is_journalled c)
   where
-    by : (over : Bool) → MeansBy over c files old new t → Rose old.faults new.faults
+    by : (over : Bool) → MeansBy over c points files old new t → Rose old.faults new.faults
     by true h =
         ⊎_elim (λ others. failed_by (Rose old.faults new.faults) t others e)
         (λ finds. absurd (other_end ConditionFalse DiskFailed t (λ e. cc) finds.1 e)) (ends_over_disk c files old new t h)
     by false h =
         absurd (neither DiskFailed (λ e. cc) (λ e. cc) (λ e. cc) (λ e. cc) c files t e
-        (ends_scheduled DiskFailed (λ e. cc) (λ e. cc) (λ e. cc) c files (said_in t) e h.2))
+        (ends_scheduled DiskFailed (λ e. cc) (λ e. cc) (λ e. cc) c points files (said_in t) e h.2))
 
 -- a command that leaves something open is `prove`
 pub leaves_open :
-    (c : Command) (files : List (List ℕ)) (old new : Seen) (t : Telling) → t.ending ≡ Open → Means c files old new t
+    (c : Command) (points files : List (List ℕ)) (old new : Seen) (t : Telling) → t.ending ≡ Open → Means c points files old new t
     → Opens c files (said_in t)
-leaves_open c files old new t e = by (is_journalled c)
+leaves_open c points files old new t e = by (is_journalled c)
   where
     open_so : EndsOtherwise c files (said_in t) → Opens c files (said_in t)
     open_so (inl h) = absurd (not_scheduled Open (λ e. cc) (λ e. cc) c t e h)
     open_so (inr (inl h)) = h
     open_so (inr (inr h)) = absurd (never_bench c t h Open (λ e. cc) (λ e. cc) (λ e. cc) e)
 
-    by : (over : Bool) → MeansBy over c files old new t → Opens c files (said_in t)
+    by : (over : Bool) → MeansBy over c points files old new t → Opens c files (said_in t)
     by true h =
         ⊎_elim (λ others. absurd (never_open (Rose old.faults new.faults) t others e))
         (λ finds. absurd (other_end ConditionFalse Open t (λ e. cc) finds.1 e)) (ends_over_disk c files old new t h)
-    by false h = open_so (ends_scheduled Open (λ e. cc) (λ e. cc) (λ e. cc) c files (said_in t) e h.2)
+    by false h = open_so (ends_scheduled Open (λ e. cc) (λ e. cc) (λ e. cc) c points files (said_in t) e h.2)
 
 -- `verify` finds one false of recovered rows, or `bench` of those at its end
 abbrev pub FindsAnyhow : Command → Seen → Seen → Telling → Type 0
@@ -281,17 +304,17 @@ FindsAnyhow c old new t = ((c ≡ command.Verify) × FindsFalse old new t) ⊎ B
 
 -- a command that finds a condition false is `verify` or `bench`
 pub finds_false :
-    (c : Command) (files : List (List ℕ)) (old new : Seen) (t : Telling) → t.ending ≡ ConditionFalse → Means c files old new t
+    (c : Command) (points files : List (List ℕ)) (old new : Seen) (t : Telling) → t.ending ≡ ConditionFalse → Means c points files old new t
     → FindsAnyhow c old new t
-finds_false c files old new t e = by (is_journalled c)
+finds_false c points files old new t e = by (is_journalled c)
   where
     false_so : EndsOtherwise c files (said_in t) → FindsAnyhow c old new t
     false_so (inl h) = absurd (not_scheduled ConditionFalse (λ e. cc) (λ e. cc) c t e h)
     false_so (inr (inl h)) = absurd (never_opens ConditionFalse (λ e. cc) c files t e h)
     false_so (inr (inr h)) = inr (bench_finds_false c t h e)
 
-    by : (over : Bool) → MeansBy over c files old new t → FindsAnyhow c old new t
+    by : (over : Bool) → MeansBy over c points files old new t → FindsAnyhow c old new t
     by true h =
         ⊎_elim (λ others. absurd (never_false (Rose old.faults new.faults) t others e)) (λ finds. inl (finds.0, finds.2))
         (ends_over_disk c files old new t h)
-    by false h = false_so (ends_scheduled ConditionFalse (λ e. cc) (λ e. cc) (λ e. cc) c files (said_in t) e h.2)
+    by false h = false_so (ends_scheduled ConditionFalse (λ e. cc) (λ e. cc) (λ e. cc) c points files (said_in t) e h.2)

@@ -23,11 +23,12 @@ use Rattle.acc_journal_commands.specs.Words.{is_journalled}
 use Rattle.acc_commands.specs.Means.{Means}
 use Rattle.acc_commands.specs.Alike.{AreAlike}
 
--- A command says one thing of its files, but for which certificate `prove` makes. One over a journal says one thing of them and of what its
--- disk tells, where no call of the disk failed, but for the order of the turns of `run`.
+-- A command says one thing of its files and of the words that name points, but for which certificate `prove` makes. One over a journal
+-- says one thing of them and of what its disk tells, where no call of the disk failed, but for the order of the turns of `run`.
 abbrev pub CommandsMeanOne : Type 0
-CommandsMeanOne = (c : Command) (files : List (List ℕ)) (old one other : Seen) (a b : Telling)
-    → (is_journalled c ≡ true → TellsAll old one other) → Means c files old one a → Means c files old other b → AreAlike c a b
+CommandsMeanOne = (c : Command) (points files : List (List ℕ)) (old one other : Seen) (a b : Telling)
+    → (is_journalled c ≡ true → TellsAll old one other) → Means c points files old one a → Means c points files old other b
+    → AreAlike c a b
 
 -- With what `prove` says of a design where it is done, `check` says of it that it is accepted.
 abbrev pub ProvedIsAccepted : Type 0

@@ -1,3 +1,4 @@
+pub use Rattle.acc_file_commands.specs.Advising
 pub use Rattle.acc_file_commands.specs.BenchFiles
 pub use Rattle.acc_file_commands.specs.Mix
 pub use Rattle.acc_file_commands.specs.ProveFiles
@@ -8,6 +9,8 @@ pub use Rattle.acc_file_commands.specs.ShippedText
 pub use Rattle.acc_file_commands.specs.Workloads
 pub use Rattle.acc_journal_commands.specs.Acks
 pub use Rattle.acc_journal_commands.specs.Admissions
+pub use Rattle.acc_journal_commands.specs.BookingFiles
+pub use Rattle.acc_journal_commands.specs.Bookings
 pub use Rattle.acc_journal_commands.specs.Command
 pub use Rattle.acc_journal_commands.specs.Crashes
 pub use Rattle.acc_journal_commands.specs.Disks

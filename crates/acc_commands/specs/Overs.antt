@@ -27,7 +27,7 @@ use Rattle.tpcc_tables.specs.declared.tables.TableSet.{TableSet}
 abbrev pub IsRecovering : Command → Type 0
 IsRecovering c =
     (c ≡ command.Sched) ⊎ (c ≡ command.Recover) ⊎ (c ≡ command.Dump) ⊎ (c ≡ command.Replies) ⊎ (c ≡ command.Verify)
-    ⊎ ((workers : ℕ) × (c ≡ command.Run workers))
+    ⊎ (c ≡ command.BookingVerify) ⊎ ((workers : ℕ) × (c ≡ command.Run workers))
 
 -- a schedule from where the turns begin behind a recovered state is told, and one of its places couldn't begin, since the history is full
 pub record LeavesOver (Opens : Design → List Call → World → Play → Type 0) (t : Telling) : Type 0 where

@@ -1,7 +1,7 @@
 //! What each command makes of its files.
 ghost use Rattle.std.specs.Prelude.{◌≡◌, ◌≤◌, ◌^◌, [], false, All, length, IfOk, IfErr};
 ghost use Rattle.acc_journal_commands.specs.Words.{is_journalled};
-ghost use Rattle.acc_journal_commands.specs.Requests.{command_in, texts_in};
+ghost use Rattle.acc_journal_commands.specs.Requests.{command_in, texts_in, points_in};
 ghost use Rattle.acc_commands.specs.Means.{Means, LeavesOf, TellsInMemory};
 ghost use Rattle.acc_journal_commands.specs.Disks.{Ends};
 ghost use Rattle.acc_journal_commands.specs.Notes.{help_text, version_text};
@@ -11,6 +11,7 @@ ghost use Rattle.acc_journal_commands.specs.Answers.{said_alone};
 
 use acc_disk::Disk;
 use acc_file_commands::Searchers;
+use acc_file_commands::advices::advise_file;
 use acc_file_commands::benches::bench_files;
 use acc_file_commands::designs::{check_files, print_file};
 use acc_file_commands::memory_runs::Run;
@@ -18,6 +19,7 @@ use acc_file_commands::plays::play_files;
 use acc_file_commands::provings::prove_file;
 use acc_file_commands::schedules::schedule_files;
 use acc_file_commands::workloads::{print_booking, print_load, print_mix, print_shipped};
+use acc_journal_commands::bookings::book_files;
 use acc_journal_commands::journals::init_file;
 use acc_journal_commands::recoveries::recover_files;
 use acc_journal_commands::runs::{run_files, work_files};
@@ -66,8 +68,8 @@ fn ran<D>(alloc: Global, disk: D, run: Result<Run, AllocError>) -> Ended<D>
 }
 
 /// How a command ends over its files and the disk. How far a long one is, and what a recovery found, is told while it goes on. `run` lets
-/// the crew work, and waits for whom the crew waits; `prove` lets the searchers search, and waits for them; no other command asks the crew
-/// or the searchers for anything, or waits for anybody.
+/// the crew work, and waits for whom the crew waits; `prove` and `advise` let the searchers search, and wait for them; no other command
+/// asks the crew or the searchers for anything, or waits for anybody.
 #[tactic(auto, unfolding(crate::specs::Means::MeansOfFiles, crate::specs::Means::MeansOverDisk, crate::specs::Means::LeavesOf))]
 pub fn run<'a, D: Disk, C: Crew<Engine<'a, IndexStore, D>>, S: Searchers, P: Progress>(
     alloc: Global,
@@ -81,7 +83,7 @@ pub fn run<'a, D: Disk, C: Crew<Engine<'a, IndexStore, D>>, S: Searchers, P: Pro
     requires short { All (λ text. length text ≤ 2 ^ 26) (texts_in request) }
     requires ready { C.ready crew.now }
     requires searching { S.ready searchers.now }
-    ensures ends { Ends D.told D.may_leave D.faults (Means (command_in request.entry) (texts_in request.entry))
+    ensures ends { Ends D.told D.may_leave D.faults (Means (command_in request.entry) (points_in request.entry) (texts_in request.entry))
         (LeavesOf D.clock D.left_since D.told D.may_leave (command_in request.entry) (texts_in request.entry))
         disk result.disk result.answer result.history result.settled }
     ensures without { is_journalled (command_in request.entry) ≡ false → result.disk ≡ disk }
@@ -98,6 +100,9 @@ pub fn run<'a, D: Disk, C: Crew<Engine<'a, IndexStore, D>>, S: Searchers, P: Pro
             disk,
             prove_file(alloc, design, searchers, progress),
         ),
+        Request::Advise(files, side) => {
+            unrun(alloc, disk, advise_file(alloc, files, side, searchers))
+        }
         Request::Init(design) => init_file(alloc, design, disk),
         Request::Sched(files) => run_files(alloc, files, disk, progress),
         Request::Run(files, workers) => {
@@ -109,6 +114,7 @@ pub fn run<'a, D: Disk, C: Crew<Engine<'a, IndexStore, D>>, S: Searchers, P: Pro
         Request::Verify(files) => verify_files(alloc, files, disk, progress),
         Request::TpccDesign => unrun(alloc, disk, print_shipped(alloc)),
         Request::BookingDesign => unrun(alloc, disk, print_booking(alloc)),
+        Request::BookingVerify(files) => book_files(alloc, files, disk, progress),
         Request::TpccLoad(scale) => unrun(alloc, disk, print_load(alloc, scale)),
         Request::TpccMix(mix) => unrun(alloc, disk, print_mix(alloc, mix)),
         Request::Bench(files, mix) => {

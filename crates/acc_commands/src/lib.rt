@@ -6,8 +6,8 @@ pub mod laws;
 
 pub use acc_file_commands::{InTurn, Searchers};
 pub use acc_journal_commands::{
-    Alone, Command, Crew, Engine, Request, asks_journal, command_of, file_count, help_text,
-    read_all,
+    Alone, Command, Crew, Engine, Request, asks_journal, command_of, files_in, help_text,
+    points_in, read_all,
 };
 pub use acc_journalled::{Answer, Ended, Ending, IndexStore};
 pub use commands::run;

@@ -4,11 +4,12 @@ ghost use Rattle.acc_formed.specs.WellFormed.{IsWellFormed};
 use crate::journals::{push_disk, push_full, push_journal};
 use crate::obligations::{File, push_fault};
 use crate::openings::push_unproved;
+use crate::points::push_point;
 use crate::statuses::{
     DESIGN, DISK, DONE, FILE, JOURNAL, MEMORY, OPEN, SCRIPT, SINK, UNBEGUN, USAGE,
 };
 use crate::usage::push_usage;
-use crate::workloads::push_verified;
+use crate::workloads::{push_other, push_verified};
 use acc_base::designs::Design;
 use acc_base::sequences::Seq;
 use acc_explain::{
@@ -118,23 +119,55 @@ fn push_judged(
         (Judged::Accepted(d), [script, orders @ ..]) => {
             push_script(alloc, out, d.design(), *script, orders)
         }
-        (Judged::Accepted(d), []) => match asks_tables(command) {
-            Some(verb) => push_verified(alloc, out, d.design(), design, verb, printed),
-            None => Ok(()),
-        },
+        (Judged::Accepted(d), []) => {
+            push_workload(alloc, out, command, d.design(), design, printed)
+        }
     }
 }
 
-/// The verb of a command that asks for TPC-C's tables.
-fn asks_tables(command: Command) -> Option<&'static [u8]> {
+/// Says what is told of an accepted design with a workload, where a command asks for one.
+fn push_workload(
+    alloc: Global,
+    out: &mut Page,
+    command: Command,
+    d: &Design,
+    design: File,
+    printed: &[u8],
+) -> Result<(), AllocError> {
+    match asks_tables(command) {
+        Workload::Tables(verb) => push_verified(alloc, out, d, design, verb, printed),
+        Workload::Booking => {
+            push_other(out, design, printed);
+            Ok(())
+        }
+        Workload::None => Ok(()),
+    }
+}
+
+/// What a command asks for in its design.
+#[derive(Clone, Copy)]
+enum Workload {
+    /// TPC-C's tables: the command's verb.
+    Tables(&'static [u8]),
+    /// That it is the shipped booking design.
+    Booking,
+    /// Nothing.
+    None,
+}
+
+/// What a command asks for in its design.
+fn asks_tables(command: Command) -> Workload {
     match command {
-        Command::Verify => Some(b"verify"),
-        Command::Bench(_) => Some(b"bench"),
-        Command::Rehearse | Command::Check | Command::Sched | Command::Run(_) => None,
-        Command::Recover | Command::Dump | Command::Replies => None,
-        Command::Play | Command::Print | Command::Prove | Command::Init => None,
-        Command::TpccDesign | Command::TpccLoad(_) | Command::TpccMix(_) => None,
-        Command::BookingDesign | Command::Help | Command::Version => None,
+        Command::Verify => Workload::Tables(b"verify"),
+        Command::Bench(_) => Workload::Tables(b"bench"),
+        Command::BookingVerify => Workload::Booking,
+        Command::Rehearse | Command::Check | Command::Sched | Command::Run(_) => Workload::None,
+        Command::Recover | Command::Dump | Command::Replies => Workload::None,
+        Command::Play | Command::Print | Command::Prove | Command::Init => Workload::None,
+        Command::TpccDesign | Command::TpccLoad(_) | Command::TpccMix(_) => Workload::None,
+        Command::BookingDesign | Command::Advise(_) | Command::Help | Command::Version => {
+            Workload::None
+        }
     }
 }
 
@@ -143,10 +176,27 @@ fn is_certified(command: Command) -> bool {
     match command {
         Command::Rehearse | Command::Check | Command::Sched | Command::Run(_) => true,
         Command::Recover | Command::Dump | Command::Replies | Command::Verify => true,
-        Command::Bench(_) => true,
+        Command::Bench(_) | Command::BookingVerify => true,
         Command::Play | Command::Print | Command::Prove | Command::Init => false,
         Command::TpccDesign | Command::TpccLoad(_) | Command::TpccMix(_) => false,
-        Command::BookingDesign | Command::Help | Command::Version => false,
+        Command::BookingDesign | Command::Advise(_) | Command::Help | Command::Version => false,
+    }
+}
+
+/// Says why a word names no point that an entry may have, by the line that was printed of it; or else which obligations of a design stay
+/// open, as it was printed.
+fn push_alone(
+    alloc: Global,
+    out: &mut Page,
+    d: &Design,
+    design: File,
+    printed: &[u8],
+) -> Result<(), AllocError>
+    requires { IsWellFormed d.now }
+{
+    match printed.strip_prefix(b"refused point ".as_slice()) {
+        Some(word) => push_point(alloc, out, d, design, word.trim_ascii_end()),
+        None => push_unproved(alloc, out, d, design, printed),
     }
 }
 
@@ -163,7 +213,7 @@ fn push_behind(
     requires { IsWellFormed d }
 {
     match files {
-        [design] => push_unproved(alloc, out, &d, *design, printed),
+        [design] => push_alone(alloc, out, &d, *design, printed),
         [design, certificate, behind @ ..] if is_certified(command) => {
             push_judged(
                 alloc,
@@ -279,7 +329,8 @@ fn push_done<H: Shelf>(
         Command::Init | Command::Sched | Command::Run(_) => Ok(()),
         Command::Recover | Command::Dump | Command::Replies | Command::Verify => Ok(()),
         Command::TpccDesign | Command::TpccLoad(_) | Command::TpccMix(_) => Ok(()),
-        Command::BookingDesign | Command::Bench(_) | Command::Help | Command::Version => Ok(()),
+        Command::BookingDesign | Command::BookingVerify | Command::Advise(_) => Ok(()),
+        Command::Bench(_) | Command::Help | Command::Version => Ok(()),
     }
 }
 

@@ -75,12 +75,13 @@ fn standing(command: Command) -> &'static [u8] {
         | Command::Recover
         | Command::Dump
         | Command::Replies
-        | Command::Verify =>
+        | Command::Verify
+        | Command::BookingVerify =>
             b"what was durable is durable, and nothing half-written counts; `acc recover` brings the journal to rest",
         Command::Play | Command::Rehearse | Command::Print | Command::Check => b"",
         Command::Prove | Command::Bench(_) | Command::Help | Command::Version => b"",
         Command::TpccDesign | Command::TpccLoad(_) | Command::TpccMix(_) => b"",
-        Command::BookingDesign => b"",
+        Command::BookingDesign | Command::Advise(_) => b"",
     }
 }
 

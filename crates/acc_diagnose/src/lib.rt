@@ -8,6 +8,7 @@ mod journals;
 mod keeping;
 mod obligations;
 mod openings;
+mod points;
 mod progress;
 mod reasons;
 mod room;

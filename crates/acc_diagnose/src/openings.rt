@@ -4,14 +4,14 @@ ghost use Rattle.acc_formed.specs.WellFormed.{IsWellFormed};
 use crate::obligations::{File, push_assertion, push_wide};
 use acc_accept::obligations;
 use acc_base::bounds::{MOST_INSTANCES, MOST_SPLITS};
-use acc_base::designs::Design;
-use acc_base::sequents::{Origin, Sequent};
+use acc_base::designs::{At, Design, Side};
+use acc_base::sequents::{Origin, Rule, Sequent};
 use acc_cert_spot::obligation_hint;
 use acc_explain::{begin_note, end_note, push_with};
 use acc_goals::ObligError;
 use acc_openings::{push_cure, push_unspoken, push_values};
 use acc_origins::origins::push_origin;
-use acc_page::Page;
+use acc_page::{Page, push_at};
 use acc_prove::{Found, SearchError, searched};
 use acc_systems::MOST_RELATIONS;
 use std::alloc::{AllocError, Global};
@@ -110,6 +110,61 @@ fn hint_of(
     Ok(hint.into_bytes())
 }
 
+/// The entry that an open obligation asks for: of the held point, of the point of the step, and of the side. None where no entry may be
+/// so: a start point isn't held, and its `undo` isn't forbidden.
+fn asked_of(origin: &Origin) -> Option<(At, At, Side)> {
+    if origin.rule != Rule::Spares {
+        return None;
+    }
+    let (held, at) = (origin.held?, origin.at?);
+    if held.point == 0 || (at.point == 0 && origin.side == Side::Undo) {
+        None
+    } else {
+        Some((held, at, origin.side))
+    }
+}
+
+/// Says which command advises an entry, unless the same was said of the obligation before.
+fn push_asking(
+    out: &mut Page,
+    d: &Design,
+    design: File,
+    before: Option<(At, At, Side)>,
+    asked: Option<(At, At, Side)>,
+) {
+    match asked {
+        Some(question) if before != Some(question) => push_question(out, d, design, question),
+        Some(_) | None => {}
+    }
+}
+
+/// The name of a file as it can be typed; a word for it, where it has bytes that can't be printed.
+fn typed_name(name: &[u8]) -> &[u8] {
+    if name.iter().all(|byte| (b' '..=b'~').contains(byte)) {
+        name
+    } else {
+        b"DESIGN"
+    }
+}
+
+/// Says which command advises an entry for a held point and the step of another.
+fn push_question(out: &mut Page, d: &Design, design: File, question: (At, At, Side)) {
+    let (held, at, side) = question;
+    begin_note(out, design.name);
+    out.push(b"`acc advise ");
+    out.push(typed_name(design.name));
+    out.push(b" ");
+    push_at(out, d, held);
+    out.push(b" ");
+    push_at(out, d, at);
+    out.push(match side {
+        Side::Next => b" next`",
+        Side::Undo => b" undo`",
+    });
+    out.push(b" tells which entry lets this step go there, and forbids as little as can be shown");
+    end_note(out, b"")
+}
+
 /// Says which assertion isn't shown, by which path, and what ended the search for a proof.
 fn push_opening(
     alloc: Global,
@@ -144,10 +199,14 @@ fn push_openings(
     requires { IsWellFormed d.now }
 {
     let mut rest = printed;
+    let mut before = None;
     for q in sequents {
         let head = head_of(alloc, d, &q.origin)?;
         if begins_with(rest, &head) {
             push_opening(alloc, out, d, design, q, &head)?;
+            let asked = asked_of(&q.origin);
+            push_asking(out, d, design, before, asked);
+            before = asked;
             rest = behind_line(rest);
         }
     }

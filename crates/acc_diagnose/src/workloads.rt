@@ -120,6 +120,18 @@ fn push_unfit(out: &mut Page, design: File, printed: &[u8]) {
     }
 }
 
+/// Says that an accepted design isn't the shipped booking design, if it is refused for that.
+pub fn push_other(out: &mut Page, design: File, printed: &[u8]) {
+    if printed.starts_with(b"refused schema ") {
+        push_note(
+            out,
+            design.name,
+            b"`booking verify` asks for the booking design that the program brings along, and this is another",
+            b"`acc booking design` prints it; comments and blanks may differ, and nothing else",
+        );
+    }
+}
+
 /// Says which table of TPC-C an accepted design lacks, for which the command of the verb asks; or, where it has them all, which call of the
 /// workload it lacks, or what is so where conditions are false.
 pub fn push_verified(

@@ -2,6 +2,8 @@ pub use Rattle.acc_play.proofs.OneTold
 pub use Rattle.acc_schedule.proofs.OneSchedule
 pub use Rattle.tpcc_steps.proofs.Reading
 pub use Rattle.tpcc_steps.proofs.Theorem
+pub mod OneAdvice
+pub mod Named
 pub mod Scales
 pub mod MixLines
 pub mod MixCalls

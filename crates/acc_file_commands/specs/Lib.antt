@@ -4,6 +4,7 @@ pub use Rattle.acc_schedule.specs.Schedules
 pub use Rattle.acc_booking.specs.BookingText
 pub use Rattle.tpcc_steps.specs.Law
 pub use Rattle.tpcc_steps.specs.ShippedText
+pub mod Advising
 pub mod PlayFiles
 pub mod ScheduleFiles
 pub mod PrintFiles

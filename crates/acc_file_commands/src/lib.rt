@@ -1,15 +1,18 @@
 //! What each command without a journal makes of the files that it is given.
 #![tactic(auto)]
 
+pub mod advices;
 pub mod benches;
 pub mod designs;
 pub mod memory_runs;
 pub mod plays;
+mod points;
 pub mod provings;
 pub mod schedules;
 pub mod workloads;
 
 pub use acc_prove::{InTurn, Searchers, Searching};
+pub use advices::advise_file;
 pub use benches::bench_files;
 pub use designs::{check_files, print_file};
 pub use memory_runs::{Run, unplayed};

@@ -5,6 +5,8 @@ use Rattle.std.proofs.Common.{Option, None, Some, append-nil, take-append-drop}
 use Rattle.std.specs.Prelude.{option_map, codes, decimal, Contains, ◌==◌, if◌then◌else◌, nat_le}
 use Rattle.std.proofs.lemmas.Bool.Decides.{nat_tests}
 use Rattle.std.proofs.lemmas.List.{drop_at, get_or_default}
+use Rattle.acc_base.specs.declared.designs.Side.{Side}
+use Rattle.acc_base.specs.declared.designs.Side.TheVariants.{Next, Undo}
 use Rattle.acc_inputs.specs.declared.words.Command.{Command}
 use Rattle.acc_inputs.specs.declared.words.Command.TheVariants as command
 use Rattle.acc_inputs.specs.declared.words.Form.TheVariants.{Files}
@@ -13,10 +15,12 @@ use Rattle.acc_inputs.specs.declared.scales.Mix.{Mix}
 use Rattle.tpcc_gen.specs.declared.bounds.TheConstants.{MOST_WAREHOUSES, MOST_ITEMS, MOST_CUSTOMERS, MOST_TRANSACTIONS, LARGEST_START}
 use Rattle.acc_inputs.specs.declared.words.TheConstants.{MOST_WORKERS}
 use Rattle.acc_inputs.specs.Scales.{IsWithin, is_scale, is_mix}
-use Rattle.acc_inputs.specs.Words.{form_of, workload_of, file_count, IsCrew, number_of, workers_in, scale_of, mix_of}
-use Rattle.acc_inputs.specs.Words.{with_files, with_workers, with_load, with_mix, with_bench, with_form, command_of}
+use Rattle.acc_form.specs.Judged.{side_word}
+use Rattle.acc_inputs.specs.Words.{form_of, workload_of, booking_of, side_of, file_count, point_count, IsCrew, number_of, workers_in}
+use Rattle.acc_inputs.specs.Words.{scale_of, mix_of}
+use Rattle.acc_inputs.specs.Words.{with_files, with_workers, with_load, with_mix, with_bench, with_advice, given_files, with_form, command_of}
 use Rattle.acc_inputs.specs.Notes.{help_lines}
-use Rattle.acc_inputs.specs.Verbs.{verb_of, mix_numbers, EachHasVerb, EachHasHelp}
+use Rattle.acc_inputs.specs.Verbs.{mix_numbers, EachHasVerb, EachHasHelp}
 use Rattle.acc_inputs.proofs.Workers.{number_of_numeral}
 
 -- the names of a command's files behind its verb
@@ -41,12 +45,25 @@ unfolding form_of workload_of
 design_given [] none = refl
 design_given (name ∷ names) none = absurd (omega (arith, none))
 
--- nor does `booking design`
-booking_given : (names : List (List ℕ)) → length names ≡ 0
-    → command_of (codes "booking" ∷ codes "design" ∷ (names ++ [])) ≡ Some command.BookingDesign
+-- nor does `booking design`; `booking verify` names two
+booking_given : (c : Command) (wanted : List ℕ) (names : List (List ℕ)) → booking_of wanted ≡ Some c → length names ≡ file_count c
+    → command_of (codes "booking" ∷ wanted ∷ (names ++ [])) ≡ Some c
 unfolding form_of
-booking_given [] none = refl
-booking_given (name ∷ names) none = absurd (omega (arith, none))
+booking_given c wanted names is count = ap (λ o. given_files o (names ++ [])) is ∙ files_given c names count
+
+-- a side is told by its word, behind the names of a design and of two points
+side_told : (side : Side) → side_of (side_word side) ≡ Some side
+unfolding side_of
+side_told Next = refl
+side_told Undo = refl
+
+advice_given : (side : Side) (names : List (List ℕ)) → length names ≡ 3
+    → with_advice (names ++ side_word side ∷ []) ≡ Some (command.Advise side)
+advice_given side (design ∷ held ∷ step ∷ []) three = ap (option_map command.Advise) (side_told side)
+advice_given side [] three = absurd (omega (arith, three))
+advice_given side (a ∷ []) three = absurd (omega (arith, three))
+advice_given side (a ∷ b ∷ []) three = absurd (omega (arith, three))
+advice_given side (a ∷ b ∷ c ∷ d ∷ more) three = absurd (omega (arith, three))
 
 -- a scale is told by the numerals of its numbers
 scale_given : (s : Scale) → is_scale s ≡ true
@@ -93,12 +110,13 @@ bench_given m names fit count =
     ∙ ap (option_map command.Bench) (mix_told m fit)
 
 pub verbs : EachHasVerb
-unfolding form_of file_count
+unfolding form_of booking_of file_count point_count
 verbs command.Play names few count = verb_given command.Play (codes "play") names refl count
 verbs command.Rehearse names few count = verb_given command.Rehearse (codes "rehearse") names refl count
 verbs command.Print names few count = verb_given command.Print (codes "print") names refl count
 verbs command.Check names few count = verb_given command.Check (codes "check") names refl count
 verbs command.Prove names few count = verb_given command.Prove (codes "prove") names refl count
+verbs (command.Advise side) names few count = advice_given side names count
 verbs command.Init names few count = verb_given command.Init (codes "init") names refl count
 verbs command.Sched names few count = verb_given command.Sched (codes "sched") names refl count
 verbs (command.Run n) names few count = run_given n names few count
@@ -107,7 +125,8 @@ verbs command.Dump names few count = verb_given command.Dump (codes "dump") name
 verbs command.Replies names few count = verb_given command.Replies (codes "replies") names refl count
 verbs command.Verify names few count = verb_given command.Verify (codes "verify") names refl count
 verbs command.TpccDesign names few count = design_given names count
-verbs command.BookingDesign names few count = booking_given names count
+verbs command.BookingDesign names few count = booking_given command.BookingDesign (codes "design") names refl count
+verbs command.BookingVerify names few count = booking_given command.BookingVerify (codes "verify") names refl count
 verbs (command.TpccLoad s) names few count = load_given s names few count
 verbs (command.TpccMix m) names few count = mix_given m names few count
 verbs (command.Bench m) names few count = bench_given m names few count
@@ -130,17 +149,19 @@ help command.Rehearse = line_at 1 (codes "acc rehearse ") (omega arith) refl
 help command.Print = line_at 2 (codes "acc print ") (omega arith) refl
 help command.Check = line_at 3 (codes "acc check ") (omega arith) refl
 help command.Prove = line_at 4 (codes "acc prove ") (omega arith) refl
-help command.Init = line_at 5 (codes "acc init ") (omega arith) refl
-help command.Sched = line_at 6 (codes "acc sched ") (omega arith) refl
-help (command.Run workers) = line_at 7 (codes "acc run ") (omega arith) refl
-help command.Recover = line_at 8 (codes "acc recover ") (omega arith) refl
-help command.Dump = line_at 9 (codes "acc dump ") (omega arith) refl
-help command.Replies = line_at 10 (codes "acc replies ") (omega arith) refl
-help command.Verify = line_at 11 (codes "acc verify ") (omega arith) refl
-help command.TpccDesign = line_at 12 (codes "acc tpcc design ") (omega arith) refl
-help (command.TpccLoad scale) = line_at 13 (codes "acc tpcc load ") (omega arith) refl
-help (command.TpccMix mix) = line_at 14 (codes "acc tpcc mix ") (omega arith) refl
-help command.BookingDesign = line_at 15 (codes "acc booking design ") (omega arith) refl
-help (command.Bench mix) = line_at 16 (codes "acc bench ") (omega arith) refl
-help command.Help = line_at 17 (codes "acc --help ") (omega arith) refl
-help command.Version = line_at 18 (codes "acc --version ") (omega arith) refl
+help (command.Advise side) = line_at 5 (codes "acc advise ") (omega arith) refl
+help command.Init = line_at 6 (codes "acc init ") (omega arith) refl
+help command.Sched = line_at 7 (codes "acc sched ") (omega arith) refl
+help (command.Run workers) = line_at 8 (codes "acc run ") (omega arith) refl
+help command.Recover = line_at 9 (codes "acc recover ") (omega arith) refl
+help command.Dump = line_at 10 (codes "acc dump ") (omega arith) refl
+help command.Replies = line_at 11 (codes "acc replies ") (omega arith) refl
+help command.Verify = line_at 12 (codes "acc verify ") (omega arith) refl
+help command.TpccDesign = line_at 13 (codes "acc tpcc design ") (omega arith) refl
+help (command.TpccLoad scale) = line_at 14 (codes "acc tpcc load ") (omega arith) refl
+help (command.TpccMix mix) = line_at 15 (codes "acc tpcc mix ") (omega arith) refl
+help command.BookingDesign = line_at 16 (codes "acc booking design ") (omega arith) refl
+help command.BookingVerify = line_at 17 (codes "acc booking verify ") (omega arith) refl
+help (command.Bench mix) = line_at 18 (codes "acc bench ") (omega arith) refl
+help command.Help = line_at 19 (codes "acc --help ") (omega arith) refl
+help command.Version = line_at 20 (codes "acc --version ") (omega arith) refl

@@ -8,6 +8,7 @@ pub mod Files
 pub mod Text
 pub mod Refusals
 pub mod Schemas
+pub mod Bookings
 pub mod ReadDesigns
 pub mod Notes
 pub mod Scripts

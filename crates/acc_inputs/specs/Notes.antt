@@ -11,6 +11,7 @@ help_lines =
     codes "acc print DESIGN                            prints the design in its one spelling" ∷
     codes "acc check DESIGN CERT                       tells whether the certificate proves that the design is sound, and else why not" ∷
     codes "acc prove DESIGN                            makes such a certificate, or tells which obligations stay open" ∷
+    codes "acc advise DESIGN HELD STEP SIDE            tells which entry lets the step go where HELD is held, and forbids least" ∷
     codes "acc init DESIGN JOURNAL                     makes JOURNAL a journal of the design without events, if it isn't one already" ∷
     codes "acc sched DESIGN CERT SCRIPT ORDER JOURNAL  recovers the journal, and goes on as `rehearse`; each end is kept in it" ∷
     codes "acc run DESIGN CERT SCRIPT WORKERS JOURNAL  recovers the journal, and 1 to 64 workers run the script; each end is kept in it" ∷
@@ -22,6 +23,7 @@ help_lines =
     codes "acc tpcc load W ITEMS CUSTOMERS             prints a script that fills W warehouses of TPC-C, 1 to 10, as the standard says" ∷
     codes "acc tpcc mix W ITEMS CUSTOMERS COUNT START  prints a script of COUNT of TPC-C's transactions behind that, drawn from START" ∷
     codes "acc booking design                          prints the design of bookings of seats and rooms that the program brings along" ∷
+    codes "acc booking verify DESIGN CERT JOURNAL      recovers a journal of that design, and tells that no seat or room is sold twice" ∷
     codes "acc bench DESIGN CERT W ITEMS CUSTOMERS COUNT START  runs both in memory, and tells whether TPC-C's conditions are true" ∷
     codes "acc --help                                  prints these lines" ∷
     codes "acc --version                               prints the version of acc, and of the toolchain that proved it" ∷

@@ -6,10 +6,12 @@ use Rattle.acc_inputs.specs.declared.requests.PlayFiles.{PlayFiles}
 use Rattle.acc_inputs.specs.declared.requests.CertifiedFiles.{CertifiedFiles}
 use Rattle.acc_inputs.specs.declared.requests.ScheduleFiles.{ScheduleFiles}
 use Rattle.acc_inputs.specs.declared.requests.WorkerFiles.{WorkerFiles}
+use Rattle.acc_inputs.specs.declared.requests.AdviceFiles.{AdviceFiles}
 use Rattle.acc_inputs.specs.declared.requests.Request.{Request}
-use Rattle.acc_inputs.specs.declared.requests.Request.TheVariants.{Play, Rehearse, Print, Check, Prove, Init, Sched, Run}
+use Rattle.acc_inputs.specs.declared.requests.Request.TheVariants.{Play, Rehearse, Print, Check, Prove, Advise, Init, Sched, Run}
 use Rattle.acc_inputs.specs.declared.requests.Request.TheVariants.{Recover, Dump, Replies, Verify}
-use Rattle.acc_inputs.specs.declared.requests.Request.TheVariants.{TpccDesign, TpccLoad, TpccMix, BookingDesign, Bench, Help, Version}
+use Rattle.acc_inputs.specs.declared.requests.Request.TheVariants.{TpccDesign, TpccLoad, TpccMix, BookingDesign, BookingVerify}
+use Rattle.acc_inputs.specs.declared.requests.Request.TheVariants.{Bench, Help, Version}
 
 abbrev pub command_in : Request → Command
 command_in (Play files) = command.Play
@@ -17,6 +19,7 @@ command_in (Rehearse files) = command.Rehearse
 command_in (Print design) = command.Print
 command_in (Check files) = command.Check
 command_in (Prove design) = command.Prove
+command_in (Advise files side) = command.Advise side
 command_in (Init design) = command.Init
 command_in (Sched files) = command.Sched
 command_in (Run files workers) = command.Run workers
@@ -26,6 +29,7 @@ command_in (Replies files) = command.Replies
 command_in (Verify files) = command.Verify
 command_in TpccDesign = command.TpccDesign
 command_in BookingDesign = command.BookingDesign
+command_in (BookingVerify files) = command.BookingVerify
 command_in (TpccLoad scale) = command.TpccLoad scale
 command_in (TpccMix mix) = command.TpccMix mix
 command_in (Bench files mix) = command.Bench mix
@@ -51,6 +55,7 @@ texts_in (Rehearse files) = scheduled_texts files
 texts_in (Print design) = design.now ∷ []
 texts_in (Check files) = certified_texts files
 texts_in (Prove design) = design.now ∷ []
+texts_in (Advise files side) = files.design.now ∷ []
 texts_in (Init design) = design.now ∷ []
 texts_in (Sched files) = scheduled_texts files
 texts_in (Run files workers) = worked_texts files
@@ -60,8 +65,33 @@ texts_in (Replies files) = certified_texts files
 texts_in (Verify files) = certified_texts files
 texts_in TpccDesign = []
 texts_in BookingDesign = []
+texts_in (BookingVerify files) = certified_texts files
 texts_in (TpccLoad scale) = []
 texts_in (TpccMix mix) = []
 texts_in (Bench files mix) = certified_texts files
 texts_in Help = []
 texts_in Version = []
+
+-- the words that name points
+abbrev pub points_in : Request → List (List ℕ)
+points_in (Play files) = []
+points_in (Rehearse files) = []
+points_in (Print design) = []
+points_in (Check files) = []
+points_in (Prove design) = []
+points_in (Advise files side) = files.held.now ∷ files.step.now ∷ []
+points_in (Init design) = []
+points_in (Sched files) = []
+points_in (Run files workers) = []
+points_in (Recover files) = []
+points_in (Dump files) = []
+points_in (Replies files) = []
+points_in (Verify files) = []
+points_in TpccDesign = []
+points_in BookingDesign = []
+points_in (BookingVerify files) = []
+points_in (TpccLoad scale) = []
+points_in (TpccMix mix) = []
+points_in (Bench files mix) = []
+points_in Help = []
+points_in Version = []

@@ -1,34 +1,13 @@
 -- That no command is without a verb, or without a line of the help.
-use Rattle.std.specs.Prelude.{◌≡◌, ⊤, true, ℕ, List, [], ◌∷◌, ◌++◌, length, map, Some, Contains, codes, decimal}
+use Rattle.std.specs.Prelude.{◌≡◌, ⊤, true, ℕ, ◌+◌, List, [], ◌∷◌, ◌++◌, length, map, Some, Contains, codes, decimal}
 use Rattle.std.specs.List.{flat_map}
 use Rattle.acc_inputs.specs.declared.words.Command.{Command}
 use Rattle.acc_inputs.specs.declared.words.Command.TheVariants as command
 use Rattle.acc_inputs.specs.declared.scales.Mix.{Mix}
 use Rattle.acc_inputs.specs.Scales.{is_scale, is_mix}
-use Rattle.acc_inputs.specs.Words.{file_count, IsCrew, command_of}
+use Rattle.acc_form.specs.Judged.{side_word}
+use Rattle.acc_inputs.specs.Words.{verb_of, file_count, point_count, IsCrew, command_of}
 use Rattle.acc_inputs.specs.Notes.{help_lines}
-
--- the words that ask for a command: one, or two
-abbrev pub verb_of : Command → List (List ℕ)
-verb_of command.Play = codes "play" ∷ []
-verb_of command.Rehearse = codes "rehearse" ∷ []
-verb_of command.Print = codes "print" ∷ []
-verb_of command.Check = codes "check" ∷ []
-verb_of command.Prove = codes "prove" ∷ []
-verb_of command.Init = codes "init" ∷ []
-verb_of command.Sched = codes "sched" ∷ []
-verb_of (command.Run workers) = codes "run" ∷ []
-verb_of command.Recover = codes "recover" ∷ []
-verb_of command.Dump = codes "dump" ∷ []
-verb_of command.Replies = codes "replies" ∷ []
-verb_of command.Verify = codes "verify" ∷ []
-verb_of command.TpccDesign = codes "tpcc" ∷ codes "design" ∷ []
-verb_of command.BookingDesign = codes "booking" ∷ codes "design" ∷ []
-verb_of (command.TpccLoad scale) = codes "tpcc" ∷ codes "load" ∷ []
-verb_of (command.TpccMix mix) = codes "tpcc" ∷ codes "mix" ∷ []
-verb_of (command.Bench mix) = codes "bench" ∷ []
-verb_of command.Help = codes "--help" ∷ []
-verb_of command.Version = codes "--version" ∷ []
 
 -- the numbers of a mix, in the order of the words that tell them
 abbrev pub mix_numbers : Mix → List ℕ
@@ -41,6 +20,7 @@ numbers_of command.Rehearse = []
 numbers_of command.Print = []
 numbers_of command.Check = []
 numbers_of command.Prove = []
+numbers_of (command.Advise side) = []
 numbers_of command.Init = []
 numbers_of command.Sched = []
 numbers_of (command.Run workers) = workers ∷ []
@@ -50,6 +30,7 @@ numbers_of command.Replies = []
 numbers_of command.Verify = []
 numbers_of command.TpccDesign = []
 numbers_of command.BookingDesign = []
+numbers_of command.BookingVerify = []
 numbers_of (command.TpccLoad scale) = scale.warehouses ∷ scale.items ∷ scale.customers ∷ []
 numbers_of (command.TpccMix mix) = mix_numbers mix
 numbers_of (command.Bench mix) = mix_numbers mix
@@ -63,6 +44,7 @@ HasFit command.Rehearse = ⊤
 HasFit command.Print = ⊤
 HasFit command.Check = ⊤
 HasFit command.Prove = ⊤
+HasFit (command.Advise side) = ⊤
 HasFit command.Init = ⊤
 HasFit command.Sched = ⊤
 HasFit (command.Run workers) = IsCrew workers
@@ -72,17 +54,43 @@ HasFit command.Replies = ⊤
 HasFit command.Verify = ⊤
 HasFit command.TpccDesign = ⊤
 HasFit command.BookingDesign = ⊤
+HasFit command.BookingVerify = ⊤
 HasFit (command.TpccLoad scale) = is_scale scale ≡ true
 HasFit (command.TpccMix mix) = is_mix mix ≡ true
 HasFit (command.Bench mix) = is_mix mix ≡ true
 HasFit command.Help = ⊤
 HasFit command.Version = ⊤
 
--- each command is what its verb asks for, with as many words behind it as it has files, and its numbers, if it has some
+-- the word of the side that a command has
+abbrev pub sides_of : Command → List (List ℕ)
+sides_of command.Play = []
+sides_of command.Rehearse = []
+sides_of command.Print = []
+sides_of command.Check = []
+sides_of command.Prove = []
+sides_of (command.Advise side) = side_word side ∷ []
+sides_of command.Init = []
+sides_of command.Sched = []
+sides_of (command.Run workers) = []
+sides_of command.Recover = []
+sides_of command.Dump = []
+sides_of command.Replies = []
+sides_of command.Verify = []
+sides_of command.TpccDesign = []
+sides_of command.BookingDesign = []
+sides_of command.BookingVerify = []
+sides_of (command.TpccLoad scale) = []
+sides_of (command.TpccMix mix) = []
+sides_of (command.Bench mix) = []
+sides_of command.Help = []
+sides_of command.Version = []
+
+-- each command is what its verb asks for, with as many words behind it as it has files and points, and then its side, if it has one, and
+-- its numbers
 abbrev pub EachHasVerb : Type 0
 EachHasVerb =
-    (c : Command) (names : List (List ℕ)) → HasFit c → length names ≡ file_count c
-    → command_of (verb_of c ++ (names ++ map decimal (numbers_of c))) ≡ Some c
+    (c : Command) (names : List (List ℕ)) → HasFit c → length names ≡ file_count c + point_count c
+    → command_of (verb_of c ++ (names ++ (sides_of c ++ map decimal (numbers_of c)))) ≡ Some c
 
 -- words, each with a space behind it
 abbrev pub words_text : List (List ℕ) → List ℕ

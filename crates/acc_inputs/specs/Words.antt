@@ -1,8 +1,10 @@
 -- The forms of the command line.
-use Rattle.std.specs.Prelude.{ℕ, List, [], ◌∷◌, length, take, drop, Bool, true, false, ◌==◌, if◌then◌else◌}
+use Rattle.std.specs.Prelude.{◌≡◌, ⊤, ℕ, ◌+◌, List, [], ◌∷◌, length, take, drop, Bool, true, false, ◌==◌, if◌then◌else◌}
 use Rattle.std.specs.Prelude.{◌&&◌, Option, Some, None, option_map, codes, decimal}
 use Rattle.std.specs.Str.{bytes_eq}
 use Rattle.std.specs.Str.Parse.{digits_value}
+use Rattle.acc_base.specs.declared.designs.Side.{Side}
+use Rattle.acc_base.specs.declared.designs.Side.TheVariants.{Next, Undo}
 use Rattle.tpcc_gen.specs.declared.bounds.TheConstants.{MOST_WAREHOUSES, MOST_ITEMS, MOST_CUSTOMERS, MOST_TRANSACTIONS, LARGEST_START}
 use Rattle.acc_inputs.specs.declared.words.TheConstants.{MOST_WORKERS}
 use Rattle.acc_inputs.specs.declared.scales.Scale.{Scale}
@@ -11,12 +13,13 @@ use Rattle.acc_inputs.specs.declared.words.Workload.{Workload}
 use Rattle.acc_inputs.specs.declared.words.Workload.TheVariants.{Design, Load, Mix as MixOf}
 use Rattle.acc_inputs.specs.Scales.{IsWithin, is_within}
 use Rattle.acc_inputs.specs.declared.words.Form.{Form}
-use Rattle.acc_inputs.specs.declared.words.Form.TheVariants.{Files, Workers, Tpcc, Booking, Bench}
+use Rattle.acc_inputs.specs.declared.words.Form.TheVariants.{Files, Workers, Tpcc, Booking, Bench, Advice}
 use Rattle.acc_inputs.specs.declared.words.Command.{Command}
 use Rattle.acc_inputs.specs.declared.words.Command.TheVariants as command
 
 -- what stands behind this verb: the names of the command's files alone; those of the files of `run` and then the number of workers;
--- behind `tpcc` or `booking`, what is wanted of it and its numbers; or those of the files of `bench` and then the numbers of its mix
+-- behind `tpcc` or `booking`, what is wanted of it, with its files and numbers; those of the files of `bench` and then the numbers of its
+-- mix; or those of the design and of two points of it, and then a side
 unfoldable pub form_of : List ℕ → Option Form
 form_of verb =
     if bytes_eq verb (codes "play") then Some (Files command.Play) else
@@ -24,6 +27,7 @@ form_of verb =
     (if bytes_eq verb (codes "print") then Some (Files command.Print) else
     (if bytes_eq verb (codes "check") then Some (Files command.Check) else
     (if bytes_eq verb (codes "prove") then Some (Files command.Prove) else
+    (if bytes_eq verb (codes "advise") then Some Advice else
     (if bytes_eq verb (codes "init") then Some (Files command.Init) else
     (if bytes_eq verb (codes "sched") then Some (Files command.Sched) else
     (if bytes_eq verb (codes "run") then Some Workers else
@@ -36,7 +40,7 @@ form_of verb =
     (if bytes_eq verb (codes "bench") then Some Bench else
     (if bytes_eq verb (codes "--help") then Some (Files command.Help) else
     (if bytes_eq verb (codes "--version") then Some (Files command.Version) else
-    None))))))))))))))))
+    None)))))))))))))))))
 
 -- what this word wants of TPC-C
 unfoldable pub workload_of : List ℕ → Option Workload
@@ -46,6 +50,44 @@ workload_of word =
     (if bytes_eq word (codes "mix") then Some MixOf else
     None))
 
+-- what this word wants of the booking design
+unfoldable pub booking_of : List ℕ → Option Command
+booking_of word =
+    if bytes_eq word (codes "design") then Some command.BookingDesign else
+    (if bytes_eq word (codes "verify") then Some command.BookingVerify else
+    None)
+
+-- the side of a point that a word names
+unfoldable pub side_of : List ℕ → Option Side
+side_of word =
+    if bytes_eq word (codes "next") then Some Next else
+    (if bytes_eq word (codes "undo") then Some Undo else
+    None)
+
+-- the words that ask for a command: one, or two
+abbrev pub verb_of : Command → List (List ℕ)
+verb_of command.Play = codes "play" ∷ []
+verb_of command.Rehearse = codes "rehearse" ∷ []
+verb_of command.Print = codes "print" ∷ []
+verb_of command.Check = codes "check" ∷ []
+verb_of command.Prove = codes "prove" ∷ []
+verb_of (command.Advise side) = codes "advise" ∷ []
+verb_of command.Init = codes "init" ∷ []
+verb_of command.Sched = codes "sched" ∷ []
+verb_of (command.Run workers) = codes "run" ∷ []
+verb_of command.Recover = codes "recover" ∷ []
+verb_of command.Dump = codes "dump" ∷ []
+verb_of command.Replies = codes "replies" ∷ []
+verb_of command.Verify = codes "verify" ∷ []
+verb_of command.TpccDesign = codes "tpcc" ∷ codes "design" ∷ []
+verb_of command.BookingDesign = codes "booking" ∷ codes "design" ∷ []
+verb_of command.BookingVerify = codes "booking" ∷ codes "verify" ∷ []
+verb_of (command.TpccLoad scale) = codes "tpcc" ∷ codes "load" ∷ []
+verb_of (command.TpccMix mix) = codes "tpcc" ∷ codes "mix" ∷ []
+verb_of (command.Bench mix) = codes "bench" ∷ []
+verb_of command.Help = codes "--help" ∷ []
+verb_of command.Version = codes "--version" ∷ []
+
 -- how many files a command reads: the first words behind the verb name them
 unfoldable pub file_count : Command → ℕ
 file_count command.Play = 3
@@ -53,6 +95,7 @@ file_count command.Rehearse = 4
 file_count command.Print = 1
 file_count command.Check = 2
 file_count command.Prove = 1
+file_count (command.Advise side) = 1
 file_count command.Init = 1
 file_count command.Sched = 4
 file_count (command.Run workers) = 3
@@ -62,14 +105,47 @@ file_count command.Replies = 2
 file_count command.Verify = 2
 file_count command.TpccDesign = 0
 file_count command.BookingDesign = 0
+file_count command.BookingVerify = 2
 file_count (command.TpccLoad scale) = 0
 file_count (command.TpccMix mix) = 0
 file_count (command.Bench mix) = 2
 file_count command.Help = 0
 file_count command.Version = 0
 
+-- how many points of the design a command names: the words behind those of its files do
+unfoldable pub point_count : Command → ℕ
+point_count command.Play = 0
+point_count command.Rehearse = 0
+point_count command.Print = 0
+point_count command.Check = 0
+point_count command.Prove = 0
+point_count (command.Advise side) = 2
+point_count command.Init = 0
+point_count command.Sched = 0
+point_count (command.Run workers) = 0
+point_count command.Recover = 0
+point_count command.Dump = 0
+point_count command.Replies = 0
+point_count command.Verify = 0
+point_count command.TpccDesign = 0
+point_count command.BookingDesign = 0
+point_count command.BookingVerify = 0
+point_count (command.TpccLoad scale) = 0
+point_count (command.TpccMix mix) = 0
+point_count (command.Bench mix) = 0
+point_count command.Help = 0
+point_count command.Version = 0
+
+-- the words that name the files of a command, and those that name points
 abbrev pub files_of : Command → List (List ℕ) → List (List ℕ)
-files_of c words = take (file_count c) (drop 1 words)
+files_of c words = take (file_count c) (drop (length (verb_of c)) words)
+
+abbrev pub points_of : Command → List (List ℕ) → List (List ℕ)
+points_of c words = take (point_count c) (drop (length (verb_of c) + file_count c) words)
+
+-- how many words ask for a command and name its files and points
+abbrev pub word_count : Command → ℕ
+word_count c = length (verb_of c) + file_count c + point_count c
 
 -- whether a command goes over a journal
 abbrev pub is_journalled : Command → Bool
@@ -78,6 +154,7 @@ is_journalled command.Rehearse = false
 is_journalled command.Print = false
 is_journalled command.Check = false
 is_journalled command.Prove = false
+is_journalled (command.Advise side) = false
 is_journalled command.Init = true
 is_journalled command.Sched = true
 is_journalled (command.Run workers) = true
@@ -87,6 +164,7 @@ is_journalled command.Replies = true
 is_journalled command.Verify = true
 is_journalled command.TpccDesign = false
 is_journalled command.BookingDesign = false
+is_journalled command.BookingVerify = true
 is_journalled (command.TpccLoad scale) = false
 is_journalled (command.TpccMix mix) = false
 is_journalled (command.Bench mix) = false
@@ -176,11 +254,29 @@ abbrev pub with_tpcc : List (List ℕ) → Option Command
 with_tpcc [] = None
 with_tpcc (wanted ∷ words) = with_workload (workload_of wanted) words
 
--- `booking design`, if this word stands behind the verb, and nothing else
+-- what is wanted of the booking design, by the word behind `booking`
+abbrev pub wanted_of : List (List ℕ) → Option Command
+wanted_of [] = None
+wanted_of (wanted ∷ words) = booking_of wanted
+
+-- that, if the words behind name its files
+abbrev pub given_files : Option Command → List (List ℕ) → Option Command
+given_files None names = None
+given_files (Some c) names = with_files c names
+
+-- the command of which the words behind `booking` say what is wanted
 abbrev pub with_booking : List (List ℕ) → Option Command
 with_booking [] = None
-with_booking (wanted ∷ []) = if bytes_eq wanted (codes "design") then Some command.BookingDesign else None
-with_booking (wanted ∷ more ∷ rest) = None
+with_booking (wanted ∷ words) = given_files (booking_of wanted) words
+
+-- `advise`, if a word names its file, two name points, and one a side
+abbrev pub with_advice : List (List ℕ) → Option Command
+with_advice [] = None
+with_advice (design ∷ []) = None
+with_advice (design ∷ held ∷ []) = None
+with_advice (design ∷ held ∷ step ∷ []) = None
+with_advice (design ∷ held ∷ step ∷ side ∷ []) = option_map command.Advise (side_of side)
+with_advice (design ∷ held ∷ step ∷ side ∷ more ∷ rest) = None
 
 -- `bench`, if two words name its files, and those behind them tell its mix
 abbrev pub with_bench : List (List ℕ) → Option Command
@@ -194,6 +290,7 @@ with_form (Some Workers) words = with_workers words
 with_form (Some Tpcc) words = with_tpcc words
 with_form (Some Booking) words = with_booking words
 with_form (Some Bench) words = with_bench words
+with_form (Some Advice) words = with_advice words
 
 -- the command that the words ask for: its verb, and what stands behind that
 abbrev pub command_of : List (List ℕ) → Option Command
@@ -213,17 +310,33 @@ abbrev pub is_over_journal : Option Command → Bool
 is_over_journal None = false
 is_over_journal (Some c) = is_journalled c
 
--- whether it is what stands behind the verb of a command over a journal
-abbrev pub is_journal_form : Option Form → Bool
-is_journal_form None = false
-is_journal_form (Some (Files c)) = is_journalled c
-is_journal_form (Some Workers) = true
-is_journal_form (Some Tpcc) = false
-is_journal_form (Some Booking) = false
-is_journal_form (Some Bench) = false
+-- whether such words behind its verb ask for a command over a journal
+abbrev pub is_journal_form : Option Form → List (List ℕ) → Bool
+is_journal_form None words = false
+is_journal_form (Some (Files c)) words = is_journalled c
+is_journal_form (Some Workers) words = true
+is_journal_form (Some Tpcc) words = false
+is_journal_form (Some Booking) words = is_over_journal (wanted_of words)
+is_journal_form (Some Bench) words = false
+is_journal_form (Some Advice) words = false
 
--- Whether the first word is the verb of a command over a journal. Then the program's own last word names the journal's file, and isn't one
--- of the words of a form.
+-- Whether the first words are the verb of a command over a journal. Then the program's own last word names the journal's file, and isn't
+-- one of the words of a form.
 abbrev pub asks_journal : List (List ℕ) → Bool
 asks_journal [] = false
-asks_journal (verb ∷ words) = is_journal_form (form_of verb)
+asks_journal (verb ∷ words) = is_journal_form (form_of verb) words
+
+-- ---- verbs of one word and of two
+
+-- the command has a verb of so many words, and names no points
+abbrev pub HasVerb : ℕ → Command → Type 0
+HasVerb n c = (length (verb_of c) ≡ n) × (point_count c ≡ 0)
+
+-- where names of files alone stand behind it, the verb is one word
+abbrev pub IsOneWord : Form → Type 0
+IsOneWord (Files c) = HasVerb 1 c
+IsOneWord Workers = ⊤
+IsOneWord Tpcc = ⊤
+IsOneWord Booking = ⊤
+IsOneWord Bench = ⊤
+IsOneWord Advice = ⊤

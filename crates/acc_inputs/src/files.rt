@@ -1,8 +1,10 @@
-// Reads the files that the words name.
-ghost use Rattle.std.specs.Prelude.{◌≡◌, ◌≤◌, map, length, string_bytes, IfOk, IfErr, OnOk};
+//! The words that name files, and those that name points; and the files, which are read.
+ghost use Rattle.std.specs.Prelude.{◌≡◌, ◌+◌, ◌≤◌, map, length, string_bytes, IfOk, IfErr, OnOk};
 ghost use Rattle.acc_io.specs.Counted.{after_files};
 ghost use Rattle.acc_inputs.specs.Files.{AllGiven, AreFiles, IsFirstRefused};
+ghost use Rattle.acc_inputs.specs.Words.{point_count, word_count, files_of, points_of, file_names};
 
+use crate::words::{Command, command_of, file_count, point_count, verb_count};
 use acc_io::{Shelf, ShelfError};
 use std::alloc::Global;
 
@@ -42,4 +44,33 @@ pub fn read_all<'a, H: Shelf>(
         }
     }
     Ok(files)
+}
+
+/// The words that name the files of a command that the words ask for.
+pub fn files_in(command: Command, words: &[String]) -> &[String]
+    requires { word_count command ≤ length words.now }
+    ensures { map string_bytes result.now ≡ files_of command (map string_bytes words.now) }
+{
+    let first = verb_count(command);
+    &words[first..first + file_count(command)]
+}
+
+/// The words that name points of the design of a command that the words ask for.
+pub fn points_in(command: Command, words: &[String]) -> &[String]
+    requires { word_count command ≤ length words.now }
+    ensures names { map string_bytes result.now ≡ points_of command (map string_bytes words.now) }
+    ensures count { length result.now ≡ point_count command }
+{
+    let first = verb_count(command) + file_count(command);
+    &words[first..first + point_count(command)]
+}
+
+/// The words that name the files of the command that the words ask for; none where they ask for no command.
+pub fn file_names(words: &[String]) -> &[String]
+    ensures { map string_bytes result.now ≡ file_names (map string_bytes words.now) }
+{
+    match command_of(words) {
+        Some(command) => files_in(command, words),
+        None => &[],
+    }
 }

@@ -14,6 +14,7 @@ acc rehearse DESIGN CERT SCRIPT ORDER       the same by rules of locks, if the c
 acc print DESIGN                            prints the design in its one spelling
 acc check DESIGN CERT                       tells whether the certificate proves that the design is sound, and else why not
 acc prove DESIGN                            makes such a certificate, or tells which obligations stay open
+acc advise DESIGN HELD STEP SIDE            tells which entry lets the step go where HELD is held, and forbids least
 acc init DESIGN JOURNAL                     makes JOURNAL a journal of the design without events, if it isn't one already
 acc sched DESIGN CERT SCRIPT ORDER JOURNAL  recovers the journal, and goes on as `rehearse`; each end is kept in it
 acc run DESIGN CERT SCRIPT WORKERS JOURNAL  recovers the journal, and 1 to 64 workers run the script; each end is kept in it
@@ -25,6 +26,7 @@ acc tpcc design                             prints the design of TPC-C's transac
 acc tpcc load W ITEMS CUSTOMERS             prints a script that fills W warehouses of TPC-C, 1 to 10, as the standard says
 acc tpcc mix W ITEMS CUSTOMERS COUNT START  prints a script of COUNT of TPC-C's transactions behind that, drawn from START
 acc booking design                          prints the design of bookings of seats and rooms that the program brings along
+acc booking verify DESIGN CERT JOURNAL      recovers a journal of that design, and tells that no seat or room is sold twice
 acc bench DESIGN CERT W ITEMS CUSTOMERS COUNT START  runs both in memory, and tells whether TPC-C's conditions are true
 acc --help                                  prints these lines
 acc --version                               prints the version of acc, and of the toolchain that proved it

@@ -1,10 +1,11 @@
 //! Commands with their files.
-ghost use Rattle.std.specs.Prelude.{◌≡◌, map, length};
-ghost use Rattle.acc_inputs.specs.Words.{file_count};
-ghost use Rattle.acc_inputs.specs.Requests.{command_in, texts_in, certified_texts, scheduled_texts};
+ghost use Rattle.std.specs.Prelude.{◌≡◌, map, length, string_bytes};
+ghost use Rattle.acc_inputs.specs.Words.{file_count, point_count};
+ghost use Rattle.acc_inputs.specs.Requests.{command_in, texts_in, points_in, certified_texts, scheduled_texts};
 
 use crate::scales::{Mix, Scale};
 use crate::words::Command;
+use acc_base::designs::Side;
 
 /// The bytes of a design, of a script of its calls, and of an order of their turns.
 #[derive(Clone, Copy)]
@@ -64,6 +65,14 @@ pub struct WorkerFiles<'a> {
     pub script: &'a [u8],
 }
 
+/// The bytes of a design, and the words that name a held point of it and the point of a step, each as TYPE.POINT.
+#[derive(Clone, Copy)]
+pub struct AdviceFiles<'a> {
+    pub design: &'a [u8],
+    pub held: &'a str,
+    pub step: &'a str,
+}
+
 /// A command with the bytes of its files: of a design alone, or of one with others.
 #[derive(Clone, Copy)]
 pub enum Request<'a> {
@@ -72,6 +81,8 @@ pub enum Request<'a> {
     Print(&'a [u8]),
     Check(CertifiedFiles<'a>),
     Prove(&'a [u8]),
+    /// With the side of the step.
+    Advise(AdviceFiles<'a>, Side),
     Init(&'a [u8]),
     Sched(ScheduleFiles<'a>),
     /// With how many workers there are.
@@ -82,6 +93,7 @@ pub enum Request<'a> {
     Verify(CertifiedFiles<'a>),
     TpccDesign,
     BookingDesign,
+    BookingVerify(CertifiedFiles<'a>),
     TpccLoad(Scale),
     TpccMix(Mix),
     /// With the numbers of its mix.
@@ -91,12 +103,14 @@ pub enum Request<'a> {
 }
 
 impl<'a> Request<'a> {
-    /// The command with its files, as many as it has.
-    #[tactic(auto, unfolding(crate::specs::Words::file_count))]
-    pub fn new(command: Command, files: &'a [Vec<u8>]) -> Self
-        requires { length files.now ≡ file_count command }
+    /// The command with its files, and the words that name points, as many as it has of each.
+    #[tactic(auto, unfolding(crate::specs::Words::file_count, crate::specs::Words::point_count))]
+    pub fn new(command: Command, files: &'a [Vec<u8>], points: &'a [String]) -> Self
+        requires files { length files.now ≡ file_count command }
+        requires points { length points.now ≡ point_count command }
         ensures command { command_in result ≡ command }
         ensures texts { texts_in result ≡ map (λ v. v.items) files.now }
+        ensures points { points_in result ≡ map string_bytes points.now }
     {
         match command {
             Command::Play => Request::Play(PlayFiles {
@@ -108,6 +122,14 @@ impl<'a> Request<'a> {
             Command::Print => Request::Print(&files[0]),
             Command::Check => Request::Check(CertifiedFiles::new(files)),
             Command::Prove => Request::Prove(&files[0]),
+            Command::Advise(side) => Request::Advise(
+                AdviceFiles {
+                    design: &files[0],
+                    held: points[0].as_str(),
+                    step: points[1].as_str(),
+                },
+                side,
+            ),
             Command::Init => Request::Init(&files[0]),
             Command::Sched => Request::Sched(ScheduleFiles::new(files)),
             Command::Run(workers) => Request::Run(
@@ -124,6 +146,7 @@ impl<'a> Request<'a> {
             Command::Verify => Request::Verify(CertifiedFiles::new(files)),
             Command::TpccDesign => Request::TpccDesign,
             Command::BookingDesign => Request::BookingDesign,
+            Command::BookingVerify => Request::BookingVerify(CertifiedFiles::new(files)),
             Command::TpccLoad(scale) => Request::TpccLoad(scale),
             Command::TpccMix(mix) => Request::TpccMix(mix),
             Command::Bench(mix) => Request::Bench(CertifiedFiles::new(files), mix),

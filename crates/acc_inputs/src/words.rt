@@ -1,14 +1,13 @@
 //! The forms of the command line.
-ghost use Rattle.std.specs.Prelude.{◌≡◌, ◌≢◌, ℕ, ◌+◌, ◌≤◌, MatchOption, map, length, string_bytes, decimal, IfSome, codes};
-ghost use Rattle.std.specs.Str.{bytes_eq};
-ghost use Rattle.acc_inputs.specs.Scales.{IsWithin, is_within};
-ghost use Rattle.acc_inputs.specs.Words.{form_of, workload_of, file_count, is_journalled, number_of, scale_of, mix_of};
-ghost use Rattle.acc_inputs.specs.Words.{with_files, with_workers, with_design, with_load, with_mix, with_tpcc, with_booking, with_bench, command_of};
-ghost use Rattle.acc_inputs.specs.Words.{file_names, asks_journal};
+ghost use Rattle.std.specs.Prelude.{◌≡◌, ◌+◌, ◌≤◌, map, length, string_bytes, IfSome};
+ghost use Rattle.acc_inputs.specs.Words.{form_of, workload_of, booking_of, side_of, verb_of, file_count, point_count, word_count};
+ghost use Rattle.acc_inputs.specs.Words.{is_journalled, HasVerb, IsOneWord};
+ghost use Rattle.acc_inputs.specs.Words.{with_files, with_workers, with_design, with_load, with_mix, with_tpcc, with_booking, with_bench};
+ghost use Rattle.acc_inputs.specs.Words.{with_advice, is_over_journal, command_of, wanted_of, asks_journal};
 
+use crate::numbers::{mix_of, number_of, scale_of};
 use crate::scales::{Mix, Scale};
-use itoa::Buffer;
-use tpcc_gen::{LARGEST_START, MOST_CUSTOMERS, MOST_ITEMS, MOST_TRANSACTIONS, MOST_WAREHOUSES};
+use acc_base::designs::Side;
 
 /// The most workers that `run` takes.
 pub const MOST_WORKERS: u64 = 64;
@@ -26,6 +25,8 @@ pub enum Command {
     Check,
     /// `prove DESIGN`
     Prove,
+    /// `advise DESIGN HELD STEP SIDE`: for two points of the design, with the side of the step
+    Advise(Side),
     /// `init DESIGN`, over a journal
     Init,
     /// `sched DESIGN CERT SCRIPT ORDER`, over a journal
@@ -48,6 +49,8 @@ pub enum Command {
     TpccMix(Mix),
     /// `booking design`
     BookingDesign,
+    /// `booking verify DESIGN CERT`, over a journal
+    BookingVerify,
     /// `bench DESIGN CERT W ITEMS CUSTOMERS COUNT START`
     Bench(Mix),
     /// `--help`
@@ -65,10 +68,12 @@ enum Form {
     Workers,
     /// The word that says what is wanted of TPC-C, and the numbers of that.
     Tpcc,
-    /// The word that says what is wanted of the booking design.
+    /// The word that says what is wanted of the booking design, and the names of the files of that.
     Booking,
     /// The names of the files of `bench`, and the numbers of its mix.
     Bench,
+    /// The names of a design and of two points of it, and a side.
+    Advice,
 }
 
 /// What is wanted of TPC-C.
@@ -82,9 +87,10 @@ enum Workload {
 }
 
 /// What stands behind this verb.
-#[tactic(auto, unfolding(crate::specs::Words::form_of))]
+#[tactic(auto, unfolding(crate::specs::Words::form_of, crate::specs::Words::point_count))]
 fn form_of(verb: &str) -> Option<Form>
-    ensures { result ≡ form_of verb.now }
+    ensures form { result ≡ form_of verb.now }
+    ensures one_word { IfSome result IsOneWord }
 {
     match verb {
         "play" => Some(Form::Files(Command::Play)),
@@ -92,6 +98,7 @@ fn form_of(verb: &str) -> Option<Form>
         "print" => Some(Form::Files(Command::Print)),
         "check" => Some(Form::Files(Command::Check)),
         "prove" => Some(Form::Files(Command::Prove)),
+        "advise" => Some(Form::Advice),
         "init" => Some(Form::Files(Command::Init)),
         "sched" => Some(Form::Files(Command::Sched)),
         "run" => Some(Form::Workers),
@@ -121,19 +128,75 @@ fn workload_of(word: &str) -> Option<Workload>
     }
 }
 
+/// What this word wants of the booking design.
+#[tactic(auto, unfolding(crate::specs::Words::booking_of, crate::specs::Words::point_count))]
+fn booking_of(word: &str) -> Option<Command>
+    ensures command { result ≡ booking_of word.now }
+    ensures two_words { IfSome result (HasVerb 2) }
+{
+    match word {
+        "design" => Some(Command::BookingDesign),
+        "verify" => Some(Command::BookingVerify),
+        _ => None,
+    }
+}
+
+/// The side of a point that a word names.
+#[tactic(auto, unfolding(crate::specs::Words::side_of))]
+fn side_of(word: &str) -> Option<Side>
+    ensures { result ≡ side_of word.now }
+{
+    match word {
+        "next" => Some(Side::Next),
+        "undo" => Some(Side::Undo),
+        _ => None,
+    }
+}
+
+/// How many words ask for a command.
+pub(crate) fn verb_count(command: Command) -> usize
+    ensures { result ≡ length (verb_of command) }
+{
+    match command {
+        Command::TpccDesign | Command::TpccLoad(_) | Command::TpccMix(_) => 2,
+        Command::BookingDesign | Command::BookingVerify => 2,
+        Command::Play | Command::Rehearse | Command::Print | Command::Check => 1,
+        Command::Prove | Command::Advise(_) | Command::Bench(_) => 1,
+        Command::Init | Command::Sched | Command::Run(_) | Command::Recover => 1,
+        Command::Dump | Command::Replies | Command::Verify => 1,
+        Command::Help | Command::Version => 1,
+    }
+}
+
 /// How many of the words behind the verb name files.
 #[tactic(auto, unfolding(crate::specs::Words::file_count))]
-pub fn file_count(command: Command) -> usize
+pub(crate) fn file_count(command: Command) -> usize
     ensures { result ≡ file_count command }
 {
     match command {
         Command::Play | Command::Run(_) => 3,
         Command::Rehearse | Command::Sched => 4,
-        Command::Print | Command::Prove | Command::Init => 1,
-        Command::Check | Command::Recover | Command::Dump => 2,
+        Command::Print | Command::Prove | Command::Advise(_) | Command::Init => 1,
+        Command::BookingVerify | Command::Check | Command::Recover | Command::Dump => 2,
         Command::Replies | Command::Verify | Command::Bench(_) => 2,
         Command::TpccDesign | Command::TpccLoad(_) | Command::TpccMix(_) => 0,
         Command::BookingDesign | Command::Help | Command::Version => 0,
+    }
+}
+
+/// How many of the words behind those of the files name points.
+#[tactic(auto, unfolding(crate::specs::Words::point_count))]
+pub(crate) fn point_count(command: Command) -> usize
+    ensures { result ≡ point_count command }
+{
+    match command {
+        Command::Advise(_) => 2,
+        Command::Play | Command::Rehearse | Command::Print | Command::Check => 0,
+        Command::Prove | Command::Init | Command::Sched | Command::Run(_) => 0,
+        Command::Recover | Command::Dump | Command::Replies | Command::Verify => 0,
+        Command::TpccDesign | Command::TpccLoad(_) | Command::TpccMix(_) => 0,
+        Command::BookingDesign | Command::BookingVerify | Command::Bench(_) => 0,
+        Command::Help | Command::Version => 0,
     }
 }
 
@@ -144,46 +207,18 @@ fn is_journalled(command: Command) -> bool
     match command {
         Command::Init | Command::Sched | Command::Run(_) => true,
         Command::Recover | Command::Dump | Command::Replies | Command::Verify => true,
+        Command::BookingVerify => true,
         Command::Play | Command::Rehearse | Command::Print | Command::Check => false,
         Command::Prove | Command::Bench(_) | Command::Help | Command::Version => false,
         Command::TpccDesign | Command::TpccLoad(_) | Command::TpccMix(_) => false,
-        Command::BookingDesign => false,
-    }
-}
-
-/// Whether a number is within bounds.
-fn is_within(least: u64, most: u64, number: u64) -> bool
-    ensures { result ≡ is_within least most number }
-{
-    (least..=most).contains(&number)
-}
-
-/// Whether a word is the numeral of a number: its decimal digits, without a sign or a leading zero.
-fn is_numeral_of(word: &str, number: u64) -> bool
-    ensures { result ≡ bytes_eq (decimal number) word.now }
-{
-    Buffer::new().format(number).as_bytes() == word.as_bytes()
-}
-
-/// The number from the least to the most of which a word is the numeral, without a sign or a leading zero, if there is one.
-pub fn number_of(least: u64, most: u64, word: &str) -> Option<u64>
-    ensures meaning { MatchOption result ((n : ℕ) → IsWithin least most n → word.now ≢ decimal n)
-        (λ n. IsWithin least most n × (word.now ≡ decimal n)) }
-    ensures value { result ≡ number_of least most word.now }
-{
-    let Ok(number) = word.parse() else {
-        return None;
-    };
-    if is_within(least, most, number) && is_numeral_of(word, number) {
-        Some(number)
-    } else {
-        None
+        Command::BookingDesign | Command::Advise(_) => false,
     }
 }
 
 /// The command, if as many words stand behind its verb as it has files.
 fn with_files(command: Command, names: &[String]) -> Option<Command>
-    ensures { result ≡ with_files command (map string_bytes names.now) }
+    ensures command { result ≡ with_files command (map string_bytes names.now) }
+    ensures length { IfSome result (λ c. (c ≡ command) × (length names.now ≡ file_count command)) }
 {
     if names.len() == file_count(command) {
         Some(command)
@@ -195,7 +230,7 @@ fn with_files(command: Command, names: &[String]) -> Option<Command>
 /// `run`, if the names of its files and a number of workers stand behind the verb.
 fn with_workers(words: &[String]) -> Option<Command>
     ensures command { result ≡ with_workers (map string_bytes words.now) }
-    ensures length { IfSome result (λ command. file_count command ≤ length words.now) }
+    ensures length { IfSome result (λ command. word_count command ≤ length words.now + 1) }
 {
     let [_design, _certificate, _script, workers] = words else {
         return None;
@@ -203,25 +238,11 @@ fn with_workers(words: &[String]) -> Option<Command>
     Some(Command::Run(number_of(1, MOST_WORKERS, workers.as_str())?))
 }
 
-/// The scale that three words tell.
-fn scale_of(warehouses: &str, items: &str, customers: &str) -> Option<Scale>
-    ensures { result ≡ scale_of warehouses.now items.now customers.now }
-{
-    let warehouses = number_of(1, MOST_WAREHOUSES, warehouses)?;
-    let items = number_of(1, MOST_ITEMS, items)?;
-    let customers = number_of(1, MOST_CUSTOMERS, customers)?;
-    Some(Scale {
-        warehouses,
-        items,
-        customers,
-    })
-}
-
 /// `tpcc design`, if nothing stands behind it.
-#[tactic(auto, unfolding(crate::specs::Words::file_count))]
+#[tactic(auto, unfolding(crate::specs::Words::file_count, crate::specs::Words::point_count))]
 fn with_design(words: &[String]) -> Option<Command>
     ensures command { result ≡ with_design (map string_bytes words.now) }
-    ensures length { IfSome result (λ command. file_count command ≤ length words.now) }
+    ensures length { IfSome result (λ command. word_count command ≤ length words.now + 2) }
 {
     if words.is_empty() {
         Some(Command::TpccDesign)
@@ -231,10 +252,10 @@ fn with_design(words: &[String]) -> Option<Command>
 }
 
 /// `tpcc load`, if its scale stands behind it.
-#[tactic(auto, unfolding(crate::specs::Words::file_count))]
+#[tactic(auto, unfolding(crate::specs::Words::file_count, crate::specs::Words::point_count))]
 fn with_load(words: &[String]) -> Option<Command>
     ensures command { result ≡ with_load (map string_bytes words.now) }
-    ensures length { IfSome result (λ command. file_count command ≤ length words.now) }
+    ensures length { IfSome result (λ command. word_count command ≤ length words.now + 2) }
 {
     let [warehouses, items, customers] = words else {
         return None;
@@ -243,28 +264,11 @@ fn with_load(words: &[String]) -> Option<Command>
     Some(Command::TpccLoad(scale))
 }
 
-/// The mix that five words tell.
-fn mix_of(words: &[String]) -> Option<Mix>
-    ensures { result ≡ mix_of (map string_bytes words.now) }
-{
-    let [warehouses, items, customers, count, start] = words else {
-        return None;
-    };
-    let scale = scale_of(warehouses.as_str(), items.as_str(), customers.as_str())?;
-    let count = number_of(0, MOST_TRANSACTIONS, count.as_str())?;
-    let start = number_of(0, LARGEST_START, start.as_str())?;
-    Some(Mix {
-        scale,
-        count,
-        start,
-    })
-}
-
 /// `tpcc mix`, if its numbers stand behind it.
-#[tactic(auto, unfolding(crate::specs::Words::file_count))]
+#[tactic(auto, unfolding(crate::specs::Words::file_count, crate::specs::Words::point_count))]
 fn with_mix(words: &[String]) -> Option<Command>
     ensures command { result ≡ with_mix (map string_bytes words.now) }
-    ensures length { IfSome result (λ command. file_count command ≤ length words.now) }
+    ensures length { IfSome result (λ command. word_count command ≤ length words.now + 2) }
 {
     Some(Command::TpccMix(mix_of(words)?))
 }
@@ -272,7 +276,7 @@ fn with_mix(words: &[String]) -> Option<Command>
 /// The command of which the words behind `tpcc` say what is wanted.
 fn with_tpcc(words: &[String]) -> Option<Command>
     ensures command { result ≡ with_tpcc (map string_bytes words.now) }
-    ensures length { IfSome result (λ command. file_count command ≤ length words.now) }
+    ensures length { IfSome result (λ command. word_count command ≤ length words.now + 1) }
 {
     let [wanted, behind @ ..] = words else {
         return None;
@@ -284,37 +288,34 @@ fn with_tpcc(words: &[String]) -> Option<Command>
     }
 }
 
-/// Whether a word asks for the design that the program brings along.
-fn is_design(word: &str) -> bool
-    ensures { result ≡ bytes_eq word.now (codes "design") }
-{
-    match word {
-        "design" => true,
-        _ => false,
-    }
-}
-
-/// `booking design`, if this word stands behind the verb, and nothing else.
-#[tactic(auto, unfolding(crate::specs::Words::file_count))]
+/// The command of which the words behind `booking` say what is wanted.
 fn with_booking(words: &[String]) -> Option<Command>
     ensures command { result ≡ with_booking (map string_bytes words.now) }
-    ensures length { IfSome result (λ command. file_count command ≤ length words.now) }
+    ensures length { IfSome result (λ command. word_count command ≤ length words.now + 1) }
 {
-    let [wanted] = words else {
+    let [wanted, names @ ..] = words else {
         return None;
     };
-    if is_design(wanted.as_str()) {
-        Some(Command::BookingDesign)
-    } else {
-        None
-    }
+    with_files(booking_of(wanted.as_str())?, names)
+}
+
+/// `advise`, if the names of its design and of two points and a side stand behind the verb.
+#[tactic(auto, unfolding(crate::specs::Words::file_count, crate::specs::Words::point_count))]
+fn with_advice(words: &[String]) -> Option<Command>
+    ensures command { result ≡ with_advice (map string_bytes words.now) }
+    ensures length { IfSome result (λ command. word_count command ≤ length words.now + 1) }
+{
+    let [_design, _held, _step, side] = words else {
+        return None;
+    };
+    Some(Command::Advise(side_of(side.as_str())?))
 }
 
 /// `bench`, if the names of its files and its mix stand behind the verb.
-#[tactic(auto, unfolding(crate::specs::Words::file_count))]
+#[tactic(auto, unfolding(crate::specs::Words::file_count, crate::specs::Words::point_count))]
 fn with_bench(words: &[String]) -> Option<Command>
     ensures command { result ≡ with_bench (map string_bytes words.now) }
-    ensures length { IfSome result (λ command. file_count command ≤ length words.now) }
+    ensures length { IfSome result (λ command. word_count command ≤ length words.now + 1) }
 {
     let [_design, _certificate, behind @ ..] = words else {
         return None;
@@ -323,10 +324,11 @@ fn with_bench(words: &[String]) -> Option<Command>
 }
 
 /// The command that the words ask for: its verb, and behind it the names of its files, and then for `run` the number of workers, for
-/// `bench` the numbers of its mix; or `tpcc` or `booking`, and behind it what is wanted of that, with its numbers.
+/// `bench` the numbers of its mix, for `advise` two points and a side; or `tpcc` or `booking`, and behind it what is wanted of that, with
+/// its numbers or the names of its files.
 pub fn command_of(words: &[String]) -> Option<Command>
     ensures command { result ≡ command_of (map string_bytes words.now) }
-    ensures length { IfSome result (λ command. file_count command + 1 ≤ length words.now) }
+    ensures length { IfSome result (λ command. word_count command ≤ length words.now) }
 {
     let [verb, behind @ ..] = words else {
         return None;
@@ -337,29 +339,42 @@ pub fn command_of(words: &[String]) -> Option<Command>
         Form::Tpcc => with_tpcc(behind),
         Form::Booking => with_booking(behind),
         Form::Bench => with_bench(behind),
+        Form::Advice => with_advice(behind),
     }
 }
 
-/// The words that name the files of the command that the words ask for; none where they ask for no command.
-pub fn file_names(words: &[String]) -> &[String]
-    ensures { map string_bytes result.now ≡ file_names (map string_bytes words.now) }
+/// What is wanted of the booking design, by the word behind `booking`.
+fn wanted_of(words: &[String]) -> Option<Command>
+    ensures { result ≡ wanted_of (map string_bytes words.now) }
 {
-    match command_of(words) {
-        Some(command) => &words[1..=file_count(command)],
-        None => &[],
+    let [wanted, ..] = words else {
+        return None;
+    };
+    booking_of(wanted.as_str())
+}
+
+/// Whether a command is asked for, and one over a journal.
+fn is_over_journal(command: Option<Command>) -> bool
+    ensures { result ≡ is_over_journal command }
+{
+    match command {
+        Some(command) => is_journalled(command),
+        None => false,
     }
 }
 
-/// Whether the words ask for a command over a journal. Then the program's own last word names the journal's file, and stands in no form.
+/// Whether the first words are the verb of a command over a journal. Then the program's own last word names the journal's file, and stands
+/// in no form.
 pub fn asks_journal(words: &[String]) -> bool
     ensures { result ≡ asks_journal (map string_bytes words.now) }
 {
-    let [verb, ..] = words else {
+    let [verb, behind @ ..] = words else {
         return false;
     };
     match form_of(verb.as_str()) {
         Some(Form::Files(command)) => is_journalled(command),
         Some(Form::Workers) => true,
-        Some(Form::Tpcc | Form::Booking | Form::Bench) | None => false,
+        Some(Form::Booking) => is_over_journal(wanted_of(behind)),
+        Some(Form::Tpcc | Form::Bench | Form::Advice) | None => false,
     }
 }

@@ -1,9 +1,10 @@
 -- How the commands over a journal end.
 use Rattle.std.proofs.Common.{◌≡◌, ℕ, Bool, true, false, List, [], Option, inl, inr, sym, ◌∙◌, ⊎_elim}
-use Rattle.std.specs.Prelude.{◌≢◌, ◌⊎◌}
+use Rattle.std.specs.Prelude.{◌≢◌, ◌⊎◌, codes}
 use Rattle.acc_io.specs.Causes.{Rose}
 use Rattle.acc_base.specs.declared.designs.Design.{Design}
 use Rattle.acc_base.specs.declared.machines.Call.{Call}
+use Rattle.acc_base.specs.Lines.{line}
 use Rattle.acc_base.specs.Machine.{World}
 use Rattle.acc_base.specs.Plays.{Play}
 use Rattle.acc_inputs.specs.ParseError.{ParseError}
@@ -16,20 +17,20 @@ use Rattle.acc_journalled.specs.RecoverError.TheVariants as recovery
 use Rattle.acc_journalled.specs.declared.answers.Ending.{Ending}
 use Rattle.acc_journalled.specs.declared.answers.Ending.TheVariants.{Done, DesignRefused, ScriptRefused, JournalRefused}
 use Rattle.acc_journalled.specs.declared.answers.Ending.TheVariants.{DiskFailed, Unbegun, Open, ConditionFalse}
-use Rattle.acc_journalled.specs.declared.answers.Wanted.{Wanted}
 use Rattle.acc_journalled.specs.Making.{MakesJournal}
-use Rattle.acc_journalled.specs.Recovering.{SaysNotRead, SaysNotRecovered, RecoversJournal, text_of}
+use Rattle.acc_journalled.specs.Recovering.{SaysNotRead, SaysNotRecovered, RecoversJournal}
 use Rattle.acc_journalled.specs.Verifying.{VerifiesJournal}
 use Rattle.acc_journalled.specs.Tellings.{Telling}
 use Rattle.tpcc_tables.specs.declared.tables.TableSet.{TableSet}
-use Rattle.acc_inputs.specs.Text.{Said, said_in, IsEarly}
-use Rattle.acc_journal_commands.specs.Disks.{Seen}
+use Rattle.acc_inputs.specs.Text.{Said, Says, said_in, IsEarly}
+use Rattle.acc_journal_commands.specs.Disks.{Seen, WithoutDisk}
 use Rattle.acc_inputs.specs.Refusals.{SaysError, RefusesDesign}
 use Rattle.acc_journal_commands.specs.InitFiles.{InitsFile}
 use Rattle.acc_running.specs.Running.{RunsFrom, RunsJournal, WorksJournal, IsOpening, WorkersLeave}
 use Rattle.acc_running.specs.Engines.{ending_at}
 use Rattle.acc_journal_commands.specs.RunFiles.{RunsOfOrder, WorksSeen, RunsOfScript, RunsCertified, RunsTexts, RunsFiles, WorksFiles}
-use Rattle.acc_journal_commands.specs.RecoverFiles.{RecoversCertified, RecoversFiles}
+use Rattle.acc_journal_commands.specs.BookingFiles.{say_seats, BooksCertified, BooksFiles}
+use Rattle.acc_journal_commands.specs.RecoverFiles.{Saying, RecoversCertified, RecoversFiles}
 use Rattle.acc_journal_commands.specs.VerifyFiles.{VerifiesSchema, VerifiesCertified, VerifiesFiles}
 
 -- ---- the journal decides
@@ -68,6 +69,14 @@ recovering_ends text d told told' fault t (inr h) = unrecovered_ends h.error d t
 
 pub other_end : (a b : Ending) (t : Telling) → a ≢ b → t.ending ≡ a → t.ending ≡ b → ⊥
 other_end a b t differs is so = differs (sym is ∙ so)
+
+-- where nothing is recovered, not all is done
+pub unrecovered_done : (error : RecoverError) (t : Telling) → SaysNotRecovered error t → t.ending ≢ Done
+unrecovered_done (recovery.Journal error) t says is = other_end JournalRefused Done t (λ e. cc) (not_read_ends error t says) is
+unrecovered_done recovery.OtherDesign t says is = other_end JournalRefused Done t (λ e. cc) says.0 is
+unrecovered_done (recovery.Unlawful at) t says is = other_end JournalRefused Done t (λ e. cc) says.0 is
+unrecovered_done recovery.Disk t says is = other_end DiskFailed Done t (λ e. cc) says.0 is
+unrecovered_done recovery.Memory t says is = says
 
 -- that isn't an ending before the journal
 pub over_late : (fault : Type 0) (t : Telling) → EndsOver fault t → IsEarly t.ending → ⊥
@@ -161,17 +170,42 @@ pub init_ends : (design : List ℕ) (old new : Seen) (t : Telling) → InitsFile
 init_ends design old new t (inl h) = inl (inl (refusal_ends design (said_in t) h.2))
 init_ends design old new t (inr h) = inr (inl (making_ends h.d old.told new.told (Rose old.faults new.faults) t h.ends))
 
-module _ (wanted : Wanted) (old new : Seen) (t : Telling) where
-  certified_ends : (d : Design) (certificate : List ℕ) → RecoversCertified wanted d certificate old new t
+module _ (say : Saying) (old new : Seen) (t : Telling) where
+  certified_ends : (d : Design) (certificate : List ℕ) → RecoversCertified say d certificate old new t
       → EndsOverDisk (Rose old.faults new.faults) t
   certified_ends d certificate (inl h) = inl (inl h.2.ending)
   certified_ends d certificate (inr h) =
-      inr (inl (recovering_ends (text_of wanted d) d old.told new.told (Rose old.faults new.faults) t h.ends))
+      inr (inl (recovering_ends (say d) d old.told new.told (Rose old.faults new.faults) t h.ends))
 
-  pub recover_ends : (design certificate : List ℕ) → RecoversFiles wanted design certificate old new t
+  pub recover_ends : (design certificate : List ℕ) → RecoversFiles say design certificate old new t
       → EndsOverDisk (Rose old.faults new.faults) t
   recover_ends design certificate (inl h) = inl (inl (refusal_ends design (said_in t) h.2))
   recover_ends design certificate (inr h) = certified_ends h.d certificate h.says
+
+-- a design is refused since it isn't the shipped one
+abbrev pub RefusesOther : Seen → Seen → Telling → Type 0
+RefusesOther = WithoutDisk (Says DesignRefused (line (codes "refused schema 1")))
+
+-- what `booking verify` says is such a refusal, or it is said of a recovery
+module _ (old new : Seen) (t : Telling) where
+  pub refused_or_recovered : (design certificate : List ℕ) → BooksFiles design certificate old new t
+      → RefusesOther old new t ⊎ RecoversFiles say_seats design certificate old new t
+  refused_or_recovered design certificate (inl h) = inr (inl h)
+  refused_or_recovered design certificate (inr h) = by h.says
+    where
+      recovered : RecoversCertified say_seats h.d certificate old new t → RecoversFiles say_seats design certificate old new t
+      recovered says = inr (record { d = h.d; is_text = h.is_text; formed = h.formed; says = says })
+
+      by : BooksCertified h.d certificate old new t → RefusesOther old new t ⊎ RecoversFiles say_seats design certificate old new t
+      by (inl k) = inr (recovered (inl k))
+      by (inr k) =
+          ⊎_elim (λ other. inl (other.0, other.1, other.2.says))
+          (λ found. inr (recovered (inr (record { accepted = k.accepted; ends = found.ends })))) k.says
+
+  pub book_ends : (design certificate : List ℕ) → BooksFiles design certificate old new t → EndsOverDisk (Rose old.faults new.faults) t
+  book_ends design certificate h =
+      ⊎_elim (λ other. inl (inl other.2.0)) (λ found. recover_ends say_seats old new t design certificate found)
+      (refused_or_recovered design certificate h)
 
 -- or with a condition that is false
 abbrev pub EndsVerified : Type 0 → Telling → Type 0

@@ -5,5 +5,6 @@ pub use Rattle.acc_inputs.proofs.OneReported
 pub use Rattle.acc_inputs.proofs.OneSchema
 pub use Rattle.acc_running.proofs.Again
 pub use Rattle.acc_running.proofs.OneRun
+pub mod Booked
 pub mod Disks
 pub mod JournalEndings

@@ -1,6 +1,7 @@
 pub use Rattle.acc_running.specs.Acks
 pub use Rattle.acc_inputs.specs.Admissions
 pub use Rattle.acc_inputs.specs.Answers
+pub use Rattle.acc_inputs.specs.Bookings
 pub use Rattle.acc_inputs.specs.Files
 pub use Rattle.acc_inputs.specs.Notes
 pub use Rattle.acc_inputs.specs.ParseError
@@ -18,6 +19,7 @@ pub use Rattle.acc_running.specs.Crashes
 pub use Rattle.acc_running.specs.Engines
 pub use Rattle.acc_running.specs.Recorded
 pub use Rattle.acc_running.specs.Running
+pub mod BookingFiles
 pub mod Disks
 pub mod InitFiles
 pub mod RecoverFiles

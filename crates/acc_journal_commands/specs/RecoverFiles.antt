@@ -1,43 +1,47 @@
--- The commands recover, dump and replies: the journal of a design that is accepted with its certificate is recovered, and what is wanted of
--- it is told.
+-- The commands recover, dump, replies and booking verify: the journal of a design that is accepted with its certificate is recovered, and
+-- what is to be said of it is told.
 use Rattle.std.specs.Prelude.{◌≡◌, ◌⊎◌, ℕ, List, [], Option}
 use Rattle.acc_base.specs.declared.designs.Design.{Design}
 use Rattle.acc_base.specs.declared.machines.Event.{Event}
+use Rattle.acc_base.specs.Machine.{World}
 use Rattle.acc_io.specs.Causes.{Rose}
 use Rattle.acc_inputs.specs.Admissions.{IsAcceptedWith}
 use Rattle.acc_formed.specs.WellFormed.{IsWellFormed}
 use Rattle.acc_inputs.specs.Texts.{IsDesignText}
 use Rattle.acc_journalled.specs.Recoveries.{LeavesRecovery}
-use Rattle.acc_journalled.specs.declared.answers.Wanted.{Wanted}
-use Rattle.acc_journalled.specs.Recovering.{Recovers, RecoversJournal, text_of, done_with}
+use Rattle.acc_journalled.specs.Recovering.{Recovers, RecoversJournal, done_with}
 use Rattle.acc_journalled.specs.Tellings.{Telling}
 use Rattle.acc_journal_commands.specs.Disks.{Seen, WithoutDisk, LeavesSo}
 use Rattle.acc_inputs.specs.Refusals.{RefusesDesign, RefusesCertificate}
 
+-- what is said of a recovered state of a design, of which so many transactions were compensated
+abbrev pub Saying : Type 0
+Saying = Design → World → ℕ → List ℕ
+
 -- the journal is recovered, or isn't for some cause
-abbrev pub RecoversSeen : Wanted → Design → Seen → Seen → Telling → Type 0
-RecoversSeen wanted d old new t = RecoversJournal (text_of wanted d) d old.told new.told (Rose old.faults new.faults) t
+abbrev pub RecoversSeen : Saying → Design → Seen → Seen → Telling → Type 0
+RecoversSeen say d old new t = RecoversJournal (say d) d old.told new.told (Rose old.faults new.faults) t
 
 -- the design is accepted with the certificate, and so it is sound, and then the disk decides
-pub record RecoversAccepted (wanted : Wanted) (d : Design) (certificate : List ℕ) (old new : Seen) (t : Telling) : Type 0 where
+pub record RecoversAccepted (say : Saying) (d : Design) (certificate : List ℕ) (old new : Seen) (t : Telling) : Type 0 where
   pub accepted : IsAcceptedWith d certificate
-  pub ends : RecoversSeen wanted d old new t
+  pub ends : RecoversSeen say d old new t
 
-abbrev pub RecoversCertified : Wanted → Design → List ℕ → Seen → Seen → Telling → Type 0
-RecoversCertified wanted d certificate old new t =
-    WithoutDisk (RefusesCertificate d certificate) old new t ⊎ RecoversAccepted wanted d certificate old new t
+abbrev pub RecoversCertified : Saying → Design → List ℕ → Seen → Seen → Telling → Type 0
+RecoversCertified say d certificate old new t =
+    WithoutDisk (RefusesCertificate d certificate) old new t ⊎ RecoversAccepted say d certificate old new t
 
 -- the text is that of this design, which is well-formed, and then the certificate decides
-pub record RecoversDesign (wanted : Wanted) (design certificate : List ℕ) (old new : Seen) (t : Telling) : Type 0 where
+pub record RecoversDesign (say : Saying) (design certificate : List ℕ) (old new : Seen) (t : Telling) : Type 0 where
   pub d : Design
   pub is_text : IsDesignText design d
   pub formed : IsWellFormed d
-  pub says : RecoversCertified wanted d certificate old new t
+  pub says : RecoversCertified say d certificate old new t
 
 -- the order of the refusals: the design, the certificate, the journal
-abbrev pub RecoversFiles : Wanted → List ℕ → List ℕ → Seen → Seen → Telling → Type 0
-RecoversFiles wanted design certificate old new t =
-    WithoutDisk (RefusesDesign design) old new t ⊎ RecoversDesign wanted design certificate old new t
+abbrev pub RecoversFiles : Saying → List ℕ → List ℕ → Seen → Seen → Telling → Type 0
+RecoversFiles say design certificate old new t =
+    WithoutDisk (RefusesDesign design) old new t ⊎ RecoversDesign say design certificate old new t
 
 -- the design is accepted with the certificate, and this is what its recovery leaves of the file
 abbrev pub LeavesAccepted : Design → List ℕ → List ℕ → List ℕ → Type 0
@@ -56,19 +60,19 @@ abbrev pub RecoverLeaves : List ℕ → List ℕ → List ℕ → List ℕ → T
 RecoverLeaves design certificate file image = (image ≡ file) ⊎ LeavesByDesign design certificate file image
 
 -- the design is accepted with the certificate, and this is the recovered history of its journal, of which something can be said
-pub record TellsAccepted (wanted : Wanted) (d : Design) (certificate : List ℕ) (told told' : Option (List ℕ)) (history : List Event)
+pub record TellsAccepted (say : Saying) (d : Design) (certificate : List ℕ) (told told' : Option (List ℕ)) (history : List Event)
     (settled : ℕ) : Type 0 where
   pub accepted : IsAcceptedWith d certificate
   pub text : List ℕ
-  pub recovers : Recovers (text_of wanted d) d told told' (done_with text history settled)
+  pub recovers : Recovers (say d) d told told' (done_with text history settled)
 
 -- the text is that of this design, and so
-pub record TellsDesign (wanted : Wanted) (design certificate : List ℕ) (told told' : Option (List ℕ)) (history : List Event) (settled : ℕ)
+pub record TellsDesign (say : Saying) (design certificate : List ℕ) (told told' : Option (List ℕ)) (history : List Event) (settled : ℕ)
     : Type 0 where
   pub d : Design
   pub is_text : IsDesignText design d
   pub formed : IsWellFormed d
-  pub tells : TellsAccepted wanted d certificate told told' history settled
+  pub tells : TellsAccepted say d certificate told told' history settled
 
 -- no event is told; or what is
 abbrev pub TellsNoneOr : Type 0 → List Event → ℕ → Type 0
@@ -76,14 +80,14 @@ TellsNoneOr Tells history settled = ((history ≡ []) × (settled ≡ 0)) ⊎ Te
 
 -- what a crash leaves, and no event is told or the recovered history
 pub record RecoverLeft {D : Type 0} (clock : D → ℕ) (left_since : D → ℕ → List ℕ → Type 0) (told : D → Option (List ℕ))
-    (may_leave : D → List ℕ → Type 0) (wanted : Wanted) (design certificate : List ℕ) (old new : D) (history : List Event) (settled : ℕ)
+    (may_leave : D → List ℕ → Type 0) (say : Saying) (design certificate : List ℕ) (old new : D) (history : List Event) (settled : ℕ)
     : Type 0 where
   pub leaves : LeavesSo clock left_since told may_leave (RecoverLeaves design certificate) old new
-  pub tells : TellsNoneOr (TellsDesign wanted design certificate (told old) (told new) history settled) history settled
+  pub tells : TellsNoneOr (TellsDesign say design certificate (told old) (told new) history settled) history settled
 
 -- the same of a design, with its certificate
 pub record AcceptedLeft {D : Type 0} (clock : D → ℕ) (left_since : D → ℕ → List ℕ → Type 0) (told : D → Option (List ℕ))
-    (may_leave : D → List ℕ → Type 0) (wanted : Wanted) (d : Design) (certificate : List ℕ) (old new : D) (history : List Event)
+    (may_leave : D → List ℕ → Type 0) (say : Saying) (d : Design) (certificate : List ℕ) (old new : D) (history : List Event)
     (settled : ℕ) : Type 0 where
   pub leaves : LeavesSo clock left_since told may_leave (LeavesAccepted d certificate) old new
-  pub tells : TellsNoneOr (TellsAccepted wanted d certificate (told old) (told new) history settled) history settled
+  pub tells : TellsNoneOr (TellsAccepted say d certificate (told old) (told new) history settled) history settled

@@ -1,4 +1,5 @@
 //! Recovering a journal.
+ghost use Rattle.acc_journalled.specs.Recovering.{text_of};
 ghost use Rattle.acc_journal_commands.specs.Disks.{Ends};
 ghost use Rattle.acc_journal_commands.specs.RecoverFiles.{RecoversCertified, RecoversFiles, AcceptedLeft, RecoverLeft};
 
@@ -18,8 +19,8 @@ fn recover_design<D: Disk, P: Progress>(
     disk: D,
     progress: &mut P,
 ) -> Ended<D>
-    ensures { Ends D.told D.may_leave D.faults (RecoversCertified wanted d certificate.now)
-        (AcceptedLeft D.clock D.left_since D.told D.may_leave wanted d certificate.now)
+    ensures { Ends D.told D.may_leave D.faults (RecoversCertified (text_of wanted) d certificate.now)
+        (AcceptedLeft D.clock D.left_since D.told D.may_leave (text_of wanted) d certificate.now)
         disk result.disk result.answer result.history result.settled }
 {
     match admit(alloc, d, certificate) {
@@ -39,8 +40,8 @@ pub fn recover_files<D: Disk, P: Progress>(
     disk: D,
     progress: &mut P,
 ) -> Ended<D>
-    ensures { Ends D.told D.may_leave D.faults (RecoversFiles wanted files.entry.design.now files.entry.certificate.now)
-        (RecoverLeft D.clock D.left_since D.told D.may_leave wanted files.entry.design.now files.entry.certificate.now)
+    ensures { Ends D.told D.may_leave D.faults (RecoversFiles (text_of wanted) files.entry.design.now files.entry.certificate.now)
+        (RecoverLeft D.clock D.left_since D.told D.may_leave (text_of wanted) files.entry.design.now files.entry.certificate.now)
         disk result.disk result.answer result.history result.settled }
 {
     match read_design(alloc, files.design) {

@@ -29,7 +29,7 @@ fn opening(words: &[String]) -> Opening {
         Some(Command::Play | Command::Rehearse | Command::Print | Command::Check) => Opening::Use,
         Some(Command::Prove | Command::Bench(_)) => Opening::Use,
         Some(Command::TpccDesign | Command::TpccLoad(_) | Command::TpccMix(_)) => Opening::Use,
-        Some(Command::BookingDesign) => Opening::Use,
+        Some(Command::BookingDesign | Command::BookingVerify | Command::Advise(_)) => Opening::Use,
         Some(Command::Help | Command::Version) | None => Opening::Use,
     }
 }

@@ -139,7 +139,7 @@ fn is_by_crew(words: &[String]) -> bool {
         Some(Command::Play | Command::Rehearse | Command::Print | Command::Check) => false,
         Some(Command::Prove | Command::Bench(_)) => false,
         Some(Command::TpccDesign | Command::TpccLoad(_) | Command::TpccMix(_)) => false,
-        Some(Command::BookingDesign) => false,
+        Some(Command::BookingDesign | Command::BookingVerify | Command::Advise(_)) => false,
         Some(Command::Help | Command::Version) | None => false,
     }
 }

@@ -1,16 +1,19 @@
 //! Cases of calls on a journal over a disk in memory: what each answers.
 //!
 //! `disk BYTES FAILS FROM` gives the disk of the lines behind it. Bytes are spelled by two digits each, and '-' is none.
-//! `file PATH BATCHES STEPS` and `open PATH` make and attach a journal on a real file; a benchmark asks them too.
+//! `file PATH BATCHES STEPS` and `open PATH` make and attach a journal on a real file; a benchmark asks them too. `rows BYTES` tells the
+//! rows whose text the bytes are, and then the length of their text, and the text.
 #![tactic(auto)]
 
 mod answers;
+mod checkpoints;
 mod events;
 mod files;
 mod journals;
 mod stops;
 mod words;
 
+use crate::checkpoints::push_state;
 use crate::files::{push_count, push_filled};
 use acc_disk_cases::words::split;
 pub use journals::Held;
@@ -29,6 +32,7 @@ fn push_answer<R: Files<File = File> + AllocGlobal>(
     match name {
         "file" => push_filled(rt, rt.alloc(), out, rest),
         "open" => push_count(rt, rt.alloc(), out, rest),
+        "rows" => push_state(rt.alloc(), out, rest),
         _ => journals::play(rt.alloc(), out, held, line),
     }
 }

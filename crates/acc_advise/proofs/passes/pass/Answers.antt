@@ -1,40 +1,47 @@
-use Rattle.std.proofs.Common.{get_or}
-use Rattle.acc_advise.proofs.Growing.{start_on, steps_on, stepped_small, stepped_backed, passed, few_at}
+use Rattle.std.proofs.Common.{rules, length}
+use Rattle.std.proofs.lemmas.Iterator.Adapters.{YieldsList-from_vec}
+use Rattle.std.proofs.lemmas.Iterator.Consumers.{YieldsList-turn}
+use Rattle.acc_places.specs.Rooms.{HasFewLocals}
+use Rattle.acc_advise.specs.declared.passes.Tried.{Tried}
+use Rattle.acc_advise.specs.Steps.{IsKnown, tried_pairs}
+use Rattle.acc_advise.proofs.Growing.{few_tried, item_has, known_within, stepped_small, tries_on}
 use Rattle.acc_advise.proofs.passes.pass.Goals as goal
 
-pub loop-pair-init : goal.loop-pair-init
-loop-pair-init g c = record {
-  few = c.requires.set;
-  going = start_on c.args.case.now c.args.grown.now c.args.outside.now c.new-beyond.result c.new-beyond.ensures;
-  backed = λ h. h;
-}
+pub try_again-requires-clause-one : goal.try_again-requires-clause-one
+try_again-requires-clause-one g c =
+    let outside = c.args.outside in
+    let turn = YieldsList-turn (YieldsList-from_vec outside (search rules) (search rules)) c.loop-known.yielded c.loop-known.known-iterator
+    c.loop-known.yielded_by c.next.result c.next.new.self c.in-Some.known c.in-Some.is c.next.ensures.steps in
+    item_has (λ (t : Tried). HasFewLocals t.beyond.pair) outside (length c.loop-known.yielded) c.in-Some.known turn
+    (few_tried outside c.requires.others)
 
-pub try_pair-requires-clause-one : goal.try_pair-requires-clause-one
-try_pair-requires-clause-one g c =
-    few_at c.args.outside.now c.loop-pair.pair-index (0, 0) c.loop-pair-test.true c.requires.others
-
-pub loop-pair-preserved : goal.loop-pair-preserved
-loop-pair-preserved g c =
+pub try_again-requires-clause-known : goal.try_again-requires-clause-known
+try_again-requires-clause-known g c =
     let case = c.args.case.now in
     let first = c.args.grown.now in
-    let outside = c.args.outside.now in
-    let now = c.loop-pair.grown in
-    let new = c.try_pair.new.grown in
-    let bs = c.loop-pair.beyond in
-    let all = c.try_pair.new.beyond in
-    let i = c.loop-pair.pair-index in
-    let pair = get_or outside i (0, 0) in
-    let before = c.loop-pair.invariant in
-    let step = c.in_ok-try_pair.ensures in
-    record {
-      few =
-          stepped_small case first outside now new bs all pair step before.few
-          (few_at outside i (0, 0) c.loop-pair-test.true c.requires.others);
-      going = steps_on case first outside now new bs all i (0, 0) c.loop-pair-test.true step before.going;
-      backed = stepped_backed case first outside now new bs all pair step before.backed;
-    }
+    let outside = c.args.outside in
+    let turn = YieldsList-turn (YieldsList-from_vec outside (search rules) (search rules)) c.loop-known.yielded c.loop-known.known-iterator
+    c.loop-known.yielded_by c.next.result c.next.new.self c.in-Some.known c.in-Some.is c.next.ensures.steps in
+    known_within case first (tried_pairs c.loop-known.yielded) c.loop-known.grown c.loop-known.left c.in-Some.known
+    c.loop-known.invariant.passed
+    (item_has (IsKnown case first.pairs) outside (length c.loop-known.yielded) c.in-Some.known turn c.requires.known)
 
-pub returns-clause-passes : goal.returns-clause-passes
-returns-clause-passes g c =
-    passed c.args.case.now c.args.grown.now c.args.outside.now c.loop-pair.grown c.loop-pair.beyond c.loop-pair.pair-index
-    c.loop-pair-test.false c.loop-pair.invariant.going
+pub loop-known-preserved : goal.loop-known-preserved
+loop-known-preserved g c =
+    let case = c.args.case.now in
+    let outside = c.args.outside in
+    let now = c.loop-known.grown in
+    let new = c.try_again.new.grown in
+    let known = c.in-Some.known in
+    let before = c.loop-known.invariant in
+    let step = c.in_ok-try_again.ensures in
+    let turn = YieldsList-turn (YieldsList-from_vec outside (search rules) (search rules)) c.loop-known.yielded c.loop-known.known-iterator
+    c.loop-known.yielded_by c.next.result c.next.new.self known c.in-Some.is c.next.ensures.steps in
+    let few = item_has (λ (t : Tried). HasFewLocals t.beyond.pair) outside (length c.loop-known.yielded) known turn
+    (few_tried outside c.requires.others) in
+    record {
+      can = tt;
+      finite = tt;
+      few = stepped_small case now new c.loop-known.left c.try_again.new.left known.beyond.pair step before.few few;
+      passed = tries_on case c.args.grown.now c.loop-known.yielded known now new c.loop-known.left c.try_again.new.left step before.passed;
+    }

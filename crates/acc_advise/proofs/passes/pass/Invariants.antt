@@ -1,14 +1,13 @@
--- What completes the pass from here completes it, and the proofs are still those of the set.
-use Rattle.std.proofs.Common.{drop}
+-- A pass was made over the pairs so far.
 use Rattle.std.specs.List.{AllByRecursion}
 use Rattle.acc_places.specs.Rooms.{HasFewLocals}
-use Rattle.acc_advise.specs.Steps.{IsBacked}
-use Rattle.acc_advise.proofs.Growing.{Going}
+use Rattle.acc_advise.specs.Steps.{HasPassed, tried_pairs}
 use Rattle.acc_advise.proofs.passes.pass.Given as goal
 
-abbrev pub invariant-loop-pair : goal.invariant-loop-pair
-invariant-loop-pair g l = record {
+abbrev pub invariant-loop-known : goal.invariant-loop-known
+invariant-loop-known g l = record {
+  can : (goal.iterator-loop-known g).can_next l.known-iterator;
+  finite : (goal.iterator-loop-known g).is_finite l.known-iterator;
   few : AllByRecursion HasFewLocals l.grown.pairs;
-  going : Going l.case l.fn.grown l.outside l.grown l.beyond (drop l.pair-index l.outside);
-  backed : IsBacked l.case l.fn.grown → IsBacked l.case l.grown;
+  passed : HasPassed l.case l.fn.grown (tried_pairs l.yielded) l.grown l.left;
 }

@@ -1,13 +1,14 @@
-use Rattle.std.proofs.Common.{sym, ◌∙◌}
+use Rattle.std.proofs.Common.{inl, inr, ⊎_elim, sym, ◌∙◌}
 use Rattle.acc_cli.proofs.CauseLemmas.{causes_of}
 use Rattle.acc_cli.proofs.PromiseLemmas.{promise_kept}
 use Rattle.acc_cli.proofs.BenchLemmas.{tells_bench, bench_promise}
+use Rattle.acc_cli.proofs.BookingLemmas.{sells_once}
 use Rattle.acc_cli.proofs.CreationLemmas.{is_created}
 use Rattle.acc_cli.proofs.ProvingLemmas.{is_proved}
 use Rattle.acc_cli.proofs.LineLemmas.{leaves_line, runs_line, works_line, tells_somehow, verified_somehow}
 use Rattle.acc_cli.proofs.RecoveryLemmas.{tells_recovery, left_refused}
 use Rattle.acc_cli.proofs.VerificationLemmas.{tells_verification}
-use Rattle.acc_cli.proofs.StatusLemmas.{zero_is_done, four_is_refused}
+use Rattle.acc_cli.proofs.StatusLemmas.{zero_is_done, seven_is_sink, four_is_refused}
 use Rattle.acc_cli.proofs.top.acc.Goals as goal
 
 pub returns-clause-answered : goal.returns-clause-answered
@@ -55,6 +56,13 @@ returns-clause-verified g c is =
     (λ nine. verified_somehow g.D.Disk.clock g.D.Disk.left_since g.D.Disk.told g.D.Disk.may_leave _ _ c.args.disk
     c.answer_line-closed.result.disk _ _ _ _ _ nine is c.answer_line-closed.ensures.leaves)
     c.answer_line-closed.ensures.answered)
+
+pub returns-clause-booked : goal.returns-clause-booked
+returns-clause-booked g c is through =
+    sells_once _ _ _ _ _ _ _ _ _ _ c.answer_line-closed.result.status _ _ is
+    (⊎_elim (λ zero. inl (zero_is_done c.answer_line-closed.result.status (sym c.code.ensures ∙ zero)))
+    (λ seven. inr (seven_is_sink c.answer_line-closed.result.status (sym c.code.ensures ∙ seven))) through)
+    c.answer_line-closed.ensures.answered
 
 pub returns-clause-benched : goal.returns-clause-benched
 returns-clause-benched g c mix is =

@@ -2,7 +2,7 @@ use Rattle.std.proofs.Common.{◌≡◌, refl, subst, Result}
 use Rattle.std.specs.Prelude.{◌≢◌, IfOk}
 use Rattle.std.specs.declared.alloc.AllocError.{AllocError}
 use Rattle.acc_disk.specs.Crashes.{IsCalm}
-use Rattle.acc_commands.specs.Requests.{command_in, texts_in}
+use Rattle.acc_commands.specs.Requests.{command_in, points_in, texts_in}
 use Rattle.acc_commands.specs.Text.{IsEarly}
 use Rattle.acc_commands.specs.Words.{is_journalled}
 use Rattle.acc_journalled.specs.declared.answers.Answer.{Answer}
@@ -19,14 +19,14 @@ returns-in_default-clause-answered g c =
     let request = c.args.request in
     let e = c.run-disk.result in
     rw c.lacking.ensures
-    (command_lacking (is_journalled (command_in request)) (command_in request) (texts_in request)
+    (command_lacking (is_journalled (command_in request)) (command_in request) (points_in request) (texts_in request)
     (seen (told c.args.disk) (faults c.args.disk)) (seen (told e.disk) (faults e.disk)) e.answer e.history e.settled _ _ _ c.in_default.is
     c.run-disk.ensures.lacking)
 
 pub returns-clause-answered : goal.returns-clause-answered
 returns-clause-answered g c =
     let p = c.print_answer.ensures in
-    command_answered _ _ _ _ _ c.run-disk.result.answer _ _ _ _ _ _ c.in-Ok.answer c.in-Ok.is c.run-disk.ensures.ends.means
+    command_answered _ _ _ _ _ _ c.run-disk.result.answer _ _ _ _ _ _ c.in-Ok.answer c.in-Ok.is c.run-disk.ensures.ends.means
     (ends_printed _ _ _ (Ran c.in-Ok.answer.ending) _ _ _ c.in-Ok.answer.text.items _ c.deref.ensures.value p.given p.front p.whole
     (λ done. (p.done done).0))
 

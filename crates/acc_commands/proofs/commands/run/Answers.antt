@@ -10,7 +10,7 @@ pub returns-in-Play-clause-ends : goal.returns-in-Play-clause-ends
 unfolding MeansOfFiles
 returns-in-Play-clause-ends g c =
     rw c.in-Play.is
-    (ends_run g.D.Disk.clock g.D.Disk.left_since g.D.Disk.told g.D.Disk.may_leave g.D.Disk.faults command.Play (played_texts
+    (ends_run g.D.Disk.clock g.D.Disk.left_since g.D.Disk.told g.D.Disk.may_leave g.D.Disk.faults command.Play [] (played_texts
     c.in-Play.files) refl c.args.disk _ c.ran.ensures.disk c.play_files.result _ _ _ c.ran.ensures.tells c.ran.ensures.settled
     c.play_files.ensures)
 
@@ -23,7 +23,7 @@ pub returns-in-Rehearse-clause-ends : goal.returns-in-Rehearse-clause-ends
 unfolding MeansOfFiles
 returns-in-Rehearse-clause-ends g c =
     rw c.in-Rehearse.is
-    (ends_run g.D.Disk.clock g.D.Disk.left_since g.D.Disk.told g.D.Disk.may_leave g.D.Disk.faults command.Rehearse (scheduled_texts
+    (ends_run g.D.Disk.clock g.D.Disk.left_since g.D.Disk.told g.D.Disk.may_leave g.D.Disk.faults command.Rehearse [] (scheduled_texts
     c.in-Rehearse.files) refl c.args.disk _ c.ran-in-Rehearse.ensures.disk c.schedule_files.result _ _ _ c.ran-in-Rehearse.ensures.tells
     c.ran-in-Rehearse.ensures.settled c.schedule_files.ensures)
 
@@ -36,7 +36,7 @@ pub returns-in-Print-clause-ends : goal.returns-in-Print-clause-ends
 unfolding MeansOfFiles
 returns-in-Print-clause-ends g c =
     rw c.in-Print.is
-    (ends_alone g.D.Disk.clock g.D.Disk.left_since g.D.Disk.told g.D.Disk.may_leave g.D.Disk.faults command.Print (c.in-Print.design.now ∷
+    (ends_alone g.D.Disk.clock g.D.Disk.left_since g.D.Disk.told g.D.Disk.may_leave g.D.Disk.faults command.Print [] (c.in-Print.design.now ∷
     []) refl c.args.disk _ c.unrun.ensures.disk c.print_file.result _ c.unrun.ensures.answer _ _ c.unrun.ensures.none.0
     c.unrun.ensures.none.1 c.print_file.ensures)
 
@@ -48,7 +48,7 @@ pub returns-in-Check-clause-ends : goal.returns-in-Check-clause-ends
 unfolding MeansOfFiles
 returns-in-Check-clause-ends g c =
     rw c.in-Check.is
-    (ends_alone g.D.Disk.clock g.D.Disk.left_since g.D.Disk.told g.D.Disk.may_leave g.D.Disk.faults command.Check (certified_texts
+    (ends_alone g.D.Disk.clock g.D.Disk.left_since g.D.Disk.told g.D.Disk.may_leave g.D.Disk.faults command.Check [] (certified_texts
     c.in-Check.files) refl c.args.disk _ c.unrun-in-Check.ensures.disk c.check_files.result _ c.unrun-in-Check.ensures.answer _ _
     c.unrun-in-Check.ensures.none.0 c.unrun-in-Check.ensures.none.1 c.check_files.ensures)
 
@@ -60,7 +60,7 @@ pub returns-in-Prove-clause-ends : goal.returns-in-Prove-clause-ends
 unfolding MeansOfFiles
 returns-in-Prove-clause-ends g c =
     rw c.in-Prove.is
-    (ends_alone g.D.Disk.clock g.D.Disk.left_since g.D.Disk.told g.D.Disk.may_leave g.D.Disk.faults command.Prove (c.in-Prove.design.now ∷
+    (ends_alone g.D.Disk.clock g.D.Disk.left_since g.D.Disk.told g.D.Disk.may_leave g.D.Disk.faults command.Prove [] (c.in-Prove.design.now ∷
     []) refl c.args.disk _ c.unrun-in-Prove.ensures.disk c.prove_file.result _ c.unrun-in-Prove.ensures.answer _ _
     c.unrun-in-Prove.ensures.none.0 c.unrun-in-Prove.ensures.none.1 c.prove_file.ensures)
 
@@ -72,7 +72,7 @@ pub returns-in-Help-clause-ends : goal.returns-in-Help-clause-ends
 unfolding MeansOfFiles
 returns-in-Help-clause-ends g c =
     rw c.in-Help.is
-    (ends_alone g.D.Disk.clock g.D.Disk.left_since g.D.Disk.told g.D.Disk.may_leave g.D.Disk.faults command.Help [] refl c.args.disk _
+    (ends_alone g.D.Disk.clock g.D.Disk.left_since g.D.Disk.told g.D.Disk.may_leave g.D.Disk.faults command.Help [] [] refl c.args.disk _
     c.unrun-in-Help.ensures.disk c.help.result _ c.unrun-in-Help.ensures.answer _ _ c.unrun-in-Help.ensures.none.0
     c.unrun-in-Help.ensures.none.1 c.help.ensures)
 
@@ -84,13 +84,26 @@ pub returns-in-Version-clause-ends : goal.returns-in-Version-clause-ends
 unfolding MeansOfFiles
 returns-in-Version-clause-ends g c =
     rw c.in-Version.is
-    (ends_alone g.D.Disk.clock g.D.Disk.left_since g.D.Disk.told g.D.Disk.may_leave g.D.Disk.faults command.Version [] refl c.args.disk _
+    (ends_alone g.D.Disk.clock g.D.Disk.left_since g.D.Disk.told g.D.Disk.may_leave g.D.Disk.faults command.Version [] [] refl c.args.disk _
     c.unrun-in-Version.ensures.disk c.version.result _ c.unrun-in-Version.ensures.answer _ _ c.unrun-in-Version.ensures.none.0
     c.unrun-in-Version.ensures.none.1 c.version.ensures)
 
 pub returns-in-Version-clause-lacking : goal.returns-in-Version-clause-lacking
 returns-in-Version-clause-lacking g c without =
     lacks_none c.unrun-in-Version.result.answer _ _ c.unrun-in-Version.ensures.none.0 c.unrun-in-Version.ensures.none.1
+
+pub returns-in-Advise-clause-ends : goal.returns-in-Advise-clause-ends
+unfolding MeansOfFiles
+returns-in-Advise-clause-ends g c =
+    let files = c.in-Advise.files in
+    rw c.in-Advise.is
+    (ends_alone g.D.Disk.clock g.D.Disk.left_since g.D.Disk.told g.D.Disk.may_leave g.D.Disk.faults (command.Advise c.in-Advise.side)
+    (files.held.now ∷ files.step.now ∷ []) (files.design.now ∷ []) refl c.args.disk _ c.unrun-in-Advise.ensures.disk c.advise_file.result _
+    c.unrun-in-Advise.ensures.answer _ _ c.unrun-in-Advise.ensures.none.0 c.unrun-in-Advise.ensures.none.1 c.advise_file.ensures)
+
+pub returns-in-Advise-clause-lacking : goal.returns-in-Advise-clause-lacking
+returns-in-Advise-clause-lacking g c without =
+    lacks_none c.unrun-in-Advise.result.answer _ _ c.unrun-in-Advise.ensures.none.0 c.unrun-in-Advise.ensures.none.1
 
 pub returns-in-Init-clause-ends : goal.returns-in-Init-clause-ends
 unfolding MeansOverDisk LeavesOf
@@ -120,11 +133,15 @@ pub returns-in-Verify-clause-ends : goal.returns-in-Verify-clause-ends
 unfolding MeansOverDisk LeavesOf
 returns-in-Verify-clause-ends g c = rw c.in-Verify.is c.verify_files.ensures
 
+pub returns-in-BookingVerify-clause-ends : goal.returns-in-BookingVerify-clause-ends
+unfolding MeansOverDisk LeavesOf
+returns-in-BookingVerify-clause-ends g c = rw c.in-BookingVerify.is c.book_files.ensures
+
 pub returns-in-TpccDesign-clause-ends : goal.returns-in-TpccDesign-clause-ends
 unfolding MeansOfFiles
 returns-in-TpccDesign-clause-ends g c =
     rw c.in-TpccDesign.is
-    (ends_alone g.D.Disk.clock g.D.Disk.left_since g.D.Disk.told g.D.Disk.may_leave g.D.Disk.faults command.TpccDesign [] refl c.args.disk _
+    (ends_alone g.D.Disk.clock g.D.Disk.left_since g.D.Disk.told g.D.Disk.may_leave g.D.Disk.faults command.TpccDesign [] [] refl c.args.disk _
     c.unrun-in-TpccDesign.ensures.disk c.print_shipped.result _ c.unrun-in-TpccDesign.ensures.answer _ _
     c.unrun-in-TpccDesign.ensures.none.0 c.unrun-in-TpccDesign.ensures.none.1 c.print_shipped.ensures)
 
@@ -136,7 +153,7 @@ pub returns-in-BookingDesign-clause-ends : goal.returns-in-BookingDesign-clause-
 unfolding MeansOfFiles
 returns-in-BookingDesign-clause-ends g c =
     rw c.in-BookingDesign.is
-    (ends_alone g.D.Disk.clock g.D.Disk.left_since g.D.Disk.told g.D.Disk.may_leave g.D.Disk.faults command.BookingDesign [] refl c.args.disk _
+    (ends_alone g.D.Disk.clock g.D.Disk.left_since g.D.Disk.told g.D.Disk.may_leave g.D.Disk.faults command.BookingDesign [] [] refl c.args.disk _
     c.unrun-in-BookingDesign.ensures.disk c.print_booking.result _ c.unrun-in-BookingDesign.ensures.answer _ _
     c.unrun-in-BookingDesign.ensures.none.0 c.unrun-in-BookingDesign.ensures.none.1 c.print_booking.ensures)
 
@@ -148,7 +165,7 @@ pub returns-in-TpccLoad-clause-ends : goal.returns-in-TpccLoad-clause-ends
 unfolding MeansOfFiles
 returns-in-TpccLoad-clause-ends g c =
     rw c.in-TpccLoad.is
-    (ends_alone g.D.Disk.clock g.D.Disk.left_since g.D.Disk.told g.D.Disk.may_leave g.D.Disk.faults (command.TpccLoad c.in-TpccLoad.scale) []
+    (ends_alone g.D.Disk.clock g.D.Disk.left_since g.D.Disk.told g.D.Disk.may_leave g.D.Disk.faults (command.TpccLoad c.in-TpccLoad.scale) [] []
     refl c.args.disk _ c.unrun-in-TpccLoad.ensures.disk c.print_load.result _ c.unrun-in-TpccLoad.ensures.answer _ _
     c.unrun-in-TpccLoad.ensures.none.0 c.unrun-in-TpccLoad.ensures.none.1 c.print_load.ensures)
 
@@ -160,7 +177,7 @@ pub returns-in-TpccMix-clause-ends : goal.returns-in-TpccMix-clause-ends
 unfolding MeansOfFiles
 returns-in-TpccMix-clause-ends g c =
     rw c.in-TpccMix.is
-    (ends_alone g.D.Disk.clock g.D.Disk.left_since g.D.Disk.told g.D.Disk.may_leave g.D.Disk.faults (command.TpccMix c.in-TpccMix.mix) []
+    (ends_alone g.D.Disk.clock g.D.Disk.left_since g.D.Disk.told g.D.Disk.may_leave g.D.Disk.faults (command.TpccMix c.in-TpccMix.mix) [] []
     refl c.args.disk _ c.unrun-in-TpccMix.ensures.disk c.print_mix.result _ c.unrun-in-TpccMix.ensures.answer _ _
     c.unrun-in-TpccMix.ensures.none.0 c.unrun-in-TpccMix.ensures.none.1 c.print_mix.ensures)
 
@@ -172,7 +189,7 @@ pub returns-in-Bench-clause-ends : goal.returns-in-Bench-clause-ends
 unfolding MeansOfFiles
 returns-in-Bench-clause-ends g c =
     rw c.in-Bench.is
-    (ends_run g.D.Disk.clock g.D.Disk.left_since g.D.Disk.told g.D.Disk.may_leave g.D.Disk.faults (command.Bench c.in-Bench.mix)
+    (ends_run g.D.Disk.clock g.D.Disk.left_since g.D.Disk.told g.D.Disk.may_leave g.D.Disk.faults (command.Bench c.in-Bench.mix) []
     (certified_texts c.in-Bench.files) refl c.args.disk _ c.ran-in-Bench.ensures.disk c.bench_files.result _ _ _
     c.ran-in-Bench.ensures.tells c.ran-in-Bench.ensures.settled c.bench_files.ensures)
 

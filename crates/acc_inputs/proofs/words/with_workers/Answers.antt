@@ -1,7 +1,7 @@
 use Rattle.std.proofs.Common.{◌∙◌, sym, ap, rules}
 use Rattle.std.specs.Prelude.{option_map}
 use Rattle.acc_inputs.specs.declared.words.Command.TheVariants.{Run}
-use Rattle.acc_inputs.specs.Words.{file_count, workers_of}
+use Rattle.acc_inputs.specs.Words.{file_count, point_count, workers_of}
 use Rattle.acc_inputs.proofs.Workers.{last_word}
 use Rattle.acc_inputs.proofs.words.with_workers.Goals as goal
 
@@ -17,5 +17,5 @@ returns-clause-command c =
     sym (last ∙ ap (option_map Run) (ap workers_of (sym c.as_str.ensures.value) ∙ sym c.number_of.ensures.value ∙ c.in_ok-number_of.was))
 
 pub returns-clause-length : goal.returns-clause-length
-unfolding file_count
+unfolding file_count point_count
 returns-clause-length c = search rules

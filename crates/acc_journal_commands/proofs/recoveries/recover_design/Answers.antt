@@ -14,7 +14,7 @@ use Rattle.acc_journal_commands.proofs.recoveries.recover_design.Goals as goal
 pub returns-in-Ok-Accepted : goal.returns-in-Ok-Accepted
 returns-in-Ok-Accepted g c =
     let accepted = c.in-Ok-Accepted.accepted in
-    let wanted = c.args.wanted in
+    let say = text_of c.args.wanted in
     let certificate = c.args.certificate.now in
     let disk = g.D.Disk in
     let new = c.recover_journal.result in
@@ -22,11 +22,11 @@ returns-in-Ok-Accepted g c =
     let admitted : (accepted ≡ c.args.d) × IsAcceptedWith c.args.d certificate =
     subst (Admits c.args.d certificate) c.in-Ok-Accepted.field-0-is c.in-Ok-Accepted.ensures in
     let by = subst (λ (d : Design). IsAcceptedWith d certificate) (sym admitted.0) admitted.1 in
-    subst (λ (d : Design). Ends disk.told disk.may_leave disk.faults (RecoversCertified wanted d certificate)
-    (AcceptedLeft disk.clock disk.left_since disk.told disk.may_leave wanted d certificate)
+    subst (λ (d : Design). Ends disk.told disk.may_leave disk.faults (RecoversCertified say d certificate)
+    (AcceptedLeft disk.clock disk.left_since disk.told disk.may_leave say d certificate)
     c.args.disk new.disk new.answer new.history new.settled) admitted.0
-    (ends_late (RecoversSeen wanted accepted) (RecoversCertified wanted accepted certificate)
-    (λ old new t. recovering_late (text_of wanted accepted) accepted old.told new.told (Rose old.faults new.faults) t)
+    (ends_late (RecoversSeen say accepted) (RecoversCertified say accepted certificate)
+    (λ old new t. recovering_late (say accepted) accepted old.told new.told (Rose old.faults new.faults) t)
     (λ old new t ends. inr (record { accepted = by; ends = ends })) found.answer
     (record {
       leaves = leaves_weaker (LeavesRecovery accepted) (LeavesAccepted accepted certificate) (λ file image left. inr (by, left))

@@ -1,4 +1,5 @@
 use Rattle.std.proofs.Common.{inl, inr, refl, subst, ⊎_elim}
+use Rattle.acc_journalled.specs.Recovering.{text_of}
 use Rattle.acc_inputs.specs.ReadDesigns.{IsRead, Reads}
 use Rattle.acc_journal_commands.specs.RecoverFiles.{LeavesAccepted, AcceptedLeft, RecoverLeaves}
 use Rattle.acc_journal_commands.proofs.Disks.{leaves_weaker, leaves_nothing, ends_weaker, ends_untouched}
@@ -12,7 +13,7 @@ returns-in-Ok-Read g c =
     let certificate = c.args.files.certificate.now in
     let read : IsRead design d = subst (Reads design) c.in-Ok-Read.field-0-is c.in-Ok-Read.ensures in
     ends_weaker
-    {Leaves = AcceptedLeft disk.clock disk.left_since disk.told disk.may_leave c.args.wanted d certificate}
+    {Leaves = AcceptedLeft disk.clock disk.left_since disk.told disk.may_leave (text_of c.args.wanted) d certificate}
     (λ old new t says. inr (record { d = d; is_text = read.is_text; formed = read.formed; says = says }))
     (λ left. record {
       leaves = leaves_weaker (LeavesAccepted d certificate) (RecoverLeaves design certificate)

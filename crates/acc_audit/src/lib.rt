@@ -1,0 +1,9 @@
+//! An auditor: it judges a list of events of a design by the design's assertions alone, without a certificate.
+#![tactic(auto)]
+
+pub mod audits;
+mod frames;
+mod steps;
+
+pub use audits::audit;
+pub use steps::{AuditError, Finding};

@@ -1,0 +1,108 @@
+//! One event more, and what is found after it.
+ghost use Rattle.std.specs.Prelude.{◌≡◌, ◌<◌, ◌≤◌, ◌+◌, ◌^◌, length, IfOk};
+ghost use Rattle.acc_formed.specs.WellFormed.{IsWellFormed};
+ghost use Rattle.acc_audit.specs.declared.steps.AuditError.TheVariants.{Memory as OutOfMemory};
+ghost use Rattle.acc_audit.specs.Audits.{IsFirstIn};
+ghost use Rattle.acc_audit.specs.Events.{told, TellsEvent};
+ghost use Rattle.acc_base.specs.Machine.{unfinished};
+
+use crate::frames::state_complaint;
+use acc_base::designs::Design;
+use acc_base::machines::Event;
+use acc_base::sequences::Seq;
+use acc_complaints::Complaint;
+use acc_plain::{Machine, PlainError};
+use acc_ranges::KeyedStore;
+use acc_store::Store;
+use std::alloc::{AllocError, Global};
+
+/// What an audit finds.
+#[derive(Drop)]
+pub enum Finding {
+    /// After no event a clause is false at values of its ranges.
+    Clean,
+    /// After so many events, from 1, a clause is false: the number of the transaction whose point it is of, or 0 where it is asserted
+    /// at all times; the clause's number there, from 1; and values for its own variables.
+    False(u64, u64, u32, Seq<i64>),
+}
+
+/// Why an audit isn't done.
+#[derive(Clone, Copy)]
+pub enum AuditError {
+    /// The event behind so many is none that the machine allows there.
+    NotRun(u64),
+    /// After so many events, from 1, a clause can't be told of, by its transaction, or 0, and its number there, from 1: it has more than
+    /// 2^20 tuples of values, or a product or a sum of its trial leaves ±2^120.
+    Large(u64, u64, u32),
+    /// Memory ran out.
+    Memory,
+}
+
+impl From<AllocError> for AuditError {
+    ghost from_gives = { λ _ e. e ≡ OutOfMemory };
+
+    fn from(_: AllocError) -> Self {
+        AuditError::Memory
+    }
+}
+
+impl From<PlainError> for AuditError {
+    ghost from_gives = { λ _ e. e ≡ OutOfMemory };
+
+    fn from(error: PlainError) -> Self {
+        match error {
+            PlainError::Memory => AuditError::Memory,
+        }
+    }
+}
+
+/// The first complaint in a machine's state.
+fn complaint_now<S: Store>(
+    alloc: Global,
+    d: &Design,
+    machine: &Machine<'_, KeyedStore<S>>,
+) -> Result<Option<(u64, u32, Complaint)>, AllocError>
+    requires formed { IsWellFormed d.now }
+    requires design { machine.now.design ≡ d.now }
+    requires few { length machine.now.world.events < 2 ^ 31 }
+    ensures { IfOk result (IsFirstIn d.now machine.now.world.rows (unfinished machine.now.world)) }
+{
+    let _run = machine.events();
+    state_complaint(alloc, d, machine.store(), machine.unfinished())
+}
+
+/// What a complaint tells after so many events.
+fn told(place: u64, found: Option<(u64, u32, Complaint)>) -> Result<Option<Finding>, AuditError>
+    ensures { result ≡ told place found }
+{
+    match found {
+        Some((t, clause, Complaint::False(values))) => {
+            Ok(Some(Finding::False(place, t, clause, values)))
+        }
+        Some((t, clause, Complaint::Large)) => Err(AuditError::Large(place, t, clause)),
+        None => Ok(None),
+    }
+}
+
+/// Does one event more, behind so many, and tells what is found after it: none where nothing is.
+pub fn take_event<S: Store>(
+    alloc: Global,
+    d: &Design,
+    machine: &mut Machine<'_, KeyedStore<S>>,
+    place: u64,
+    event: &Event,
+) -> Result<Option<Finding>, AuditError>
+    requires formed { IsWellFormed d.now }
+    requires design { machine.old.design ≡ d.now }
+    requires few { length machine.old.world.events < 2 ^ 30 }
+    requires place { place < 2 ^ 30 }
+    ensures told { TellsEvent d.now machine.old.world event.now place machine.new.world result }
+    ensures design { machine.new.design ≡ d.now }
+    ensures count { length machine.new.world.events ≤ length machine.old.world.events + 1 }
+{
+    if !machine.take(event)? {
+        return Err(AuditError::NotRun(place));
+    }
+    let found = complaint_now(alloc, d, machine)?;
+    told(place + 1, found)
+}

@@ -1,0 +1,10 @@
+pub mod Bytes
+pub mod Sixteen
+pub mod Numbers
+pub mod Many
+pub mod Loops
+pub mod Rows
+pub mod Orders
+pub mod States
+pub mod Written
+pub mod Sizes

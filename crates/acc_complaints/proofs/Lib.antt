@@ -1,0 +1,4 @@
+pub mod Counting
+pub mod Searching
+pub mod Judging
+pub mod Firsts

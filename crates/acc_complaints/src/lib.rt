@@ -1,0 +1,9 @@
+//! The first of some clauses that is false of rows, or that can't be told of, and the values that show it.
+#![tactic(auto)]
+
+pub mod complaints;
+mod counts;
+mod searches;
+
+pub use complaints::first_complaint;
+pub use searches::Complaint;

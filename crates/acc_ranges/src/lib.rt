@@ -1,0 +1,9 @@
+//! Rows with their keys, and the values over which the variables of a clause range.
+#![tactic(auto)]
+
+pub mod keyed;
+pub mod ranges;
+mod values;
+
+pub use keyed::KeyedStore;
+pub use ranges::range;
