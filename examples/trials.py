@@ -66,14 +66,14 @@ def listed(path, items):
 
 
 def events_of(path):
-    """The events that the batches of a journal hold which count, each a tuple, by docs/JOURNAL.md."""
+    """The events that the batches of a journal of either version hold which count, each a tuple, by docs/JOURNAL.md."""
     return counted_of(path)[0]
 
 
 def counted_of(path):
     """These events, and the bytes that count, up to the gate behind the last batch."""
     data = bytes_of(path)
-    if data[:2] != b"\xa5\x01":
+    if data[:2] not in (b"\xa5\x01", b"\xa5\x02"):
         raise Differs(f"{path}: no journal")
     at = 6 + struct.unpack(">I", data[2:6])[0]
     found = []
@@ -102,6 +102,9 @@ def events_in(body):
         elif kind == 3:
             yield ("turn", *struct.unpack(">IBI", body[at + 1 : at + 10]))
             at += 10
+        elif kind == 5:
+            # a state, which is no event
+            at += 5 + struct.unpack(">I", body[at + 1 : at + 5])[0]
         else:
             yield ({2: "step", 4: "back"}[kind], struct.unpack(">I", body[at + 1 : at + 5])[0])
             at += 5

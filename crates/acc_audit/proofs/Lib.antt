@@ -5,3 +5,4 @@ pub mod Meaning
 pub mod Sounds
 pub mod Telling
 pub mod FirstFrames
+pub mod OneTelling

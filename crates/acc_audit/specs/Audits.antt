@@ -150,3 +150,10 @@ IsKind (Err error.Memory) = ⊤
 -- the law: so it is where the design is sound and the events are lawful
 abbrev pub IsKindToSound : Design → List Event → Result Finding AuditError → Type 0
 IsKindToSound d events told = IsSound d → AreLawful d events → IsKind told
+
+-- ---- that it is one
+
+-- the law: two such answers to the same events are the same, but where memory ran out
+abbrev pub TellsOne : Type 0
+TellsOne = (d : Design) (events : List Event) (a b : Result Finding AuditError) → Tells d events a → Tells d events b
+    → (a ≡ b) ⊎ (a ≡ Err error.Memory) ⊎ (b ≡ Err error.Memory)

@@ -3,6 +3,7 @@
 
 pub mod audits;
 mod frames;
+pub mod laws;
 mod steps;
 
 pub use audits::audit;

@@ -52,6 +52,7 @@ fn push_engine(
 ) -> Result<MemDisk, AllocError>
     requires same { recovered.wal.durable ≡ recovered.state.world.events }
     requires settled { recovered.wal.tail ≡ [] }
+    requires quiet { recovered.wal.waiting ≡ [] }
     requires unspent { recovered.wal.spent ≡ false }
     requires fits { CallsFit recovered.state.design calls }
     requires few { begins_size calls < 2 ^ 31 }

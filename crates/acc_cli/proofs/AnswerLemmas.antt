@@ -19,7 +19,7 @@ use Rattle.acc_commands.specs.Files.{AreFiles, IsFirstRefused, SaysRefused}
 use Rattle.acc_commands.specs.Requests.{command_in, texts_in}
 use Rattle.acc_commands.specs.Text.{IsEarly}
 use Rattle.acc_commands.specs.Request.{Request}
-use Rattle.acc_commands.specs.Request.TheVariants.{Play, Rehearse, Print, Check, Prove, Advise, Init, Sched, Run, Recover, Dump}
+use Rattle.acc_commands.specs.Request.TheVariants.{Play, Rehearse, Print, Draw, Check, Prove, Advise, Init, Sched, Run, Recover, Dump}
 use Rattle.acc_commands.specs.Request.TheVariants.{Replies, Verify, TpccDesign, TpccLoad, TpccMix, BookingDesign, BookingVerify}
 use Rattle.acc_commands.specs.Request.TheVariants.{Bench, Help, Version}
 use Rattle.acc_journalled.specs.declared.answers.Answer.{Answer}
@@ -104,6 +104,7 @@ unfolding file_count
 texts_count (Play files) = refl
 texts_count (Rehearse files) = refl
 texts_count (Print design) = refl
+texts_count (Draw design) = refl
 texts_count (Check files) = refl
 texts_count (Prove design) = refl
 texts_count (Advise files side) = refl

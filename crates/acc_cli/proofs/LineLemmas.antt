@@ -147,6 +147,7 @@ module _ {D : Type 0} (clock : D → ℕ) (left_since : D → ℕ → List ℕ �
     of_recovering command.Sched w files by h = absurd cc
     of_recovering (command.Run workers) w files by h = absurd cc
     of_recovering command.Print w files by h = absurd cc
+    of_recovering command.Draw w files by h = absurd cc
     of_recovering command.Prove w files by h = absurd cc
     of_recovering command.Check w files by h = absurd cc
     of_recovering command.Help w files by h = absurd cc

@@ -212,6 +212,7 @@ of_command held words command.Rehearse w disk disk' old new code points files t 
 of_command held words (command.Run workers) w disk disk' old new code points files t is given h = absurd cc
 of_command held words command.Sched w disk disk' old new code points files t is given h = absurd cc
 of_command held words command.Print w disk disk' old new code points files t is given h = absurd cc
+of_command held words command.Draw w disk disk' old new code points files t is given h = absurd cc
 of_command held words command.Prove w disk disk' old new code points files t is given h = absurd cc
 of_command held words command.Check w disk disk' old new code points files t is given h = absurd cc
 of_command held words command.Help w disk disk' old new code points files t is given h = absurd cc

@@ -33,6 +33,7 @@ wanted_by (command.Bench mix) = None
 wanted_by command.Play = None
 wanted_by command.Rehearse = None
 wanted_by command.Print = None
+wanted_by command.Draw = None
 wanted_by command.Check = None
 wanted_by command.Prove = None
 wanted_by (command.Advise side) = None

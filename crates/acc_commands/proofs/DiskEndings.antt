@@ -67,6 +67,7 @@ ends_over_disk (command.Run workers) (design ∷ certificate ∷ []) old new t h
 ends_over_disk (command.Run workers) (design ∷ certificate ∷ script ∷ []) old new t h = inl (work_ends old new t design certificate script h)
 ends_over_disk (command.Run workers) (design ∷ certificate ∷ script ∷ more ∷ rest) old new t h = absurd h
 ends_over_disk command.Print files old new t h = absurd h
+ends_over_disk command.Draw files old new t h = absurd h
 ends_over_disk command.Check files old new t h = absurd h
 ends_over_disk command.Prove files old new t h = absurd h
 ends_over_disk command.Help files old new t h = absurd h

@@ -39,6 +39,7 @@ module _ {D : Type 0} (clock : D → ℕ) (left_since : D → ℕ → List ℕ �
   leaves_disk command.Play files old new history settled is same none = (same, none)
   leaves_disk command.Rehearse files old new history settled is same none = (same, none)
   leaves_disk command.Print files old new history settled is same none = (same, none)
+  leaves_disk command.Draw files old new history settled is same none = (same, none)
   leaves_disk command.Check files old new history settled is same none = (same, none)
   leaves_disk command.Prove files old new history settled is same none = (same, none)
   leaves_disk command.Help files old new history settled is same none = (same, none)

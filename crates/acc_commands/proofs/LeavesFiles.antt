@@ -115,6 +115,7 @@ module _ {D : Type 0} (clock : D → ℕ) (left_since : D → ℕ → List ℕ �
     leaves_file command.Play files old new history settled now h = disk_same old new history settled now h
     leaves_file command.Rehearse files old new history settled now h = disk_same old new history settled now h
     leaves_file command.Print files old new history settled now h = disk_same old new history settled now h
+    leaves_file command.Draw files old new history settled now h = disk_same old new history settled now h
     leaves_file command.Check files old new history settled now h = disk_same old new history settled now h
     leaves_file command.Prove files old new history settled now h = disk_same old new history settled now h
     leaves_file command.Help files old new history settled now h = disk_same old new history settled now h

@@ -7,6 +7,7 @@ use Rattle.acc_base.specs.declared.designs.Side.{Side}
 use Rattle.acc_base.specs.declared.machines.Call.{Call}
 use Rattle.acc_base.specs.Lines.{line}
 use Rattle.acc_print.specs.Designs.{printed}
+use Rattle.acc_file_commands.specs.Pictures.{drawn}
 use Rattle.acc_journal_commands.proofs.OneReported.{reports_once}
 use Rattle.acc_journal_commands.specs.Reports.{Reports}
 use Rattle.acc_journal_commands.specs.Command.{Command}
@@ -27,7 +28,7 @@ use Rattle.acc_file_commands.specs.ShippedText.{shipped_design}
 use Rattle.acc_file_commands.specs.BookingText.{booking_design}
 use Rattle.acc_file_commands.specs.Workloads.{load_said, mix_said}
 use Rattle.acc_file_commands.specs.ScheduleFiles.{SaysOfCertificate, SchedulesFiles}
-use Rattle.acc_file_commands.specs.PrintFiles.{PrintsFile}
+use Rattle.acc_file_commands.specs.PrintFiles.{PrintsFile, DrawsFile}
 use Rattle.acc_file_commands.specs.CheckFiles.{ChecksFiles, ending_by}
 use Rattle.acc_journal_commands.specs.BookingFiles.{say_seats, BooksSchema, BooksCertified, BooksFiles}
 use Rattle.acc_journal_commands.specs.InitFiles.{InitsJournal, InitsFile}
@@ -63,6 +64,13 @@ one_print design a b (inl h) (inr k) = absurd (formed_or_refused design k.d a k.
 one_print design a b (inr h) (inl k) = absurd (formed_or_refused design h.d b h.is_text h.formed k)
 one_print design a b (inr h) (inr k) =
     said_same Done (printed h.d) (printed k.d) a b (ap printed (one_design design h.d k.d h.is_text k.is_text)) h.says k.says
+
+one_draw : (design : List ℕ) (a b : Said) → DrawsFile design a → DrawsFile design b → a ≡ b
+one_draw design a b (inl h) (inl k) = one_refusal design a b h k
+one_draw design a b (inl h) (inr k) = absurd (formed_or_refused design k.d a k.is_text k.formed h)
+one_draw design a b (inr h) (inl k) = absurd (formed_or_refused design h.d b h.is_text h.formed k)
+one_draw design a b (inr h) (inr k) =
+    said_same Done (drawn h.d) (drawn k.d) a b (ap drawn (one_design design h.d k.d h.is_text k.is_text)) h.says k.says
 
 -- ---- certificates
 
@@ -116,6 +124,9 @@ one_of_files command.Rehearse points (design ∷ certificate ∷ script ∷ orde
 one_of_files command.Print points [] a b h k = absurd h
 one_of_files command.Print points (design ∷ []) a b h k = inl (one_print design a b h k)
 one_of_files command.Print points (design ∷ more ∷ rest) a b h k = absurd h
+one_of_files command.Draw points [] a b h k = absurd h
+one_of_files command.Draw points (design ∷ []) a b h k = inl (one_draw design a b h k)
+one_of_files command.Draw points (design ∷ more ∷ rest) a b h k = absurd h
 one_of_files command.Check points [] a b h k = absurd h
 one_of_files command.Check points (design ∷ []) a b h k = absurd h
 one_of_files command.Check points (design ∷ certificate ∷ []) a b h k = inl (one_check design certificate a b h k)
@@ -358,6 +369,7 @@ one_over_disk (command.Run workers) (design ∷ certificate ∷ script ∷ []) o
     (λ d calls few x y. one_working old one other a b all old.told d calls refl x y) design certificate script h k)
 one_over_disk (command.Run workers) (design ∷ certificate ∷ script ∷ more ∷ rest) old one other a b all h k = absurd h
 one_over_disk command.Print files old one other a b all h k = absurd h
+one_over_disk command.Draw files old one other a b all h k = absurd h
 one_over_disk command.Check files old one other a b all h k = absurd h
 one_over_disk command.Prove files old one other a b all h k = absurd h
 one_over_disk command.Help files old one other a b all h k = absurd h

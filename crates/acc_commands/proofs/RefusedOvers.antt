@@ -167,6 +167,7 @@ refused_over (command.Run workers) (design ∷ certificate ∷ script ∷ []) ol
     inr (inr (inr (inr (inr (inr (inr (workers, refl)))))), r.0, r.1)
 refused_over (command.Run workers) (design ∷ certificate ∷ script ∷ more ∷ rest) old new t e h = absurd h
 refused_over command.Print files old new t e h = absurd h
+refused_over command.Draw files old new t e h = absurd h
 refused_over command.Check files old new t e h = absurd h
 refused_over command.Prove files old new t e h = absurd h
 refused_over command.Help files old new t e h = absurd h
@@ -297,6 +298,7 @@ unbegun_over (command.TpccMix mix) files old new t e h = absurd h
 unbegun_over (command.Bench mix) files old new t e h = absurd h
 unbegun_over command.Play files old new t e h = absurd h
 unbegun_over command.Print files old new t e h = absurd h
+unbegun_over command.Draw files old new t e h = absurd h
 unbegun_over command.Check files old new t e h = absurd h
 unbegun_over command.Prove files old new t e h = absurd h
 unbegun_over command.Help files old new t e h = absurd h

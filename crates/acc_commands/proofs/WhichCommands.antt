@@ -22,7 +22,7 @@ use Rattle.acc_journal_commands.specs.Scripts.{SaysOfOrder, SaysOfScript}
 use Rattle.acc_file_commands.specs.Advising.{held_at, step_at, SaysOfPoints, AdvisesFile}
 use Rattle.acc_file_commands.specs.PlayFiles.{SaysPlay, PlaysFiles}
 use Rattle.acc_file_commands.specs.ScheduleFiles.{SaysSchedule, SaysOfCertificate, SchedulesFiles, ending_at}
-use Rattle.acc_file_commands.specs.PrintFiles.{PrintsFile}
+use Rattle.acc_file_commands.specs.PrintFiles.{PrintsFile, DrawsFile}
 use Rattle.acc_file_commands.specs.CheckFiles.{ChecksFiles, ending_by}
 use Rattle.acc_file_commands.specs.ProveFiles.{EndsProving, StaysOpen, ProvesFile}
 use Rattle.acc_journal_commands.specs.Words.{is_journalled}
@@ -100,6 +100,10 @@ module _ (other : Ending) (done_other : Done ≢ other) (design_other : DesignRe
   print_other design said so (inl h) = refusal_other design said h so
   print_other design said so (inr h) = not_so Done said done_other h.says.0 so
 
+  draw_other : (design : List ℕ) (said : Said) → said.ending ≡ other → DrawsFile design said → ⊥
+  draw_other design said so (inl h) = refusal_other design said h so
+  draw_other design said so (inr h) = not_so Done said done_other h.says.0 so
+
   check_other : (design certificate : List ℕ) (said : Said) → said.ending ≡ other → ChecksFiles design certificate said → ⊥
   check_other design certificate said so (inl h) = refusal_other design said h so
   check_other design certificate said so (inr h) = not_so (ending_by h.accepted) said (judged_other h.accepted) h.ending so
@@ -168,6 +172,9 @@ module _ (other : Ending) (done_other : Done ≢ other) (design_other : DesignRe
   ends_scheduled command.Print points [] said e h = absurd h
   ends_scheduled command.Print points (design ∷ []) said e h = absurd (print_other design said e h)
   ends_scheduled command.Print points (design ∷ more ∷ rest) said e h = absurd h
+  ends_scheduled command.Draw points [] said e h = absurd h
+  ends_scheduled command.Draw points (design ∷ []) said e h = absurd (draw_other design said e h)
+  ends_scheduled command.Draw points (design ∷ more ∷ rest) said e h = absurd h
   ends_scheduled command.Check points [] said e h = absurd h
   ends_scheduled command.Check points (design ∷ []) said e h = absurd h
   ends_scheduled command.Check points (design ∷ certificate ∷ []) said e h = absurd (check_other design certificate said e h)

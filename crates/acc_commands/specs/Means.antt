@@ -19,7 +19,7 @@ use Rattle.acc_journal_commands.specs.Notes.{help_text, version_text}
 use Rattle.acc_file_commands.specs.Advising.{AdvisesFile}
 use Rattle.acc_file_commands.specs.PlayFiles.{PlaysFiles}
 use Rattle.acc_file_commands.specs.ScheduleFiles.{SchedulesFiles}
-use Rattle.acc_file_commands.specs.PrintFiles.{PrintsFile}
+use Rattle.acc_file_commands.specs.PrintFiles.{PrintsFile, DrawsFile}
 use Rattle.acc_file_commands.specs.CheckFiles.{ChecksFiles}
 use Rattle.acc_file_commands.specs.ProveFiles.{ProvesFile}
 use Rattle.acc_file_commands.specs.Workloads.{PrintsShipped, PrintsBooking, PrintsLoad, PrintsMix}
@@ -40,6 +40,7 @@ unfoldable pub MeansOfFiles : Command → List (List ℕ) → List (List ℕ) �
 MeansOfFiles command.Play points (design ∷ script ∷ order ∷ []) = PlaysFiles design script order
 MeansOfFiles command.Rehearse points (design ∷ certificate ∷ script ∷ order ∷ []) = SchedulesFiles design certificate script order
 MeansOfFiles command.Print points (design ∷ []) = PrintsFile design
+MeansOfFiles command.Draw points (design ∷ []) = DrawsFile design
 MeansOfFiles command.Check points (design ∷ certificate ∷ []) = ChecksFiles design certificate
 MeansOfFiles command.Prove points (design ∷ []) = ProvesFile design
 MeansOfFiles (command.Advise side) points files = AdvisesGiven side points files
@@ -53,6 +54,7 @@ MeansOfFiles command.Version points [] = Says Done version_text
 MeansOfFiles command.Play points files = λ said. ⊥
 MeansOfFiles command.Rehearse points files = λ said. ⊥
 MeansOfFiles command.Print points files = λ said. ⊥
+MeansOfFiles command.Draw points files = λ said. ⊥
 MeansOfFiles command.Check points files = λ said. ⊥
 MeansOfFiles command.Prove points files = λ said. ⊥
 MeansOfFiles command.Init points files = λ said. ⊥
@@ -84,6 +86,7 @@ MeansOverDisk command.BookingVerify (design ∷ certificate ∷ []) = BooksFiles
 MeansOverDisk command.Play files = λ old new t. ⊥
 MeansOverDisk command.Rehearse files = λ old new t. ⊥
 MeansOverDisk command.Print files = λ old new t. ⊥
+MeansOverDisk command.Draw files = λ old new t. ⊥
 MeansOverDisk command.Check files = λ old new t. ⊥
 MeansOverDisk command.Prove files = λ old new t. ⊥
 MeansOverDisk (command.Advise side) files = λ old new t. ⊥
@@ -124,6 +127,7 @@ LeavesOfFile command.BookingVerify (design ∷ certificate ∷ []) = RecoverLeav
 LeavesOfFile command.Play files = λ file image. image ≡ file
 LeavesOfFile command.Rehearse files = λ file image. image ≡ file
 LeavesOfFile command.Print files = λ file image. image ≡ file
+LeavesOfFile command.Draw files = λ file image. image ≡ file
 LeavesOfFile command.Check files = λ file image. image ≡ file
 LeavesOfFile command.Prove files = λ file image. image ≡ file
 LeavesOfFile (command.Advise side) files = λ file image. image ≡ file
@@ -164,6 +168,7 @@ module _ {D : Type 0} (clock : D → ℕ) (left_since : D → ℕ → List ℕ �
     LeavesOf command.Play files = LeavesDisk
     LeavesOf command.Rehearse files = LeavesDisk
     LeavesOf command.Print files = LeavesDisk
+    LeavesOf command.Draw files = LeavesDisk
     LeavesOf command.Check files = LeavesDisk
     LeavesOf command.Prove files = LeavesDisk
     LeavesOf (command.Advise side) files = LeavesDisk

@@ -13,7 +13,7 @@ use acc_disk::Disk;
 use acc_file_commands::Searchers;
 use acc_file_commands::advices::advise_file;
 use acc_file_commands::benches::bench_files;
-use acc_file_commands::designs::{check_files, print_file};
+use acc_file_commands::designs::{check_files, draw_file, print_file};
 use acc_file_commands::memory_runs::Run;
 use acc_file_commands::plays::play_files;
 use acc_file_commands::provings::prove_file;
@@ -94,6 +94,7 @@ pub fn run<'a, D: Disk, C: Crew<Engine<'a, IndexStore, D>>, S: Searchers, P: Pro
         Request::Play(files) => ran(alloc, disk, play_files(alloc, files)),
         Request::Rehearse(files) => ran(alloc, disk, schedule_files(alloc, files)),
         Request::Print(design) => unrun(alloc, disk, print_file(alloc, design)),
+        Request::Draw(design) => unrun(alloc, disk, draw_file(alloc, design)),
         Request::Check(files) => unrun(alloc, disk, check_files(alloc, files)),
         Request::Prove(design) => unrun(
             alloc,

@@ -2,3 +2,5 @@ pub mod Counting
 pub mod Searching
 pub mod Judging
 pub mod Firsts
+pub mod OneFirst
+pub mod OneComplaint

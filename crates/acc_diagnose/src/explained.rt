@@ -162,7 +162,7 @@ fn asks_tables(command: Command) -> Workload {
         Command::Bench(_) => Workload::Tables(b"bench"),
         Command::BookingVerify => Workload::Booking,
         Command::Rehearse | Command::Check | Command::Sched | Command::Run(_) => Workload::None,
-        Command::Recover | Command::Dump | Command::Replies => Workload::None,
+        Command::Recover | Command::Dump | Command::Replies | Command::Draw => Workload::None,
         Command::Play | Command::Print | Command::Prove | Command::Init => Workload::None,
         Command::TpccDesign | Command::TpccLoad(_) | Command::TpccMix(_) => Workload::None,
         Command::BookingDesign | Command::Advise(_) | Command::Help | Command::Version => {
@@ -178,6 +178,7 @@ fn is_certified(command: Command) -> bool {
         Command::Recover | Command::Dump | Command::Replies | Command::Verify => true,
         Command::Bench(_) | Command::BookingVerify => true,
         Command::Play | Command::Print | Command::Prove | Command::Init => false,
+        Command::Draw => false,
         Command::TpccDesign | Command::TpccLoad(_) | Command::TpccMix(_) => false,
         Command::BookingDesign | Command::Advise(_) | Command::Help | Command::Version => false,
     }
@@ -330,7 +331,7 @@ fn push_done<H: Shelf>(
         Command::Recover | Command::Dump | Command::Replies | Command::Verify => Ok(()),
         Command::TpccDesign | Command::TpccLoad(_) | Command::TpccMix(_) => Ok(()),
         Command::BookingDesign | Command::BookingVerify | Command::Advise(_) => Ok(()),
-        Command::Bench(_) | Command::Help | Command::Version => Ok(()),
+        Command::Draw | Command::Bench(_) | Command::Help | Command::Version => Ok(()),
     }
 }
 

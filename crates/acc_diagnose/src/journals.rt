@@ -23,7 +23,7 @@ fn said_of(why: &str) -> Said {
             hint: b"`acc init` makes a journal",
         },
         "version" => Said {
-            what: b"acc reads journals of version 1; nothing of this one was changed, and its version is ",
+            what: b"acc reads journals of versions 1 and 2; nothing of this one was changed, and its version is ",
             hint: b"take the program that wrote it",
         },
         "damaged" => Said {
@@ -79,7 +79,8 @@ fn standing(command: Command) -> &'static [u8] {
         | Command::BookingVerify =>
             b"what was durable is durable, and nothing half-written counts; `acc recover` brings the journal to rest",
         Command::Play | Command::Rehearse | Command::Print | Command::Check => b"",
-        Command::Prove | Command::Bench(_) | Command::Help | Command::Version => b"",
+        Command::Draw | Command::Prove | Command::Bench(_) => b"",
+        Command::Help | Command::Version => b"",
         Command::TpccDesign | Command::TpccLoad(_) | Command::TpccMix(_) => b"",
         Command::BookingDesign | Command::Advise(_) => b"",
     }

@@ -88,6 +88,12 @@ module _ {D : Type 0} (d : Design) (w : World) (old new : Journal D) (found : �
   in_step_settled (Ok x) s e = settled s
   in_step_settled (Err x) s e = same_lists e
 
+-- nothing waits behind a settling, where nothing did before
+pub quiet_settled : {D T E : Type 0} (old new : Journal D) (r : Result T E) → OnOk r (IsSettled old new) → OnErr r (KeepsLists old new)
+    → old.waiting ≡ [] → new.waiting ≡ []
+quiet_settled old new (Ok x) s e quiet = s.waiting
+quiet_settled old new (Err x) s e quiet = e.waiting ∙ quiet
+
 -- ---- a turn
 
 -- after a settling it has failed just where the journal is spent
@@ -151,6 +157,7 @@ caught_up t events old new result turns is p unspent = record {
   disk = p.disk;
   base = p.base;
   durable = p.durable;
+  waiting = p.waiting;
   spent = p.spent ∙ sym unspent;
   brief =
       omega (
@@ -262,7 +269,14 @@ module _ {D : Type 0} (d d2 : Design) (w w2 : World) (old mid new : Journal D) (
 -- ---- a begin
 
 pub keeps_more : {D : Type 0} (old mid new : Journal D) → KeepsLists old mid → KeepsLists mid new → KeepsLists old new
-keeps_more old mid new a b = record { base = b.base ∙ a.base; durable = b.durable ∙ a.durable; tail = b.tail ∙ a.tail }
+keeps_more old mid new a b = record {
+  base = b.base ∙ a.base;
+  version = b.version ∙ a.version;
+  seals = b.seals ∙ a.seals;
+  waiting = b.waiting ∙ a.waiting;
+  durable = b.durable ∙ a.durable;
+  tail = b.tail ∙ a.tail;
+}
 
 get_or-append_at : (xs : List ℕ) (x : ℕ) → get_or (xs ++ x ∷ []) (length xs) x ≡ x
 get_or-append_at [] x = refl

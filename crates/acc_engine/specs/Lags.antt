@@ -29,6 +29,7 @@ pub record CatchesUp {D : Type 0} (events : List Event) (old new : Journal D) : 
   pub disk : new.disk ≡ old.disk
   pub base : new.base ≡ old.base
   pub durable : new.durable ≡ old.durable
+  pub waiting : new.waiting ≡ old.waiting
   pub spent : new.spent ≡ old.spent
   pub brief : length (body new.tail) + LONGEST_TURN * length old.tail ≤ length (body old.tail) + LONGEST_TURN * length new.tail
 

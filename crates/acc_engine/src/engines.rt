@@ -37,7 +37,7 @@ pub struct Engine<'a, S: Store, D: Disk> {
 }
 
 impl<'a, S: Store, D: Disk> Model for Engine<'a, S, D> {
-    ghost use Rattle.std.specs.Prelude.{◌≡◌, length};
+    ghost use Rattle.std.specs.Prelude.{◌≡◌, [], length};
     ghost use Rattle.acc_engine.specs.Keeping.{Journalled, IsInStep};
 
     ghost Value = { Journalled D };
@@ -55,7 +55,7 @@ impl<'a, S: Store, D: Disk> Model for Engine<'a, S, D> {
     } };
 
     ghost invariant = { λ e. IsInStep e.state.design e.state.world e.wal.durable e.wal.tail e.found e.calls e.begun.items e.lowest
-        × (e.failed ≡ e.wal.spent) };
+        × (e.failed ≡ e.wal.spent) × (e.wal.waiting ≡ []) };
 }
 
 impl<'a, S: Store, D: Disk> Engine<'a, S, D> {
@@ -81,6 +81,7 @@ impl<'a, S: Store, D: Disk> Engine<'a, S, D> {
     pub fn new(alloc: Global, state: State<'a, S>, wal: Wal<D>, calls: Seq<Call>) -> Self
         requires same { wal.durable ≡ state.world.events }
         requires settled { wal.tail ≡ [] }
+        requires quiet { wal.waiting ≡ [] }
         requires unspent { wal.spent ≡ false }
         requires fits { CallsFit state.design calls }
         requires few { length (body (map begin_of calls)) < 2 ^ 31 }

@@ -25,6 +25,7 @@ pub fn begin_again(alloc: Global, call: &Call) -> Result<Event, AllocError>
 /// Puts an event at the end of the tail, where it has room.
 pub fn put<D: Disk>(wal: &mut Wal<D>, event: Event)
     requires unspent { wal.old.spent ≡ false }
+    requires quiet { wal.old.waiting ≡ [] }
     requires fits { Fits event }
     requires room { length (event_bytes event) ≤ wal.old.room }
     requires short { length (body wal.old.tail) + length (event_bytes event) < 2 ^ 32 }
@@ -70,6 +71,7 @@ pub fn note<S: Store, D: Disk>(state: &State<S>, wal: &mut Wal<D>, t: u64, turn:
     requires lags { Lags t turn state.now.world.events wal.old }
     requires number { t < 2 ^ 32 }
     requires unspent { wal.old.spent ≡ false }
+    requires quiet { wal.old.waiting ≡ [] }
     requires room { LONGEST_TURN ≤ wal.old.room }
     requires short { length (body wal.old.tail) + LONGEST_TURN < 2 ^ 32 }
     ensures up { CatchesUp state.now.world.events wal.old wal.new }

@@ -2,6 +2,7 @@ pub use Rattle.acc_inputs.specs.declared.scales.Mix
 pub use Rattle.acc_prove.specs.Provings
 pub use Rattle.acc_schedule.specs.Schedules
 pub use Rattle.acc_booking.specs.BookingText
+pub use Rattle.acc_draw.specs.Pictures
 pub use Rattle.tpcc_steps.specs.Law
 pub use Rattle.tpcc_steps.specs.ShippedText
 pub mod Advising

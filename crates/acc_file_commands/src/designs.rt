@@ -1,9 +1,10 @@
-//! Designs printed, and checked with certificates.
+//! Designs printed, drawn, and checked with certificates.
 ghost use Rattle.std.specs.Prelude.{◌≡◌, [], IfOk};
 ghost use Rattle.acc_inputs.specs.Answers.{said_alone};
-ghost use Rattle.acc_file_commands.specs.PrintFiles.{PrintsFile};
+ghost use Rattle.acc_file_commands.specs.PrintFiles.{PrintsFile, DrawsFile};
 ghost use Rattle.acc_file_commands.specs.CheckFiles.{ChecksFiles, ending_by};
 
+use acc_draw::draw;
 use acc_inputs::{CertifiedFiles, ReadDesign, Report, check, read_design};
 use acc_journalled::{Answer, Ending};
 use acc_print::{PrintError, print};
@@ -15,6 +16,22 @@ pub fn print_file(alloc: Global, design: &[u8]) -> Result<Answer, AllocError>
 {
     match read_design(alloc, design)? {
         ReadDesign::Read(d) => match print(alloc, &d) {
+            Ok(text) => Ok(Answer {
+                ending: Ending::Done,
+                text,
+            }),
+            Err(PrintError::Memory) => Err(AllocError),
+        },
+        ReadDesign::Refused(answer) => Ok(answer),
+    }
+}
+
+/// Prints the picture of a design.
+pub fn draw_file(alloc: Global, design: &[u8]) -> Result<Answer, AllocError>
+    ensures { IfOk result (λ a. DrawsFile design.now (said_alone a)) }
+{
+    match read_design(alloc, design)? {
+        ReadDesign::Read(d) => match draw(alloc, &d) {
             Ok(text) => Ok(Answer {
                 ending: Ending::Done,
                 text,

@@ -14,7 +14,7 @@ pub mod workloads;
 pub use acc_prove::{InTurn, Searchers, Searching};
 pub use advices::advise_file;
 pub use benches::bench_files;
-pub use designs::{check_files, print_file};
+pub use designs::{check_files, draw_file, print_file};
 pub use memory_runs::{Run, unplayed};
 pub use plays::play_files;
 pub use provings::prove_file;

@@ -1,6 +1,6 @@
 -- Places that writes name.
 use Rattle.std.proofs.Common.{◌≡◌, ℕ, Bool, true, false, cond, ◌||◌, List, [], ◌∷◌, refl, sym, ap, ◌∙◌, subst, Option, Some, None}
-use Rattle.std.specs.Prelude.{find, is_some, option_map, Decides}
+use Rattle.std.specs.Prelude.{find, is_some, option_map, Decides, slice_index_or, ℤ, pos}
 use Rattle.std.specs.List.{list_any}
 use Rattle.std.specs.declared.cmp.Ordering.{Ordering}
 use Rattle.std.specs.declared.cmp.Ordering.TheVariants.{Less, Equal, Greater}
@@ -10,6 +10,7 @@ use Rattle.std.specs.Cmp.Lexicographic.{pointwise, pointwise_decides}
 use Rattle.acc_base.specs.declared.tables.Row.{Row}
 use Rattle.acc_base.specs.Tables.{Place, place_cmp, cell, cell_of}
 use Rattle.acc_base.proofs.Places.{place_total, one_place, is_equal}
+use Rattle.acc_store.specs.Rows.{columns_of}
 
 pub place_self : (p : Place) → is_eq (place_cmp p p) ≡ true
 place_self p = by (place_cmp p p) (place_total.antisymm p p)
@@ -48,26 +49,10 @@ parts_alike p q b table e = e ∙ both_ways (pointwise int_eq p.1 q.1) (is_eq (p
 
 -- ---- a row that is found
 
-pub find_any : (test : Row → Bool) (rows : List Row) → list_any test rows ≡ is_some (find test rows)
-find_any test [] = refl
-find_any test (r ∷ rows) = by (test r) (find_any test rows)
-  where
-    by : (b : Bool) → list_any test rows ≡ is_some (find test rows) →
-        (b || list_any test rows) ≡ is_some (cond b (Some r) (find test rows))
-    by true ih = refl
-    by false ih = ih
+pub value_there : (o : Option Row) (c : ℕ) (cols : List ℤ) → columns_of o ≡ Some cols → Some (slice_index_or cols c (pos 0)) ≡ option_map (cell c) o
+value_there None c cols h = cc
+value_there (Some r) c cols h = let same : r.cols ≡ cols = cc in ap (λ l. Some (slice_index_or l c (pos 0))) (sym same)
 
-pub value_there : (test : Row → Bool) (rows : List Row) (c : ℕ) → list_any test rows ≡ true →
-    Some (cell_of c (find test rows)) ≡ option_map (cell c) (find test rows)
-value_there test rows c h = by (find test rows) (sym (find_any test rows) ∙ h)
-  where
-    by : (o : Option Row) → is_some o ≡ true → Some (cell_of c o) ≡ option_map (cell c) o
-    by None e = cc
-    by (Some r) e = refl
-
-pub value_absent : (test : Row → Bool) (rows : List Row) (c : ℕ) → list_any test rows ≡ false → None ≡ option_map (cell c) (find test rows)
-value_absent test rows c h = by (find test rows) (sym (find_any test rows) ∙ h)
-  where
-    by : (o : Option Row) → is_some o ≡ false → None ≡ option_map (cell c) o
-    by None e = refl
-    by (Some r) e = cc
+pub value_absent : (o : Option Row) (c : ℕ) → columns_of o ≡ None → None ≡ option_map (cell c) o
+value_absent None c h = refl
+value_absent (Some r) c h = cc

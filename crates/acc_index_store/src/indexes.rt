@@ -1,5 +1,6 @@
 //! Totals of a table's rows under the prefixes of one length, and what a batch of writes makes of them.
-ghost use Rattle.std.specs.Prelude.{◌≡◌, ◌<◌, ◌+◌, length, take, true, OnOk, find, filter, option_map, unsigned_abs, ◌≤◌};
+ghost use Rattle.std.specs.Prelude.{◌≡◌, ◌<◌, ◌+◌, length, take, true, OnOk, find, filter, option_map, unsigned_abs, ◌≤◌, pos};
+ghost use Rattle.std.specs.Prelude.{slice_index_or};
 ghost use Rattle.acc_base.specs.Tables.{is_at, cell, IsInOrder};
 ghost use Rattle.acc_store.specs.Rows.{SumsFit};
 ghost use Rattle.acc_index_store.specs.Totals.{counted, found, has_total, IsSame, KeepsRoom, Changes};
@@ -19,14 +20,23 @@ pub struct Index {
     pub totals: Totals,
 }
 
+/// A column, which is 0 where there is none.
+fn value_in(columns: &[i128], col: u32) -> i128
+    ensures { result ≡ slice_index_or columns.now col (pos 0) }
+{
+    match columns.get(col as usize) {
+        Some(value) => *value,
+        None => 0,
+    }
+}
+
 /// A column of the row at a place, if there is one.
 fn value_at(rows: &MapStore, table: u32, key: &[i64], col: u32) -> Option<i128>
     ensures { result ≡ option_map (cell col) (find (is_at table key.now) rows.now) }
 {
-    if rows.has(table, key) {
-        Some(rows.get(table, key, col))
-    } else {
-        None
+    match rows.columns(table, key) {
+        Some(columns) => Some(value_in(columns, col)),
+        None => None,
     }
 }
 

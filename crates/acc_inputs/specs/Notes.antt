@@ -9,6 +9,7 @@ help_lines =
     codes "acc play DESIGN SCRIPT ORDER                plays the script in the order's turns, and prints the turns and the replies" ∷
     codes "acc rehearse DESIGN CERT SCRIPT ORDER       the same by rules of locks, if the certificate proves it sound; ends the rest" ∷
     codes "acc print DESIGN                            prints the design in its one spelling" ∷
+    codes "acc draw DESIGN                             prints a picture of the design, as Graphviz reads it" ∷
     codes "acc check DESIGN CERT                       tells whether the certificate proves that the design is sound, and else why not" ∷
     codes "acc prove DESIGN                            makes such a certificate, or tells which obligations stay open" ∷
     codes "acc advise DESIGN HELD STEP SIDE            tells which entry lets the step go where HELD is held, and forbids least" ∷

@@ -8,7 +8,7 @@ use Rattle.acc_inputs.specs.declared.requests.ScheduleFiles.{ScheduleFiles}
 use Rattle.acc_inputs.specs.declared.requests.WorkerFiles.{WorkerFiles}
 use Rattle.acc_inputs.specs.declared.requests.AdviceFiles.{AdviceFiles}
 use Rattle.acc_inputs.specs.declared.requests.Request.{Request}
-use Rattle.acc_inputs.specs.declared.requests.Request.TheVariants.{Play, Rehearse, Print, Check, Prove, Advise, Init, Sched, Run}
+use Rattle.acc_inputs.specs.declared.requests.Request.TheVariants.{Play, Rehearse, Print, Draw, Check, Prove, Advise, Init, Sched, Run}
 use Rattle.acc_inputs.specs.declared.requests.Request.TheVariants.{Recover, Dump, Replies, Verify}
 use Rattle.acc_inputs.specs.declared.requests.Request.TheVariants.{TpccDesign, TpccLoad, TpccMix, BookingDesign, BookingVerify}
 use Rattle.acc_inputs.specs.declared.requests.Request.TheVariants.{Bench, Help, Version}
@@ -17,6 +17,7 @@ abbrev pub command_in : Request → Command
 command_in (Play files) = command.Play
 command_in (Rehearse files) = command.Rehearse
 command_in (Print design) = command.Print
+command_in (Draw design) = command.Draw
 command_in (Check files) = command.Check
 command_in (Prove design) = command.Prove
 command_in (Advise files side) = command.Advise side
@@ -53,6 +54,7 @@ abbrev pub texts_in : Request → List (List ℕ)
 texts_in (Play files) = played_texts files
 texts_in (Rehearse files) = scheduled_texts files
 texts_in (Print design) = design.now ∷ []
+texts_in (Draw design) = design.now ∷ []
 texts_in (Check files) = certified_texts files
 texts_in (Prove design) = design.now ∷ []
 texts_in (Advise files side) = files.design.now ∷ []
@@ -77,6 +79,7 @@ abbrev pub points_in : Request → List (List ℕ)
 points_in (Play files) = []
 points_in (Rehearse files) = []
 points_in (Print design) = []
+points_in (Draw design) = []
 points_in (Check files) = []
 points_in (Prove design) = []
 points_in (Advise files side) = files.held.now ∷ files.step.now ∷ []

@@ -18,6 +18,7 @@ abbrev pub numbers_of : Command → List ℕ
 numbers_of command.Play = []
 numbers_of command.Rehearse = []
 numbers_of command.Print = []
+numbers_of command.Draw = []
 numbers_of command.Check = []
 numbers_of command.Prove = []
 numbers_of (command.Advise side) = []
@@ -42,6 +43,7 @@ abbrev pub HasFit : Command → Type 0
 HasFit command.Play = ⊤
 HasFit command.Rehearse = ⊤
 HasFit command.Print = ⊤
+HasFit command.Draw = ⊤
 HasFit command.Check = ⊤
 HasFit command.Prove = ⊤
 HasFit (command.Advise side) = ⊤
@@ -66,6 +68,7 @@ abbrev pub sides_of : Command → List (List ℕ)
 sides_of command.Play = []
 sides_of command.Rehearse = []
 sides_of command.Print = []
+sides_of command.Draw = []
 sides_of command.Check = []
 sides_of command.Prove = []
 sides_of (command.Advise side) = side_word side ∷ []

@@ -25,6 +25,7 @@ form_of verb =
     if bytes_eq verb (codes "play") then Some (Files command.Play) else
     (if bytes_eq verb (codes "rehearse") then Some (Files command.Rehearse) else
     (if bytes_eq verb (codes "print") then Some (Files command.Print) else
+    (if bytes_eq verb (codes "draw") then Some (Files command.Draw) else
     (if bytes_eq verb (codes "check") then Some (Files command.Check) else
     (if bytes_eq verb (codes "prove") then Some (Files command.Prove) else
     (if bytes_eq verb (codes "advise") then Some Advice else
@@ -40,7 +41,7 @@ form_of verb =
     (if bytes_eq verb (codes "bench") then Some Bench else
     (if bytes_eq verb (codes "--help") then Some (Files command.Help) else
     (if bytes_eq verb (codes "--version") then Some (Files command.Version) else
-    None)))))))))))))))))
+    None))))))))))))))))))
 
 -- what this word wants of TPC-C
 unfoldable pub workload_of : List ℕ → Option Workload
@@ -69,6 +70,7 @@ abbrev pub verb_of : Command → List (List ℕ)
 verb_of command.Play = codes "play" ∷ []
 verb_of command.Rehearse = codes "rehearse" ∷ []
 verb_of command.Print = codes "print" ∷ []
+verb_of command.Draw = codes "draw" ∷ []
 verb_of command.Check = codes "check" ∷ []
 verb_of command.Prove = codes "prove" ∷ []
 verb_of (command.Advise side) = codes "advise" ∷ []
@@ -93,6 +95,7 @@ unfoldable pub file_count : Command → ℕ
 file_count command.Play = 3
 file_count command.Rehearse = 4
 file_count command.Print = 1
+file_count command.Draw = 1
 file_count command.Check = 2
 file_count command.Prove = 1
 file_count (command.Advise side) = 1
@@ -117,6 +120,7 @@ unfoldable pub point_count : Command → ℕ
 point_count command.Play = 0
 point_count command.Rehearse = 0
 point_count command.Print = 0
+point_count command.Draw = 0
 point_count command.Check = 0
 point_count command.Prove = 0
 point_count (command.Advise side) = 2
@@ -152,6 +156,7 @@ abbrev pub is_journalled : Command → Bool
 is_journalled command.Play = false
 is_journalled command.Rehearse = false
 is_journalled command.Print = false
+is_journalled command.Draw = false
 is_journalled command.Check = false
 is_journalled command.Prove = false
 is_journalled (command.Advise side) = false

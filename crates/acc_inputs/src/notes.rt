@@ -12,6 +12,7 @@ pub fn help_text(alloc: Global) -> Result<Vec<u8>, AllocError>
     b"acc play DESIGN SCRIPT ORDER                plays the script in the order's turns, and prints the turns and the replies
 acc rehearse DESIGN CERT SCRIPT ORDER       the same by rules of locks, if the certificate proves it sound; ends the rest
 acc print DESIGN                            prints the design in its one spelling
+acc draw DESIGN                             prints a picture of the design, as Graphviz reads it
 acc check DESIGN CERT                       tells whether the certificate proves that the design is sound, and else why not
 acc prove DESIGN                            makes such a certificate, or tells which obligations stay open
 acc advise DESIGN HELD STEP SIDE            tells which entry lets the step go where HELD is held, and forbids least

@@ -79,6 +79,7 @@ pub enum Request<'a> {
     Play(PlayFiles<'a>),
     Rehearse(ScheduleFiles<'a>),
     Print(&'a [u8]),
+    Draw(&'a [u8]),
     Check(CertifiedFiles<'a>),
     Prove(&'a [u8]),
     /// With the side of the step.
@@ -120,6 +121,7 @@ impl<'a> Request<'a> {
             }),
             Command::Rehearse => Request::Rehearse(ScheduleFiles::new(files)),
             Command::Print => Request::Print(&files[0]),
+            Command::Draw => Request::Draw(&files[0]),
             Command::Check => Request::Check(CertifiedFiles::new(files)),
             Command::Prove => Request::Prove(&files[0]),
             Command::Advise(side) => Request::Advise(

@@ -21,6 +21,8 @@ pub enum Command {
     Rehearse,
     /// `print DESIGN`
     Print,
+    /// `draw DESIGN`
+    Draw,
     /// `check DESIGN CERT`
     Check,
     /// `prove DESIGN`
@@ -96,6 +98,7 @@ fn form_of(verb: &str) -> Option<Form>
         "play" => Some(Form::Files(Command::Play)),
         "rehearse" => Some(Form::Files(Command::Rehearse)),
         "print" => Some(Form::Files(Command::Print)),
+        "draw" => Some(Form::Files(Command::Draw)),
         "check" => Some(Form::Files(Command::Check)),
         "prove" => Some(Form::Files(Command::Prove)),
         "advise" => Some(Form::Advice),
@@ -160,8 +163,8 @@ pub(crate) fn verb_count(command: Command) -> usize
     match command {
         Command::TpccDesign | Command::TpccLoad(_) | Command::TpccMix(_) => 2,
         Command::BookingDesign | Command::BookingVerify => 2,
-        Command::Play | Command::Rehearse | Command::Print | Command::Check => 1,
-        Command::Prove | Command::Advise(_) | Command::Bench(_) => 1,
+        Command::Play | Command::Rehearse | Command::Print | Command::Draw => 1,
+        Command::Check | Command::Prove | Command::Advise(_) | Command::Bench(_) => 1,
         Command::Init | Command::Sched | Command::Run(_) | Command::Recover => 1,
         Command::Dump | Command::Replies | Command::Verify => 1,
         Command::Help | Command::Version => 1,
@@ -176,7 +179,8 @@ pub(crate) fn file_count(command: Command) -> usize
     match command {
         Command::Play | Command::Run(_) => 3,
         Command::Rehearse | Command::Sched => 4,
-        Command::Print | Command::Prove | Command::Advise(_) | Command::Init => 1,
+        Command::Print | Command::Draw | Command::Prove => 1,
+        Command::Advise(_) | Command::Init => 1,
         Command::BookingVerify | Command::Check | Command::Recover | Command::Dump => 2,
         Command::Replies | Command::Verify | Command::Bench(_) => 2,
         Command::TpccDesign | Command::TpccLoad(_) | Command::TpccMix(_) => 0,
@@ -191,8 +195,8 @@ pub(crate) fn point_count(command: Command) -> usize
 {
     match command {
         Command::Advise(_) => 2,
-        Command::Play | Command::Rehearse | Command::Print | Command::Check => 0,
-        Command::Prove | Command::Init | Command::Sched | Command::Run(_) => 0,
+        Command::Play | Command::Rehearse | Command::Print | Command::Draw => 0,
+        Command::Check | Command::Prove | Command::Init | Command::Sched | Command::Run(_) => 0,
         Command::Recover | Command::Dump | Command::Replies | Command::Verify => 0,
         Command::TpccDesign | Command::TpccLoad(_) | Command::TpccMix(_) => 0,
         Command::BookingDesign | Command::BookingVerify | Command::Bench(_) => 0,
@@ -208,8 +212,9 @@ fn is_journalled(command: Command) -> bool
         Command::Init | Command::Sched | Command::Run(_) => true,
         Command::Recover | Command::Dump | Command::Replies | Command::Verify => true,
         Command::BookingVerify => true,
-        Command::Play | Command::Rehearse | Command::Print | Command::Check => false,
-        Command::Prove | Command::Bench(_) | Command::Help | Command::Version => false,
+        Command::Play | Command::Rehearse | Command::Print | Command::Draw => false,
+        Command::Check | Command::Prove | Command::Bench(_) | Command::Help | Command::Version =>
+            false,
         Command::TpccDesign | Command::TpccLoad(_) | Command::TpccMix(_) => false,
         Command::BookingDesign | Command::Advise(_) => false,
     }

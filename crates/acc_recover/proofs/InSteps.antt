@@ -20,11 +20,12 @@ cannot_lack (Damaged p) room size enough lacks = lacks
 cannot_lack Disk room size enough lacks = lacks
 
 module _ {D : Type 0} (events : List Event) where
-  pub in_step_new : (wal : Journal D) → wal.tail ≡ [] → wal.spent ≡ false → events ≡ wal.durable → InStep events wal
+  pub in_step_new : (wal : Journal D) → wal.tail ≡ [] → wal.spent ≡ false → wal.waiting ≡ [] → events ≡ wal.durable → InStep events wal
   unfolding body
-  in_step_new wal none unspent is = record {
+  in_step_new wal none unspent quiet is = record {
     same = ap (λ (l : List Event). wal.durable ++ l) none ∙ append-nil wal.durable ∙ sym is;
     short = omega (arith, ap (λ (l : List Event). length (body l)) none);
+    quiet = quiet;
     unspent = unspent;
   }
 
@@ -47,6 +48,7 @@ module _ {D : Type 0} (events : List Event) where
       ap length p.tail,
       length-append old.tail (event ∷ []),
     );
+    quiet = p.waiting ∙ i.quiet;
     unspent = p.spent;
   }
 
@@ -54,6 +56,7 @@ module _ {D : Type 0} (events : List Event) where
   in_step_same old new i s = record {
     same = ap (λ (l : List Event). l ++ new.tail) s.lists.durable ∙ ap (λ (l : List Event). old.durable ++ l) s.lists.tail ∙ i.same;
     short = omega (arith, i.short, ap (λ (l : List Event). length (body l)) s.lists.tail, ap length s.lists.tail);
+    quiet = s.lists.waiting ∙ i.quiet;
     unspent = s.spent ∙ i.unspent;
   }
 

@@ -60,6 +60,7 @@ fn take_ending<S: Store>(state: &mut State<S>, event: &Event) -> Result<(), Turn
 // Puts a short event at the end of the tail, where it has room.
 fn put<D: Disk>(wal: &mut Wal<D>, event: Event)
     requires unspent { wal.old.spent ≡ false }
+    requires quiet { wal.old.waiting ≡ [] }
     requires fits { Fits event }
     requires brief { length (event_bytes event) ≤ LONGEST_TURN }
     requires room { LONGEST_TURN ≤ wal.old.room }

@@ -26,6 +26,7 @@ pub fn over_journal<'a, S: Store, D: Disk>(
 ) -> Engine<'a, S, D>
     requires same { wal.durable ≡ state.world.events }
     requires settled { wal.tail ≡ [] }
+    requires quiet { wal.waiting ≡ [] }
     requires unspent { wal.spent ≡ false }
     requires fits { CallsFit state.design calls }
     requires few { begins_size calls < 2 ^ 31 }

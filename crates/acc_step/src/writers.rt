@@ -72,7 +72,7 @@ fn put_write(alloc: Global, key: &RowKey, cols: Vec<i128>) -> Result<Write, Allo
 fn all_widened(alloc: Global, values: &[i64]) -> Result<Vec<i128>, AllocError>
     ensures { IfOk result (λ v. v.items ≡ values.now) }
 {
-    let mut all = Vec::new(alloc);
+    let mut all = Vec::with_capacity(alloc, values.len())?;
     for value in values {
         all.push(widened(*value))?;
     }

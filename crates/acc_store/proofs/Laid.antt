@@ -585,7 +585,7 @@ module _ {K X : Type 0} where
       by true h ih = cc
       by false h ih = ap (λ l. e ∷ l) (ih h)
 
-  set_again : (test : K → Bool) (es : List (K × X)) (v : X) → lookup test es ≡ Some v → set_value test es v ≡ es
+  pub set_again : (test : K → Bool) (es : List (K × X)) (v : X) → lookup test es ≡ Some v → set_value test es v ≡ es
   set_again test [] v h = refl
   set_again test (e ∷ es) v h = by (test e.0) h (set_again test es v)
     where

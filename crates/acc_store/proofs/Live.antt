@@ -184,7 +184,7 @@ none_past : (p : Place) (es : List Entry) → ArePast p es → entry_at p es ≡
 none_past p [] h = refl
 none_past p (e ∷ es) h = ap (λ o. cond (is_eq o) (Some e.1) (entry_at p es)) h.0 ∙ none_past p es h.1
 
-set_is_insert : (p : Place) (s t : Content) (es : List Entry) → IsUp es → entry_at p es ≡ Some s →
+pub set_is_insert : (p : Place) (s t : Content) (es : List Entry) → IsUp es → entry_at p es ≡ Some s →
     set_value (at (place_cmp p)) es t ≡ insert_entry place_cmp es p t
 unfolding IsStrictlySortedBy
 set_is_insert p s t [] up h = cc

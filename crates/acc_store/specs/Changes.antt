@@ -1,5 +1,5 @@
 -- What is done to a slot.
-use Rattle.std.specs.Prelude.{◌≡◌, ◌≤◌, length, Some, None, OnOk, IsOk, Result, ⊤}
+use Rattle.std.specs.Prelude.{◌≡◌, ◌≤◌, length, List, ℤ, Some, None, OnOk, IsOk, Result, ⊤}
 use Rattle.acc_base.specs.declared.bounds.TheConstants.{MOST_COLUMNS}
 use Rattle.acc_store.specs.Contents.{Content}
 use Rattle.acc_store.specs.declared.slots.Change.{Change}
@@ -16,3 +16,11 @@ abbrev pub HasChanged : {E : Type 0} → Change → Result (Unit {0}) E → Cont
 HasChanged (Room n) r s t = (t.cells ≡ s.cells) × (s.room ≤ t.room) × OnOk r (n ≤ t.room) × (n ≤ s.room → IsOk r)
 HasChanged (Put cells) r s t = (t.cells ≡ Some cells.now) × (s.room ≤ t.room)
 HasChanged Clear r s t = (t.cells ≡ None) × (s.room ≤ t.room)
+
+-- a slot s took these cells, and is t
+abbrev pub HasTaken : List ℤ → Content → Content → Type 0
+HasTaken cells s t = (t.cells ≡ Some cells) × (s.room ≤ t.room)
+
+-- it kept its own, and there wasn't room for these
+abbrev pub HasRefused : List ℤ → Content → Content → Type 0
+HasRefused cells s t = (t.cells ≡ s.cells) × (s.room ≤ t.room) × (length cells ≤ s.room → ⊥)

@@ -4,3 +4,4 @@ pub mod Contents
 pub mod Places
 pub mod Rows
 pub mod Runs
+pub mod Landings

@@ -10,6 +10,7 @@ ghost use Rattle.acc_store.specs.Rows.{live, IsUp};
 ghost use Rattle.acc_store.specs.Rows.{AreFit, IsFit, write as written_by, written, IsNarrow, has_entry, has_room, has_room_at};
 ghost use Rattle.acc_store.specs.Rows.{KeepsRoom, HasNoBlank, BlanksAre, AddsBlanks, ClearsBlanks, WritesBlanks, is_put, is_gone};
 ghost use Rattle.acc_store.specs.Rows.{leaves_blank, is_blank_at as is_blank_there};
+ghost use Rattle.acc_store.specs.Landings.{AddsNoBlank};
 
 use crate::entries::Entries;
 use crate::places::Place;
@@ -239,6 +240,7 @@ fn make_room(entries: &mut Entries, alloc: Global, writes: &[Write]) -> Result<(
     requires blanks { HasNoBlank entries.old.entries }
     ensures rows { live entries.new.entries ≡ live entries.old.entries }
     ensures room { OnOk result (list_all (has_room entries.new.entries) writes.now ≡ true) }
+    ensures kept { KeepsRoom entries.old.entries entries.new.entries }
     ensures enough { list_all (has_room entries.old.entries) writes.now ≡ true → IsOk result }
     ensures blanks { BlanksAre is_put writes.now entries.new.entries }
     ensures up { IsUp entries.new.entries }
@@ -298,8 +300,85 @@ fn do_all(entries: &mut Entries, writes: &[Write])
     forget_all(entries, writes, true);
 }
 
-/// Does all writes, or none. Where there is room for all it takes no memory.
-pub fn apply_writes(
+/// Puts a row. Where memory runs out the rows are as before; where there is room for it it takes none.
+fn write_row(entries: &mut Entries, alloc: Global, row: &Row) -> Result<(), AllocError>
+    requires short { length row.now.key.parts ≤ MOST_KEY_PARTS }
+    requires columns { length row.now.cols ≤ MOST_COLUMNS }
+    requires up { IsUp entries.old.entries }
+    requires are_fit { AreFit entries.old.entries }
+    ensures ok { OnOk result (live entries.new.entries ≡ put row.now (live entries.old.entries)) }
+    ensures err { OnErr result (live entries.new.entries ≡ live entries.old.entries) }
+    ensures enough { has_room_at entries.old.entries (place_of row.now) (length row.now.cols) ≡ true → IsOk result }
+    ensures kept { KeepsRoom entries.old.entries entries.new.entries }
+    ensures blanks { AddsNoBlank entries.old.entries entries.new.entries }
+    ensures up { IsUp entries.new.entries }
+    ensures fit { AreFit entries.new.entries }
+{
+    let place = Place::new(row.table, row.key.parts.as_slice());
+    entries.write(alloc, place, row.cols.as_slice())
+}
+
+/// Makes room for writes, and then puts a row.
+fn make_room_and_put(
+    entries: &mut Entries,
+    alloc: Global,
+    row: &Row,
+    rest: &[Write],
+) -> Result<(), AllocError>
+    requires short { length row.now.key.parts ≤ MOST_KEY_PARTS }
+    requires columns { length row.now.cols ≤ MOST_COLUMNS }
+    requires narrow { All IsNarrow rest.now }
+    requires up { IsUp entries.old.entries }
+    requires are_fit { AreFit entries.old.entries }
+    requires blanks { HasNoBlank entries.old.entries }
+    ensures ok { OnOk result (live entries.new.entries ≡ put row.now (live entries.old.entries)) }
+    ensures err { OnErr result (live entries.new.entries ≡ live entries.old.entries) }
+    ensures room { OnOk result (list_all (has_room entries.new.entries) rest.now ≡ true) }
+    ensures enough { has_room_at entries.old.entries (place_of row.now) (length row.now.cols) ≡ true
+        → list_all (has_room entries.old.entries) rest.now ≡ true → IsOk result }
+    ensures blanks { BlanksAre is_put rest.now entries.new.entries }
+    ensures up { IsUp entries.new.entries }
+    ensures fit { AreFit entries.new.entries }
+{
+    make_room(entries, alloc, rest)?;
+    write_row(entries, alloc, row)
+}
+
+/// Puts a row and then does the other writes, or nothing. Where there is room for all it takes no memory.
+///
+/// The row needs no room of its own before the others have theirs: what is put first is all that can still fail. So its place is looked
+/// up once.
+fn put_and_write(
+    entries: &mut Entries,
+    alloc: Global,
+    row: &Row,
+    rest: &[Write],
+) -> Result<(), AllocError>
+    requires short { length row.now.key.parts ≤ MOST_KEY_PARTS }
+    requires columns { length row.now.cols ≤ MOST_COLUMNS }
+    requires narrow { All IsNarrow rest.now }
+    requires up { IsUp entries.old.entries }
+    requires are_fit { AreFit entries.old.entries }
+    requires blanks { HasNoBlank entries.old.entries }
+    ensures ok { OnOk result (live entries.new.entries ≡ written rest.now (put row.now (live entries.old.entries))) }
+    ensures err { OnErr result (live entries.new.entries ≡ live entries.old.entries) }
+    ensures enough { has_room_at entries.old.entries (place_of row.now) (length row.now.cols) ≡ true
+        → list_all (has_room entries.old.entries) rest.now ≡ true → IsOk result }
+    ensures blanks { HasNoBlank entries.new.entries }
+    ensures up { IsUp entries.new.entries }
+    ensures fit { AreFit entries.new.entries }
+{
+    let done = make_room_and_put(entries, alloc, row, rest);
+    if done.is_ok() {
+        do_all(entries, rest);
+    } else {
+        forget_all(entries, rest, false);
+    }
+    done
+}
+
+/// Makes room for all writes and does them, or none. Where there is room for all it takes no memory.
+fn prepare_and_write(
     entries: &mut Entries,
     alloc: Global,
     writes: &[Write],
@@ -322,4 +401,27 @@ pub fn apply_writes(
         forget_all(entries, writes, false);
     }
     room
+}
+
+/// Does all writes, or none. Where there is room for all it takes no memory.
+pub fn apply_writes(
+    entries: &mut Entries,
+    alloc: Global,
+    writes: &[Write],
+) -> Result<(), AllocError>
+    requires narrow { All IsNarrow writes.now }
+    requires up { IsUp entries.old.entries }
+    requires are_fit { AreFit entries.old.entries }
+    requires blanks { HasNoBlank entries.old.entries }
+    ensures ok { OnOk result (live entries.new.entries ≡ written writes.now (live entries.old.entries)) }
+    ensures err { OnErr result (live entries.new.entries ≡ live entries.old.entries) }
+    ensures enough { list_all (has_room entries.old.entries) writes.now ≡ true → IsOk result }
+    ensures blanks { HasNoBlank entries.new.entries }
+    ensures up { IsUp entries.new.entries }
+    ensures fit { AreFit entries.new.entries }
+{
+    match writes.split_first() {
+        Some((Write::Row(row), rest)) => put_and_write(entries, alloc, row, rest),
+        Some((Write::Gone(_, _), _)) | None => prepare_and_write(entries, alloc, writes),
+    }
 }

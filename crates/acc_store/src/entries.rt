@@ -4,13 +4,16 @@ ghost use Rattle.std.specs.Prelude.{is_some};
 ghost use Rattle.std.specs.Map.{remove_entry};
 ghost use Rattle.std.specs.BTreeMap.{insert_entry, is_at as at};
 ghost use Rattle.acc_base.specs.Tables.{place_cmp};
-ghost use Rattle.acc_store.specs.Rows.{entry_at};
+ghost use Rattle.acc_store.specs.Rows.{entry_at, IsUp};
 ghost use Rattle.acc_store.specs.Runs.{Alters, AreLaid, all_of};
-ghost use Rattle.acc_store.specs.Changes.{CanChange, HasChanged};
+ghost use Rattle.std.specs.Prelude.{◌-◌};
+ghost use Rattle.acc_store.specs.Changes.{CanChange, HasChanged, HasRefused};
+ghost use Rattle.acc_store.specs.Landings.{HasCome};
 
 use crate::places::Place;
-use crate::runs::{Layout, Runs, change_at, put_at, remove_at, slot_at};
+use crate::runs::{Landing, Layout, Runs, change_at, land, put_at, remove_at, slot_at};
 use crate::slots::{Change, Slot};
+use acc_base::bounds::MOST_COLUMNS;
 use std::alloc::{AllocError, Global};
 use std::collections::BTreeMap;
 use std::marker::Model;
@@ -33,6 +36,13 @@ impl Model for Entries {
     ghost view = { λ s. record { entries = all_of s.runs } };
 
     ghost invariant = { λ s. AreLaid s.runs × (s.len ≡ length (all_of s.runs)) };
+}
+
+/// How many entries may fill a run: none where no entry more can be counted.
+fn full_for(layout: Layout, len: usize) -> usize
+    ensures { 0 < result → len < 2 ^ 64 - 1 }
+{
+    if len == usize::MAX { 0 } else { layout.full() }
 }
 
 impl Entries {
@@ -84,6 +94,27 @@ impl Entries {
         put_at(&mut self.runs, alloc, self.layout, place, slot)?;
         self.len += 1;
         Ok(())
+    }
+
+    /// Puts a row of these cells at a place. Where there is room for them it takes no memory.
+    pub fn write(&mut self, alloc: Global, place: Place, cells: &[i128]) -> Result<(), AllocError>
+        requires few { length cells.now ≤ MOST_COLUMNS }
+        requires up { IsUp self.old.entries }
+        ensures ok { OnOk result (HasCome place cells.now self.old.entries self.new.entries) }
+        ensures err { OnErr result (Alters place (HasRefused cells.now) self.old.entries self.new.entries) }
+    {
+        let full = full_for(self.layout, self.len);
+        match land(&mut self.runs, alloc, full, place, cells)? {
+            Landing::There => Ok(()),
+            Landing::Came => {
+                self.len += 1;
+                Ok(())
+            }
+            Landing::Back(place) => {
+                let slot = Slot::row(alloc, cells)?;
+                self.insert(alloc, place, slot)
+            }
+        }
     }
 
     /// Removes the entry at a place, if there is one.

@@ -10,12 +10,16 @@ ghost use Rattle.std.specs.Map.{remove_entry, lookup};
 ghost use Rattle.std.specs.BTreeMap.{insert_entry, is_at as at};
 ghost use Rattle.acc_base.specs.Tables.{place_cmp};
 ghost use Rattle.acc_store.specs.Rows.{entry_at};
-ghost use Rattle.acc_store.specs.Runs.{seen, AreLaid, all_of, Alters, AreBelow, ArePast, IsRunKey, IsRun, IsMoved};
+ghost use Rattle.acc_store.specs.Runs.{seen, AreLaid, all_of, Alters, AreBelow, ArePast, IsRunKey, IsRun, IsRunFor, IsMoved};
 ghost use Rattle.acc_store.specs.Runs.{between, joined};
-ghost use Rattle.acc_store.specs.Changes.{CanChange, HasChanged};
+ghost use Rattle.std.specs.Prelude.{◌<◌, length, None, Ok, MatchOption};
+ghost use Rattle.acc_store.specs.Changes.{CanChange, HasChanged, HasRefused};
+ghost use Rattle.acc_store.specs.Landings.{Lands};
+ghost use Rattle.acc_store.specs.declared.runs.Landing.TheVariants.{Came};
 
 use crate::places::Place;
 use crate::slots::{Change, Slot};
+use acc_base::bounds::MOST_COLUMNS;
 use std::alloc::{AllocError, Global};
 use std::collections::BTreeMap;
 use std::collections::btree_map::Range;
@@ -40,7 +44,7 @@ pub enum Layout {
 
 impl Layout {
     /// How many entries fill a run.
-    fn full(self) -> usize {
+    pub fn full(self) -> usize {
         match self {
             Layout::Whole => usize::MAX,
             Layout::Parted => FULL,
@@ -48,11 +52,46 @@ impl Layout {
     }
 }
 
+/// What became of a row that was to be put in the run where its place belongs.
+#[derive(Drop)]
+pub enum Landing {
+    /// The entry at its place took it.
+    There,
+    /// It came as an entry.
+    Came,
+    /// There is no entry at its place, and the run is full, or there is no run.
+    Back(Place),
+}
+
+/// The run, where there is but one, if a place isn't before its key. To look it up takes no way down.
+fn only_run<'a>(runs: &'a Runs, place: &Place) -> Option<(&'a Place, &'a Run)>
+    ensures { IfSome result (λ r. IsRunFor place_cmp place.now (seen runs.now.entries) r.0.now r.1.now.entries) }
+{
+    if runs.len() != 1 {
+        return None;
+    }
+    match runs.first_key_value() {
+        Some((key, run)) if key <= place => Some((key, run)),
+        Some(_) | None => None,
+    }
+}
+
+/// The last run whose key isn't past a place.
+fn run_before<'a>(runs: &'a Runs, place: &Place) -> Option<(&'a Place, &'a Run)>
+    ensures { MatchOption result (ArePast place_cmp place.now (seen runs.now.entries))
+        (λ r. IsRunFor place_cmp place.now (seen runs.now.entries) r.0.now r.1.now.entries) }
+{
+    match only_run(runs, place) {
+        Some(found) => Some(found),
+        None => runs.range(..=place).next_back(),
+    }
+}
+
 /// The key of the run where a place belongs: the last key that isn't past the place.
 pub fn run_key(runs: &Runs, place: &Place) -> Option<Place>
     ensures { IsRunKey place_cmp place.now (seen runs.now.entries) result }
 {
-    match runs.range(..=place).next_back() {
+    match run_before(runs, place) {
         Some((key, _)) => Some(key.copied()),
         None => None,
     }
@@ -62,7 +101,7 @@ pub fn run_key(runs: &Runs, place: &Place) -> Option<Place>
 fn run_for<'a>(runs: &'a Runs, place: &Place) -> Option<&'a Run>
     ensures { IsRun place_cmp place.now (seen runs.now.entries) (option_copied result) }
 {
-    match runs.range(..=place).next_back() {
+    match run_before(runs, place) {
         Some((_, run)) => Some(run),
         None => None,
     }
@@ -103,6 +142,95 @@ pub fn change_at(runs: &mut Runs, place: &Place, change: &Change) -> Result<(), 
     match runs.get_mut(&key) {
         Some(run) => change_in(run, place, change),
         None => Ok(()),
+    }
+}
+
+/// Puts a row in a run that has no entry at its place, unless it is full.
+fn come_in(
+    run: &mut Run,
+    alloc: Global,
+    full: usize,
+    place: Place,
+    cells: &[i128],
+) -> Result<Landing, AllocError>
+    requires few { length cells.now ≤ MOST_COLUMNS }
+    requires absent { entry_at place run.old.entries ≡ None }
+    ensures ok { IfOk result (λ landing. Lands place cells.now landing run.old.entries run.new.entries) }
+    ensures err { OnErr result (Alters place (HasRefused cells.now) run.old.entries run.new.entries) }
+    ensures came { result ≡ Ok Came → 0 < full }
+{
+    if run.len() >= full {
+        return Ok(Landing::Back(place));
+    }
+    let slot = Slot::row(alloc, cells)?;
+    run.insert(place, slot)?;
+    Ok(Landing::Came)
+}
+
+/// Puts a row in a run, unless it is full and has no entry at its place.
+fn land_in(
+    run: &mut Run,
+    alloc: Global,
+    full: usize,
+    place: Place,
+    cells: &[i128],
+) -> Result<Landing, AllocError>
+    requires few { length cells.now ≤ MOST_COLUMNS }
+    ensures ok { IfOk result (λ landing. Lands place cells.now landing run.old.entries run.new.entries) }
+    ensures err { OnErr result (Alters place (HasRefused cells.now) run.old.entries run.new.entries) }
+    ensures came { result ≡ Ok Came → 0 < full }
+{
+    match run.get_mut(&place) {
+        Some(slot) => {
+            slot.write(cells)?;
+            Ok(Landing::There)
+        }
+        None => come_in(run, alloc, full, place, cells),
+    }
+}
+
+/// Puts a row in the run with a key, where its place belongs.
+fn land_at(
+    runs: &mut Runs,
+    alloc: Global,
+    full: usize,
+    key: &Place,
+    place: Place,
+    cells: &[i128],
+) -> Result<Landing, AllocError>
+    requires laid { AreLaid runs.old }
+    requires run { IsRunKey place_cmp place (seen runs.old.entries) (Some key.now) }
+    requires few { length cells.now ≤ MOST_COLUMNS }
+    ensures ok { IfOk result (λ landing. Lands place cells.now landing (all_of runs.old) (all_of runs.new)) }
+    ensures err { OnErr result (Alters place (HasRefused cells.now) (all_of runs.old) (all_of runs.new)) }
+    ensures came { result ≡ Ok Came → 0 < full }
+    ensures laid { AreLaid runs.new }
+{
+    match runs.get_mut(key) {
+        Some(run) => land_in(run, alloc, full, place, cells),
+        None => unreachable!(),
+    }
+}
+
+/// Puts a row at its place, where there is an entry or a run that isn't full. It goes down the map of runs once to find the run, and
+/// once to change it.
+pub fn land(
+    runs: &mut Runs,
+    alloc: Global,
+    full: usize,
+    place: Place,
+    cells: &[i128],
+) -> Result<Landing, AllocError>
+    requires laid { AreLaid runs.old }
+    requires few { length cells.now ≤ MOST_COLUMNS }
+    ensures ok { IfOk result (λ landing. Lands place cells.now landing (all_of runs.old) (all_of runs.new)) }
+    ensures err { OnErr result (Alters place (HasRefused cells.now) (all_of runs.old) (all_of runs.new)) }
+    ensures came { result ≡ Ok Came → 0 < full }
+    ensures laid { AreLaid runs.new }
+{
+    match run_key(runs, &place) {
+        Some(key) => land_at(runs, alloc, full, &key, place, cells),
+        None => Ok(Landing::Back(place)),
     }
 }
 

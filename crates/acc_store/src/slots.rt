@@ -1,6 +1,6 @@
 //! What stands at a place.
-ghost use Rattle.std.specs.Prelude.{◌≡◌, ◌≤◌, length, None, Some, IfOk, IfSome, IsOk, OnOk, option_copied};
-ghost use Rattle.acc_store.specs.Changes.{CanChange, HasChanged};
+ghost use Rattle.std.specs.Prelude.{◌≡◌, ◌≤◌, length, None, Some, IfOk, IfSome, IsOk, OnOk, OnErr, option_copied};
+ghost use Rattle.acc_store.specs.Changes.{CanChange, HasChanged, HasTaken, HasRefused};
 
 use acc_base::bounds::MOST_COLUMNS;
 use std::alloc::{AllocError, Global};
@@ -48,6 +48,17 @@ impl Slot {
         })
     }
 
+    /// A row of these cells.
+    pub fn row(alloc: Global, cells: &[i128]) -> Result<Self, AllocError>
+        requires few { length cells.now ≤ MOST_COLUMNS }
+        ensures { IfOk result (λ s. s.cells ≡ Some cells.now) }
+    {
+        Ok(Slot {
+            cells: Vec::from_slice(alloc, cells)?,
+            is_row: true,
+        })
+    }
+
     /// The cells, if they are a row's.
     pub fn cells(&self) -> Option<&[i128]>
         ensures value { option_copied result ≡ self.now.cells }
@@ -90,6 +101,17 @@ impl Slot {
     {
         self.cells.clear();
         self.is_row = self.cells.extend_from_slice(cells).is_ok();
+    }
+
+    /// Takes these cells. Where there is room for them it takes no memory.
+    pub fn write(&mut self, cells: &[i128]) -> Result<(), AllocError>
+        requires few { length cells.now ≤ MOST_COLUMNS }
+        ensures ok { OnOk result (HasTaken cells.now self.old self.new) }
+        ensures err { OnErr result (HasRefused cells.now self.old self.new) }
+    {
+        self.make_room(cells.len())?;
+        self.put(cells);
+        Ok(())
     }
 
     /// Makes it a blank.

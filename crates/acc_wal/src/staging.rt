@@ -4,7 +4,6 @@ ghost use Rattle.std.specs.Prelude.{vec_capacity};
 ghost use Rattle.std.specs.Int.{w32, to_be_bytes};
 
 use crate::writing::SHORTEST_EVENT;
-use acc_base::machines::Event;
 use std::alloc::{AllocError, Global};
 
 // Four bytes for a length, with room for one more.
@@ -28,24 +27,24 @@ pub fn places_of(bytes: usize) -> usize
     }
 }
 
-// Makes room for so many bytes more and so many events more.
-pub fn make_room(
+// Makes room for so many bytes more and so many events or states more.
+pub fn make_room<T>(
     staged: &mut Vec<u8>,
     bytes: usize,
-    events: &mut Vec<Event>,
+    list: &mut Vec<T>,
     places: usize,
 ) -> Result<(), AllocError>
     ensures staged { (staged.new.items ≡ staged.old.items) × (vec_len staged.new ≡ vec_len staged.old)
         × (vec_capacity staged.old ≤ vec_capacity staged.new) }
-    ensures events { (events.new.items ≡ events.old.items) × (vec_len events.new ≡ vec_len events.old)
-        × (vec_capacity events.old ≤ vec_capacity events.new) }
+    ensures list { (list.new.items ≡ list.old.items) × (vec_len list.new ≡ vec_len list.old)
+        × (vec_capacity list.old ≤ vec_capacity list.new) }
     ensures ok { OnOk result ((vec_len staged.new + bytes ≤ vec_capacity staged.new)
-        × (vec_len events.new + places ≤ vec_capacity events.new)) }
+        × (vec_len list.new + places ≤ vec_capacity list.new)) }
     ensures err { OnErr result ((vec_capacity staged.old < vec_len staged.old + bytes)
-        ⊎ (vec_capacity events.old < vec_len events.old + places)) }
+        ⊎ (vec_capacity list.old < vec_len list.old + places)) }
 {
     staged.reserve(bytes)?;
-    events.reserve(places)
+    list.reserve(places)
 }
 
 // Puts the bytes in the place of as many at the front.

@@ -4,6 +4,7 @@ ghost use Rattle.acc_wal.specs.Spellings.{Fits};
 
 use crate::answers::push_end;
 use crate::events::{event, push_events};
+use crate::states::{push_seal, push_states};
 use crate::stops::{push_changes, push_stops};
 use crate::words::{bytes, push_bytes};
 use acc_base::machines::Event;
@@ -181,6 +182,8 @@ fn push_call(
         "push" => push_pushed(alloc, out, wal, rest),
         "lists" => push_lists(out, wal),
         "tail" => write!(out, "{} bytes", wal.tail_bytes()),
+        "states" => push_states(out, wal),
+        "seal" => push_end(out, push_seal(wal, &bytes(alloc, rest)?)),
         "reserve" => push_end(out, wal.reserve(number(rest) as usize)),
         "settle" => push_end(out, wal.settle()),
         "fill" => push_end(out, fill_by(wal, rest)),

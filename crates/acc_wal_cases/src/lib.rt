@@ -2,7 +2,8 @@
 //!
 //! `disk BYTES FAILS FROM` gives the disk of the lines behind it. Bytes are spelled by two digits each, and '-' is none.
 //! `file PATH BATCHES STEPS` and `open PATH` make and attach a journal on a real file; a benchmark asks them too. `rows BYTES` tells the
-//! rows whose text the bytes are, and then the length of their text, and the text.
+//! rows whose text the bytes are, and then the length of their text, and the text. `counted BYTES` tells what a file of these bytes
+//! counts, and `spelled VERSION PLACE BODY` the item that stands at a place of a batch's body, and the place behind it.
 #![tactic(auto)]
 
 mod answers;
@@ -10,11 +11,13 @@ mod checkpoints;
 mod events;
 mod files;
 mod journals;
+mod states;
 mod stops;
 mod words;
 
 use crate::checkpoints::push_state;
 use crate::files::{push_count, push_filled};
+use crate::states::{push_counted, push_spelled};
 use acc_disk_cases::words::split;
 pub use journals::Held;
 use std::alloc::AllocError;
@@ -33,6 +36,8 @@ fn push_answer<R: Files<File = File> + AllocGlobal>(
         "file" => push_filled(rt, rt.alloc(), out, rest),
         "open" => push_count(rt, rt.alloc(), out, rest),
         "rows" => push_state(rt.alloc(), out, rest),
+        "counted" => push_counted(rt.alloc(), out, rest),
+        "spelled" => push_spelled(rt.alloc(), out, rest),
         _ => journals::play(rt.alloc(), out, held, line),
     }
 }

@@ -44,6 +44,18 @@ pub returns-in-Print-clause-lacking : goal.returns-in-Print-clause-lacking
 returns-in-Print-clause-lacking g c without =
     lacks_none c.unrun.result.answer _ _ c.unrun.ensures.none.0 c.unrun.ensures.none.1
 
+pub returns-in-Draw-clause-ends : goal.returns-in-Draw-clause-ends
+unfolding MeansOfFiles
+returns-in-Draw-clause-ends g c =
+    rw c.in-Draw.is
+    (ends_alone g.D.Disk.clock g.D.Disk.left_since g.D.Disk.told g.D.Disk.may_leave g.D.Disk.faults command.Draw [] (c.in-Draw.design.now ∷
+    []) refl c.args.disk _ c.unrun-in-Draw.ensures.disk c.draw_file.result _ c.unrun-in-Draw.ensures.answer _ _ c.unrun-in-Draw.ensures.none.0
+    c.unrun-in-Draw.ensures.none.1 c.draw_file.ensures)
+
+pub returns-in-Draw-clause-lacking : goal.returns-in-Draw-clause-lacking
+returns-in-Draw-clause-lacking g c without =
+    lacks_none c.unrun-in-Draw.result.answer _ _ c.unrun-in-Draw.ensures.none.0 c.unrun-in-Draw.ensures.none.1
+
 pub returns-in-Check-clause-ends : goal.returns-in-Check-clause-ends
 unfolding MeansOfFiles
 returns-in-Check-clause-ends g c =

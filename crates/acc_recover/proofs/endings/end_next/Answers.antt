@@ -18,6 +18,11 @@ put-requires-clause-brief g c =
     let was = c.args.state.now in
     (is_brief was.design was.world c.requires.kept.good.steady c.args.event c.requires.next).1
 
+pub put-requires-clause-quiet : goal.put-requires-clause-quiet
+put-requires-clause-quiet g c =
+    let was = c.args.state.now in
+    (in_step_same was.world.events c.args.wal.now c.reserve.new.self c.requires.in_step c.reserve.ensures.same).quiet
+
 pub put-requires-clause-short : goal.put-requires-clause-short
 put-requires-clause-short g c =
     let was = c.args.state.now in

@@ -89,7 +89,7 @@ returns-in-Err-replayed-clause-leaves_refused g c file told only =
 
 pub end_and_settle-requires-clause-in_step : goal.end_and_settle-requires-clause-in_step
 end_and_settle-requires-clause-in_step g c =
-    in_step_new c.in-Ok-replayed.state.world.events c.in-Ok.wal c.in-Ok.ensures.ok.0 c.in-Ok.ensures.ok.1
+    in_step_new c.in-Ok-replayed.state.world.events c.in-Ok.wal c.in-Ok.ensures.ok.0 c.in-Ok.ensures.ok.1 c.in-Ok.ensures.ok.2
     (same_events c.args.d.now c.in-Ok.wal c.in-Ok-replayed.state c.in-Ok-replayed.ensures.ok)
 
 pub returns-in-Ok-end_and_settle-clause-ok : goal.returns-in-Ok-end_and_settle-clause-ok

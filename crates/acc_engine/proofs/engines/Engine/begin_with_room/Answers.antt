@@ -21,6 +21,9 @@ prepare-requires-clause-fits g c =
     subst (λ (l : List Call). All (λ (call : Call). Fits (Begin call)) l) (sym c.as_slice.ensures)
     (all_fields inside.state.design inside.calls c.self.invariant.0.state.accepted.formed c.self.invariant.0.fits)
 
+pub put-requires-clause-quiet : goal.put-requires-clause-quiet
+put-requires-clause-quiet g c = c.prepare.ensures.lists.lists.waiting ∙ c.self.invariant.2
+
 pub put-requires-clause-short : goal.put-requires-clause-short
 put-requires-clause-short g c =
     let inside = c.self.inside in
@@ -83,6 +86,7 @@ invariant_of-self-in-Ok g c =
           (record { leave = answer.2; event = answer.1 }) c.begin.ensures.design
           (subst (λ (e : Event). Pushes e c.prepare.new.wal c.put.new.wal) event c.put.ensures),
       c.self.invariant.1 ∙ ap (λ (j : Journalled g.row.D.Denot). j.failed) c.self.view_is ∙ c.requires.unfailed ∙ sym c.put.ensures.spent,
+      c.put.ensures.waiting ∙ c.prepare.ensures.lists.lists.waiting ∙ c.self.invariant.2,
     )
 
 pub returns-in-Ok-clause-ok : goal.returns-in-Ok-clause-ok
@@ -136,4 +140,5 @@ invariant_of-self-in-Err-Memory-2 g c =
           c.begin.ensures.design
           (same_world old.design old.world now.world c.index-as_slice-index.result c.in-Err-Memory.field-0 c.in-Err-Memory.ensures.answer),
       c.self.invariant.1 ∙ sym c.prepare.ensures.lists.spent,
+      c.prepare.ensures.lists.lists.waiting ∙ c.self.invariant.2,
     )

@@ -10,6 +10,7 @@ invariant_of-result g c = (
       c.requires.same c.requires.settled c.requires.fits c.requires.few c.new.ensures.items
       (c.len-found.ensures ∙ ap length c.events.ensures.events),
   sym c.requires.unspent,
+  c.requires.quiet,
 )
 
 pub returns-clause-sound : goal.returns-clause-sound

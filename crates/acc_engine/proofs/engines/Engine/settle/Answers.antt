@@ -11,7 +11,7 @@ use Rattle.acc_wal.proofs.Moments.{weaker}
 use Rattle.acc_engine.specs.Keeping.{Journalled}
 use Rattle.acc_engine.specs.Ready.{IsReady}
 use Rattle.acc_engine.specs.Standing.{CountsDurableOrAll}
-use Rattle.acc_engine.proofs.InSteps.{in_step_settled, failed_settling}
+use Rattle.acc_engine.proofs.InSteps.{in_step_settled, quiet_settled, failed_settling}
 use Rattle.acc_engine.proofs.Standing.{durable_or_all, sound_in_step}
 use Rattle.acc_engine.proofs.engines.Engine.settle.Goals as goal
 use Rattle.acc_engine.proofs.engines.Engine.settle.Goals.{in-Ok, in-Err-Spent, in-Err-Disk}
@@ -25,6 +25,8 @@ invariant_of-self g c =
           ∙ failed_settling old.wal c.settle-outcome.new.self c.settle-outcome.result
           (Rose (g.D.Disk.faults old.wal.disk) (g.D.Disk.faults c.settle-outcome.new.self.disk)) c.settle-outcome.ensures.ok
           c.settle-outcome.ensures.why (λ spent. (c.settle-outcome.ensures.spent spent).1),
+      quiet_settled old.wal c.settle-outcome.new.self c.settle-outcome.result c.settle-outcome.ensures.ok c.settle-outcome.ensures.err
+          c.self.invariant.2,
     )
 
 pub returns-clause-moments : goal.returns-clause-moments

@@ -7,6 +7,9 @@ use Rattle.acc_engine.proofs.InSteps.{in_step_turned, adds_or, small_number}
 use Rattle.acc_engine.proofs.Standing.{seen_again, sound_turned}
 use Rattle.acc_engine.proofs.engines.Engine.turn.Goals as goal
 
+pub note-requires-clause-quiet : goal.note-requires-clause-quiet
+note-requires-clause-quiet g c = c.reserve.ensures.same.lists.waiting ∙ c.self.invariant.2
+
 pub note-requires-clause-number : goal.note-requires-clause-number
 note-requires-clause-number g c =
     let old = c.self.inside.state in
@@ -23,6 +26,7 @@ invariant_of-self-in-Ok-turn g c =
           c.args.t (adds_or c.args.t c.in-Ok-turn.turn old.state.world now.world c.in-Ok-turn.ensures.adds) c.turn.ensures.design
           c.note.ensures.kept c.note.ensures.up,
       c.self.invariant.1 ∙ sym (c.note.ensures.up.spent ∙ c.reserve.ensures.same.spent),
+      c.note.ensures.up.waiting ∙ c.reserve.ensures.same.lists.waiting ∙ c.self.invariant.2,
     )
 
 pub returns-in-Ok-turn-clause-sound : goal.returns-in-Ok-turn-clause-sound

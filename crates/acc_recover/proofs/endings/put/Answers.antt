@@ -1,0 +1,8 @@
+use Rattle.std.proofs.Common.{List, ap, arith}
+use Rattle.acc_wal.specs.Items.{seal_bytes}
+use Rattle.acc_wal.specs.declared.items.Seal.{Seal}
+use Rattle.acc_recover.proofs.endings.put.Goals as goal
+
+pub push-requires-clause-short : goal.push-requires-clause-short
+push-requires-clause-short g c =
+    omega (arith, c.requires.short, c.requires.brief, ap (λ (ss : List Seal). seal_bytes ss) c.requires.quiet)
