@@ -6,6 +6,7 @@ draw DESIGN
 check DESIGN CERT
 prove DESIGN
 advise DESIGN HELD STEP SIDE
+audit DESIGN COPY
 init DESIGN JOURNAL
 sched DESIGN CERT SCRIPT ORDER JOURNAL
 run DESIGN CERT SCRIPT WORKERS JOURNAL
@@ -38,6 +39,7 @@ _acc_add() {
         SCRIPT) _acc_files '.script' ;;
         ORDER) _acc_files '.order' ;;
         JOURNAL) _acc_files '.journal' ;;
+        COPY) _acc_files '.journal' ;;
         HELD) mapfile -t more < <(compgen -W "$(_acc_points "$2")" -- "$word") ;;
         STEP) mapfile -t more < <(compgen -W "$(_acc_points "$2")" -- "$word") ;;
         SIDE) mapfile -t more < <(compgen -W 'next undo' -- "$word") ;;

@@ -7,6 +7,7 @@ set -g __acc_forms \
     'check DESIGN CERT|tells whether the certificate proves that the design is sound, and else why not' \
     'prove DESIGN|makes such a certificate, or tells which obligations stay open' \
     'advise DESIGN HELD STEP SIDE|tells which entry lets the step go where HELD is held, and forbids least' \
+    'audit DESIGN COPY|tells whether a clause is false after an event of a journal, whoever wrote it' \
     'init DESIGN JOURNAL|makes JOURNAL a journal of the design without events, if it isn\'t one already' \
     'sched DESIGN CERT SCRIPT ORDER JOURNAL|recovers the journal, and goes on as `rehearse`; each end is kept in it' \
     'run DESIGN CERT SCRIPT WORKERS JOURNAL|recovers the journal, and 1 to 64 workers run the script; each end is kept in it' \
@@ -42,6 +43,8 @@ function __acc_add
         case ORDER
             __fish_complete_suffix .order
         case JOURNAL
+            __fish_complete_suffix .journal
+        case COPY
             __fish_complete_suffix .journal
         case HELD
             __acc_points $argv[3]

@@ -8,16 +8,18 @@ use crate::steps::{AuditError, Finding, take_event};
 use acc_base::designs::Design;
 use acc_base::machines::Event;
 use acc_plain::Machine;
+use acc_progress::Progress;
 use acc_ranges::KeyedStore;
 use acc_store::{MapStore, Store};
 use std::alloc::Global;
 
-/// Goes through events on a machine that has done none.
-fn walk<S: Store>(
+/// Goes through events on a machine that has done none. How far it is, is told behind each.
+fn walk<S: Store, P: Progress>(
     alloc: Global,
     d: &Design,
     machine: &mut Machine<'_, KeyedStore<S>>,
     events: &[Event],
+    progress: &mut P,
 ) -> Result<Finding, AuditError>
     requires formed { IsWellFormed d.now }
     requires few { length events.now < 2 ^ 30 }
@@ -29,7 +31,7 @@ fn walk<S: Store>(
         let found = take_event(alloc, d, machine, place as u64, &events[place])?;
         match found {
             Some(finding) => return Ok(finding),
-            None => {}
+            None => progress.replayed(place as u64 + 1, events.len() as u64),
         }
     }
     Ok(Finding::Clean)
@@ -47,8 +49,13 @@ fn walk<S: Store>(
 ///
 /// The design needs no certificate. Where it is sound and the events are lawful, the answer is never `False` or `NotRun`.
 ///
-/// No row is copied. After each event each clause is tried at each tuple of its values.
-pub fn audit(alloc: Global, d: &Design, events: &[Event]) -> Result<Finding, AuditError>
+/// No row is copied. After each event each clause is tried at each tuple of its values, and how far it is, is told.
+pub fn audit<P: Progress>(
+    alloc: Global,
+    d: &Design,
+    events: &[Event],
+    progress: &mut P,
+) -> Result<Finding, AuditError>
     requires formed { IsWellFormed d.now }
     requires few { length events.now < 2 ^ 30 }
     ensures exact { Tells d.now events.now result }
@@ -57,5 +64,5 @@ pub fn audit(alloc: Global, d: &Design, events: &[Event]) -> Result<Finding, Aud
 {
     let store = KeyedStore::new(alloc, MapStore::new(alloc));
     let mut machine = Machine::new(alloc, d, store);
-    walk(alloc, d, &mut machine, events)
+    walk(alloc, d, &mut machine, events, progress)
 }

@@ -80,9 +80,18 @@ fn shelf_of<R: Files + AllocGlobal>(rt: &R, words: &str) -> Result<MemShelf, All
     Ok(shelf)
 }
 
-/// The disk of a case, whose bytes stand behind a base.
-fn disk_of(alloc: Global, base: &[u8], case: Case<'_>) -> Result<MemDisk, AllocError> {
+/// The name under which the bytes of a case's disk stand on its shelf too.
+const COPY: &str = "journal";
+
+/// The disk of a case, whose bytes stand behind a base. A copy of them stands on the shelf.
+fn disk_of(
+    alloc: Global,
+    base: &[u8],
+    case: Case<'_>,
+    shelf: &mut MemShelf,
+) -> Result<MemDisk, AllocError> {
     let file = file(alloc, base, case.bytes)?;
+    memory::hold(shelf, COPY, &file)?;
     disk(alloc, &file, case.fails, case.from)
 }
 
@@ -95,14 +104,14 @@ fn over_shelf<R: Print + AllocGlobal>(
     let (fails, takes) = case.writes.split_once('/').unwrap_or((case.writes, "-"));
     let mut out = sink(rt.alloc(), fails, takes)?;
     let base = base(rt.alloc(), shelf, case.bytes, case.words)?;
-    let disk = disk_of(rt.alloc(), &base, case)?;
+    let disk = disk_of(rt.alloc(), &base, case, shelf)?;
     answer(rt, &base, case.words, shelf, &mut out, disk)?;
     Ok(())
 }
 
 /// `disk BYTES FAILS FROM WRITES WORDS`: a command line over the folder's files, a disk in memory and a sink some of whose writes fail.
 /// Behind a `+` the bytes stand in the place of the last byte of the journal that `init` makes of the design. WRITES may be `FAILS/TAKES`,
-/// as those of `fails`.
+/// as those of `fails`. A copy of the disk's bytes is the file `journal`.
 pub fn over_disk<R: Files + Print + AllocGlobal>(rt: &R, text: &str) -> io::Result<()> {
     let case = case_of(text);
     let mut shelf = shelf_of(rt, case.words)?;
@@ -143,7 +152,8 @@ fn left(alloc: Global, disk: &MemDisk, text: &str) -> Result<Vec<u8>, AllocError
     disk.image(calls, pick).map_err(|_| AllocError)
 }
 
-/// Answers a command line over a disk that holds these bytes, prints what it wrote and its status, and hands out the bytes that it left.
+/// Answers a command line over a disk that holds these bytes, of which a copy stands on the shelf, prints what it wrote and its status, and
+/// hands out the bytes that it left.
 fn answer_behind<R: Print + AllocGlobal>(
     rt: &R,
     shelf: &mut MemShelf,
@@ -151,6 +161,7 @@ fn answer_behind<R: Print + AllocGlobal>(
     bytes: &[u8],
     from: &str,
 ) -> io::Result<Vec<u8>> {
+    memory::hold(shelf, COPY, bytes)?;
     let disk = disk(rt.alloc(), bytes, "-", from)?;
     let mut out = sink(rt.alloc(), "-", "-")?;
     let done = memory::answer_over(rt.alloc(), words, shelf, &mut out, disk)?;
@@ -161,7 +172,8 @@ fn answer_behind<R: Print + AllocGlobal>(
 
 /// `chain AT FROM WORDS ; WORDS ..`: command lines over the folder's files, each over the bytes that the one before it left on a disk in
 /// memory, the first over an empty one. Of the line with the number AT, the calls of the disk from the number FROM on fail; a `-` is none.
-/// Where FROM is `CALLS/PICK`, that line leaves what a crash behind so many calls leaves, picked by that number.
+/// Where FROM is `CALLS/PICK`, that line leaves what a crash behind so many calls leaves, picked by that number. A copy of the bytes that
+/// stand before a line is the file `journal`.
 pub fn chain<R: Files + Print + AllocGlobal>(rt: &R, text: &str) -> io::Result<()> {
     let (at, rest) = first_word(text);
     let (from, lines) = first_word(rest);

@@ -1,4 +1,5 @@
 //! Command lines over files and disks in memory: how they end, what they print, and what is told of them.
+use acc_case_commands::disks::{base, file};
 use acc_case_commands::{InTurn, acc, help_text, memory};
 use acc_crew::Alone;
 use acc_diagnose::explain;
@@ -120,7 +121,8 @@ pub fn check(alloc: Global, design: &str, certificate: &str) -> Result<String, A
     answer(alloc, "check design cert", &mut shelf, &[])
 }
 
-/// Answers a command line over a design, its certificate without proofs and a journal, of which all calls fail from that number on.
+/// Answers a command line over a design, its certificate without proofs and a journal, of which all calls fail from that number on. A copy
+/// of the journal is the file `journal`.
 pub fn journal(
     alloc: Global,
     design: &str,
@@ -129,7 +131,10 @@ pub fn journal(
 ) -> Result<String, AllocError> {
     let (bytes, line) = rest.split_once(" ").unwrap_or((rest, ""));
     let mut shelf = certified_shelf(alloc, design, "[]")?;
+    let base = base(alloc, &mut shelf, bytes, line)?;
+    let bytes = file(alloc, &base, bytes)?;
+    memory::hold(&mut shelf, "journal", &bytes)?;
     let mut out = memory::sink(alloc, &[], &[])?;
-    let disk = memory::disk(alloc, &memory::bytes_of(alloc, bytes), &[], from)?;
+    let disk = memory::disk(alloc, &bytes, &[], from)?;
     answer_over(alloc, line, &mut shelf, &mut out, disk)
 }

@@ -9,5 +9,5 @@ mod rules;
 mod shapes;
 
 pub use certificates::{Marked, off_mark, proof_mark, proofs_in};
-pub use obligations::{asserted_mark, path_mark};
+pub use obligations::{asserted_mark, clause_mark, path_mark};
 pub use rules::obligation_hint;

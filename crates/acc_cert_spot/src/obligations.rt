@@ -119,6 +119,23 @@ pub fn push_path(out: &mut Page, d: &Design, origin: &Origin) {
     out.push(b"`")
 }
 
+/// The mark of the clause with this number, from 1, that is asserted at a point, or at all times where none is named; nothing is said of it
+/// yet.
+pub fn clause_mark(
+    alloc: Global,
+    text: &[u8],
+    tokens: &[Token],
+    held: Option<At>,
+    clause: u32,
+) -> Option<Marked> {
+    let number = clause.checked_sub(1)?;
+    let found = match held {
+        Some(at) => held_from(text, tokens, at, number)?,
+        None => always_from(text, tokens, number)?,
+    };
+    statement_mark(alloc, text, found)
+}
+
 /// What an obligation is about: an assertion as it stands in the text, a variant, or a number, as it is spelled.
 fn push_subject(out: &mut Page, d: &Design, origin: &Origin, statement: &[u8], number: &[u8]) {
     match (subject_of(origin.rule), origin.at) {

@@ -19,9 +19,9 @@ use Rattle.acc_commands.specs.Files.{AreFiles, IsFirstRefused, SaysRefused}
 use Rattle.acc_commands.specs.Requests.{command_in, texts_in}
 use Rattle.acc_commands.specs.Text.{IsEarly}
 use Rattle.acc_commands.specs.Request.{Request}
-use Rattle.acc_commands.specs.Request.TheVariants.{Play, Rehearse, Print, Draw, Check, Prove, Advise, Init, Sched, Run, Recover, Dump}
-use Rattle.acc_commands.specs.Request.TheVariants.{Replies, Verify, TpccDesign, TpccLoad, TpccMix, BookingDesign, BookingVerify}
-use Rattle.acc_commands.specs.Request.TheVariants.{Bench, Help, Version}
+use Rattle.acc_commands.specs.Request.TheVariants.{Play, Rehearse, Print, Draw, Check, Prove, Advise, Audit, Init, Sched, Run}
+use Rattle.acc_commands.specs.Request.TheVariants.{Recover, Dump, Replies, Verify, TpccDesign, TpccLoad, TpccMix, BookingDesign}
+use Rattle.acc_commands.specs.Request.TheVariants.{BookingVerify, Bench, Help, Version}
 use Rattle.acc_journalled.specs.declared.answers.Answer.{Answer}
 use Rattle.acc_journalled.specs.declared.answers.Ending.{Ending}
 use Rattle.acc_journalled.specs.declared.answers.Ending.TheVariants.{Done, DiskFailed}
@@ -108,6 +108,7 @@ texts_count (Draw design) = refl
 texts_count (Check files) = refl
 texts_count (Prove design) = refl
 texts_count (Advise files side) = refl
+texts_count (Audit files) = refl
 texts_count (Init design) = refl
 texts_count (Sched files) = refl
 texts_count (Run files workers) = refl

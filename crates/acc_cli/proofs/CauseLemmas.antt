@@ -1,5 +1,5 @@
 -- The causes of the statuses, from the one clause on the answer.
-use Rattle.std.proofs.Common.{◌≡◌, ℕ, Bool, List, Option, None, Some, refl, sym, ◌∙◌, inl, inr}
+use Rattle.std.proofs.Common.{◌≡◌, ℕ, Bool, List, Option, None, Some, refl, sym, ap, ◌∙◌, inl, inr}
 use Rattle.std.specs.Prelude.{◌⊎◌}
 use Rattle.acc_base.specs.declared.machines.Event.{Event}
 use Rattle.acc_io.specs.Causes.{Rose}
@@ -15,12 +15,11 @@ use Rattle.acc_commands.specs.Disks.{Seen}
 use Rattle.acc_commands.specs.Words.{command_of, files_of, points_of}
 use Rattle.acc_cli.specs.Meant.{Runs, MeansForm, Meant}
 use Rattle.acc_cli.specs.Answered.{Answered}
-use Rattle.acc_cli.specs.Causes.{EndsSo, LeavesInMemory, LeavesUnbegun, FindsJournal, RefusesRecovering, RefusesJournal}
+use Rattle.acc_cli.specs.Causes.{EndsSo, LeavesInMemory, LeavesUnbegun, FindsJournal, RefusesRecovering, RefusesAudit, RefusesJournal}
 use Rattle.acc_cli.specs.Causes.{LeavesOpen, FindsConditionFalse, HasCauses}
 use Rattle.acc_journalled.proofs.Endings.{was_of_bytes}
 use Rattle.acc_commands.specs.Overs.{LeavesBy, LeavesBench}
-use Rattle.acc_commands.proofs.RefusedOvers.{RefusesOver}
-use Rattle.acc_commands.proofs.WhichCommands.{LeftAnyhow, leaves_unbegun, leaves_open, finds_false, refuses_journal, fails_by_disk}
+use Rattle.acc_commands.proofs.WhichCommands.{LeftAnyhow, RefusesAnyhow, leaves_unbegun, leaves_open, finds_false, refuses_journal, fails_by_disk}
 
 module _ (held : List ℕ → Told) (counts counts' : Counts) (disk disk' : Seen) (words : List (List ℕ)) where
   -- the files were given, and the command ended so
@@ -53,14 +52,15 @@ module _ (held : List ℕ → Told) (counts counts' : Counts) (disk disk' : Seen
   refused_journal ends =
       record { ends = ends; why = by (refuses_journal ends.command (points_of ends.command words) ends.files disk disk' ends.said ends.ending_is ends.meant) }
     where
-      by : RefusesOver ends.command disk disk' ends.said
-          → FindsJournal ends.command disk disk' ⊎ RefusesRecovering ends.command disk disk'
-      by (inl found) = inl (record { is_init = found.0; there = found.1.there; same = found.1.same })
-      by (inr refused) =
+      by : RefusesAnyhow ends.command ends.files disk disk' ends.said
+          → FindsJournal ends.command disk disk' ⊎ RefusesRecovering ends.command disk disk' ⊎ RefusesAudit ends.command ends.files disk disk'
+      by (inr copied) = inr (inr (record { copy = copied.0; same = ap (λ (s : Seen). s.told) copied.1 }))
+      by (inl (inl found)) = inl (record { is_init = found.0; there = found.1.there; same = found.1.same })
+      by (inl (inr refused)) =
           let cause = refused.2 in
           let of_bytes = was_of_bytes cause.error ends.said cause.says (λ e. let s : JournalRefused ≡ DiskFailed =
           sym ends.ending_is ∙ e in absurd cc) in
-          inr (record {
+          inr (inl (record {
             is_over = refused.0;
             d = refused.1;
             error = cause.error;
@@ -68,7 +68,7 @@ module _ (held : List ℕ → Told) (counts counts' : Counts) (disk disk' : Seen
             cause = cause.cause;
             same = cause.same;
             kept = cause.kept of_bytes;
-          })
+          }))
 
   -- obligations stay open
   stays_open : EndsSo held counts counts' disk disk' words Open → LeavesOpen held counts counts' disk disk' words

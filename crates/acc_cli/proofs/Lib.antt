@@ -13,3 +13,4 @@ pub mod BookingLemmas
 pub mod AnswerLemmas
 pub mod LineLemmas
 pub mod Surviving
+pub mod AuditLemmas

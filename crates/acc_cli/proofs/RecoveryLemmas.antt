@@ -38,7 +38,7 @@ use Rattle.acc_cli.specs.Replies.{Reply}
 use Rattle.acc_cli.specs.Status.{code_of}
 use Rattle.acc_cli.specs.Meant.{MeansForm, Meant}
 use Rattle.acc_cli.specs.Answered.{Answered, Ends}
-use Rattle.acc_cli.specs.Causes.{FindsJournal, RefusesRecovering, RefusesJournal}
+use Rattle.acc_cli.specs.Causes.{FindsJournal, RefusesRecovering, RefusesAudit, RefusesJournal}
 use Rattle.acc_cli.specs.Recoveries.{wanted_by, IsRecovered, TellsRecovery, IsJournal, LeavesRefused}
 use Rattle.acc_cli.proofs.StatusLemmas.{zero_is_done, seven_is_sink}
 
@@ -59,9 +59,10 @@ pub left_refused : (held : List ℕ → Told) (counts counts' : Counts) (disk di
 left_refused held counts counts' disk disk' words refused = by refused.why
   where
     by : FindsJournal refused.ends.command disk disk' ⊎ RefusesRecovering refused.ends.command disk disk'
-        → LeavesRefused disk.told disk'.told
+        ⊎ RefusesAudit refused.ends.command refused.ends.files disk disk' → LeavesRefused disk.told disk'.told
     by (inl found) = inl found.same
-    by (inr r) =
+    by (inr (inr copied)) = inl copied.same
+    by (inr (inl r)) =
         unrecovered_left r.error r.d disk.told disk'.told (Rose disk.faults disk'.faults) r.of_bytes r.cause r.same r.kept
 
 -- ---- what is refused tells no history
@@ -201,6 +202,7 @@ of_command held words command.BookingVerify w disk disk' old new code points [] 
 of_command held words command.BookingVerify w disk disk' old new code points (design ∷ []) t is given h = absurd h
 of_command held words command.BookingVerify w disk disk' old new code points (design ∷ certificate ∷ more ∷ rest) t is given h = absurd h
 of_command held words (command.Advise side) w disk disk' old new code points files t is given h = absurd cc
+of_command held words command.Audit w disk disk' old new code points files t is given h = absurd cc
 of_command held words command.TpccDesign w disk disk' old new code points files t is given h = absurd cc
 of_command held words command.BookingDesign w disk disk' old new code points files t is given h = absurd cc
 of_command held words (command.TpccLoad scale) w disk disk' old new code points files t is given h = absurd cc

@@ -20,7 +20,7 @@ use Rattle.acc_cli.specs.declared.status.Status.TheVariants.{Usage, File, Sink, 
 use Rattle.acc_commands.specs.Words.{command_of, files_of, points_of}
 use Rattle.acc_commands.specs.Files.{AreFiles, IsFirstRefused, SaysRefused}
 use Rattle.acc_commands.specs.Means.{Means}
-use Rattle.acc_commands.specs.Overs.{IsRecovering, LeavesBy, FindsFalse, LeavesBench, BenchFindsFalse}
+use Rattle.acc_commands.specs.Overs.{IsRecovering, LeavesBy, FindsFalse, LeavesBench, BenchFindsFalse, RefusesCopy, AuditFinds}
 use Rattle.acc_commands.specs.ProveFiles.{StaysOpen}
 use Rattle.acc_journalled.specs.Tellings.{Telling}
 use Rattle.acc_commands.specs.Disks.{Seen}
@@ -78,10 +78,16 @@ pub record RefusesRecovering (c : Command) (disk disk' : Seen) : Type 0 where
   pub same : IsOfJournal error → disk'.told ≡ disk.told
   pub kept : CountsSame disk.told disk'.told
 
--- the journal is there already, or isn't one that is recovered
+-- It is `audit`, and the bytes of the copy give a cause why they aren't judged. The disk is asked nothing.
+pub record RefusesAudit (c : Command) (files : List (List ℕ)) (disk disk' : Seen) : Type 0 where
+  pub copy : RefusesCopy c files
+  pub same : disk'.told ≡ disk.told
+
+-- the journal is there already, or isn't one that is recovered, or a copy isn't one that is judged
 pub record RefusesJournal (held : List ℕ → Told) (counts counts' : Counts) (disk disk' : Seen) (words : List (List ℕ)) : Type 0 where
   pub ends : EndsSo held counts counts' disk disk' words JournalRefused
   pub why : FindsJournal ends.command disk disk' ⊎ RefusesRecovering ends.command disk disk'
+      ⊎ RefusesAudit ends.command ends.files disk disk'
 
 -- it is `prove`, and obligations of the design stay open: what is said has a line for each
 pub record LeavesOpen (held : List ℕ → Told) (counts counts' : Counts) (disk disk' : Seen) (words : List (List ℕ)) : Type 0 where
@@ -91,11 +97,13 @@ pub record LeavesOpen (held : List ℕ → Told) (counts counts' : Counts) (disk
   pub file : ends.files ≡ design ∷ []
   pub stays : StaysOpen design ends.said.text
 
--- it is `verify`, and a consistency condition is false of the recovered rows; or `bench`, and one is false of the rows at its end
+-- it is `verify`, and a consistency condition is false of the recovered rows; or `bench`, and one is false of the rows at its end; or
+-- `audit`, and behind an event of the copy a clause is false, or can't be told of
 pub record FindsConditionFalse (held : List ℕ → Told) (counts counts' : Counts) (disk disk' : Seen) (words : List (List ℕ)) : Type 0
   where
     pub ends : EndsSo held counts counts' disk disk' words ConditionFalse
     pub finds : ((ends.command ≡ command.Verify) × FindsFalse disk disk' ends.said) ⊎ BenchFindsFalse ends.command ends.said
+        ⊎ AuditFinds ends.command ends.files
 
 -- Want of memory alone is free. No status but that of a file comes after a read that gave no file.
 pub record HasCauses (held : List ℕ → Told) (counts counts' : Counts) (disk disk' : Seen) (words : List (List ℕ)) (sink_fault : Type 0)

@@ -12,5 +12,6 @@ pub mod Recoveries
 pub mod Verifications
 pub mod Benches
 pub mod Bookings
+pub mod Audits
 pub mod Runs
 pub mod Headline

@@ -22,6 +22,7 @@ ghost use Rattle.acc_cli.specs.Provings.{IsProved};
 ghost use Rattle.acc_cli.specs.Bookings.{SellsOnce};
 ghost use Rattle.acc_cli.specs.Recoveries.{wanted_by, TellsRecovery, LeavesRefused};
 ghost use Rattle.acc_cli.specs.Verifications.{TellsVerification};
+ghost use Rattle.acc_cli.specs.Audits.{TellsAudit};
 ghost use Rattle.acc_cli.specs.Benches.{TellsBench};
 ghost use Rattle.acc_commands.specs.RecoverFiles.{Saying};
 ghost use Rattle.acc_commands.specs.Command.{Command as TheCommand};
@@ -29,7 +30,7 @@ ghost use Rattle.acc_commands.specs.Disks.{seen, IsUntouched};
 ghost use Rattle.acc_commands.specs.Words.{command_of, is_journalled, is_over_journal};
 ghost use Rattle.acc_commands.specs.Requests.{command_in, texts_in, points_in};
 ghost use Rattle.acc_commands.specs.Means.{LeavesOf};
-ghost use Rattle.acc_commands.specs.Command.TheVariants.{Rehearse, Sched, Run, Init, Prove, Verify, BookingVerify, Bench};
+ghost use Rattle.acc_commands.specs.Command.TheVariants.{Rehearse, Sched, Run, Init, Prove, Verify, BookingVerify, Bench, Audit};
 ghost use Rattle.acc_commands.specs.Mix.{Mix};
 
 use crate::status::Status;
@@ -332,6 +333,11 @@ pub fn acc<
     ensures benched { (mix : Mix) → command_of (map string_bytes words.now) ≡ Some (Bench mix)
         → TellsBench (H.held shelf.old) (map string_bytes words.now) mix (K.bytes out.old) (K.bytes out.new) result.status
         result.history }
+    // Where `audit` ended with status 0, 7 or 10, the copy is a journal of the design, and this is told of its events: with 10 that a
+    // clause is false behind one of them, and which values show it, or that it can't be told; and else that none is false at values of its
+    // ranges. A sound design finds nothing false in lawful events. Else nothing is told.
+    ensures audited { command_of (map string_bytes words.now) ≡ Some Audit
+        → TellsAudit (H.held shelf.old) (map string_bytes words.now) (K.bytes out.old) (K.bytes out.new) result.status }
     // What `bench` ran is a lawful and annotated run of an accepted design, as that of `rehearse`.
     ensures bench_promise { (mix : Mix) → command_of (map string_bytes words.now) ≡ Some (Bench mix)
         → KeepsPromise (H.held shelf.old) (map string_bytes words.now) (Bench mix) result.history }

@@ -47,6 +47,7 @@ ends_over_disk command.BookingVerify (design ∷ []) old new t h = absurd h
 ends_over_disk command.BookingVerify (design ∷ certificate ∷ []) old new t h = inl (book_ends old new t design certificate h)
 ends_over_disk command.BookingVerify (design ∷ certificate ∷ more ∷ rest) old new t h = absurd h
 ends_over_disk (command.Advise side) files old new t h = absurd h
+ends_over_disk command.Audit files old new t h = absurd h
 ends_over_disk command.TpccDesign files old new t h = absurd h
 ends_over_disk command.BookingDesign files old new t h = absurd h
 ends_over_disk (command.TpccLoad scale) files old new t h = absurd h

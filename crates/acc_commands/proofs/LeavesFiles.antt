@@ -107,6 +107,7 @@ module _ {D : Type 0} (clock : D → ℕ) (left_since : D → ℕ → List ℕ �
     leaves_file command.BookingVerify (design ∷ certificate ∷ more ∷ rest) old new history settled now h =
         disk_same old new history settled now h
     leaves_file (command.Advise side) files old new history settled now h = disk_same old new history settled now h
+    leaves_file command.Audit files old new history settled now h = disk_same old new history settled now h
     leaves_file command.TpccDesign files old new history settled now h = disk_same old new history settled now h
     leaves_file command.BookingDesign files old new history settled now h = disk_same old new history settled now h
     leaves_file (command.TpccLoad scale) files old new history settled now h = disk_same old new history settled now h

@@ -1,3 +1,5 @@
+pub use Rattle.acc_file_commands.proofs.Auditing
+pub use Rattle.acc_file_commands.proofs.Judged
 pub use Rattle.acc_journal_commands.proofs.Again
 pub use Rattle.acc_journal_commands.proofs.Disks
 pub use Rattle.acc_journal_commands.proofs.JournalEndings

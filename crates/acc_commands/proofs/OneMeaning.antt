@@ -38,6 +38,7 @@ use Rattle.acc_journal_commands.specs.Words.{is_journalled}
 use Rattle.acc_commands.specs.Means.{AdvisesGiven, MeansOfFiles, MeansOverDisk, MeansBy, Means}
 use Rattle.acc_journal_commands.proofs.OneDesign.{said_same, one_design, one_refusal, formed_or_refused}
 use Rattle.acc_file_commands.proofs.OneAdvice.{one_advice}
+use Rattle.acc_file_commands.proofs.OneAudit.{one_audit}
 use Rattle.acc_commands.proofs.OneProving.{SaidAlike, one_prove}
 use Rattle.acc_commands.proofs.OneVerifying.{telling_same, one_verify}
 use Rattle.acc_commands.proofs.OneBenching.{one_bench_of}
@@ -135,6 +136,10 @@ one_of_files command.Prove points [] a b h k = absurd h
 one_of_files command.Prove points (design ∷ []) a b h k = one_prove design a b h k
 one_of_files command.Prove points (design ∷ more ∷ rest) a b h k = absurd h
 one_of_files (command.Advise side) points files a b h k = inl (one_advice_given side points files a b h k)
+one_of_files command.Audit points [] a b h k = absurd h
+one_of_files command.Audit points (design ∷ []) a b h k = absurd h
+one_of_files command.Audit points (design ∷ journal ∷ []) a b h k = inl (one_audit design journal a b h k)
+one_of_files command.Audit points (design ∷ journal ∷ more ∷ rest) a b h k = absurd h
 one_of_files command.Init points files a b h k = absurd h
 one_of_files command.Sched points files a b h k = absurd h
 one_of_files (command.Run workers) points files a b h k = absurd h
@@ -343,6 +348,7 @@ one_over_disk command.BookingVerify (design ∷ certificate ∷ []) old one othe
     inl (one_book old one other a b all design certificate h k)
 one_over_disk command.BookingVerify (design ∷ certificate ∷ more ∷ rest) old one other a b all h k = absurd h
 one_over_disk (command.Advise side) files old one other a b all h k = absurd h
+one_over_disk command.Audit files old one other a b all h k = absurd h
 one_over_disk command.TpccDesign files old one other a b all h k = absurd h
 one_over_disk command.BookingDesign files old one other a b all h k = absurd h
 one_over_disk (command.TpccLoad scale) files old one other a b all h k = absurd h

@@ -144,6 +144,7 @@ refused_over command.BookingVerify (design ∷ certificate ∷ []) old new t e h
     let r = book_refused design certificate old new t e h in inr (inr (inr (inr (inr (inr (inl refl))))), r.0, r.1)
 refused_over command.BookingVerify (design ∷ certificate ∷ more ∷ rest) old new t e h = absurd h
 refused_over (command.Advise side) files old new t e h = absurd h
+refused_over command.Audit files old new t e h = absurd h
 refused_over command.TpccDesign files old new t e h = absurd h
 refused_over command.BookingDesign files old new t e h = absurd h
 refused_over (command.TpccLoad scale) files old new t e h = absurd h
@@ -291,6 +292,7 @@ unbegun_over command.BookingVerify (design ∷ []) old new t e h = absurd h
 unbegun_over command.BookingVerify (design ∷ certificate ∷ []) old new t e h = absurd (book_unbegun old new t e design certificate h)
 unbegun_over command.BookingVerify (design ∷ certificate ∷ more ∷ rest) old new t e h = absurd h
 unbegun_over (command.Advise side) files old new t e h = absurd h
+unbegun_over command.Audit files old new t e h = absurd h
 unbegun_over command.TpccDesign files old new t e h = absurd h
 unbegun_over command.BookingDesign files old new t e h = absurd h
 unbegun_over (command.TpccLoad scale) files old new t e h = absurd h

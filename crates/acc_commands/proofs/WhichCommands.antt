@@ -1,6 +1,6 @@
 -- Which command ends so.
-use Rattle.std.proofs.Common.{◌≡◌, ℕ, Bool, true, false, List, [], ◌∷◌, Option, Some, None, inl, inr, refl, sym, subst, ◌∙◌, ⊎_elim}
-use Rattle.std.specs.Prelude.{◌≢◌, ◌⊎◌}
+use Rattle.std.proofs.Common.{◌≡◌, ℕ, Bool, true, false, List, [], ◌∷◌, Option, Some, None, inl, inr, refl, sym, ap, subst, ◌∙◌, ⊎_elim}
+use Rattle.std.specs.Prelude.{◌≢◌, ◌⊎◌, Result, Ok, Err}
 use Rattle.acc_io.specs.Causes.{Rose}
 use Rattle.acc_base.specs.declared.designs.At.{At}
 use Rattle.acc_base.specs.declared.designs.Design.{Design}
@@ -15,11 +15,17 @@ use Rattle.acc_journalled.specs.declared.answers.Ending.{Ending}
 use Rattle.acc_journalled.specs.declared.answers.Ending.TheVariants.{Done, DesignRefused, ScriptRefused, JournalRefused, DiskFailed}
 use Rattle.acc_journalled.specs.declared.answers.Ending.TheVariants.{Unbegun, Open, ConditionFalse}
 use Rattle.acc_journalled.specs.Tellings.{Telling}
+use Rattle.acc_file_commands.specs.Judgement.{Judgement}
+use Rattle.acc_file_commands.specs.Judgement.TheVariants.{Clean, False, Large}
+use Rattle.acc_file_commands.specs.JudgeError.{JudgeError}
 use Rattle.acc_journal_commands.specs.Text.{Said, said_in}
 use Rattle.acc_journal_commands.specs.Disks.{Seen}
 use Rattle.acc_journal_commands.specs.Refusals.{SaysError, RefusesDesign}
 use Rattle.acc_journal_commands.specs.Scripts.{SaysOfOrder, SaysOfScript}
 use Rattle.acc_file_commands.specs.Advising.{held_at, step_at, SaysOfPoints, AdvisesFile}
+use Rattle.acc_file_commands.specs.Auditing.{SaysJudged, AuditsFiles}
+use Rattle.acc_file_commands.proofs.Auditing.{refused_ending}
+use Rattle.acc_file_commands.proofs.OneAudit.{says_no_lack}
 use Rattle.acc_file_commands.specs.PlayFiles.{SaysPlay, PlaysFiles}
 use Rattle.acc_file_commands.specs.ScheduleFiles.{SaysSchedule, SaysOfCertificate, SchedulesFiles, ending_at}
 use Rattle.acc_file_commands.specs.PrintFiles.{PrintsFile, DrawsFile}
@@ -27,7 +33,7 @@ use Rattle.acc_file_commands.specs.CheckFiles.{ChecksFiles, ending_by}
 use Rattle.acc_file_commands.specs.ProveFiles.{EndsProving, StaysOpen, ProvesFile}
 use Rattle.acc_journal_commands.specs.Words.{is_journalled}
 use Rattle.acc_commands.specs.Means.{AdvisesGiven, MeansOfFiles, MeansBy, Means}
-use Rattle.acc_commands.specs.Overs.{LeavesBy, FindsFalse, RunsBench, LeavesBench, BenchFindsFalse}
+use Rattle.acc_commands.specs.Overs.{LeavesBy, FindsFalse, RunsBench, LeavesBench, BenchFindsFalse, IsAuditOf, RefusesCopy, AuditFinds}
 use Rattle.acc_commands.proofs.BenchOvers.{runs_bench, never_bench, leaves_bench, bench_finds_false}
 use Rattle.acc_journal_commands.proofs.JournalEndings.{failed_by, never_false, never_open, other_end}
 use Rattle.acc_commands.proofs.DiskEndings.{ends_over_disk}
@@ -47,12 +53,18 @@ abbrev pub Opens : Command → List (List ℕ) → Said → Type 0
 Opens c files said =
     (c ≡ command.Prove) × (said.ending ≡ Open) × (design : List ℕ) × (files ≡ design ∷ []) × StaysOpen design said.text
 
--- a schedule, open obligations, or a load and a mix
+-- this is told of a journal's bytes, and so it is said
+pub record Audited (c : Command) (files : List (List ℕ)) (said : Said) : Type 0 where
+  pub told : Result Judgement JudgeError
+  pub audit : IsAuditOf c files told
+  pub says : SaysJudged told said
+
+-- a schedule, open obligations, a load and a mix, or an audit
 abbrev pub EndsOtherwise : Command → List (List ℕ) → Said → Type 0
-EndsOtherwise c files said = Scheduled c said ⊎ Opens c files said ⊎ RunsBench c said
+EndsOtherwise c files said = Scheduled c said ⊎ Opens c files said ⊎ RunsBench c said ⊎ Audited c files said
 
 -- An ending that is neither that all is done nor a refusal of the design or the script. A command without a journal that ends so is
--- `rehearse`, or `prove` with obligations that stay open, or `bench`.
+-- `rehearse`, or `prove` with obligations that stay open, or `bench`, or `audit`.
 module _ (other : Ending) (done_other : Done ≢ other) (design_other : DesignRefused ≢ other) (script_other : ScriptRefused ≢ other) where
   -- what ends otherwise doesn't end so
   not_so : (ending : Ending) (said : Said) → ending ≢ other → said.ending ≡ ending → said.ending ≡ other → ⊥
@@ -153,6 +165,24 @@ module _ (other : Ending) (done_other : Done ≢ other) (design_other : DesignRe
   given_other side (held ∷ step ∷ []) (design ∷ more ∷ rest) said so h = h
   given_other side (held ∷ step ∷ more ∷ rest) files said so h = h
 
+  audit_so : (design journal : List ℕ) (said : Said) → said.ending ≡ other → AuditsFiles design journal said
+      → Audited command.Audit (design ∷ journal ∷ []) said
+  audit_so design journal said so (inl h) = absurd (refusal_other design said h so)
+  audit_so design journal said so (inr h) = record {
+    told = h.audit.told;
+    audit = record {
+      is_audit = refl;
+      design = design;
+      journal = journal;
+      are_files = refl;
+      d = h.d;
+      is_text = h.is_text;
+      formed = h.formed;
+      judges = h.audit.judges;
+    };
+    says = h.audit.says;
+  }
+
   pub ends_scheduled :
       (c : Command) (points files : List (List ℕ)) (said : Said) → said.ending ≡ other → MeansOfFiles c points files said
       → EndsOtherwise c files said
@@ -183,6 +213,10 @@ module _ (other : Ending) (done_other : Done ≢ other) (design_other : DesignRe
   ends_scheduled command.Prove points (design ∷ []) said e h = inr (inl (opens_so design said e h))
   ends_scheduled command.Prove points (design ∷ more ∷ rest) said e h = absurd h
   ends_scheduled (command.Advise side) points files said e h = absurd (given_other side points files said e h)
+  ends_scheduled command.Audit points [] said e h = absurd h
+  ends_scheduled command.Audit points (design ∷ []) said e h = absurd h
+  ends_scheduled command.Audit points (design ∷ journal ∷ []) said e h = inr (inr (inr (audit_so design journal said e h)))
+  ends_scheduled command.Audit points (design ∷ journal ∷ more ∷ rest) said e h = absurd h
   ends_scheduled command.Init points files said e h = absurd h
   ends_scheduled command.Sched points files said e h = absurd h
   ends_scheduled (command.Run workers) points files said e h = absurd h
@@ -202,7 +236,7 @@ module _ (other : Ending) (done_other : Done ≢ other) (design_other : DesignRe
   ends_scheduled (command.Bench mix) points [] said e h = absurd h
   ends_scheduled (command.Bench mix) points (design ∷ []) said e h = absurd h
   ends_scheduled (command.Bench mix) points (design ∷ certificate ∷ []) said e h =
-      inr (inr (runs_bench other design_other script_other mix said e design certificate h))
+      inr (inr (inl (runs_bench other design_other script_other mix said e design certificate h)))
   ends_scheduled (command.Bench mix) points (design ∷ certificate ∷ more ∷ rest) said e h = absurd h
   ends_scheduled command.Help points [] said e h = absurd (not_so Done said done_other h.0 e)
   ends_scheduled command.Help points (more ∷ rest) said e h = absurd h
@@ -235,10 +269,45 @@ never_opens : (other : Ending) → Open ≢ other → (c : Command) (files : Lis
     → Opens c files (said_in t) → ⊥
 never_opens other differs c files t e (is, ending, design, file, stays) = differs (sym ending ∙ e)
 
+-- an audit ends as done, by what it finds, or by a journal that is refused
+never_audited : (other : Ending) → Done ≢ other → ConditionFalse ≢ other → JournalRefused ≢ other → (c : Command) (files : List (List ℕ))
+    (t : Telling) → t.ending ≡ other → Audited c files (said_in t) → ⊥
+never_audited other done judged refused c files t e a = by a.told a.says
+  where
+    by : (told : Result Judgement JudgeError) → SaysJudged told (said_in t) → ⊥
+    by (Ok (Clean n)) h = done (sym h.0 ∙ e)
+    by (Ok (False place k clause own)) h = judged (sym h.0 ∙ e)
+    by (Ok (Large place k clause)) h = judged (sym h.0 ∙ e)
+    by (Err error) h = refused (sym (refused_ending error (said_in t) h) ∙ e)
+
+-- the copy isn't judged
+copy_refused : (c : Command) (files : List (List ℕ)) (t : Telling) → t.ending ≡ JournalRefused → Audited c files (said_in t)
+    → RefusesCopy c files
+copy_refused c files t e a = by a.told a.audit a.says
+  where
+    by : (told : Result Judgement JudgeError) → IsAuditOf c files told → SaysJudged told (said_in t) → RefusesCopy c files
+    by (Ok (Clean n)) audit h = (let s : Done ≡ JournalRefused = sym h.0 ∙ e in absurd cc)
+    by (Ok (False place k clause own)) audit h = (let s : ConditionFalse ≡ JournalRefused = sym h.0 ∙ e in absurd cc)
+    by (Ok (Large place k clause)) audit h = (let s : ConditionFalse ≡ JournalRefused = sym h.0 ∙ e in absurd cc)
+    by (Err error) audit h =
+        record { error = error; audit = audit; lasts = λ s. says_no_lack (Err error) (said_in t) h (ap Err s) }
+
+-- a clause is false, or can't be told of
+audit_finds : (c : Command) (files : List (List ℕ)) (t : Telling) → t.ending ≡ ConditionFalse → Audited c files (said_in t)
+    → AuditFinds c files
+audit_finds c files t e a = by a.told a.audit a.says
+  where
+    by : (told : Result Judgement JudgeError) → IsAuditOf c files told → SaysJudged told (said_in t) → AuditFinds c files
+    by (Ok judgement) audit h = record { judgement = judgement; audit = audit; wrong = sym h.0 ∙ e }
+    by (Err error) audit h =
+        (let s : JournalRefused ≡ ConditionFalse = sym (refused_ending error (said_in t) h) ∙ e in absurd cc)
+
 left_of : (c : Command) (files : List (List ℕ)) (t : Telling) → t.ending ≡ Unbegun
     → EndsOtherwise c files (said_in t) → LeftAnyhow c t
 left_of c files t e (inr (inl opens)) = absurd (never_opens Unbegun (λ e. cc) c files t e opens)
-left_of c files t e (inr (inr runs)) = inr (inr (leaves_bench c t runs e))
+left_of c files t e (inr (inr (inl runs))) = inr (inr (leaves_bench c t runs e))
+left_of c files t e (inr (inr (inr audited))) =
+    absurd (never_audited Unbegun (λ e. cc) (λ e. cc) (λ e. cc) c files t e audited)
 left_of c files t e (inl (is, d, calls, order, says)) =
     let begun : says.all_begun ≡ false = ending_unbegun says.all_begun (sym says.ending ∙ e) in
     inl (is, d, calls, order, subst (TellsSchedule d calls order t.text t.history) begun says.tells)
@@ -257,23 +326,30 @@ not_scheduled :
 not_scheduled other done unbegun c t e (is, d, calls, order, says) =
     ending_else other says.all_begun done unbegun (sym says.ending ∙ e)
 
--- a command without a journal neither refuses one nor fails by its disk
-neither : (other : Ending) → Done ≢ other → Unbegun ≢ other → Open ≢ other → ConditionFalse ≢ other → (c : Command)
-    (files : List (List ℕ)) (t : Telling) → t.ending ≡ other → EndsOtherwise c files (said_in t) → ⊥
-neither other done unbegun differs judged c files t e (inl h) = not_scheduled other done unbegun c t e h
-neither other done unbegun differs judged c files t e (inr (inl h)) = never_opens other differs c files t e h
-neither other done unbegun differs judged c files t e (inr (inr h)) = never_bench c t h other done unbegun judged e
+-- a command without a journal that refuses one, or fails by its disk, is an audit
+only_audited : (other : Ending) → Done ≢ other → Unbegun ≢ other → Open ≢ other → ConditionFalse ≢ other → (c : Command)
+    (files : List (List ℕ)) (t : Telling) → t.ending ≡ other → EndsOtherwise c files (said_in t) → Audited c files (said_in t)
+only_audited other done unbegun differs judged c files t e (inl h) = absurd (not_scheduled other done unbegun c t e h)
+only_audited other done unbegun differs judged c files t e (inr (inl h)) = absurd (never_opens other differs c files t e h)
+only_audited other done unbegun differs judged c files t e (inr (inr (inl h))) = absurd (never_bench c t h other done unbegun judged e)
+only_audited other done unbegun differs judged c files t e (inr (inr (inr h))) = h
+
+-- a journal is refused by a command over it; or a copy of one by an audit, which leaves the disk as it is
+abbrev pub RefusesAnyhow : Command → List (List ℕ) → Seen → Seen → Telling → Type 0
+RefusesAnyhow c files old new t = RefusesOver c old new t ⊎ (RefusesCopy c files × (new ≡ old))
 
 pub refuses_journal :
     (c : Command) (points files : List (List ℕ)) (old new : Seen) (t : Telling) → t.ending ≡ JournalRefused → Means c points files old new t
-    → RefusesOver c old new t
+    → RefusesAnyhow c files old new t
 refuses_journal c points files old new t e = by (is_journalled c)
   where
-    by : (over : Bool) → MeansBy over c points files old new t → RefusesOver c old new t
-    by true h = refused_over c files old new t e h
-    by false h =
-        absurd (neither JournalRefused (λ e. cc) (λ e. cc) (λ e. cc) (λ e. cc) c files t e
-        (ends_scheduled JournalRefused (λ e. cc) (λ e. cc) (λ e. cc) c points files (said_in t) e h.2))
+    by : (over : Bool) → MeansBy over c points files old new t → RefusesAnyhow c files old new t
+    by true h = inl (refused_over c files old new t e h)
+    by false h = inr (
+      copy_refused c files t e (only_audited JournalRefused (λ e. cc) (λ e. cc) (λ e. cc) (λ e. cc) c files t e
+          (ends_scheduled JournalRefused (λ e. cc) (λ e. cc) (λ e. cc) c points files (said_in t) e h.2)),
+      h.1,
+    )
 
 pub fails_by_disk :
     (c : Command) (points files : List (List ℕ)) (old new : Seen) (t : Telling) → t.ending ≡ DiskFailed → Means c points files old new t
@@ -285,8 +361,9 @@ fails_by_disk c points files old new t e = by (is_journalled c)
         ⊎_elim (λ others. failed_by (Rose old.faults new.faults) t others e)
         (λ finds. absurd (other_end ConditionFalse DiskFailed t (λ e. cc) finds.1 e)) (ends_over_disk c files old new t h)
     by false h =
-        absurd (neither DiskFailed (λ e. cc) (λ e. cc) (λ e. cc) (λ e. cc) c files t e
-        (ends_scheduled DiskFailed (λ e. cc) (λ e. cc) (λ e. cc) c points files (said_in t) e h.2))
+        absurd (never_audited DiskFailed (λ e. cc) (λ e. cc) (λ e. cc) c files t e
+        (only_audited DiskFailed (λ e. cc) (λ e. cc) (λ e. cc) (λ e. cc) c files t e
+        (ends_scheduled DiskFailed (λ e. cc) (λ e. cc) (λ e. cc) c points files (said_in t) e h.2)))
 
 -- a command that leaves something open is `prove`
 pub leaves_open :
@@ -297,7 +374,8 @@ leaves_open c points files old new t e = by (is_journalled c)
     open_so : EndsOtherwise c files (said_in t) → Opens c files (said_in t)
     open_so (inl h) = absurd (not_scheduled Open (λ e. cc) (λ e. cc) c t e h)
     open_so (inr (inl h)) = h
-    open_so (inr (inr h)) = absurd (never_bench c t h Open (λ e. cc) (λ e. cc) (λ e. cc) e)
+    open_so (inr (inr (inl h))) = absurd (never_bench c t h Open (λ e. cc) (λ e. cc) (λ e. cc) e)
+    open_so (inr (inr (inr h))) = absurd (never_audited Open (λ e. cc) (λ e. cc) (λ e. cc) c files t e h)
 
     by : (over : Bool) → MeansBy over c points files old new t → Opens c files (said_in t)
     by true h =
@@ -305,22 +383,23 @@ leaves_open c points files old new t e = by (is_journalled c)
         (λ finds. absurd (other_end ConditionFalse Open t (λ e. cc) finds.1 e)) (ends_over_disk c files old new t h)
     by false h = open_so (ends_scheduled Open (λ e. cc) (λ e. cc) (λ e. cc) c points files (said_in t) e h.2)
 
--- `verify` finds one false of recovered rows, or `bench` of those at its end
-abbrev pub FindsAnyhow : Command → Seen → Seen → Telling → Type 0
-FindsAnyhow c old new t = ((c ≡ command.Verify) × FindsFalse old new t) ⊎ BenchFindsFalse c t
+-- `verify` finds one false of recovered rows, or `bench` of those at its end, or `audit` a clause
+abbrev pub FindsAnyhow : Command → List (List ℕ) → Seen → Seen → Telling → Type 0
+FindsAnyhow c files old new t = ((c ≡ command.Verify) × FindsFalse old new t) ⊎ BenchFindsFalse c t ⊎ AuditFinds c files
 
--- a command that finds a condition false is `verify` or `bench`
+-- a command that finds a condition false, or a clause, is `verify`, `bench` or `audit`
 pub finds_false :
     (c : Command) (points files : List (List ℕ)) (old new : Seen) (t : Telling) → t.ending ≡ ConditionFalse → Means c points files old new t
-    → FindsAnyhow c old new t
+    → FindsAnyhow c files old new t
 finds_false c points files old new t e = by (is_journalled c)
   where
-    false_so : EndsOtherwise c files (said_in t) → FindsAnyhow c old new t
+    false_so : EndsOtherwise c files (said_in t) → FindsAnyhow c files old new t
     false_so (inl h) = absurd (not_scheduled ConditionFalse (λ e. cc) (λ e. cc) c t e h)
     false_so (inr (inl h)) = absurd (never_opens ConditionFalse (λ e. cc) c files t e h)
-    false_so (inr (inr h)) = inr (bench_finds_false c t h e)
+    false_so (inr (inr (inl h))) = inr (inl (bench_finds_false c t h e))
+    false_so (inr (inr (inr h))) = inr (inr (audit_finds c files t e h))
 
-    by : (over : Bool) → MeansBy over c points files old new t → FindsAnyhow c old new t
+    by : (over : Bool) → MeansBy over c points files old new t → FindsAnyhow c files old new t
     by true h =
         ⊎_elim (λ others. absurd (never_false (Rose old.faults new.faults) t others e)) (λ finds. inl (finds.0, finds.2))
         (ends_over_disk c files old new t h)

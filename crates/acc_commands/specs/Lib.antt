@@ -1,5 +1,10 @@
 pub use Rattle.acc_file_commands.specs.Advising
+pub use Rattle.acc_file_commands.specs.Auditing
 pub use Rattle.acc_file_commands.specs.BenchFiles
+pub use Rattle.acc_file_commands.specs.JudgeError
+pub use Rattle.acc_file_commands.specs.Judgement
+pub use Rattle.acc_file_commands.specs.Judging
+pub use Rattle.acc_file_commands.specs.JudgementLines
 pub use Rattle.acc_file_commands.specs.Mix
 pub use Rattle.acc_file_commands.specs.ProveFiles
 pub use Rattle.acc_file_commands.specs.Provings

@@ -17,6 +17,7 @@ use Rattle.acc_journal_commands.specs.Crashes.{WorksOver}
 use Rattle.acc_journal_commands.specs.Disks.{Seen, WithoutDisk}
 use Rattle.acc_journal_commands.specs.Notes.{help_text, version_text}
 use Rattle.acc_file_commands.specs.Advising.{AdvisesFile}
+use Rattle.acc_file_commands.specs.Auditing.{AuditsFiles}
 use Rattle.acc_file_commands.specs.PlayFiles.{PlaysFiles}
 use Rattle.acc_file_commands.specs.ScheduleFiles.{SchedulesFiles}
 use Rattle.acc_file_commands.specs.PrintFiles.{PrintsFile, DrawsFile}
@@ -44,6 +45,7 @@ MeansOfFiles command.Draw points (design ∷ []) = DrawsFile design
 MeansOfFiles command.Check points (design ∷ certificate ∷ []) = ChecksFiles design certificate
 MeansOfFiles command.Prove points (design ∷ []) = ProvesFile design
 MeansOfFiles (command.Advise side) points files = AdvisesGiven side points files
+MeansOfFiles command.Audit points (design ∷ journal ∷ []) = AuditsFiles design journal
 MeansOfFiles command.TpccDesign points [] = PrintsShipped
 MeansOfFiles command.BookingDesign points [] = PrintsBooking
 MeansOfFiles (command.TpccLoad scale) points [] = PrintsLoad scale
@@ -56,6 +58,7 @@ MeansOfFiles command.Rehearse points files = λ said. ⊥
 MeansOfFiles command.Print points files = λ said. ⊥
 MeansOfFiles command.Draw points files = λ said. ⊥
 MeansOfFiles command.Check points files = λ said. ⊥
+MeansOfFiles command.Audit points files = λ said. ⊥
 MeansOfFiles command.Prove points files = λ said. ⊥
 MeansOfFiles command.Init points files = λ said. ⊥
 MeansOfFiles command.Sched points files = λ said. ⊥
@@ -90,6 +93,7 @@ MeansOverDisk command.Draw files = λ old new t. ⊥
 MeansOverDisk command.Check files = λ old new t. ⊥
 MeansOverDisk command.Prove files = λ old new t. ⊥
 MeansOverDisk (command.Advise side) files = λ old new t. ⊥
+MeansOverDisk command.Audit files = λ old new t. ⊥
 MeansOverDisk command.Init files = λ old new t. ⊥
 MeansOverDisk command.Sched files = λ old new t. ⊥
 MeansOverDisk (command.Run workers) files = λ old new t. ⊥
@@ -131,6 +135,7 @@ LeavesOfFile command.Draw files = λ file image. image ≡ file
 LeavesOfFile command.Check files = λ file image. image ≡ file
 LeavesOfFile command.Prove files = λ file image. image ≡ file
 LeavesOfFile (command.Advise side) files = λ file image. image ≡ file
+LeavesOfFile command.Audit files = λ file image. image ≡ file
 LeavesOfFile command.Init files = λ file image. image ≡ file
 LeavesOfFile command.Sched files = λ file image. image ≡ file
 LeavesOfFile (command.Run workers) files = λ file image. image ≡ file
@@ -172,6 +177,7 @@ module _ {D : Type 0} (clock : D → ℕ) (left_since : D → ℕ → List ℕ �
     LeavesOf command.Check files = LeavesDisk
     LeavesOf command.Prove files = LeavesDisk
     LeavesOf (command.Advise side) files = LeavesDisk
+    LeavesOf command.Audit files = LeavesDisk
     LeavesOf command.Init files = LeavesDisk
     LeavesOf command.Sched files = LeavesDisk
     LeavesOf (command.Run workers) files = LeavesDisk

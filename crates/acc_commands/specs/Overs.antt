@@ -1,10 +1,11 @@
--- Which commands go over a recovered journal, which run leaves a place unbegun, and where a condition is found false.
-use Rattle.std.specs.Prelude.{◌≡◌, ◌⊎◌, ◌≤◌, ◌&&◌, ℕ, false, List, length}
+-- Which commands go over a recovered journal, which run leaves a place unbegun, where a condition is found false, and what an audit finds.
+use Rattle.std.specs.Prelude.{◌≡◌, ◌≢◌, ◌⊎◌, ◌≤◌, ◌&&◌, ℕ, false, List, [], ◌∷◌, length, Result, Ok, Err}
 use Rattle.acc_base.specs.declared.bounds.TheConstants.{MOST_EVENTS}
 use Rattle.acc_base.specs.declared.designs.Design.{Design}
 use Rattle.acc_base.specs.declared.machines.Call.{Call}
 use Rattle.acc_base.specs.Machine.{World}
 use Rattle.acc_base.specs.Plays.{Play}
+use Rattle.acc_file_commands.specs.Auditing.{ending_of}
 use Rattle.acc_file_commands.specs.BenchFiles.{SaysBench}
 use Rattle.acc_bench.specs.Conditions.{IsLowestFalse}
 use Rattle.acc_bench.specs.declared.results.FalseCondition.{FalseCondition}
@@ -14,6 +15,13 @@ use Rattle.acc_file_commands.specs.Workloads.{load_said, mix_said}
 use Rattle.acc_journal_commands.specs.Running.{IsOpening, WorkersLeave}
 use Rattle.acc_journal_commands.specs.Command.{Command}
 use Rattle.acc_journal_commands.specs.Command.TheVariants as command
+use Rattle.acc_formed.specs.WellFormed.{IsWellFormed}
+use Rattle.acc_journal_commands.specs.Texts.{IsDesignText}
+use Rattle.acc_journalled.specs.declared.answers.Ending.TheVariants.{ConditionFalse}
+use Rattle.acc_file_commands.specs.Judging.{Judges}
+use Rattle.acc_file_commands.specs.Judgement.{Judgement}
+use Rattle.acc_file_commands.specs.JudgeError.{JudgeError}
+use Rattle.acc_file_commands.specs.JudgeError.TheVariants.{Memory}
 use Rattle.acc_journalled.specs.Conditions.{AreConsistent}
 use Rattle.acc_journalled.specs.Verifying.{Verifies}
 use Rattle.acc_journalled.specs.Tellings.{Telling}
@@ -83,3 +91,26 @@ pub record BenchFindsFalse (c : Command) (t : Telling) : Type 0 where
   pub found : FalseCondition
   pub is_lowest : IsLowestFalse runs.run.tables runs.run.says.comes.world.rows found
   pub not_all : ¬ AreConsistent runs.run.tables runs.run.says.comes.world.rows
+
+-- It is `audit`: its files are a text of this well-formed design and a copy of a journal, of whose bytes this is told.
+pub record IsAuditOf (c : Command) (files : List (List ℕ)) (told : Result Judgement JudgeError) : Type 0 where
+  pub is_audit : c ≡ command.Audit
+  pub design : List ℕ
+  pub journal : List ℕ
+  pub are_files : files ≡ design ∷ journal ∷ []
+  pub d : Design
+  pub is_text : IsDesignText design d
+  pub formed : IsWellFormed d
+  pub judges : Judges d journal told
+
+-- the copy isn't judged, for this cause
+pub record RefusesCopy (c : Command) (files : List (List ℕ)) : Type 0 where
+  pub error : JudgeError
+  pub audit : IsAuditOf c files (Err error)
+  pub lasts : error ≢ Memory
+
+-- behind an event a clause is false, or can't be told of
+pub record AuditFinds (c : Command) (files : List (List ℕ)) : Type 0 where
+  pub judgement : Judgement
+  pub audit : IsAuditOf c files (Ok judgement)
+  pub wrong : ending_of judgement ≡ ConditionFalse

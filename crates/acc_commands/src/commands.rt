@@ -12,6 +12,7 @@ ghost use Rattle.acc_journal_commands.specs.Answers.{said_alone};
 use acc_disk::Disk;
 use acc_file_commands::Searchers;
 use acc_file_commands::advices::advise_file;
+use acc_file_commands::audits::audit_files;
 use acc_file_commands::benches::bench_files;
 use acc_file_commands::designs::{check_files, draw_file, print_file};
 use acc_file_commands::memory_runs::Run;
@@ -104,6 +105,7 @@ pub fn run<'a, D: Disk, C: Crew<Engine<'a, IndexStore, D>>, S: Searchers, P: Pro
         Request::Advise(files, side) => {
             unrun(alloc, disk, advise_file(alloc, files, side, searchers))
         }
+        Request::Audit(files) => unrun(alloc, disk, audit_files(alloc, files, progress)),
         Request::Init(design) => init_file(alloc, design, disk),
         Request::Sched(files) => run_files(alloc, files, disk, progress),
         Request::Run(files, workers) => {

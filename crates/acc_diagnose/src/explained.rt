@@ -1,6 +1,8 @@
 //! What is told of a command line that ended with another status than 0.
 ghost use Rattle.acc_formed.specs.WellFormed.{IsWellFormed};
 
+use crate::audits::push_audit;
+use crate::behind::{Second, Workload, asks_tables, second_of};
 use crate::journals::{push_disk, push_full, push_journal};
 use crate::obligations::{File, push_fault};
 use crate::openings::push_unproved;
@@ -144,46 +146,6 @@ fn push_workload(
     }
 }
 
-/// What a command asks for in its design.
-#[derive(Clone, Copy)]
-enum Workload {
-    /// TPC-C's tables: the command's verb.
-    Tables(&'static [u8]),
-    /// That it is the shipped booking design.
-    Booking,
-    /// Nothing.
-    None,
-}
-
-/// What a command asks for in its design.
-fn asks_tables(command: Command) -> Workload {
-    match command {
-        Command::Verify => Workload::Tables(b"verify"),
-        Command::Bench(_) => Workload::Tables(b"bench"),
-        Command::BookingVerify => Workload::Booking,
-        Command::Rehearse | Command::Check | Command::Sched | Command::Run(_) => Workload::None,
-        Command::Recover | Command::Dump | Command::Replies | Command::Draw => Workload::None,
-        Command::Play | Command::Print | Command::Prove | Command::Init => Workload::None,
-        Command::TpccDesign | Command::TpccLoad(_) | Command::TpccMix(_) => Workload::None,
-        Command::BookingDesign | Command::Advise(_) | Command::Help | Command::Version => {
-            Workload::None
-        }
-    }
-}
-
-/// Whether the file behind the design is its certificate.
-fn is_certified(command: Command) -> bool {
-    match command {
-        Command::Rehearse | Command::Check | Command::Sched | Command::Run(_) => true,
-        Command::Recover | Command::Dump | Command::Replies | Command::Verify => true,
-        Command::Bench(_) | Command::BookingVerify => true,
-        Command::Play | Command::Print | Command::Prove | Command::Init => false,
-        Command::Draw => false,
-        Command::TpccDesign | Command::TpccLoad(_) | Command::TpccMix(_) => false,
-        Command::BookingDesign | Command::Advise(_) | Command::Help | Command::Version => false,
-    }
-}
-
 /// Says why a word names no point that an entry may have, by the line that was printed of it; or else which obligations of a design stay
 /// open, as it was printed.
 fn push_alone(
@@ -202,7 +164,7 @@ fn push_alone(
 }
 
 /// Says what is wrong with the files behind a design that is well-formed; or, where there are none, which of its obligations stay open, as
-/// it was printed; or which of TPC-C's conditions are false, likewise.
+/// it was printed; or which of TPC-C's conditions are false, or what an audit finds, likewise.
 fn push_behind(
     alloc: Global,
     out: &mut Page,
@@ -213,22 +175,27 @@ fn push_behind(
 ) -> Result<(), AllocError>
     requires { IsWellFormed d }
 {
-    match files {
-        [design] => push_alone(alloc, out, &d, *design, printed),
-        [design, certificate, behind @ ..] if is_certified(command) => {
-            push_judged(
-                alloc,
-                out,
-                command,
-                d,
-                *design,
-                *certificate,
-                behind,
-                printed,
-            )
+    match (files, second_of(command)) {
+        ([design, certificate, behind @ ..], Second::Certificate) => push_judged(
+            alloc,
+            out,
+            command,
+            d,
+            *design,
+            *certificate,
+            behind,
+            printed,
+        ),
+        ([design, journal, ..], Second::Journal) => {
+            push_audit(alloc, out, &d, *design, *journal, printed)
         }
-        [_, script, orders @ ..] => push_script(alloc, out, &d, *script, orders),
-        [] => Ok(()),
+        ([_, script, orders @ ..], Second::Script) => {
+            push_script(alloc, out, &d, *script, orders)
+        }
+        ([design, ..], Second::Certificate | Second::Journal | Second::Script | Second::None) => {
+            push_alone(alloc, out, &d, *design, printed)
+        }
+        ([], Second::Certificate | Second::Journal | Second::Script | Second::None) => Ok(()),
     }
 }
 
@@ -331,7 +298,8 @@ fn push_done<H: Shelf>(
         Command::Recover | Command::Dump | Command::Replies | Command::Verify => Ok(()),
         Command::TpccDesign | Command::TpccLoad(_) | Command::TpccMix(_) => Ok(()),
         Command::BookingDesign | Command::BookingVerify | Command::Advise(_) => Ok(()),
-        Command::Draw | Command::Bench(_) | Command::Help | Command::Version => Ok(()),
+        Command::Draw | Command::Audit | Command::Bench(_) => Ok(()),
+        Command::Help | Command::Version => Ok(()),
     }
 }
 

@@ -82,7 +82,7 @@ fn standing(command: Command) -> &'static [u8] {
         Command::Draw | Command::Prove | Command::Bench(_) => b"",
         Command::Help | Command::Version => b"",
         Command::TpccDesign | Command::TpccLoad(_) | Command::TpccMix(_) => b"",
-        Command::BookingDesign | Command::Advise(_) => b"",
+        Command::BookingDesign | Command::Advise(_) | Command::Audit => b"",
     }
 }
 

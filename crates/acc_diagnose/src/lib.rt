@@ -2,6 +2,8 @@
 //! one, how far it is.
 #![tactic(auto)]
 
+mod audits;
+mod behind;
 mod damage;
 mod explained;
 mod journals;

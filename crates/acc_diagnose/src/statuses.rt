@@ -30,5 +30,5 @@ pub const UNBEGUN: u8 = 8;
 /// Memory ran out.
 pub const MEMORY: u8 = 9;
 
-/// An obligation of the design stays open, or a condition is false of the rows of a journal or of a benchmark.
+/// An obligation of the design stays open, or a condition is false of the rows of a journal or of a benchmark, or an audit finds a clause.
 pub const OPEN: u8 = 10;

@@ -1,8 +1,11 @@
+pub use Rattle.acc_judged.proofs.Judged
 pub use Rattle.acc_play.proofs.OneTold
 pub use Rattle.acc_schedule.proofs.OneSchedule
 pub use Rattle.tpcc_steps.proofs.Reading
 pub use Rattle.tpcc_steps.proofs.Theorem
+pub mod Auditing
 pub mod OneAdvice
+pub mod OneAudit
 pub mod Named
 pub mod Scales
 pub mod MixLines

@@ -1,4 +1,8 @@
 pub use Rattle.acc_inputs.specs.declared.scales.Mix
+pub use Rattle.acc_judged.specs.Judging
+pub use Rattle.acc_judged.specs.JudgementLines
+pub use Rattle.acc_judged.specs.declared.journals.JudgeError
+pub use Rattle.acc_judged.specs.declared.journals.Judgement
 pub use Rattle.acc_prove.specs.Provings
 pub use Rattle.acc_schedule.specs.Schedules
 pub use Rattle.acc_booking.specs.BookingText
@@ -6,6 +10,7 @@ pub use Rattle.acc_draw.specs.Pictures
 pub use Rattle.tpcc_steps.specs.Law
 pub use Rattle.tpcc_steps.specs.ShippedText
 pub mod Advising
+pub mod Auditing
 pub mod PlayFiles
 pub mod ScheduleFiles
 pub mod PrintFiles

@@ -1,5 +1,5 @@
 //! Advising which entry lets a step go where a point is held.
-ghost use Rattle.std.specs.Prelude.{◌≡◌, ◌⊎◌, ◌++◌, [], false, codes, IfOk, OnOk};
+ghost use Rattle.std.specs.Prelude.{◌≡◌, ◌⊎◌, ◌++◌, [], codes, IfOk};
 ghost use Rattle.std.specs.List.{flat_map};
 ghost use Rattle.acc_base.specs.Lines.{line};
 ghost use Rattle.acc_advise.specs.declared.advice.Advice.TheVariants.{Free};
@@ -12,6 +12,7 @@ ghost use Rattle.acc_prove.specs.Lines.{line_of};
 ghost use Rattle.acc_file_commands.specs.Advising.{why_text, beyond_line, advice_text, Advised, TooWide, RefusesPoint, SaysAdvice};
 ghost use Rattle.acc_file_commands.specs.Advising.{AdvisesFile};
 
+use crate::pages::finished;
 use crate::points::{held_at, step_at};
 use acc_advise::{Advice, AdviseError, Beyond, Question, Searchers, Why, advise};
 use acc_base::designs::{Design, Entry, Side};
@@ -87,18 +88,6 @@ fn push_advice(out: &mut Page, d: &Design, q: Question, advice: Advice)
             push_entry(out, d, &entry);
             push_all_beyond(out, d, q, beyond.as_slice())
         }
-    }
-}
-
-/// An answer by a text, unless memory lacked for it.
-fn finished(text: Page, ending: Ending) -> Result<Answer, AllocError>
-    ensures whole { OnOk result (text.cut ≡ false) }
-    ensures ending { IfOk result (λ a. a.ending ≡ ending) }
-    ensures text { IfOk result (λ a. a.text.items ≡ text.text) }
-{
-    match text.finish() {
-        Some(text) => Ok(Answer { ending, text }),
-        None => Err(AllocError),
     }
 }
 

@@ -2,9 +2,11 @@
 #![tactic(auto)]
 
 pub mod advices;
+pub mod audits;
 pub mod benches;
 pub mod designs;
 pub mod memory_runs;
+mod pages;
 pub mod plays;
 mod points;
 pub mod provings;
@@ -13,6 +15,7 @@ pub mod workloads;
 
 pub use acc_prove::{InTurn, Searchers, Searching};
 pub use advices::advise_file;
+pub use audits::audit_files;
 pub use benches::bench_files;
 pub use designs::{check_files, draw_file, print_file};
 pub use memory_runs::{Run, unplayed};

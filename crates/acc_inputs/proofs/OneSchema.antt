@@ -1,5 +1,5 @@
 -- A design has one set of TPC-C's tables, or lacks one of them first.
-use Rattle.std.proofs.Common.{◌≡◌, ℕ, suc, ◌+◌, List, [], ◌∷◌, ◌++◌, length, map, refl, sym, ap, ◌∙◌, subst, arith}
+use Rattle.std.proofs.Common.{◌≡◌, ℕ, suc, ◌+◌, List, [], ◌∷◌, ◌++◌, length, refl, sym, ap, ◌∙◌, subst}
 use Rattle.std.proofs.Common.{Option, Some, None, All}
 use Rattle.std.specs.Prelude.{IsSome, codes}
 use Rattle.std.specs.Fmt.{decimal}
@@ -7,7 +7,7 @@ use Rattle.std.proofs.lemmas.List.Elements.{All-head, All-tail}
 use Rattle.acc_base.specs.Lines.{line}
 use Rattle.acc_base.specs.declared.designs.Design.{Design}
 use Rattle.acc_journalled.specs.declared.answers.Ending.TheVariants.{DesignRefused}
-use Rattle.tpcc_tables.specs.Schema.{number_in, IsSchemaOf, IsFirstLacking}
+use Rattle.tpcc_tables.specs.Schema.{number_in, IsSchemaOf}
 use Rattle.tpcc_tables.specs.declared.tables.SchemaTable.{SchemaTable}
 use Rattle.tpcc_tables.specs.declared.tables.TheConstants.{SCHEMA}
 use Rattle.tpcc_tables.specs.declared.tables.TableSet.{TableSet}

@@ -1,8 +1,8 @@
 -- Each command has a verb and a line of the help.
-use Rattle.std.proofs.Common.{◌≡◌, ◌<◌, ◌≤◌, ℕ, Bool, true, List, [], ◌∷◌, ◌++◌, length, get_or, take, drop, refl, sym, ap, ◌∙◌, arith}
+use Rattle.std.proofs.Common.{◌≡◌, ◌<◌, ℕ, Bool, true, List, [], ◌∷◌, ◌++◌, length, get_or, take, drop, refl, sym, ap, ◌∙◌, arith}
 use Rattle.std.proofs.Common.{eq-eqb, map}
-use Rattle.std.proofs.Common.{Option, None, Some, append-nil, take-append-drop}
-use Rattle.std.specs.Prelude.{option_map, codes, decimal, Contains, ◌==◌, if◌then◌else◌, nat_le}
+use Rattle.std.proofs.Common.{None, Some, append-nil, take-append-drop}
+use Rattle.std.specs.Prelude.{option_map, codes, decimal, Contains, ◌==◌, if◌then◌else◌}
 use Rattle.std.proofs.lemmas.Bool.Decides.{nat_tests}
 use Rattle.std.proofs.lemmas.List.{drop_at, get_or_default}
 use Rattle.acc_base.specs.declared.designs.Side.{Side}
@@ -16,9 +16,9 @@ use Rattle.tpcc_gen.specs.declared.bounds.TheConstants.{MOST_WAREHOUSES, MOST_IT
 use Rattle.acc_inputs.specs.declared.words.TheConstants.{MOST_WORKERS}
 use Rattle.acc_inputs.specs.Scales.{IsWithin, is_scale, is_mix}
 use Rattle.acc_form.specs.Judged.{side_word}
-use Rattle.acc_inputs.specs.Words.{form_of, workload_of, booking_of, side_of, file_count, point_count, IsCrew, number_of, workers_in}
+use Rattle.acc_inputs.specs.Words.{form_of, workload_of, booking_of, side_of, file_count, point_count, IsCrew, workers_in}
 use Rattle.acc_inputs.specs.Words.{scale_of, mix_of}
-use Rattle.acc_inputs.specs.Words.{with_files, with_workers, with_load, with_mix, with_bench, with_advice, given_files, with_form, command_of}
+use Rattle.acc_inputs.specs.Words.{with_files, with_workers, with_bench, with_advice, given_files, with_form, command_of}
 use Rattle.acc_inputs.specs.Notes.{help_lines}
 use Rattle.acc_inputs.specs.Verbs.{mix_numbers, EachHasVerb, EachHasHelp}
 use Rattle.acc_inputs.proofs.Workers.{number_of_numeral}
@@ -118,6 +118,7 @@ verbs command.Draw names few count = verb_given command.Draw (codes "draw") name
 verbs command.Check names few count = verb_given command.Check (codes "check") names refl count
 verbs command.Prove names few count = verb_given command.Prove (codes "prove") names refl count
 verbs (command.Advise side) names few count = advice_given side names count
+verbs command.Audit names few count = verb_given command.Audit (codes "audit") names refl count
 verbs command.Init names few count = verb_given command.Init (codes "init") names refl count
 verbs command.Sched names few count = verb_given command.Sched (codes "sched") names refl count
 verbs (command.Run n) names few count = run_given n names few count
@@ -152,18 +153,19 @@ help command.Draw = line_at 3 (codes "acc draw ") (omega arith) refl
 help command.Check = line_at 4 (codes "acc check ") (omega arith) refl
 help command.Prove = line_at 5 (codes "acc prove ") (omega arith) refl
 help (command.Advise side) = line_at 6 (codes "acc advise ") (omega arith) refl
-help command.Init = line_at 7 (codes "acc init ") (omega arith) refl
-help command.Sched = line_at 8 (codes "acc sched ") (omega arith) refl
-help (command.Run workers) = line_at 9 (codes "acc run ") (omega arith) refl
-help command.Recover = line_at 10 (codes "acc recover ") (omega arith) refl
-help command.Dump = line_at 11 (codes "acc dump ") (omega arith) refl
-help command.Replies = line_at 12 (codes "acc replies ") (omega arith) refl
-help command.Verify = line_at 13 (codes "acc verify ") (omega arith) refl
-help command.TpccDesign = line_at 14 (codes "acc tpcc design ") (omega arith) refl
-help (command.TpccLoad scale) = line_at 15 (codes "acc tpcc load ") (omega arith) refl
-help (command.TpccMix mix) = line_at 16 (codes "acc tpcc mix ") (omega arith) refl
-help command.BookingDesign = line_at 17 (codes "acc booking design ") (omega arith) refl
-help command.BookingVerify = line_at 18 (codes "acc booking verify ") (omega arith) refl
-help (command.Bench mix) = line_at 19 (codes "acc bench ") (omega arith) refl
-help command.Help = line_at 20 (codes "acc --help ") (omega arith) refl
-help command.Version = line_at 21 (codes "acc --version ") (omega arith) refl
+help command.Audit = line_at 7 (codes "acc audit ") (omega arith) refl
+help command.Init = line_at 8 (codes "acc init ") (omega arith) refl
+help command.Sched = line_at 9 (codes "acc sched ") (omega arith) refl
+help (command.Run workers) = line_at 10 (codes "acc run ") (omega arith) refl
+help command.Recover = line_at 11 (codes "acc recover ") (omega arith) refl
+help command.Dump = line_at 12 (codes "acc dump ") (omega arith) refl
+help command.Replies = line_at 13 (codes "acc replies ") (omega arith) refl
+help command.Verify = line_at 14 (codes "acc verify ") (omega arith) refl
+help command.TpccDesign = line_at 15 (codes "acc tpcc design ") (omega arith) refl
+help (command.TpccLoad scale) = line_at 16 (codes "acc tpcc load ") (omega arith) refl
+help (command.TpccMix mix) = line_at 17 (codes "acc tpcc mix ") (omega arith) refl
+help command.BookingDesign = line_at 18 (codes "acc booking design ") (omega arith) refl
+help command.BookingVerify = line_at 19 (codes "acc booking verify ") (omega arith) refl
+help (command.Bench mix) = line_at 20 (codes "acc bench ") (omega arith) refl
+help command.Help = line_at 21 (codes "acc --help ") (omega arith) refl
+help command.Version = line_at 22 (codes "acc --version ") (omega arith) refl

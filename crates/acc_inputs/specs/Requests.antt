@@ -6,10 +6,10 @@ use Rattle.acc_inputs.specs.declared.requests.PlayFiles.{PlayFiles}
 use Rattle.acc_inputs.specs.declared.requests.CertifiedFiles.{CertifiedFiles}
 use Rattle.acc_inputs.specs.declared.requests.ScheduleFiles.{ScheduleFiles}
 use Rattle.acc_inputs.specs.declared.requests.WorkerFiles.{WorkerFiles}
-use Rattle.acc_inputs.specs.declared.requests.AdviceFiles.{AdviceFiles}
+use Rattle.acc_inputs.specs.declared.requests.AuditFiles.{AuditFiles}
 use Rattle.acc_inputs.specs.declared.requests.Request.{Request}
-use Rattle.acc_inputs.specs.declared.requests.Request.TheVariants.{Play, Rehearse, Print, Draw, Check, Prove, Advise, Init, Sched, Run}
-use Rattle.acc_inputs.specs.declared.requests.Request.TheVariants.{Recover, Dump, Replies, Verify}
+use Rattle.acc_inputs.specs.declared.requests.Request.TheVariants.{Play, Rehearse, Print, Draw, Check, Prove, Advise, Audit, Init, Sched}
+use Rattle.acc_inputs.specs.declared.requests.Request.TheVariants.{Run, Recover, Dump, Replies, Verify}
 use Rattle.acc_inputs.specs.declared.requests.Request.TheVariants.{TpccDesign, TpccLoad, TpccMix, BookingDesign, BookingVerify}
 use Rattle.acc_inputs.specs.declared.requests.Request.TheVariants.{Bench, Help, Version}
 
@@ -21,6 +21,7 @@ command_in (Draw design) = command.Draw
 command_in (Check files) = command.Check
 command_in (Prove design) = command.Prove
 command_in (Advise files side) = command.Advise side
+command_in (Audit files) = command.Audit
 command_in (Init design) = command.Init
 command_in (Sched files) = command.Sched
 command_in (Run files workers) = command.Run workers
@@ -43,6 +44,9 @@ played_texts files = files.design.now ∷ files.script.now ∷ files.order.now �
 abbrev pub certified_texts : CertifiedFiles → List (List ℕ)
 certified_texts files = files.design.now ∷ files.certificate.now ∷ []
 
+abbrev pub audited_texts : AuditFiles → List (List ℕ)
+audited_texts files = files.design.now ∷ files.journal.now ∷ []
+
 abbrev pub scheduled_texts : ScheduleFiles → List (List ℕ)
 scheduled_texts files = files.design.now ∷ files.certificate.now ∷ files.script.now ∷ files.order.now ∷ []
 
@@ -58,6 +62,7 @@ texts_in (Draw design) = design.now ∷ []
 texts_in (Check files) = certified_texts files
 texts_in (Prove design) = design.now ∷ []
 texts_in (Advise files side) = files.design.now ∷ []
+texts_in (Audit files) = audited_texts files
 texts_in (Init design) = design.now ∷ []
 texts_in (Sched files) = scheduled_texts files
 texts_in (Run files workers) = worked_texts files
@@ -83,6 +88,7 @@ points_in (Draw design) = []
 points_in (Check files) = []
 points_in (Prove design) = []
 points_in (Advise files side) = files.held.now ∷ files.step.now ∷ []
+points_in (Audit files) = []
 points_in (Init design) = []
 points_in (Sched files) = []
 points_in (Run files workers) = []

@@ -29,6 +29,7 @@ form_of verb =
     (if bytes_eq verb (codes "check") then Some (Files command.Check) else
     (if bytes_eq verb (codes "prove") then Some (Files command.Prove) else
     (if bytes_eq verb (codes "advise") then Some Advice else
+    (if bytes_eq verb (codes "audit") then Some (Files command.Audit) else
     (if bytes_eq verb (codes "init") then Some (Files command.Init) else
     (if bytes_eq verb (codes "sched") then Some (Files command.Sched) else
     (if bytes_eq verb (codes "run") then Some Workers else
@@ -41,7 +42,7 @@ form_of verb =
     (if bytes_eq verb (codes "bench") then Some Bench else
     (if bytes_eq verb (codes "--help") then Some (Files command.Help) else
     (if bytes_eq verb (codes "--version") then Some (Files command.Version) else
-    None))))))))))))))))))
+    None)))))))))))))))))))
 
 -- what this word wants of TPC-C
 unfoldable pub workload_of : List ℕ → Option Workload
@@ -74,6 +75,7 @@ verb_of command.Draw = codes "draw" ∷ []
 verb_of command.Check = codes "check" ∷ []
 verb_of command.Prove = codes "prove" ∷ []
 verb_of (command.Advise side) = codes "advise" ∷ []
+verb_of command.Audit = codes "audit" ∷ []
 verb_of command.Init = codes "init" ∷ []
 verb_of command.Sched = codes "sched" ∷ []
 verb_of (command.Run workers) = codes "run" ∷ []
@@ -99,6 +101,7 @@ file_count command.Draw = 1
 file_count command.Check = 2
 file_count command.Prove = 1
 file_count (command.Advise side) = 1
+file_count command.Audit = 2
 file_count command.Init = 1
 file_count command.Sched = 4
 file_count (command.Run workers) = 3
@@ -124,6 +127,7 @@ point_count command.Draw = 0
 point_count command.Check = 0
 point_count command.Prove = 0
 point_count (command.Advise side) = 2
+point_count command.Audit = 0
 point_count command.Init = 0
 point_count command.Sched = 0
 point_count (command.Run workers) = 0
@@ -160,6 +164,7 @@ is_journalled command.Draw = false
 is_journalled command.Check = false
 is_journalled command.Prove = false
 is_journalled (command.Advise side) = false
+is_journalled command.Audit = false
 is_journalled command.Init = true
 is_journalled command.Sched = true
 is_journalled (command.Run workers) = true

@@ -20,7 +20,9 @@ pub use designs::{ReadDesign, design_refused, read_design};
 pub use files::{Refusal, file_names, files_in, points_in, read_all};
 pub use notes::{help_text, version_text};
 pub use numbers::number_of;
-pub use requests::{AdviceFiles, CertifiedFiles, PlayFiles, Request, ScheduleFiles, WorkerFiles};
+pub use requests::{
+    AdviceFiles, AuditFiles, CertifiedFiles, PlayFiles, Request, ScheduleFiles, WorkerFiles,
+};
 pub use scales::{Mix, Scale};
 pub use schemas::{FoundSchema, find_schema};
 pub use scripts::{ReadOrder, ReadScript, read_order, read_script};

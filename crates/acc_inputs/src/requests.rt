@@ -73,6 +73,13 @@ pub struct AdviceFiles<'a> {
     pub step: &'a str,
 }
 
+/// The bytes of a design, and of a journal.
+#[derive(Clone, Copy)]
+pub struct AuditFiles<'a> {
+    pub design: &'a [u8],
+    pub journal: &'a [u8],
+}
+
 /// A command with the bytes of its files: of a design alone, or of one with others.
 #[derive(Clone, Copy)]
 pub enum Request<'a> {
@@ -84,6 +91,7 @@ pub enum Request<'a> {
     Prove(&'a [u8]),
     /// With the side of the step.
     Advise(AdviceFiles<'a>, Side),
+    Audit(AuditFiles<'a>),
     Init(&'a [u8]),
     Sched(ScheduleFiles<'a>),
     /// With how many workers there are.
@@ -132,6 +140,10 @@ impl<'a> Request<'a> {
                 },
                 side,
             ),
+            Command::Audit => Request::Audit(AuditFiles {
+                design: &files[0],
+                journal: &files[1],
+            }),
             Command::Init => Request::Init(&files[0]),
             Command::Sched => Request::Sched(ScheduleFiles::new(files)),
             Command::Run(workers) => Request::Run(

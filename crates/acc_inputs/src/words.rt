@@ -29,6 +29,8 @@ pub enum Command {
     Prove,
     /// `advise DESIGN HELD STEP SIDE`: for two points of the design, with the side of the step
     Advise(Side),
+    /// `audit DESIGN COPY`: COPY is a journal, or a copy of one
+    Audit,
     /// `init DESIGN`, over a journal
     Init,
     /// `sched DESIGN CERT SCRIPT ORDER`, over a journal
@@ -102,6 +104,7 @@ fn form_of(verb: &str) -> Option<Form>
         "check" => Some(Form::Files(Command::Check)),
         "prove" => Some(Form::Files(Command::Prove)),
         "advise" => Some(Form::Advice),
+        "audit" => Some(Form::Files(Command::Audit)),
         "init" => Some(Form::Files(Command::Init)),
         "sched" => Some(Form::Files(Command::Sched)),
         "run" => Some(Form::Workers),
@@ -164,7 +167,8 @@ pub(crate) fn verb_count(command: Command) -> usize
         Command::TpccDesign | Command::TpccLoad(_) | Command::TpccMix(_) => 2,
         Command::BookingDesign | Command::BookingVerify => 2,
         Command::Play | Command::Rehearse | Command::Print | Command::Draw => 1,
-        Command::Check | Command::Prove | Command::Advise(_) | Command::Bench(_) => 1,
+        Command::Check | Command::Prove | Command::Advise(_) | Command::Audit => 1,
+        Command::Bench(_) => 1,
         Command::Init | Command::Sched | Command::Run(_) | Command::Recover => 1,
         Command::Dump | Command::Replies | Command::Verify => 1,
         Command::Help | Command::Version => 1,
@@ -182,7 +186,7 @@ pub(crate) fn file_count(command: Command) -> usize
         Command::Print | Command::Draw | Command::Prove => 1,
         Command::Advise(_) | Command::Init => 1,
         Command::BookingVerify | Command::Check | Command::Recover | Command::Dump => 2,
-        Command::Replies | Command::Verify | Command::Bench(_) => 2,
+        Command::Replies | Command::Verify | Command::Audit | Command::Bench(_) => 2,
         Command::TpccDesign | Command::TpccLoad(_) | Command::TpccMix(_) => 0,
         Command::BookingDesign | Command::Help | Command::Version => 0,
     }
@@ -200,7 +204,7 @@ pub(crate) fn point_count(command: Command) -> usize
         Command::Recover | Command::Dump | Command::Replies | Command::Verify => 0,
         Command::TpccDesign | Command::TpccLoad(_) | Command::TpccMix(_) => 0,
         Command::BookingDesign | Command::BookingVerify | Command::Bench(_) => 0,
-        Command::Help | Command::Version => 0,
+        Command::Audit | Command::Help | Command::Version => 0,
     }
 }
 
@@ -216,7 +220,7 @@ fn is_journalled(command: Command) -> bool
         Command::Check | Command::Prove | Command::Bench(_) | Command::Help | Command::Version =>
             false,
         Command::TpccDesign | Command::TpccLoad(_) | Command::TpccMix(_) => false,
-        Command::BookingDesign | Command::Advise(_) => false,
+        Command::BookingDesign | Command::Advise(_) | Command::Audit => false,
     }
 }
 

@@ -27,7 +27,7 @@ fn opening(words: &[String]) -> Opening {
         Some(Command::Sched | Command::Run(_)) => Opening::Use,
         Some(Command::Recover | Command::Dump | Command::Replies | Command::Verify) => Opening::Use,
         Some(Command::Play | Command::Rehearse | Command::Print | Command::Draw) => Opening::Use,
-        Some(Command::Check | Command::Prove | Command::Bench(_)) => Opening::Use,
+        Some(Command::Check | Command::Prove | Command::Audit | Command::Bench(_)) => Opening::Use,
         Some(Command::TpccDesign | Command::TpccLoad(_) | Command::TpccMix(_)) => Opening::Use,
         Some(Command::BookingDesign | Command::BookingVerify | Command::Advise(_)) => Opening::Use,
         Some(Command::Help | Command::Version) | None => Opening::Use,

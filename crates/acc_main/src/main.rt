@@ -137,7 +137,7 @@ fn is_by_crew(words: &[String]) -> bool {
         Some(Command::Init | Command::Sched) => false,
         Some(Command::Recover | Command::Dump | Command::Replies | Command::Verify) => false,
         Some(Command::Play | Command::Rehearse | Command::Print | Command::Draw) => false,
-        Some(Command::Check | Command::Prove | Command::Bench(_)) => false,
+        Some(Command::Check | Command::Prove | Command::Audit | Command::Bench(_)) => false,
         Some(Command::TpccDesign | Command::TpccLoad(_) | Command::TpccMix(_)) => false,
         Some(Command::BookingDesign | Command::BookingVerify | Command::Advise(_)) => false,
         Some(Command::Help | Command::Version) | None => false,

@@ -10,13 +10,13 @@ use std::time::Instant;
 /// Where Linux tells how much memory the process has.
 const MEMORY: &str = "/proc/self/status";
 
-/// A replay of fewer events isn't told of.
+/// A replay of fewer events is told of only where it takes long, as an audit does.
 const LONG_REPLAY: u64 = 65_536;
 
 /// So many milliseconds pass between two tellings of a replay at least.
 const PAUSE: u128 = 250;
 
-/// So many milliseconds pass before the first telling of a search, and between two of them.
+/// So many milliseconds pass before the first telling of a search, or of a replay of few events, and between two of them.
 const SECOND: u128 = 1_000;
 
 /// Tells on standard error, to a terminal only, how far a long replay or search is, and what a recovery found. What fails changes nothing
@@ -88,6 +88,24 @@ impl<'a> TerminalProgress<'a> {
         due
     }
 
+    /// Whether a second is over since the last telling, or since this was asked first.
+    fn is_long_due(&mut self) -> bool {
+        let is_first = self.told.is_none();
+        self.is_due(SECOND) && !is_first
+    }
+
+    /// Whether it is time to tell of a replay: of many events at once, and then now and then; of few where it takes long. At its end it is
+    /// told where it was told before, and of many in any case.
+    fn is_replay_due(&mut self, done: u64, events: u64) -> bool {
+        if events >= LONG_REPLAY {
+            done == events || self.is_due(PAUSE)
+        } else if done == events {
+            self.has_line
+        } else {
+            self.is_long_due()
+        }
+    }
+
     /// Writes a line in the place of the one that stands there.
     fn put_line(&mut self, line: Result<String, AllocError>) {
         if let Ok(line) = line {
@@ -99,7 +117,7 @@ impl<'a> TerminalProgress<'a> {
 
 impl Progress for TerminalProgress<'_> {
     fn replayed(&mut self, done: u64, events: u64) {
-        if self.is_terminal && events >= LONG_REPLAY && (done == events || self.is_due(PAUSE)) {
+        if self.is_terminal && self.is_replay_due(done, events) {
             self.put_line(replay_line(self.rt.alloc(), done, events));
         }
     }
@@ -114,8 +132,7 @@ impl Progress for TerminalProgress<'_> {
     }
 
     fn searched(&mut self, done: u64, obligations: u64, open: u64) {
-        let is_first = self.told.is_none();
-        if self.is_terminal && self.is_due(SECOND) && !is_first {
+        if self.is_terminal && self.is_long_due() {
             self.put_line(search_line(self.rt.alloc(), done, obligations, open));
         }
     }

@@ -13,10 +13,9 @@ use Rattle.std.proofs.lemmas.Bool.{false≢true, and_parts}
 use Rattle.std.proofs.lemmas.Bool.Decides.{Decides-eqb}
 use Rattle.std.proofs.lemmas.List.Elements.{recursion_from_All, All-from_recursion}
 use Rattle.acc_base.specs.declared.tables.Row.{Row}
-use Rattle.acc_base.specs.Tables.{Place, place_of, place_cmp, is_at, put, drop_row}
+use Rattle.acc_base.specs.Tables.{Place, place_of, place_cmp, is_at}
 use Rattle.acc_base.proofs.Places.{place_total, one_place, is_equal}
 use Rattle.acc_base.proofs.RowChanges.{put_all, drop_all}
-use Rattle.acc_store.specs.declared.stores.StoreError.{StoreError}
 use Rattle.acc_store.specs.declared.writes.Write.{Write}
 use Rattle.acc_store.specs.declared.writes.Write.TheVariants.{Row as Puts, Gone}
 use Rattle.acc_store.specs.Rows.{write, written}
@@ -167,8 +166,21 @@ noted_all a ws i past all = All-from_recursion (IsNoted a) ws (subst (AllByRecur
 pub grows_by : (old new : BTreeSet Place) (key : Place) → Updates place_cmp old new key true → Grows old new
 grows_by old new key u p h = u.0 p ∙ cond_true (is_at_key (place_cmp key) p) (contains place_cmp old p) h
 
--- writes that are done, or not at all
-pub covers_applied : (a b : BTreeSet Place) (ws : List Write) (old new : List Row) (done : Result (Unit {0}) StoreError) →
-    OnOk done (new ≡ written ws old) → OnErr done (new ≡ old) → Grows a b → All (IsNoted b) ws → Covers a old → Covers b new
-covers_applied a b ws old new (Ok u) ok err grows noted covers = covers_written a b ws old new grows noted covers ok
-covers_applied a b ws old new (Err e) ok err grows noted covers = subst (Covers b) (sym err) (covers_more a b old grows covers)
+-- ---- places that are forgotten
+
+or_first : (a b : Bool) → (a || b) ≡ false → a ≡ false
+or_first false b e = refl
+or_first true b e = e
+
+or_rest : (a b : Bool) → (a || b) ≡ false → b ≡ false
+or_rest false b e = e
+or_rest true b e = absurd (false≢true (sym e))
+
+-- no row stands at the place that is forgotten
+pub covers_without : (a b : BTreeSet Place) (p : Place) (db : List Row) → list_any (is_at p.0 p.1) db ≡ false → Updates place_cmp a b p false →
+    Covers a db → Covers b db
+covers_without a b p [] none u covers = tt
+covers_without a b p (r ∷ db) none u covers = (
+  u.2 (place_of r) (or_first (is_at p.0 p.1 r) (list_any (is_at p.0 p.1) db) none) ∙ covers.0,
+  covers_without a b p db (or_rest (is_at p.0 p.1 r) (list_any (is_at p.0 p.1) db) none) u covers.1,
+)

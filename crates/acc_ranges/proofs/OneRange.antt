@@ -1,5 +1,5 @@
 -- A variable of a clause has one range.
-use Rattle.std.proofs.Common.{◌≡◌, ℕ, Bool, true, false, ◌||◌, List, [], ◌∷◌, refl, sym, ap, ◌∙◌, ℤ, subst, ◌<ℤ◌}
+use Rattle.std.proofs.Common.{◌≡◌, ℕ, true, false, ◌||◌, List, [], ◌∷◌, refl, sym, ap, ◌∙◌, ℤ, subst, ◌<ℤ◌}
 use Rattle.std.specs.List.{list_any, AllByRecursion}
 use Rattle.std.specs.List.Sorted.{IsStrictlySortedBy}
 use Rattle.std.specs.Ordering.{int_cmp, is_eq, ordering_reverse, MatchOrdering}
@@ -10,7 +10,6 @@ use Rattle.std.proofs.lemmas.Cmp.{int_cmp_total}
 use Rattle.std.proofs.lemmas.Bool.{false≢true}
 use Rattle.acc_base.specs.declared.tables.Row.{Row}
 use Rattle.acc_base.specs.declared.forms.Clause.{Clause}
-use Rattle.acc_base.proofs.Places.{is_equal}
 use Rattle.acc_ranges.specs.Ranges.{same, IsRange}
 
 same_self : (x : ℤ) → same x x ≡ true

@@ -1,4 +1,4 @@
--- The places where rows have stood.
+-- The places where rows stand, or have stood.
 use Rattle.std.specs.Prelude.{◌≡◌, ⊤, ℕ, ◌==◌, Bool, true, ◌&&◌, List, ℤ, slice_get}
 use Rattle.std.specs.List.{list_any, AllByRecursion}
 use Rattle.std.specs.BTreeSet.{BTreeSet, contains}

@@ -1,6 +1,6 @@
 //! A store that knows the keys of its rows.
 ghost use Rattle.std.specs.Prelude.{◌≡◌, [], All, OnOk};
-ghost use Rattle.acc_ranges.specs.Keyed.{Grows, IsNoted, gives};
+ghost use Rattle.acc_ranges.specs.Keyed.{Covers, Grows, IsNoted, gives};
 ghost use Rattle.acc_ranges.specs.Ranges.{Adds, parts_have};
 
 use crate::values::add_part;
@@ -14,10 +14,11 @@ use std::marker::Model;
 /// The table and the key of a row.
 type Place = (u32, Seq<i64>);
 
-/// Rows in a store, and the places where rows have stood. What the components of a table's keys are can be asked of it, in time that
-/// grows with the number of these places.
+/// Rows in a store, and the places where they stand. What the components of a table's keys are can be asked of it, in time that grows with
+/// the number of these places.
 #[derive(Drop)]
 pub struct KeyedStore<S: Store> {
+    alloc: Global,
     rows: S,
     places: BTreeSet<Place>,
 }
@@ -60,6 +61,45 @@ fn note_all(places: &mut BTreeSet<Place>, writes: &[Write]) -> Result<(), AllocE
     Ok(())
 }
 
+/// Adds the place of the row that a write drops, if it drops one.
+fn add_dropped(dropped: &mut Vec<Place>, write: &Write) -> Result<(), AllocError> {
+    match write {
+        Write::Gone(table, key) => {
+            let key = copied(&key.parts)?;
+            dropped.push((*table, key))?;
+            Ok(())
+        }
+        Write::Row(_) => Ok(()),
+    }
+}
+
+/// The places of the rows that writes drop.
+fn dropped_by(alloc: Global, writes: &[Write]) -> Result<Vec<Place>, AllocError> {
+    let mut dropped = Vec::new(alloc);
+    for write in writes {
+        add_dropped(&mut dropped, write)?;
+    }
+    Ok(dropped)
+}
+
+/// Forgets a place where no row stands.
+fn forget<S: Store>(places: &mut BTreeSet<Place>, rows: &S, place: &Place)
+    ensures { Covers places.old (S.rows rows.now) → Covers places.new (S.rows rows.now) }
+{
+    if !rows.has(place.0, place.1.as_slice()) {
+        places.remove(place);
+    }
+}
+
+/// Forgets those of some places where no row stands.
+fn forget_all<S: Store>(places: &mut BTreeSet<Place>, rows: &S, dropped: &[Place])
+    ensures { Covers places.old (S.rows rows.now) → Covers places.new (S.rows rows.now) }
+{
+    for place in dropped {
+        forget(places, rows, place);
+    }
+}
+
 /// Adds the component at a place of a key, if there is a row of the table with that key.
 fn add_part_at<S: Store>(
     rows: &S,
@@ -84,6 +124,7 @@ impl<S: Store> KeyedStore<S> {
         ensures { result ≡ [] }
     {
         KeyedStore {
+            alloc,
             rows,
             places: BTreeSet::new(alloc),
         }
@@ -137,8 +178,11 @@ impl<S: Store> Store for KeyedStore<S> {
     }
 
     fn apply(&mut self, writes: &[Write]) -> Result<(), StoreError> {
+        let dropped = dropped_by(self.alloc, writes)?;
         note_all(&mut self.places, writes)?;
-        self.rows.apply(writes)
+        self.rows.apply(writes)?;
+        forget_all(&mut self.places, &self.rows, &dropped);
+        Ok(())
     }
 
     fn rows(&self, alloc: Global) -> Result<Plain, StoreError> {

@@ -4,6 +4,7 @@ ghost use Rattle.acc_wal.specs.Spellings.{Fits};
 
 use crate::answers::push_end;
 use crate::events::{event, push_events};
+use crate::listing::{Listed, events_in};
 use crate::states::{push_seal, push_states};
 use crate::stops::{push_changes, push_stops};
 use crate::words::{bytes, push_bytes};
@@ -93,6 +94,43 @@ fn create(alloc: Global, held: &mut Held, text: &str) -> Result<(), WalError> {
         Some(disk) => held.hold(Wal::create(alloc, disk, base(text))),
         None => Err(WalError::Disk),
     }
+}
+
+/// Makes a journal with these events on the disk, and behind them a state of this text, if there is one.
+fn make(
+    alloc: Global,
+    held: &mut Held,
+    text: &str,
+    listed: &Listed,
+    seal: Option<&[u8]>,
+) -> Result<(), WalError> {
+    let events = listed.events();
+    if (events.is_empty() && seal.is_none()) || seal.is_some_and(|text| text.len() > MOST) {
+        return Err(WalError::Memory);
+    }
+    match held.take() {
+        Some(disk) => held.hold(Wal::create_with(alloc, disk, base(text), events, seal)),
+        None => Err(WalError::Disk),
+    }
+}
+
+/// Pushes how the making of a journal ends, by the words for its base text, its state and its events.
+fn push_made(
+    alloc: Global,
+    out: &mut String,
+    held: &mut Held,
+    words: &str,
+) -> Result<(), AllocError> {
+    let (text, rest) = split(words);
+    let (state, rest) = split(rest);
+    let listed = events_in(alloc, rest)?;
+    let seal = bytes(alloc, state)?;
+    let seal = if state == "none" {
+        None
+    } else {
+        Some(seal.as_slice())
+    };
+    push_end(out, make(alloc, held, text, &listed, seal))
 }
 
 /// Attaches the journal on the disk.
@@ -240,6 +278,7 @@ pub fn play(
     match name {
         "disk" => renew(alloc, out, held, rest),
         "create" => push_end(out, create(alloc, held, rest)),
+        "make" => push_made(alloc, out, held, rest),
         "attach" => push_end(out, attach(alloc, held)),
         "close" => close(out, held),
         "bytes" | "calls" | "stops" | "changes" => push_held(alloc, out, held, words),

@@ -11,6 +11,7 @@ mod checkpoints;
 mod events;
 mod files;
 mod journals;
+mod listing;
 mod states;
 mod stops;
 mod words;

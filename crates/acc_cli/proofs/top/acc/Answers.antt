@@ -1,4 +1,5 @@
 use Rattle.std.proofs.Common.{inl, inr, ⊎_elim, sym, ◌∙◌}
+use Rattle.acc_cli.proofs.AuditLemmas.{tells_audit}
 use Rattle.acc_cli.proofs.CauseLemmas.{causes_of}
 use Rattle.acc_cli.proofs.PromiseLemmas.{promise_kept}
 use Rattle.acc_cli.proofs.BenchLemmas.{tells_bench, bench_promise}
@@ -67,6 +68,9 @@ returns-clause-booked g c is through =
 pub returns-clause-benched : goal.returns-clause-benched
 returns-clause-benched g c mix is =
     rw c.code.ensures (tells_bench _ _ mix _ _ _ _ _ _ _ _ _ _ is c.answer_line-closed.ensures.answered)
+
+pub returns-clause-audited : goal.returns-clause-audited
+returns-clause-audited g c is = rw c.code.ensures (tells_audit _ _ _ _ _ _ _ _ _ _ _ _ is c.answer_line-closed.ensures.answered)
 
 pub returns-clause-bench_promise : goal.returns-clause-bench_promise
 returns-clause-bench_promise g c mix is =
