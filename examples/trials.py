@@ -70,8 +70,25 @@ def events_of(path):
     return counted_of(path)[0]
 
 
+def states_of(path):
+    """Its states, each with the number of events before it and its text."""
+    events, states = 0, []
+    for item in items_of(path)[0]:
+        if item[0] == "state":
+            states.append((events, item[1]))
+        else:
+            events += 1
+    return states
+
+
 def counted_of(path):
-    """These events, and the bytes that count, up to the gate behind the last batch."""
+    """Its events, and the bytes that count, up to the gate behind the last batch."""
+    items, counted = items_of(path)
+    return [item for item in items if item[0] != "state"], counted
+
+
+def items_of(path):
+    """Its events and states, and the bytes that count."""
     data = bytes_of(path)
     if data[:2] not in (b"\xa5\x01", b"\xa5\x02"):
         raise Differs(f"{path}: no journal")
@@ -82,12 +99,12 @@ def counted_of(path):
         body, at = data[at + 5 : at + 5 + size], at + 5 + size
         if len(body) < size or at >= len(data):
             raise Differs(f"{path}: a batch that is cut short counts")
-        found += events_in(body)
+        found += items_in(body)
     return found, data[:at]
 
 
-def events_in(body):
-    """The events that a batch's body spells."""
+def items_in(body):
+    """The events and states that a batch's body spells."""
     at = 0
     while at < len(body):
         kind = body[at]
@@ -103,8 +120,30 @@ def events_in(body):
             yield ("turn", *struct.unpack(">IBI", body[at + 1 : at + 10]))
             at += 10
         elif kind == 5:
-            # a state, which is no event
-            at += 5 + struct.unpack(">I", body[at + 1 : at + 5])[0]
+            size = struct.unpack(">I", body[at + 1 : at + 5])[0]
+            yield ("state", body[at + 5 : at + 5 + size])
+            at += 5 + size
         else:
             yield ({2: "step", 4: "back"}[kind], struct.unpack(">I", body[at + 1 : at + 5])[0])
             at += 5
+
+
+def text_of(design, rows):
+    """The text that a state has of these rows, each a line of `dump`: how many there are, and of each row its table's place in the design,
+    how many numbers its key has, these, how many columns it has, and these."""
+    tables = [line.split()[1] for line in bytes_of(design).decode().split("\n") if line.startswith(("table ", "private "))]
+    text = struct.pack(">I", len(rows))
+    for row in rows:
+        name, *key = row.split(" : ")[0].split()
+        values = row.split(" : ")[1].split()
+        text += struct.pack(f">IB{len(key)}qB", tables.index(name), len(key), *map(int, key), len(values))
+        text += b"".join(int(value).to_bytes(16, "big", signed=True) for value in values)
+    return text
+
+
+def check_states(path, design, rows_after):
+    """Each state of the journal has to be the text of the rows that a model gives to the events before it. Answers their places."""
+    events = events_of(path)
+    for place, text in states_of(path):
+        compare(f"the state behind {place} events", text, text_of(design, rows_after(events[:place])))
+    return [place for place, _ in states_of(path)]

@@ -14,6 +14,7 @@ recover DESIGN CERT JOURNAL
 dump DESIGN CERT JOURNAL
 replies DESIGN CERT JOURNAL
 verify DESIGN CERT JOURNAL
+migrate DESIGN CERT OLD JOURNAL
 tpcc design
 tpcc load W ITEMS CUSTOMERS
 tpcc mix W ITEMS CUSTOMERS COUNT START
@@ -39,6 +40,7 @@ _acc_add() {
         SCRIPT) _acc_files '.script' ;;
         ORDER) _acc_files '.order' ;;
         JOURNAL) _acc_files '.journal' ;;
+        OLD) _acc_files '.journal' ;;
         COPY) _acc_files '.journal' ;;
         HELD) mapfile -t more < <(compgen -W "$(_acc_points "$2")" -- "$word") ;;
         STEP) mapfile -t more < <(compgen -W "$(_acc_points "$2")" -- "$word") ;;

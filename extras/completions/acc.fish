@@ -15,6 +15,7 @@ set -g __acc_forms \
     'dump DESIGN CERT JOURNAL|does the same, and prints the rows that its events lead to' \
     'replies DESIGN CERT JOURNAL|does the same, and prints how each transaction ended, by its number' \
     'verify DESIGN CERT JOURNAL|does the same, and tells which of TPC-C\'s conditions 1 to 9 are true of its rows' \
+    'migrate DESIGN CERT OLD JOURNAL|makes JOURNAL a new journal of what is recovered from OLD, which stays as it is' \
     'tpcc design|prints the design of TPC-C\'s transactions that the program brings along' \
     'tpcc load W ITEMS CUSTOMERS|prints a script that fills W warehouses of TPC-C, 1 to 10, as the standard says' \
     'tpcc mix W ITEMS CUSTOMERS COUNT START|prints a script of COUNT of TPC-C\'s transactions behind that, drawn from START' \
@@ -43,6 +44,8 @@ function __acc_add
         case ORDER
             __fish_complete_suffix .order
         case JOURNAL
+            __fish_complete_suffix .journal
+        case OLD
             __fish_complete_suffix .journal
         case COPY
             __fish_complete_suffix .journal

@@ -100,7 +100,7 @@ serves_first {D} clock left_since told may_leave count only_now script first eng
 module _ {D : Type 0} (clock : D → ℕ) (left_since : D → ℕ → List ℕ → Type 0) (told : D → Option (List ℕ)) (may_leave : D → List ℕ → Type 0)
     (count : D → ℕ) (only_now : (disk : D) (image : List ℕ) → left_since disk (clock disk) image → may_leave disk image)
     (script : Script) (first : List Event) (engine : Option (Journalled D)) (old new : Journalled D) (s : StaysBut old new)
-    (serves : Serves clock left_since told may_leave count script first engine old)
+    (waiting : new.waiting ≡ old.waiting) (serves : Serves clock left_since told may_leave count script first engine old)
     (stuck : old.failed ≡ true → new ≡ old) where
   pub serves_on : (own : List Event) → new.state.events ≡ old.state.events ++ own → IsKept script.design new.state
       → BeginsNext script first new.begun new.state.events
@@ -112,7 +112,7 @@ module _ {D : Type 0} (clock : D → ℕ) (left_since : D → ℕ → List ℕ �
     next = next;
     survives = λ f is.
         survives_more clock left_since told may_leave count only_now f old new (serves.survives f is)
-        (survives_stays clock left_since told may_leave count only_now old new own s added) stuck;
+        (survives_stays clock left_since told may_leave count only_now old new own s waiting added) stuck;
   }
 
   pub serves_same : new.state ≡ old.state → ((p : ℕ) → is_begun new.begun p ≡ is_begun old.begun p)

@@ -10,15 +10,13 @@ use Rattle.acc_base.specs.declared.machines.Event.{Event}
 use Rattle.acc_base.specs.declared.machines.Reply.{Reply}
 use Rattle.acc_base.specs.Machine.{World, start, world, after_events, reply_at}
 use Rattle.acc_io.specs.Causes.{Rose}
-use Rattle.acc_disk.specs.Crashes.{Only}
 use Rattle.acc_disk.specs.Moments.{AtAnyMoment}
-use Rattle.acc_wal.specs.Fronts.{CountsFront}
 use Rattle.acc_machine.specs.Kept.{IsKept}
 use Rattle.acc_engine.specs.Acks.{durable_reply, is_turn_of}
 use Rattle.acc_engine.specs.Calls.{RefusesSettling}
 use Rattle.acc_engine.specs.Keeping.{Journalled}
 use Rattle.acc_engine.specs.Ready.{IsReady}
-use Rattle.acc_engine.specs.Standing.{CountsDurableOrAll}
+use Rattle.acc_engine.specs.Sealing.{SealedDurableOrAll}
 use Rattle.acc_engine.specs.declared.errors.EngineError.{EngineError}
 use Rattle.acc_engine.specs.declared.errors.EngineError.TheVariants.{Disk, Failed, Memory}
 use Rattle.acc_pass.specs.declared.views.Known.{Known}
@@ -28,7 +26,6 @@ use Rattle.acc_pass.proofs.Worlds.{between}
 use Rattle.acc_engine.specs.Surviving.{Survives}
 use Rattle.acc_beside.specs.Serving.{Script, BeginsNext, Serves, CausesStay}
 use Rattle.acc_beside.specs.Calls.{Tied, Called, Settles, Acks, Fails, ShowsFault}
-use Rattle.acc_engine.proofs.Standing.{front_at_moments}
 use Rattle.acc_engine.proofs.Tails.{events_keep, events_open}
 use Rattle.acc_engine.proofs.Surviving.{Kept, survives_more, survives_settled, survives_fault}
 use Rattle.acc_beside.proofs.Calling.{cause_on}
@@ -40,14 +37,9 @@ module _ {D : Type 0} (clock : D → ℕ) (left_since : D → ℕ → List ℕ �
     (script : Script) (first : List Event) (engine : Option (Journalled D)) (old new : Journalled D) (k : Kept old new)
     (serves : Serves clock left_since told may_leave count script first engine old)
     (stuck : old.failed ≡ true → new ≡ old)
-    (moments : old.failed ≡ false → (file : List ℕ) → told old.disk ≡ Some file → Only file (may_leave old.disk)
-    → AtAnyMoment clock left_since old.disk new.disk (CountsDurableOrAll old.base old.state.events old.settled))
+    (moments : IsReady told may_leave old
+    → AtAnyMoment clock left_since old.disk new.disk (SealedDurableOrAll old.design old.base old.state.events old.settled))
     (within : old.settled ≤ length old.state.events) (faults : count old.disk ≤ count new.disk) where
-  fronts : old.failed ≡ false → (file : List ℕ) → told old.disk ≡ Some file → Only file (may_leave old.disk)
-      → AtAnyMoment clock left_since old.disk new.disk (CountsFront old.base old.state.events old.settled)
-  fronts unfailed file is only =
-      front_at_moments clock left_since old.disk new.disk old.base old.state.events old.settled within (moments unfailed file is only)
-
   events : new.state.events ≡ old.state.events
   events = ap (λ (w : World). w.events) k.kept.0
 
@@ -86,10 +78,12 @@ module _ {D : Type 0} (clock : D → ℕ) (left_since : D → ℕ → List ℕ �
     pub settles : Settles script.design j j n
 
   pub well : (j : Known) (n : ℕ) → Tied j old → old.failed ≡ false → new.failed ≡ false → new.settled ≡ length new.state.events
-      → (IsReady told may_leave old → IsReady told may_leave new) → n ≡ length new.state.events → Well j n
-  well j n tied was now all ready is = record {
+      → new.waiting ≡ [] → (IsReady told may_leave old → IsReady told may_leave new) → n ≡ length new.state.events → Well j n
+  well j n tied was now all none ready is = record {
     tied = (tied.0, tied.1 ∙ sym events, tied.2 ∙ was ∙ sym now);
-    serves' = serves_settled (survives_settled clock left_since told may_leave count only_now old new k fronts faults within all now ready);
+    serves' =
+        serves_settled
+        (survives_settled clock left_since told may_leave count only_now old new k was within moments faults all now none ready);
     causes = causes_settled (λ f. let no : false ≡ true = sym was ∙ f in absurd cc);
     settles = record { old = old.state; kept = serves.kept; count_is = is ∙ ap length events; called = called j j tied refl refl (λ b. b) };
   }
@@ -106,7 +100,7 @@ module _ {D : Type 0} (clock : D → ℕ) (left_since : D → ℕ → List ℕ �
     tied = (ap (λ (x : Known). x.keeps) is, ap (λ (x : Known). x.seen) is ∙ tied.1 ∙ sym events, broken ∙ sym why.1);
     serves' =
         serves_settled
-        (survives_fault clock left_since told may_leave count only_now old new k fronts faults counts_now same why.1 why.2);
+        (survives_fault clock left_since told may_leave count only_now old new k why.0 within moments faults counts_now same why.1 why.2);
     causes = causes_settled (λ _. why.1);
     fails = record {
       looks = record {

@@ -24,6 +24,7 @@ pub fn push_recover_error(out: &mut String, error: RecoverError) -> Result<(), A
         RecoverError::Journal(error) => push_wal_error(out, error),
         RecoverError::OtherDesign => out.push_str("design"),
         RecoverError::Unlawful(at) => write!(out, "unlawful {at}"),
+        RecoverError::Differs(place) => write!(out, "state {place}"),
         RecoverError::Disk => out.push_str("disk"),
         RecoverError::Memory => out.push_str("memory"),
     }

@@ -20,7 +20,7 @@ use Rattle.acc_commands.specs.Requests.{command_in, texts_in}
 use Rattle.acc_commands.specs.Text.{IsEarly}
 use Rattle.acc_commands.specs.Request.{Request}
 use Rattle.acc_commands.specs.Request.TheVariants.{Play, Rehearse, Print, Draw, Check, Prove, Advise, Audit, Init, Sched, Run}
-use Rattle.acc_commands.specs.Request.TheVariants.{Recover, Dump, Replies, Verify, TpccDesign, TpccLoad, TpccMix, BookingDesign}
+use Rattle.acc_commands.specs.Request.TheVariants.{Recover, Dump, Replies, Verify, Migrate, TpccDesign, TpccLoad, TpccMix, BookingDesign}
 use Rattle.acc_commands.specs.Request.TheVariants.{BookingVerify, Bench, Help, Version}
 use Rattle.acc_journalled.specs.declared.answers.Answer.{Answer}
 use Rattle.acc_journalled.specs.declared.answers.Ending.{Ending}
@@ -116,6 +116,7 @@ texts_count (Recover files) = refl
 texts_count (Dump files) = refl
 texts_count (Replies files) = refl
 texts_count (Verify files) = refl
+texts_count (Migrate files) = refl
 texts_count TpccDesign = refl
 texts_count BookingDesign = refl
 texts_count (BookingVerify files) = refl

@@ -15,7 +15,7 @@ use Rattle.acc_commands.specs.Disks.{Seen}
 use Rattle.acc_commands.specs.Words.{command_of, files_of, points_of}
 use Rattle.acc_cli.specs.Meant.{Runs, MeansForm, Meant}
 use Rattle.acc_cli.specs.Answered.{Answered}
-use Rattle.acc_cli.specs.Causes.{EndsSo, LeavesInMemory, LeavesUnbegun, FindsJournal, RefusesRecovering, RefusesAudit, RefusesJournal}
+use Rattle.acc_cli.specs.Causes.{EndsSo, LeavesInMemory, LeavesUnbegun, FindsJournal, RefusesRecovering, RefusesMigration, RefusesAudit, RefusesJournal}
 use Rattle.acc_cli.specs.Causes.{LeavesOpen, FindsConditionFalse, HasCauses}
 use Rattle.acc_journalled.proofs.Endings.{was_of_bytes}
 use Rattle.acc_commands.specs.Overs.{LeavesBy, LeavesBench}
@@ -53,10 +53,12 @@ module _ (held : List ℕ → Told) (counts counts' : Counts) (disk disk' : Seen
       record { ends = ends; why = by (refuses_journal ends.command (points_of ends.command words) ends.files disk disk' ends.said ends.ending_is ends.meant) }
     where
       by : RefusesAnyhow ends.command ends.files disk disk' ends.said
-          → FindsJournal ends.command disk disk' ⊎ RefusesRecovering ends.command disk disk' ⊎ RefusesAudit ends.command ends.files disk disk'
-      by (inr copied) = inr (inr (record { copy = copied.0; same = ap (λ (s : Seen). s.told) copied.1 }))
-      by (inl (inl found)) = inl (record { is_init = found.0; there = found.1.there; same = found.1.same })
-      by (inl (inr refused)) =
+          → FindsJournal ends.command disk disk' ⊎ RefusesRecovering ends.command disk disk'
+          ⊎ RefusesMigration ends.command ends.files disk disk' ⊎ RefusesAudit ends.command ends.files disk disk'
+      by (inr copied) = inr (inr (inr (record { copy = copied.0; same = ap (λ (s : Seen). s.told) copied.1 })))
+      by (inl (inl found)) = inl (record { is_making = found.0; there = found.1.there; same = found.1.same })
+      by (inl (inr (inr source))) = inr (inr (inl (record { source = source.0; same = source.1 })))
+      by (inl (inr (inl refused))) =
           let cause = refused.2 in
           let of_bytes = was_of_bytes cause.error ends.said cause.says (λ e. let s : JournalRefused ≡ DiskFailed =
           sym ends.ending_is ∙ e in absurd cc) in

@@ -14,3 +14,5 @@ pub mod AnswerLemmas
 pub mod LineLemmas
 pub mod Surviving
 pub mod AuditLemmas
+pub mod MigrationLemmas
+pub mod SealedLemmas

@@ -1,5 +1,5 @@
 -- What `recover` and `dump` tell, and what a refused journal is afterwards.
-use Rattle.std.proofs.Common.{◌≡◌, ℕ, Bool, List, [], ◌∷◌, Option, Some, inl, inr, ⊎_elim, sym, subst, ◌∙◌, refl}
+use Rattle.std.proofs.Common.{◌≡◌, ℕ, Bool, List, [], ◌∷◌, Option, Some, inl, inr, ⊎_elim, sym, ap, subst, ◌∙◌, refl, arith}
 use Rattle.std.specs.Prelude.{◌≢◌, ◌⊎◌}
 use Rattle.std.specs.Io.KnownBytes.{Appends}
 use Rattle.std.proofs.lemmas.Option.{same_Some}
@@ -14,13 +14,14 @@ use Rattle.acc_commands.specs.Texts.{IsDesignText}
 use Rattle.acc_print.specs.Designs.{printed}
 use Rattle.acc_wal.specs.declared.errors.WalError.{WalError}
 use Rattle.acc_wal.specs.declared.errors.WalError.TheVariants as wal
-use Rattle.acc_recover.specs.Refusals.{IsOfOther, IsUnlawfulAt, RefusesRecovery, IsOfJournal, IsOfBytes, CountsSame}
+use Rattle.acc_recover.specs.Refusals.{IsOfOther, IsUnlawfulAt, IsDifferentAt, RefusesRecovery, IsOfJournal, IsOfBytes, CountsSame}
 use Rattle.acc_recover.specs.declared.errors.RecoverError.{RecoverError}
 use Rattle.acc_recover.specs.declared.errors.RecoverError.TheVariants as recovery
 use Rattle.acc_journalled.specs.declared.answers.Ending.{Ending}
 use Rattle.acc_journalled.specs.declared.answers.Ending.TheVariants.{Done, DesignRefused, JournalRefused, DiskFailed}
 use Rattle.acc_journalled.specs.declared.answers.Wanted.TheVariants as wanted
 use Rattle.acc_journalled.specs.Recovering.{SaysNotRead, SaysNotRecovered, RecoversJournal, text_of}
+use Rattle.acc_recover.proofs.Sealed.{events_counted}
 use Rattle.acc_journalled.specs.Tellings.{Telling}
 use Rattle.acc_commands.specs.Command.{Command}
 use Rattle.acc_commands.specs.Command.TheVariants as command
@@ -38,8 +39,8 @@ use Rattle.acc_cli.specs.Replies.{Reply}
 use Rattle.acc_cli.specs.Status.{code_of}
 use Rattle.acc_cli.specs.Meant.{MeansForm, Meant}
 use Rattle.acc_cli.specs.Answered.{Answered, Ends}
-use Rattle.acc_cli.specs.Causes.{FindsJournal, RefusesRecovering, RefusesAudit, RefusesJournal}
-use Rattle.acc_cli.specs.Recoveries.{wanted_by, IsRecovered, TellsRecovery, IsJournal, LeavesRefused}
+use Rattle.acc_cli.specs.Causes.{FindsJournal, RefusesRecovering, RefusesMigration, RefusesAudit, RefusesJournal}
+use Rattle.acc_cli.specs.Recoveries.{wanted_by, IsRecovered, IsBroken, TellsRecovery, IsJournal, LeavesRefused}
 use Rattle.acc_cli.proofs.StatusLemmas.{zero_is_done, seven_is_sink}
 
 -- ---- what a refused journal is afterwards
@@ -51,6 +52,15 @@ unrecovered_left recovery.OtherDesign d told told' fault of why same kept =
     inr (some_weaker (λ file. IsOfOther file (printed d)) IsJournal told (λ file h. (h.base, h.events, h.counts)) why, kept)
 unrecovered_left (recovery.Unlawful at) d told told' fault of why same kept =
     inr (some_weaker (λ file. IsUnlawfulAt d file at) IsJournal told (λ file h. (printed d, h.events, h.counts)) why, kept)
+unrecovered_left (recovery.Differs place) d told told' fault of why same kept =
+    inr (
+      some_weaker (λ file. IsDifferentAt d file place) IsJournal told (λ file h. (
+        printed d,
+        h.events,
+        events_counted file (printed d) h.version h.events h.seals h.counts,
+      )) why,
+      kept,
+    )
 unrecovered_left recovery.Disk d told told' fault of why same kept = absurd of
 unrecovered_left recovery.Memory d told told' fault of why same kept = absurd of
 
@@ -59,9 +69,11 @@ pub left_refused : (held : List ℕ → Told) (counts counts' : Counts) (disk di
 left_refused held counts counts' disk disk' words refused = by refused.why
   where
     by : FindsJournal refused.ends.command disk disk' ⊎ RefusesRecovering refused.ends.command disk disk'
+        ⊎ RefusesMigration refused.ends.command refused.ends.files disk disk'
         ⊎ RefusesAudit refused.ends.command refused.ends.files disk disk' → LeavesRefused disk.told disk'.told
     by (inl found) = inl found.same
-    by (inr (inr copied)) = inl copied.same
+    by (inr (inr (inl source))) = inl source.same
+    by (inr (inr (inr copied))) = inl copied.same
     by (inr (inl r)) =
         unrecovered_left r.error r.d disk.told disk'.told (Rose disk.faults disk'.faults) r.of_bytes r.cause r.same r.kept
 
@@ -71,7 +83,7 @@ left_refused held counts counts' disk disk' words refused = by refused.why
 abbrev pub TellsNone : Telling → Type 0
 TellsNone t = (t.ending ≢ Done) × (t.history ≡ []) × (t.settled ≡ 0)
 
-none_of : (ending : Ending) (t : Telling) → ending ≢ Done → t.ending ≡ ending → t.history ≡ [] → t.settled ≡ 0 → TellsNone t
+pub none_of : (ending : Ending) (t : Telling) → ending ≢ Done → t.ending ≡ ending → t.history ≡ [] → t.settled ≡ 0 → TellsNone t
 none_of ending t other is none zero = (λ e. other (sym is ∙ e), none, zero)
 
 not_read_none : (error : WalError) (t : Telling) → SaysNotRead error t → TellsNone t
@@ -87,17 +99,19 @@ pub unrecovered_none : (error : RecoverError) (t : Telling) → SaysNotRecovered
 unrecovered_none (recovery.Journal error) t says = not_read_none error t says
 unrecovered_none recovery.OtherDesign t says = none_of JournalRefused t (λ e. cc) says.0 says.2 says.3
 unrecovered_none (recovery.Unlawful at) t says = none_of JournalRefused t (λ e. cc) says.0 says.2 says.3
+unrecovered_none (recovery.Differs place) t says = none_of JournalRefused t (λ e. cc) says.0 says.2 says.3
 unrecovered_none recovery.Disk t says = none_of DiskFailed t (λ e. cc) says.0 says.2 says.3
 unrecovered_none recovery.Memory t says = absurd says
 
 -- ---- what is recovered is told
 
 module _ (held : List ℕ → Told) (words : List (List ℕ)) (c : Command) (w : Saying) (disk disk' : Seen) (old new : Option (List ℕ)) where
-  -- of a telling: it tells none, or what is recovered
+  -- of a telling: it tells none, or what is recovered, or the disk failed behind the recovery
   abbrev OfTelling : ℕ → Telling → Type 0
   OfTelling code t = TellsNone t
       ⊎ ((t.ending ≡ Done)
       × ((code ≡ 0 → Appends old new t.text) → IsRecovered held words c w disk.told disk'.told old new code t.history t.settled))
+      ⊎ (t.ending ≡ DiskFailed)
 
   of_files : (code : ℕ) (design certificate : List ℕ) (t : Telling)
       → AreFiles held (files_of c words) (design ∷ certificate ∷ []) → RecoversFiles w design certificate disk disk' t → OfTelling code t
@@ -107,7 +121,7 @@ module _ (held : List ℕ → Told) (words : List (List ℕ)) (c : Command) (w :
     where
       over : (d : Design) → IsDesignText design d → IsAcceptedWith d certificate
           → RecoversJournal (w d) d disk.told disk'.told (Rose disk.faults disk'.faults) t → OfTelling code t
-      over d is_text accepted (inl r) = inr (
+      over d is_text accepted (inl r) = inr (inl (
         r.says.0,
         λ says. record {
           design = design;
@@ -120,51 +134,71 @@ module _ (held : List ℕ → Told) (words : List (List ℕ)) (c : Command) (w :
           recovers = record {
             found = r.found;
             counts = r.counts;
+            sealed = r.sealed;
             last = r.last;
             recovery = r.recovery;
             idle = r.idle;
             compensated = r.compensated;
             unfinished_were = r.unfinished_were;
             holds = r.holds;
+            grown = r.grown;
             says = (refl, r.says.1, r.says.2, r.says.3);
           };
           says = says;
         },
-      )
-      over d is_text accepted (inr r) = inl (unrecovered_none r.error t r.says)
+      ))
+      over d is_text accepted (inr (inl r)) = inl (unrecovered_none r.error t r.says)
+      over d is_text accepted (inr (inr f)) = inr (inr f.says.0)
 
       certified : RecoversCertified w h.d certificate disk disk' t → OfTelling code t
       certified (inl r) = inl (none_of DesignRefused t (λ e. cc) r.2.ending r.2.history r.0)
       certified (inr r) = over h.d h.is_text r.accepted r.ends
 
-  -- where the command wasn't done, the program tells no history
-  untold : (meant : Reply) (fault : Type 0) (status : Status) (history : List Event) (settled : ℕ) → meant.status ≢ Ran Done
-      → meant.status ≢ Sink → meant.history ≡ [] → meant.settled ≡ 0 → Ends meant old new fault status history settled
-      → TellsRecovery held words c w disk.told disk'.told old new (code_of status) history settled
-  untold meant fault status history settled done sink none zero ends = by ends.given_is
-    where
-      by : (status ≡ meant.status) ⊎ ((meant.status ≡ Ran Done) × (status ≡ Sink) × fault)
-          → TellsRecovery held words c w disk.told disk'.told old new (code_of status) history settled
-      by (inl same) = inl (
-        λ e. done (sym same ∙ zero_is_done status e),
-        λ e. sink (sym same ∙ seven_is_sink status e),
-        ends.history_is ∙ none,
-        ends.settled_is ∙ zero,
-      )
-      by (inr sunk) = absurd (done sunk.0)
+  module _ (Stops : Type 0) (fault : Type 0) (status : Status) (history : List Event) (settled : ℕ) where
+    abbrev Tells : Type 0
+    Tells = TellsRecovery held words c w disk.told disk'.told old new (code_of status) history settled Stops
 
-  of_telling : (meant : Reply) (ending : Ending) (fault : Type 0) (status : Status) (history : List Event) (settled : ℕ)
-      → meant.status ≡ Ran ending → Ends meant old new fault status history settled
-      → OfTelling (code_of status)
-      (record { ending = ending; text = meant.text; history = meant.history; settled = meant.settled })
-      → TellsRecovery held words c w disk.told disk'.told old new (code_of status) history settled
-  of_telling meant ending fault status history settled is ends (inl none) =
-      untold meant fault status history settled (λ e. none.0 (let s : Ran ending ≡ Ran Done = sym is ∙ e in cc))
-      (λ e. let s : Ran ending ≡ Sink = sym is ∙ e in absurd cc) none.1 none.2 ends
-  of_telling meant ending fault status history settled is ends (inr tells) =
-      inr (subst (λ h. IsRecovered held words c w disk.told disk'.told old new (code_of status) h settled) (sym ends.history_is)
-      (subst (λ n. IsRecovered held words c w disk.told disk'.told old new (code_of status) meant.history n) (sym ends.settled_is)
-      (tells.1 (λ zero. ends.done (zero_is_done status zero)))))
+    -- what is told where nothing was said of it
+    abbrev Somehow : Type 0
+    Somehow = ((history ≡ []) × (settled ≡ 0))
+        ⊎ IsRecovered held words c w disk.told disk'.told old new (code_of status) history settled ⊎ Stops
+
+    -- the call broke off
+    broken_told : IsBroken (code_of status) → Somehow → Tells
+    broken_told code (inl none) = inl (λ e. absurd (omega (arith, code, e)), λ e. absurd (omega (arith, code, e)), none.0, none.1)
+    broken_told code (inr (inl told)) = inr (inl told)
+    broken_told code (inr (inr stops)) = inr (inr (code, stops))
+
+    -- where the command wasn't done, the program tells no history
+    untold : (meant : Reply) → meant.status ≢ Ran Done → meant.status ≢ Sink → meant.history ≡ [] → meant.settled ≡ 0
+        → Ends meant old new fault status history settled → Tells
+    untold meant done sink none zero ends = by ends.given_is
+      where
+        by : (status ≡ meant.status) ⊎ ((meant.status ≡ Ran Done) × (status ≡ Sink) × fault) → Tells
+        by (inl same) = inl (
+          λ e. done (sym same ∙ zero_is_done status e),
+          λ e. sink (sym same ∙ seven_is_sink status e),
+          ends.history_is ∙ none,
+          ends.settled_is ∙ zero,
+        )
+        by (inr sunk) = absurd (done sunk.0)
+
+    of_telling : (meant : Reply) (ending : Ending) → meant.status ≡ Ran ending → Ends meant old new fault status history settled
+        → (code_of status ≢ 0 → Somehow)
+        → OfTelling (code_of status) (record { ending = ending; text = meant.text; history = meant.history; settled = meant.settled }) → Tells
+    of_telling meant ending is ends lacking (inl none) =
+        untold meant (λ e. none.0 (let s : Ran ending ≡ Ran Done = sym is ∙ e in cc))
+        (λ e. let s : Ran ending ≡ Sink = sym is ∙ e in absurd cc) none.1 none.2 ends
+    of_telling meant ending is ends lacking (inr (inl tells)) =
+        inr (inl (subst (λ h. IsRecovered held words c w disk.told disk'.told old new (code_of status) h settled) (sym ends.history_is)
+        (subst (λ n. IsRecovered held words c w disk.told disk'.told old new (code_of status) meant.history n) (sym ends.settled_is)
+        (tells.1 (λ zero. ends.done (zero_is_done status zero))))))
+    of_telling meant ending is ends lacking (inr (inr failed)) =
+        let five = by ends.given_is in broken_told (inl five) (lacking (λ zero. absurd (omega (arith, five, zero))))
+      where
+        by : (status ≡ meant.status) ⊎ ((meant.status ≡ Ran Done) × (status ≡ Sink) × fault) → code_of status ≡ 5
+        by (inl same) = ap code_of (same ∙ is ∙ ap Ran failed)
+        by (inr sunk) = (let e : Ran DiskFailed ≡ Ran Done = ap Ran (sym failed) ∙ sym is ∙ sunk.0 in absurd cc)
 
 of_command : (held : List ℕ → Told) (words : List (List ℕ)) (c : Command) (w : Saying) (disk disk' : Seen) (old new : Option (List ℕ))
     (code : ℕ) (points files : List (List ℕ)) (t : Telling) → wanted_by c ≡ Some w → AreFiles held (files_of c words) files
@@ -192,6 +226,7 @@ of_command held words command.Replies w disk disk' old new code points [] t is g
 of_command held words command.Replies w disk disk' old new code points (design ∷ []) t is given h = absurd h
 of_command held words command.Replies w disk disk' old new code points (design ∷ certificate ∷ more ∷ rest) t is given h = absurd h
 of_command held words command.Verify w disk disk' old new code points files t is given h = absurd cc
+of_command held words command.Migrate w disk disk' old new code points files t is given h = absurd cc
 of_command held words command.BookingVerify w disk disk' old new code points (design ∷ certificate ∷ []) t is given h =
     let same : say_seats ≡ w = same_Some say_seats w is in
     subst (λ x. OfTelling held words command.BookingVerify x disk disk' old new code t) same
@@ -221,33 +256,27 @@ of_command held words command.Help w disk disk' old new code points files t is g
 of_command held words command.Version w disk disk' old new code points files t is given h = absurd cc
 
 module _ (held : List ℕ → Told) (words : List (List ℕ)) (c : Command) (w : Saying) (disk disk' : Seen) (old new : Option (List ℕ))
-    (fault : Type 0) (status : Status) (history : List Event) (settled : ℕ) (tells : wanted_by c ≡ Some w) where
+    (Stops : Type 0) (fault : Type 0) (status : Status) (history : List Event) (settled : ℕ) (tells : wanted_by c ≡ Some w)
+    (lacking : code_of status ≢ 0 → ((history ≡ []) × (settled ≡ 0))
+    ⊎ IsRecovered held words c w disk.told disk'.told old new (code_of status) history settled ⊎ Stops) where
   of_form : (counts counts' : Counts) (meant : Reply) → MeansForm held counts counts' disk disk' words (Some c) meant
       → Ends meant old new fault status history settled
-      → TellsRecovery held words c w disk.told disk'.told old new (code_of status) history settled
+      → TellsRecovery held words c w disk.told disk'.told old new (code_of status) history settled Stops
   of_form counts counts' meant (inl refused) ends =
-      untold held words c w disk disk' old new meant fault status history settled
+      untold held words c w disk disk' old new Stops fault status history settled meant
       (λ e. let s : File ≡ Ran Done = sym refused.0 ∙ e in absurd cc) (λ e. let s : File ≡ Sink = sym refused.0 ∙ e in absurd cc)
       refused.1.0 refused.1.1 ends
   of_form counts counts' meant (inr (files, given, counted, (ending, is, means))) ends =
-      of_telling held words c w disk disk' old new meant ending fault status history settled is ends
+      of_telling held words c w disk disk' old new Stops fault status history settled meant ending is ends lacking
       (of_command held words c w disk disk' old new (code_of status) (points_of c words) files
       (record { ending = ending; text = meant.text; history = meant.history; settled = meant.settled }) tells given means)
 
   pub tells_recovery : (over : Bool) (counts counts' : Counts) → command_of words ≡ Some c
-      → (code_of status ≢ 0 → ((history ≡ []) × (settled ≡ 0))
-      ⊎ IsRecovered held words c w disk.told disk'.told old new (code_of status) history settled)
       → Answered over (Meant held counts counts' disk disk' words) old new fault status history settled
-      → TellsRecovery held words c w disk.told disk'.told old new (code_of status) history settled
-  tells_recovery over counts counts' form lacking (inl none) = by (lacking unsaid)
-    where
-      unsaid : code_of status ≢ 0
-      unsaid e = (let s : Memory ≡ Ran Done = sym none.0 ∙ zero_is_done status e in absurd cc)
-
-      by : ((history ≡ []) × (settled ≡ 0)) ⊎ IsRecovered held words c w disk.told disk'.told old new (code_of status) history settled
-          → TellsRecovery held words c w disk.told disk'.told old new (code_of status) history settled
-      by (inl untold) =
-          inl (unsaid, λ e. let s : Memory ≡ Sink = sym none.0 ∙ seven_is_sink status e in absurd cc, untold.0, untold.1)
-      by (inr told) = inr told
-  tells_recovery over counts counts' form lacking (inr (meant, means, ends)) =
+      → TellsRecovery held words c w disk.told disk'.told old new (code_of status) history settled Stops
+  tells_recovery over counts counts' form (inl none) =
+      let nine : code_of status ≡ 9 = ap code_of none.0 in
+      broken_told held words c w disk disk' old new Stops fault status history settled (inr nine)
+      (lacking (λ zero. absurd (omega (arith, nine, zero))))
+  tells_recovery over counts counts' form (inr (meant, means, ends)) =
       of_form counts counts' meant (subst (λ (o : Option Command). MeansForm held counts counts' disk disk' words o meant) form means) ends

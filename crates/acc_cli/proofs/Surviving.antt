@@ -24,7 +24,7 @@ use Rattle.acc_print.specs.Designs.{printed}
 use Rattle.acc_recover.specs.Recoveries.{IsRecovery, LeavesRecovery}
 use Rattle.acc_recover.specs.Refusals.{RefusesRecovery}
 use Rattle.acc_recover.specs.declared.errors.RecoverError.{RecoverError}
-use Rattle.acc_recover.specs.declared.errors.RecoverError.TheVariants.{Journal, OtherDesign, Unlawful, Disk, Memory}
+use Rattle.acc_recover.specs.declared.errors.RecoverError.TheVariants.{Journal, OtherDesign, Unlawful, Differs, Disk, Memory}
 use Rattle.acc_wal.specs.Journals.{Counts}
 use Rattle.acc_wal.proofs.Moments.{started, weaker}
 use Rattle.acc_journalled.specs.Recovering.{SaysNotRecovered, RecoversJournal}
@@ -85,12 +85,14 @@ module _ (d : Design) (image : List ℕ) (events : List Event) (can : IsRecovera
   no_refusal (Journal e) before after t calm why says = can.unrefused (Journal e) before after why tt
   no_refusal OtherDesign before after t calm why says = can.unrefused OtherDesign before after why tt
   no_refusal (Unlawful at) before after t calm why says = can.unrefused (Unlawful at) before after why tt
+  no_refusal (Differs place) before after t calm why says = can.unrefused (Differs place) before after why tt
   no_refusal Disk before after t calm why says = calm why
   no_refusal Memory before after t calm why says = says
 
   recovers_to : (accepted : IsAccepted d) (text : World → ℕ → List ℕ) (told' : Option (List ℕ)) (before after : ℕ) (t : Telling)
       → ¬ Rose before after → RecoversJournal text d (Some image) told' (Rose before after) t → RecoversTo d events told' t
-  recovers_to accepted text told' before after t calm (inr r) = absurd (no_refusal r.error before after t calm r.cause r.says)
+  recovers_to accepted text told' before after t calm (inr (inl r)) = absurd (no_refusal r.error before after t calm r.cause r.says)
+  recovers_to accepted text told' before after t calm (inr (inr f)) = absurd (calm f.failed)
   recovers_to accepted text told' before after t calm (inl r) =
       let recovery : IsRecovery d events r.last =
       subst (λ (es : List Event). IsRecovery d es r.last) (can.only r.found r.counts) r.recovery in

@@ -33,6 +33,7 @@ use Rattle.acc_cli.specs.Replies.{Reply}
 use Rattle.acc_cli.specs.Status.{code_of}
 use Rattle.acc_cli.specs.Meant.{MeansForm, Meant}
 use Rattle.acc_cli.specs.Answered.{Answered, Ends}
+use Rattle.acc_cli.specs.Recoveries.{IsBroken}
 use Rattle.acc_cli.specs.Verifications.{IsVerified, TellsVerification}
 use Rattle.acc_cli.proofs.RecoveryLemmas.{unrecovered_none}
 use Rattle.acc_cli.proofs.StatusLemmas.{zero_is_done}
@@ -81,15 +82,19 @@ module _ (held : List ℕ → Told) (words : List (List ℕ)) (disk disk' : Seen
     schema : IsSchemaOf tables d
     verified : Verifies tables d disk.told disk'.told t
 
+  -- it is refused, or it is judged, or the disk failed behind the recovery
+  abbrev OfTelling : Telling → Type 0
+  OfTelling t = IsRefused t ⊎ IsJudged t ⊎ (t.ending ≡ DiskFailed)
+
   of_files : (design certificate : List ℕ) (t : Telling) → AreFiles held (files_of command.Verify words) (design ∷ certificate ∷ [])
-      → VerifiesFiles design certificate disk disk' t → IsRefused t ⊎ IsJudged t
+      → VerifiesFiles design certificate disk disk' t → OfTelling t
   of_files design certificate t given (inl h) =
       inl (inl (refusal_ends design (said_in t) h.2), refusal_tells_none design (said_in t) h.2, h.0)
   of_files design certificate t given (inr h) = certified h.says
     where
       over : IsAcceptedWith h.d certificate → (s : TableSet) → IsSchemaOf s h.d
-          → VerifiesJournal s h.d disk.told disk'.told (Rose disk.faults disk'.faults) t → IsRefused t ⊎ IsJudged t
-      over accepted s schema (inl v) = inr (record {
+          → VerifiesJournal s h.d disk.told disk'.told (Rose disk.faults disk'.faults) t → OfTelling t
+      over accepted s schema (inl v) = inr (inl (record {
         design = design;
         certificate = certificate;
         given = given;
@@ -99,19 +104,20 @@ module _ (held : List ℕ → Told) (words : List (List ℕ)) (disk disk' : Seen
         tables = s;
         schema = schema;
         verified = v;
-      })
-      over accepted s schema (inr r) = inl (unrecovered r.error h.d disk.told (Rose disk.faults disk'.faults) t r.cause r.says)
+      }))
+      over accepted s schema (inr (inl r)) = inl (unrecovered r.error h.d disk.told (Rose disk.faults disk'.faults) t r.cause r.says)
+      over accepted s schema (inr (inr f)) = inr (inr f.says.0)
 
-      by_tables : IsAcceptedWith h.d certificate → VerifiesSchema h.d disk disk' t → IsRefused t ⊎ IsJudged t
+      by_tables : IsAcceptedWith h.d certificate → VerifiesSchema h.d disk disk' t → OfTelling t
       by_tables accepted (inl r) = inl (inl r.2.says.0, r.2.says.2, r.0)
       by_tables accepted (inr r) = over accepted r.tables r.schema r.ends
 
-      certified : VerifiesCertified h.d certificate disk disk' t → IsRefused t ⊎ IsJudged t
+      certified : VerifiesCertified h.d certificate disk disk' t → OfTelling t
       certified (inl r) = inl (inl r.2.ending, r.2.history, r.0)
       certified (inr r) = by_tables r.accepted r.says
 
   of_command : (files : List (List ℕ)) (t : Telling) → AreFiles held (files_of command.Verify words) files
-      → MeansOverDisk command.Verify files disk disk' t → IsRefused t ⊎ IsJudged t
+      → MeansOverDisk command.Verify files disk disk' t → OfTelling t
   unfolding MeansOverDisk
   of_command [] t given h = absurd h
   of_command (design ∷ []) t given h = absurd h
@@ -120,108 +126,117 @@ module _ (held : List ℕ → Told) (words : List (List ℕ)) (disk disk' : Seen
 
   -- ---- the program's answer
 
-  module _ (fault : Type 0) (status : Status) (history : List Event) (settled : ℕ) where
-    abbrev Tells : Type 0
-    Tells = TellsVerification held words disk.told disk'.told old new (code_of status) history settled
+  module _ (Stops : Type 0) (fault : Type 0) (status : Status) (history : List Event) (settled : ℕ) (lacking : IsBroken (code_of status)
+      → ((history ≡ []) × (settled ≡ 0)) ⊎ IsVerified held words disk.told disk'.told old new (code_of status) history settled ⊎ Stops)
+    where
+      abbrev Tells : Type 0
+      Tells = TellsVerification held words disk.told disk'.told old new (code_of status) history settled Stops
 
-    -- no history is told under one of these statuses
-    untold : (code_of status ≡ 2) ⊎ (code_of status ≡ 4) ⊎ (code_of status ≡ 5) ⊎ (code_of status ≡ 6) → history ≡ [] → settled ≡ 0
-        → Tells
-    untold code none zero =
-        inl (λ e. absurd (omega (arith, code, e)), λ e. absurd (omega (arith, code, e)), λ e. absurd (omega (arith, code, e)), none, zero)
+      -- the call broke off
+      broken_told : IsBroken (code_of status) → Tells
+      broken_told code = by (lacking code)
+        where
+          by : ((history ≡ []) × (settled ≡ 0)) ⊎ IsVerified held words disk.told disk'.told old new (code_of status) history settled ⊎ Stops
+              → Tells
+          by (inl untold) =
+              inl (
+                λ e. absurd (omega (arith, code, e)),
+                λ e. absurd (omega (arith, code, e)),
+                λ e. absurd (omega (arith, code, e)),
+                untold.0,
+                untold.1,
+              )
+          by (inr (inl told)) = inr (inl told)
+          by (inr (inr stops)) = inr (inr (code, stops))
 
-    module _ (meant : Reply) (ends : Ends meant old new fault status history settled) where
-      refused_told : (ending : Ending) → meant.status ≡ Ran ending
-          → IsRefused (record { ending = ending; text = meant.text; history = meant.history; settled = meant.settled }) → Tells
-      refused_told ending is refused =
-          untold (by ends.given_is) (ends.history_is ∙ refused.1) (ends.settled_is ∙ refused.2)
+      -- no history is told under one of these statuses
+      untold : (code_of status ≡ 2) ⊎ (code_of status ≡ 4) ⊎ (code_of status ≡ 5) ⊎ (code_of status ≡ 6) → history ≡ [] → settled ≡ 0
+          → Tells
+      untold code none zero =
+          inl (λ e. absurd (omega (arith, code, e)), λ e. absurd (omega (arith, code, e)), λ e. absurd (omega (arith, code, e)), none, zero)
+
+      module _ (meant : Reply) (ends : Ends meant old new fault status history settled) where
+        refused_told : (ending : Ending) → meant.status ≡ Ran ending
+            → IsRefused (record { ending = ending; text = meant.text; history = meant.history; settled = meant.settled }) → Tells
+        refused_told ending is refused =
+            untold (by ends.given_is) (ends.history_is ∙ refused.1) (ends.settled_is ∙ refused.2)
+          where
+            by : (status ≡ meant.status) ⊎ ((meant.status ≡ Ran Done) × (status ≡ Sink) × fault)
+                → (code_of status ≡ 2) ⊎ (code_of status ≡ 4) ⊎ (code_of status ≡ 5) ⊎ (code_of status ≡ 6)
+            by (inl same) = same_code (code_of status) (code_of (Ran ending)) (ap code_of (same ∙ is)) (refused_code ending refused.0)
+            by (inr sunk) =
+                let done : Ran ending ≡ Ran Done = sym is ∙ sunk.0 in
+                let which = refused_code ending refused.0 in
+                let zero : code_of (Ran ending) ≡ 0 = ap code_of done in absurd (omega (arith, which, zero))
+
+        -- the number of the status, where all is true and where something isn't
+        done_code : meant.status ≡ Ran Done → (code_of status ≡ 0) ⊎ (code_of status ≡ 7)
+        done_code is = ⊎_elim (λ same. inl (ap code_of (same ∙ is))) (λ sunk. inr (ap code_of sunk.1)) ends.given_is
+
+        false_code : meant.status ≡ Ran ConditionFalse → code_of status ≡ 10
+        false_code is =
+            ⊎_elim (λ same. ap code_of (same ∙ is)) (λ sunk. let e : Ran ConditionFalse ≡ Ran Done = sym is ∙ sunk.0 in absurd cc)
+            ends.given_is
+
+        module _ (ending : Ending) (is : meant.status ≡ Ran ending) (s : TableSet) (d : Design)
+            (verified : Verifies s d disk.told disk'.told
+            (record { ending = ending; text = meant.text; history = meant.history; settled = meant.settled })) where
+          abbrev AreSo : Type 0
+          AreSo = AreConsistent s verified.recovers.last.rows
+
+          true_by : EndsByRows s verified.recovers.last.rows ending → (code_of status ≡ 0) ⊎ (code_of status ≡ 7) → AreSo
+          true_by (inl e) code = e.1
+          true_by (inr e) code = (let ten = false_code (is ∙ ap Ran e.0) in absurd (omega (arith, code, ten)))
+
+          false_by : EndsByRows s verified.recovers.last.rows ending → code_of status ≡ 10 → ¬ AreSo
+          false_by (inl e) ten = (let code = done_code (is ∙ ap Ran e.0) in absurd (omega (arith, code, ten)))
+          false_by (inr e) ten = e.1
+
+        judged_told : (ending : Ending) → meant.status ≡ Ran ending
+            → IsJudged (record { ending = ending; text = meant.text; history = meant.history; settled = meant.settled }) → Tells
+        judged_told ending is j =
+            inr (inl (subst (λ h. IsVerified held words disk.told disk'.told old new (code_of status) h settled) (sym ends.history_is)
+            (subst (λ n. IsVerified held words disk.told disk'.told old new (code_of status) meant.history n) (sym ends.settled_is)
+            (record {
+              design = j.design;
+              certificate = j.certificate;
+              given = j.given;
+              d = j.d;
+              is_text = j.is_text;
+              accepted = j.accepted;
+              tables = j.tables;
+              schema = j.schema;
+              text = meant.text;
+              recovers = j.verified.recovers;
+              says = λ zero. ends.done (zero_is_done status zero);
+              front = λ ten. ends.front;
+              all_true = true_by ending is j.tables j.d j.verified j.verified.ending;
+              one_false = false_by ending is j.tables j.d j.verified j.verified.ending;
+            }))))
+
+        failed_told : (ending : Ending) → meant.status ≡ Ran ending → ending ≡ DiskFailed → Tells
+        failed_told ending is failed = broken_told (inl (by ends.given_is))
+          where
+            by : (status ≡ meant.status) ⊎ ((meant.status ≡ Ran Done) × (status ≡ Sink) × fault) → code_of status ≡ 5
+            by (inl same) = ap code_of (same ∙ is ∙ ap Ran failed)
+            by (inr sunk) = (let e : Ran DiskFailed ≡ Ran Done = ap Ran (sym failed) ∙ sym is ∙ sunk.0 in absurd cc)
+
+      of_form : (counts counts' : Counts) (meant : Reply) → MeansForm held counts counts' disk disk' words (Some command.Verify) meant
+          → Ends meant old new fault status history settled → Tells
+      of_form counts counts' meant (inl refused) ends =
+          untold (by ends.given_is) (ends.history_is ∙ refused.1.0) (ends.settled_is ∙ refused.1.1)
         where
           by : (status ≡ meant.status) ⊎ ((meant.status ≡ Ran Done) × (status ≡ Sink) × fault)
               → (code_of status ≡ 2) ⊎ (code_of status ≡ 4) ⊎ (code_of status ≡ 5) ⊎ (code_of status ≡ 6)
-          by (inl same) = same_code (code_of status) (code_of (Ran ending)) (ap code_of (same ∙ is)) (refused_code ending refused.0)
-          by (inr sunk) =
-              let done : Ran ending ≡ Ran Done = sym is ∙ sunk.0 in
-              let which = refused_code ending refused.0 in
-              let zero : code_of (Ran ending) ≡ 0 = ap code_of done in absurd (omega (arith, which, zero))
+          by (inl same) = inr (inr (inr (ap code_of (same ∙ refused.0))))
+          by (inr sunk) = (let e : File ≡ Ran Done = sym refused.0 ∙ sunk.0 in absurd cc)
+      of_form counts counts' meant (inr (files, given, counted, (ending, is, means))) ends =
+          ⊎_elim (refused_told meant ends ending is) (⊎_elim (judged_told meant ends ending is) (failed_told meant ends ending is))
+          (of_command files (record { ending = ending; text = meant.text; history = meant.history; settled = meant.settled }) given means)
 
-      -- the number of the status, where all is true and where something isn't
-      done_code : meant.status ≡ Ran Done → (code_of status ≡ 0) ⊎ (code_of status ≡ 7)
-      done_code is = ⊎_elim (λ same. inl (ap code_of (same ∙ is))) (λ sunk. inr (ap code_of sunk.1)) ends.given_is
-
-      false_code : meant.status ≡ Ran ConditionFalse → code_of status ≡ 10
-      false_code is =
-          ⊎_elim (λ same. ap code_of (same ∙ is)) (λ sunk. let e : Ran ConditionFalse ≡ Ran Done = sym is ∙ sunk.0 in absurd cc)
-          ends.given_is
-
-      module _ (ending : Ending) (is : meant.status ≡ Ran ending) (s : TableSet) (d : Design)
-          (verified : Verifies s d disk.told disk'.told
-          (record { ending = ending; text = meant.text; history = meant.history; settled = meant.settled })) where
-        abbrev AreSo : Type 0
-        AreSo = AreConsistent s verified.recovers.last.rows
-
-        true_by : EndsByRows s verified.recovers.last.rows ending → (code_of status ≡ 0) ⊎ (code_of status ≡ 7) → AreSo
-        true_by (inl e) code = e.1
-        true_by (inr e) code = (let ten = false_code (is ∙ ap Ran e.0) in absurd (omega (arith, code, ten)))
-
-        false_by : EndsByRows s verified.recovers.last.rows ending → code_of status ≡ 10 → ¬ AreSo
-        false_by (inl e) ten = (let code = done_code (is ∙ ap Ran e.0) in absurd (omega (arith, code, ten)))
-        false_by (inr e) ten = e.1
-
-      judged_told : (ending : Ending) → meant.status ≡ Ran ending
-          → IsJudged (record { ending = ending; text = meant.text; history = meant.history; settled = meant.settled }) → Tells
-      judged_told ending is j =
-          inr (subst (λ h. IsVerified held words disk.told disk'.told old new (code_of status) h settled) (sym ends.history_is)
-          (subst (λ n. IsVerified held words disk.told disk'.told old new (code_of status) meant.history n) (sym ends.settled_is)
-          (record {
-            design = j.design;
-            certificate = j.certificate;
-            given = j.given;
-            d = j.d;
-            is_text = j.is_text;
-            accepted = j.accepted;
-            tables = j.tables;
-            schema = j.schema;
-            text = meant.text;
-            recovers = j.verified.recovers;
-            says = λ zero. ends.done (zero_is_done status zero);
-            front = λ ten. ends.front;
-            all_true = true_by ending is j.tables j.d j.verified j.verified.ending;
-            one_false = false_by ending is j.tables j.d j.verified j.verified.ending;
-          })))
-
-    of_form : (counts counts' : Counts) (meant : Reply) → MeansForm held counts counts' disk disk' words (Some command.Verify) meant
-        → Ends meant old new fault status history settled → Tells
-    of_form counts counts' meant (inl refused) ends =
-        untold (by ends.given_is) (ends.history_is ∙ refused.1.0) (ends.settled_is ∙ refused.1.1)
-      where
-        by : (status ≡ meant.status) ⊎ ((meant.status ≡ Ran Done) × (status ≡ Sink) × fault)
-            → (code_of status ≡ 2) ⊎ (code_of status ≡ 4) ⊎ (code_of status ≡ 5) ⊎ (code_of status ≡ 6)
-        by (inl same) = inr (inr (inr (ap code_of (same ∙ refused.0))))
-        by (inr sunk) = (let e : File ≡ Ran Done = sym refused.0 ∙ sunk.0 in absurd cc)
-    of_form counts counts' meant (inr (files, given, counted, (ending, is, means))) ends =
-        ⊎_elim (refused_told meant ends ending is) (judged_told meant ends ending is)
-        (of_command files (record { ending = ending; text = meant.text; history = meant.history; settled = meant.settled }) given means)
-
-    pub tells_verification : (over : Bool) (counts counts' : Counts) → command_of words ≡ Some command.Verify
-        → (code_of status ≡ 9 → ((history ≡ []) × (settled ≡ 0))
-        ⊎ IsVerified held words disk.told disk'.told old new (code_of status) history settled)
-        → Answered over (Meant held counts counts' disk disk' words) old new fault status history settled → Tells
-    tells_verification over counts counts' form lacking (inl none) = by (lacking nine)
-      where
-        nine : code_of status ≡ 9
-        nine = ap code_of none.0
-
-        by : ((history ≡ []) × (settled ≡ 0)) ⊎ IsVerified held words disk.told disk'.told old new (code_of status) history settled
-            → Tells
-        by (inl untold) =
-            inl (
-              λ e. absurd (omega (arith, nine, e)),
-              λ e. absurd (omega (arith, nine, e)),
-              λ e. absurd (omega (arith, nine, e)),
-              untold.0,
-              untold.1,
-            )
-        by (inr told) = inr told
-    tells_verification over counts counts' form lacking (inr (meant, means, ends)) =
-        of_form counts counts' meant
-        (subst (λ (o : Option Command). MeansForm held counts counts' disk disk' words o meant) form means) ends
+      pub tells_verification : (over : Bool) (counts counts' : Counts) → command_of words ≡ Some command.Verify
+          → Answered over (Meant held counts counts' disk disk' words) old new fault status history settled → Tells
+      tells_verification over counts counts' form (inl none) = broken_told (inr (ap code_of none.0))
+      tells_verification over counts counts' form (inr (meant, means, ends)) =
+          of_form counts counts' meant
+          (subst (λ (o : Option Command). MeansForm held counts counts' disk disk' words o meant) form means) ends

@@ -20,7 +20,8 @@ use Rattle.acc_cli.specs.declared.status.Status.TheVariants.{Usage, File, Sink, 
 use Rattle.acc_commands.specs.Words.{command_of, files_of, points_of}
 use Rattle.acc_commands.specs.Files.{AreFiles, IsFirstRefused, SaysRefused}
 use Rattle.acc_commands.specs.Means.{Means}
-use Rattle.acc_commands.specs.Overs.{IsRecovering, LeavesBy, FindsFalse, LeavesBench, BenchFindsFalse, RefusesCopy, AuditFinds}
+use Rattle.acc_commands.specs.Overs.{IsRecovering, IsMaking, RefusesSource, LeavesBy, FindsFalse, LeavesBench, BenchFindsFalse}
+use Rattle.acc_commands.specs.Overs.{RefusesCopy, AuditFinds}
 use Rattle.acc_commands.specs.ProveFiles.{StaysOpen}
 use Rattle.acc_journalled.specs.Tellings.{Telling}
 use Rattle.acc_commands.specs.Disks.{Seen}
@@ -61,9 +62,9 @@ pub record LeavesUnbegun (held : List ℕ → Told) (counts counts' : Counts) (d
   pub ends : EndsSo held counts counts' disk disk' words Unbegun
   pub left : LeavesInMemory ends.command ends.said ⊎ LeavesBy ends.command ends.said ⊎ LeavesBench ends.command ends.said
 
--- it is `init`, the first two bytes of the disk say that a journal is there, and it holds what it held
+-- it makes a journal, the first two bytes of the disk say that one is there, and it holds what it held
 pub record FindsJournal (c : Command) (disk disk' : Seen) : Type 0 where
-  pub is_init : c ≡ command.Init
+  pub is_making : IsMaking c
   pub there : IfSome disk.told IsThere
   pub same : disk'.told ≡ disk.told
 
@@ -78,16 +79,21 @@ pub record RefusesRecovering (c : Command) (disk disk' : Seen) : Type 0 where
   pub same : IsOfJournal error → disk'.told ≡ disk.told
   pub kept : CountsSame disk.told disk'.told
 
+-- It is `migrate`, and the bytes of its source give a cause why nothing is recovered from them. The disk tells what it told.
+pub record RefusesMigration (c : Command) (files : List (List ℕ)) (disk disk' : Seen) : Type 0 where
+  pub source : RefusesSource c files
+  pub same : disk'.told ≡ disk.told
+
 -- It is `audit`, and the bytes of the copy give a cause why they aren't judged. The disk is asked nothing.
 pub record RefusesAudit (c : Command) (files : List (List ℕ)) (disk disk' : Seen) : Type 0 where
   pub copy : RefusesCopy c files
   pub same : disk'.told ≡ disk.told
 
--- the journal is there already, or isn't one that is recovered, or a copy isn't one that is judged
+-- the journal is there already, or isn't one that is recovered, or an old one or a copy isn't one that is recovered or judged
 pub record RefusesJournal (held : List ℕ → Told) (counts counts' : Counts) (disk disk' : Seen) (words : List (List ℕ)) : Type 0 where
   pub ends : EndsSo held counts counts' disk disk' words JournalRefused
   pub why : FindsJournal ends.command disk disk' ⊎ RefusesRecovering ends.command disk disk'
-      ⊎ RefusesAudit ends.command ends.files disk disk'
+      ⊎ RefusesMigration ends.command ends.files disk disk' ⊎ RefusesAudit ends.command ends.files disk disk'
 
 -- it is `prove`, and obligations of the design stay open: what is said has a line for each
 pub record LeavesOpen (held : List ℕ → Told) (counts counts' : Counts) (disk disk' : Seen) (words : List (List ℕ)) : Type 0 where

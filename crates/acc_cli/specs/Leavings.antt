@@ -10,7 +10,7 @@ use Rattle.acc_commands.specs.Disks.{OrUntouched}
 use Rattle.acc_commands.specs.Means.{LeavesOf}
 
 module _ {D : Type 0} (clock : D → ℕ) (left_since : D → ℕ → List ℕ → Type 0) (told : D → Option (List ℕ)) (may_leave : D → List ℕ → Type 0)
-    (held : List ℕ → Told) (words : List (List ℕ)) where
+    (faults : D → ℕ) (held : List ℕ → Told) (words : List (List ℕ)) where
   -- the command's files are given, and so it leaves
   pub record LeavesGiven (old new : D) (history : List Event) (settled : ℕ) : Type 0 where
     pub command : Command
@@ -18,7 +18,7 @@ module _ {D : Type 0} (clock : D → ℕ) (left_since : D → ℕ → List ℕ �
     pub files : List (List ℕ)
     pub count : length files ≡ file_count command
     pub given : AreFiles held (files_of command words) files
-    pub left : LeavesOf clock left_since told may_leave command files old new history settled
+    pub left : LeavesOf clock left_since told may_leave faults command files old new history settled
 
   -- nothing was asked of the disk, and nothing is told; or so
   abbrev pub LeavesLine : D → D → List Event → ℕ → Type 0

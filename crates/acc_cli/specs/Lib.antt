@@ -12,6 +12,8 @@ pub mod Recoveries
 pub mod Verifications
 pub mod Benches
 pub mod Bookings
+pub mod Migrations
+pub mod Sealings
 pub mod Audits
 pub mod Runs
 pub mod Headline

@@ -14,7 +14,7 @@ use Rattle.acc_journalled.specs.Recovering.{Recovers, text_of}
 use Rattle.acc_commands.specs.Command.{Command}
 use Rattle.acc_commands.specs.Command.TheVariants as command
 use Rattle.acc_commands.specs.BookingFiles.{say_seats}
-use Rattle.acc_commands.specs.RecoverFiles.{Saying}
+use Rattle.acc_commands.specs.RecoverFiles.{Saying, StopsDesign}
 use Rattle.acc_commands.specs.Words.{files_of}
 use Rattle.acc_commands.specs.Files.{AreFiles}
 
@@ -25,6 +25,7 @@ wanted_by command.Dump = Some (text_of wanted.Rows)
 wanted_by command.Replies = Some (text_of wanted.Replies)
 wanted_by command.BookingVerify = Some say_seats
 wanted_by command.Verify = None
+wanted_by command.Migrate = None
 wanted_by command.TpccDesign = None
 wanted_by command.BookingDesign = None
 wanted_by (command.TpccLoad scale) = None
@@ -59,12 +60,25 @@ pub record IsRecovered (held : List ℕ → Told) (words : List (List ℕ)) (c :
   pub recovers : Recovers (say d) d told told' (record { ending = Done; text = text; history = history; settled = settled })
   pub says : code ≡ 0 → Appends old new text
 
--- nothing is recovered, and so no history is told; or this one is
+-- The files are given, and of a journal that was recovered by them the text of the rows isn't put behind its history, since the disk failed
+-- there or memory ran out. All of the history is durable.
+pub record StopsGiven {D : Type 0} (told : D → Option (List ℕ)) (may_leave : D → List ℕ → Type 0) (faults : D → ℕ) (held : List ℕ → Told)
+    (words : List (List ℕ)) (c : Command) (old new : D) (history : List Event) (settled : ℕ) : Type 0 where
+  pub design : List ℕ
+  pub certificate : List ℕ
+  pub given : AreFiles held (files_of c words) (design ∷ certificate ∷ [])
+  pub stops : StopsDesign told may_leave faults design certificate old new history settled
+
+-- the status of a fault of the disk, or of want of memory
+abbrev pub IsBroken : ℕ → Type 0
+IsBroken code = (code ≡ 5) ⊎ (code ≡ 9)
+
+-- nothing is recovered, and so no history is told; or this one is; or it is told so far, where the call broke off behind the recovery
 abbrev pub TellsRecovery : (List ℕ → Told) → List (List ℕ) → Command → Saying → Option (List ℕ) → Option (List ℕ) → Option (List ℕ)
-    → Option (List ℕ) → ℕ → List Event → ℕ → Type 0
-TellsRecovery held words c say told told' old new code history settled =
+    → Option (List ℕ) → ℕ → List Event → ℕ → Type 0 → Type 0
+TellsRecovery held words c say told told' old new code history settled Stops =
     ((code ≢ 0) × (code ≢ 7) × (history ≡ []) × (settled ≡ 0))
-    ⊎ IsRecovered held words c say told told' old new code history settled
+    ⊎ IsRecovered held words c say told told' old new code history settled ⊎ (IsBroken code × Stops)
 
 -- the bytes are a journal
 abbrev pub IsJournal : List ℕ → Type 0

@@ -15,6 +15,7 @@ use Rattle.acc_commands.specs.Admissions.{IsAcceptedWith}
 use Rattle.acc_commands.specs.Command.TheVariants as command
 use Rattle.acc_commands.specs.Words.{files_of}
 use Rattle.acc_commands.specs.Files.{AreFiles}
+use Rattle.acc_cli.specs.Recoveries.{IsBroken}
 
 -- The files spell this design, which is accepted with its certificate and has TPC-C's tables, and the disk held a journal of it. This is
 -- the recovered history, all of it durable: the disk holds a journal of just that now. The text has a line for each condition, which tells
@@ -37,9 +38,9 @@ pub record IsVerified (held : List ℕ → Told) (words : List (List ℕ)) (told
   pub all_true : (code ≡ 0) ⊎ (code ≡ 7) → AreConsistent tables recovers.last.rows
   pub one_false : code ≡ 10 → ¬ AreConsistent tables recovers.last.rows
 
--- nothing is recovered, and so no history is told; or this one is
+-- nothing is recovered, and so no history is told; or this one is; or it is told so far, where the call broke off behind the recovery
 abbrev pub TellsVerification : (List ℕ → Told) → List (List ℕ) → Option (List ℕ) → Option (List ℕ) → Option (List ℕ) → Option (List ℕ)
-    → ℕ → List Event → ℕ → Type 0
-TellsVerification held words told told' old new code history settled =
+    → ℕ → List Event → ℕ → Type 0 → Type 0
+TellsVerification held words told told' old new code history settled Stops =
     ((code ≢ 0) × (code ≢ 7) × (code ≢ 10) × (history ≡ []) × (settled ≡ 0))
-    ⊎ IsVerified held words told told' old new code history settled
+    ⊎ IsVerified held words told told' old new code history settled ⊎ (IsBroken code × Stops)

@@ -20,7 +20,9 @@ ghost use Rattle.acc_cli.specs.Runs.{RunsLine, WorksLine};
 ghost use Rattle.acc_cli.specs.Creations.{IsCreated};
 ghost use Rattle.acc_cli.specs.Provings.{IsProved};
 ghost use Rattle.acc_cli.specs.Bookings.{SellsOnce};
-ghost use Rattle.acc_cli.specs.Recoveries.{wanted_by, TellsRecovery, LeavesRefused};
+ghost use Rattle.acc_cli.specs.Recoveries.{wanted_by, StopsGiven, TellsRecovery, LeavesRefused};
+ghost use Rattle.acc_cli.specs.Migrations.{TellsMigration};
+ghost use Rattle.acc_cli.specs.Sealings.{TellsSealed};
 ghost use Rattle.acc_cli.specs.Verifications.{TellsVerification};
 ghost use Rattle.acc_cli.specs.Audits.{TellsAudit};
 ghost use Rattle.acc_cli.specs.Benches.{TellsBench};
@@ -30,7 +32,8 @@ ghost use Rattle.acc_commands.specs.Disks.{seen, IsUntouched};
 ghost use Rattle.acc_commands.specs.Words.{command_of, is_journalled, is_over_journal};
 ghost use Rattle.acc_commands.specs.Requests.{command_in, texts_in, points_in};
 ghost use Rattle.acc_commands.specs.Means.{LeavesOf};
-ghost use Rattle.acc_commands.specs.Command.TheVariants.{Rehearse, Sched, Run, Init, Prove, Verify, BookingVerify, Bench, Audit};
+ghost use Rattle.acc_commands.specs.Overs.{IsRecovering};
+ghost use Rattle.acc_commands.specs.Command.TheVariants.{Rehearse, Sched, Run, Init, Prove, Verify, Migrate, BookingVerify, Bench, Audit};
 ghost use Rattle.acc_commands.specs.Mix.{Mix};
 
 use crate::status::Status;
@@ -167,7 +170,7 @@ fn answer_command<
         (RunsSo (command_in request.entry) (points_in request.entry) (texts_in request.entry) (seen (D.told disk) (D.faults disk))
         (seen (D.told result.disk) (D.faults result.disk)))
         (K.bytes out.old) (K.bytes out.new) (Rose (K.faults out.old) (K.faults out.new)) result.status result.history result.settled }
-    ensures leaves { LeavesOf D.clock D.left_since D.told D.may_leave (command_in request.entry) (texts_in request.entry)
+    ensures leaves { LeavesOf D.clock D.left_since D.told D.may_leave D.faults (command_in request.entry) (texts_in request.entry)
         disk result.disk result.history result.settled }
     ensures without { is_journalled (command_in request.entry) ≡ false → result.disk ≡ disk }
     ensures refused { IsBeforeJournal (code_of result.status) → result.disk ≡ disk }
@@ -227,7 +230,7 @@ fn answer_line<
         (Meant (H.held shelf.old) (H.counts shelf.old) (H.counts shelf.new) (seen (D.told disk) (D.faults disk))
         (seen (D.told result.disk) (D.faults result.disk)) (map string_bytes words.now))
         (K.bytes out.old) (K.bytes out.new) (Rose (K.faults out.old) (K.faults out.new)) result.status result.history result.settled }
-    ensures leaves { LeavesLine D.clock D.left_since D.told D.may_leave (H.held shelf.old) (map string_bytes words.now)
+    ensures leaves { LeavesLine D.clock D.left_since D.told D.may_leave D.faults (H.held shelf.old) (map string_bytes words.now)
         disk result.disk result.history result.settled }
     ensures without { is_over_journal (command_of (map string_bytes words.now)) ≡ false → result.disk ≡ disk }
     ensures refused { IsBeforeJournal (code_of result.status) → result.disk ≡ disk }
@@ -314,15 +317,33 @@ pub fn acc<
         → IsProved (H.held shelf.old) (map string_bytes words.now) (K.bytes out.old) (K.bytes out.new) }
     // Where `recover`, `dump`, `replies` or `booking verify` ended with status 0 or 7, the history is the recovered one, all of it durable,
     // and the disk holds a journal of just that; with 0 what is wanted of it was said. Else none is told, or, where memory ran out, that
-    // one.
+    // one; or that, where the disk failed or memory ran out before the text of its rows was put behind it, and then a crash leaves a
+    // journal of just that.
     ensures recovered { (c : TheCommand) (say : Saying) → command_of (map string_bytes words.now) ≡ Some c → wanted_by c ≡ Some say
         → TellsRecovery (H.held shelf.old) (map string_bytes words.now) c say (D.told disk) (D.told result.disk) (K.bytes out.old)
-        (K.bytes out.new) result.status result.history result.settled }
+        (K.bytes out.new) result.status result.history result.settled
+        (StopsGiven D.told D.may_leave D.faults (H.held shelf.old) (map string_bytes words.now) c disk result.disk result.history
+        result.settled) }
     // Where `verify` ended with status 0, 7 or 10, the history is the recovered one, all of it durable, and the disk holds a journal of
     // just that; with 10 a condition is false of its rows, and else each is true. With 0 a line for each was said, with 10 these or a
-    // front of them. Else none is told, or, where memory ran out, that one.
+    // front of them. Else none is told, or, where memory ran out, that one; or that, where the disk failed or memory ran out before the
+    // text of its rows was put behind it.
     ensures verified { command_of (map string_bytes words.now) ≡ Some Verify
         → TellsVerification (H.held shelf.old) (map string_bytes words.now) (D.told disk) (D.told result.disk) (K.bytes out.old)
+        (K.bytes out.new) result.status result.history result.settled
+        (StopsGiven D.told D.may_leave D.faults (H.held shelf.old) (map string_bytes words.now) Verify disk result.disk result.history
+        result.settled) }
+    // Where a command that recovers a journal ended with status 0, 7, 8 or 10, and the history has events that the file didn't count, the
+    // last state of the journal that the disk tells now stands behind all of them; unless it is of version 1, or the text of the rows is
+    // longer than 2^22 bytes.
+    ensures sealed { (c : TheCommand) → command_of (map string_bytes words.now) ≡ Some c → IsRecovering c
+        → TellsSealed (H.held shelf.old) (map string_bytes words.now) c (D.told disk) (D.told result.disk) result.history
+        result.status }
+    // Where `migrate` ended with status 0 or 7, its third file is a journal of the design, and the history is what was recovered from it,
+    // all of it durable. The disk held no journal, and holds one of just that, with the text of the rows behind it, where that has at most
+    // 2^22 bytes; with 0 it was said how many events that has. Else none is told, or, where memory ran out, that one.
+    ensures migrated { command_of (map string_bytes words.now) ≡ Some Migrate
+        → TellsMigration (H.held shelf.old) (map string_bytes words.now) (D.told disk) (D.told result.disk) (K.bytes out.old)
         (K.bytes out.new) result.status result.history result.settled }
     // Where `booking verify` ended with status 0 or 7, the design is the shipped one, and nothing of the recovered rows is oversold.
     ensures booked { command_of (map string_bytes words.now) ≡ Some BookingVerify → (result.status ≡ 0) ⊎ (result.status ≡ 7)

@@ -4,6 +4,7 @@ use Rattle.acc_base.specs.declared.designs.Design.{Design}
 use Rattle.acc_booking.specs.BookingText.{booking_design}
 use Rattle.acc_booking.specs.Seats.{NothingOversold}
 use Rattle.acc_formed.specs.WellFormed.{IsWellFormed}
+use Rattle.acc_io.specs.Causes.{Rose}
 use Rattle.acc_formed.proofs.Runs.{well_formed_runs}
 use Rattle.acc_journalled.specs.declared.answers.Ending.TheVariants.{Done, DesignRefused}
 use Rattle.acc_journalled.specs.Recovering.{Recovers, done_with}
@@ -17,7 +18,7 @@ use Rattle.acc_journal_commands.specs.RecoverFiles.{RecoversSeen}
 use Rattle.acc_journal_commands.specs.Text.{said_in}
 use Rattle.acc_journal_commands.specs.Texts.{IsDesignText}
 use Rattle.acc_journal_commands.proofs.Booked.{shipped_by_text, shipped_never_oversells}
-use Rattle.acc_journal_commands.proofs.JournalEndings.{other_end, refusal_ends, unrecovered_done}
+use Rattle.acc_journal_commands.proofs.JournalEndings.{other_end, refusal_ends, untold_done}
 
 module _ (design certificate : List ℕ) (old new : Seen) (t : Telling) (done : t.ending ≡ Done) where
   -- the shipped design's journal is recovered, and nothing of it is oversold
@@ -39,12 +40,14 @@ module _ (design certificate : List ℕ) (old new : Seen) (t : Telling) (done : 
         recovers = record {
           found = r.found;
           counts = r.counts;
+          sealed = r.sealed;
           last = r.last;
           recovery = r.recovery;
           idle = r.idle;
           compensated = r.compensated;
           unfinished_were = r.unfinished_were;
           holds = r.holds;
+          grown = r.grown;
           says = (refl, refl, r.says.2, r.says.3);
         };
         once = shipped_never_oversells r.last.rows steady.rows r.idle;
@@ -58,7 +61,8 @@ module _ (design certificate : List ℕ) (old new : Seen) (t : Telling) (done : 
       of_shipped (subst (IsDesignText design) same is_text) (subst IsWellFormed same formed)
       (subst (λ (d : Design). IsAcceptedWith d certificate) same accepted)
       (subst (λ (d : Design). Recovers (say_seats d) d old.told new.told t) same r)
-  of_design d is_text formed accepted is (inr r) = absurd (unrecovered_done r.error t r.says done)
+  of_design d is_text formed accepted is (inr r) =
+      absurd (untold_done d old.told new.told (Rose old.faults new.faults) t r done)
 
   pub booked : BooksFiles design certificate old new t → Booked
   booked (inl h) = absurd (other_end DesignRefused Done t (λ e. cc) (refusal_ends design (said_in t) h.2) done)

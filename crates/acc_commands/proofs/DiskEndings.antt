@@ -11,7 +11,7 @@ use Rattle.acc_journal_commands.specs.Disks.{Seen}
 use Rattle.acc_commands.specs.Means.{MeansOverDisk}
 use Rattle.acc_commands.specs.Overs.{FindsFalse}
 use Rattle.acc_commands.proofs.VerifyOvers.{verify_false}
-use Rattle.acc_journal_commands.proofs.JournalEndings.{EndsOverDisk, init_ends, recover_ends, book_ends, run_ends, work_ends, verify_ends}
+use Rattle.acc_journal_commands.proofs.JournalEndings.{EndsOverDisk, init_ends, recover_ends, book_ends, migrate_ends, run_ends, work_ends, verify_ends}
 
 -- as others do, or it is `verify`, and a condition is false
 abbrev pub EndsAnyhow : Command → Seen → Seen → Telling → Type 0
@@ -42,6 +42,11 @@ ends_over_disk command.Verify (design ∷ certificate ∷ []) old new t h =
     ⊎_elim (λ others. inl others) (λ is. inr (refl, is, verify_false old new t design certificate is h))
     (verify_ends old new t design certificate h)
 ends_over_disk command.Verify (design ∷ certificate ∷ more ∷ rest) old new t h = absurd h
+ends_over_disk command.Migrate [] old new t h = absurd h
+ends_over_disk command.Migrate (design ∷ []) old new t h = absurd h
+ends_over_disk command.Migrate (design ∷ certificate ∷ []) old new t h = absurd h
+ends_over_disk command.Migrate (design ∷ certificate ∷ source ∷ []) old new t h = inl (migrate_ends source old new t design certificate h)
+ends_over_disk command.Migrate (design ∷ certificate ∷ source ∷ more ∷ rest) old new t h = absurd h
 ends_over_disk command.BookingVerify [] old new t h = absurd h
 ends_over_disk command.BookingVerify (design ∷ []) old new t h = absurd h
 ends_over_disk command.BookingVerify (design ∷ certificate ∷ []) old new t h = inl (book_ends old new t design certificate h)

@@ -20,7 +20,7 @@ use Rattle.acc_commands.proofs.Tables.{means_without}
 module _ {D : Type 0} (clock : D → ℕ) (left_since : D → ℕ → List ℕ → Type 0) (told : D → Option (List ℕ)) (may_leave : D → List ℕ → Type 0)
     (faults : D → ℕ) where
   leaves_disk : (c : Command) (files : List (List ℕ)) (old new : D) (history : List Event) (settled : ℕ) → is_journalled c ≡ false
-      → new ≡ old → settled ≡ 0 → LeavesOf clock left_since told may_leave c files old new history settled
+      → new ≡ old → settled ≡ 0 → LeavesOf clock left_since told may_leave faults c files old new history settled
   unfolding LeavesOf
   leaves_disk command.Init files old new history settled is same none = (let e : true ≡ false = is in absurd cc)
   leaves_disk command.Sched files old new history settled is same none = (let e : true ≡ false = is in absurd cc)
@@ -29,6 +29,7 @@ module _ {D : Type 0} (clock : D → ℕ) (left_since : D → ℕ → List ℕ �
   leaves_disk command.Dump files old new history settled is same none = (let e : true ≡ false = is in absurd cc)
   leaves_disk command.Replies files old new history settled is same none = (let e : true ≡ false = is in absurd cc)
   leaves_disk command.Verify files old new history settled is same none = (let e : true ≡ false = is in absurd cc)
+  leaves_disk command.Migrate files old new history settled is same none = (let e : true ≡ false = is in absurd cc)
   leaves_disk command.BookingVerify files old new history settled is same none = (let e : true ≡ false = is in absurd cc)
   leaves_disk (command.Advise side) files old new history settled is same none = (same, none)
   leaves_disk command.Audit files old new history settled is same none = (same, none)
@@ -50,7 +51,7 @@ module _ {D : Type 0} (clock : D → ℕ) (left_since : D → ℕ → List ℕ �
   pub ends_in_memory : (c : Command) (points files : List (List ℕ)) → is_journalled c ≡ false → (old new : D) → new ≡ old
       → (answer : Result Answer AllocError) (history : List Event) (settled : ℕ) → settled ≡ 0
       → IfOk answer (λ a. MeansOfFiles c points files (said_of a history))
-      → Ends told may_leave faults (Means c points files) (LeavesOf clock left_since told may_leave c files) old new answer history settled
+      → Ends told may_leave faults (Means c points files) (LeavesOf clock left_since told may_leave faults c files) old new answer history settled
   ends_in_memory c points files is old new same answer history settled none says = record {
     means = IfOk-weaker answer _ _
         (λ a means. subst
@@ -67,7 +68,7 @@ module _ {D : Type 0} (clock : D → ℕ) (left_since : D → ℕ → List ℕ �
   pub ends_alone : (c : Command) (points files : List (List ℕ)) → is_journalled c ≡ false → (old new : D) → new ≡ old
       → (given answer : Result Answer AllocError) → answer ≡ given → (history : List Event) (settled : ℕ) → history ≡ [] → settled ≡ 0
       → IfOk given (λ a. MeansOfFiles c points files (said_alone a))
-      → Ends told may_leave faults (Means c points files) (LeavesOf clock left_since told may_leave c files) old new answer history settled
+      → Ends told may_leave faults (Means c points files) (LeavesOf clock left_since told may_leave faults c files) old new answer history settled
   ends_alone c points files is old new same given answer answered history settled empty none says =
       ends_in_memory c points files is old new same answer history settled none
       (subst (λ (h : List Event). IfOk answer (λ a. MeansOfFiles c points files (said_of a h))) (sym empty)
@@ -77,7 +78,7 @@ module _ {D : Type 0} (clock : D → ℕ) (left_since : D → ℕ → List ℕ �
   pub ends_run : (c : Command) (points files : List (List ℕ)) → is_journalled c ≡ false → (old new : D) → new ≡ old
       → (run : Result Run AllocError) (answer : Result Answer AllocError) (history : List Event) (settled : ℕ)
       → TellsInMemory run answer history → settled ≡ 0 → IfOk run (λ r. MeansOfFiles c points files (told_by r))
-      → Ends told may_leave faults (Means c points files) (LeavesOf clock left_since told may_leave c files) old new answer history settled
+      → Ends told may_leave faults (Means c points files) (LeavesOf clock left_since told may_leave faults c files) old new answer history settled
   ends_run c points files is old new same (Ok r) answer history settled tells none says =
       ends_in_memory c points files is old new same answer history settled none
       (subst (λ (h : List Event). IfOk answer (λ a. MeansOfFiles c points files (said_of a h))) (sym tells.1)

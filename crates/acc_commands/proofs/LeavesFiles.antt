@@ -62,62 +62,68 @@ module _ {D : Type 0} (clock : D → ℕ) (left_since : D → ℕ → List ℕ �
         → LeavesSo clock left_since told may_leave (λ file image. image ≡ file) old new
     disk_same old new history settled only_now same = leaves_untouched old new (λ file image. image ≡ file) only_now (λ file. refl) same.0
 
-    pub leaves_file : (c : Command) (files : List (List ℕ)) (old new : D) (history : List Event) (settled : ℕ)
+    pub leaves_file : (faults : D → ℕ) (c : Command) (files : List (List ℕ)) (old new : D) (history : List Event) (settled : ℕ)
         → ((image : List ℕ) → left_since old (clock old) image → may_leave old image)
-        → LeavesOf clock left_since told may_leave c files old new history settled
+        → LeavesOf clock left_since told may_leave faults c files old new history settled
         → LeavesSo clock left_since told may_leave (LeavesOfFile c files) old new
     unfolding LeavesOf LeavesOfFile
-    leaves_file command.Init [] old new history settled now h = disk_same old new history settled now h
-    leaves_file command.Init (design ∷ []) old new history settled now h = h.leaves
-    leaves_file command.Init (design ∷ more ∷ rest) old new history settled now h = disk_same old new history settled now h
-    leaves_file command.Sched [] old new history settled now h = disk_same old new history settled now h
-    leaves_file command.Sched (design ∷ []) old new history settled now h = disk_same old new history settled now h
-    leaves_file command.Sched (design ∷ certificate ∷ []) old new history settled now h = disk_same old new history settled now h
-    leaves_file command.Sched (design ∷ certificate ∷ script ∷ []) old new history settled now h = disk_same old new history settled now h
-    leaves_file command.Sched (design ∷ certificate ∷ script ∷ order ∷ []) old new history settled now h =
+    leaves_file faults command.Init [] old new history settled now h = disk_same old new history settled now h
+    leaves_file faults command.Init (design ∷ []) old new history settled now h = h.leaves
+    leaves_file faults command.Init (design ∷ more ∷ rest) old new history settled now h = disk_same old new history settled now h
+    leaves_file faults command.Sched [] old new history settled now h = disk_same old new history settled now h
+    leaves_file faults command.Sched (design ∷ []) old new history settled now h = disk_same old new history settled now h
+    leaves_file faults command.Sched (design ∷ certificate ∷ []) old new history settled now h = disk_same old new history settled now h
+    leaves_file faults command.Sched (design ∷ certificate ∷ script ∷ []) old new history settled now h = disk_same old new history settled now h
+    leaves_file faults command.Sched (design ∷ certificate ∷ script ∷ order ∷ []) old new history settled now h =
         run_leaves design certificate script order old new history settled now h
-    leaves_file command.Sched (design ∷ certificate ∷ script ∷ order ∷ more ∷ rest) old new history settled now h =
+    leaves_file faults command.Sched (design ∷ certificate ∷ script ∷ order ∷ more ∷ rest) old new history settled now h =
         disk_same old new history settled now h
-    leaves_file (command.Run workers) [] old new history settled now h = disk_same old new history settled now h
-    leaves_file (command.Run workers) (design ∷ []) old new history settled now h = disk_same old new history settled now h
-    leaves_file (command.Run workers) (design ∷ certificate ∷ []) old new history settled now h = disk_same old new history settled now h
-    leaves_file (command.Run workers) (design ∷ certificate ∷ script ∷ []) old new history settled now h =
+    leaves_file faults (command.Run workers) [] old new history settled now h = disk_same old new history settled now h
+    leaves_file faults (command.Run workers) (design ∷ []) old new history settled now h = disk_same old new history settled now h
+    leaves_file faults (command.Run workers) (design ∷ certificate ∷ []) old new history settled now h = disk_same old new history settled now h
+    leaves_file faults (command.Run workers) (design ∷ certificate ∷ script ∷ []) old new history settled now h =
         work_leaves design certificate script old new history settled now h
-    leaves_file (command.Run workers) (design ∷ certificate ∷ script ∷ more ∷ rest) old new history settled now h =
+    leaves_file faults (command.Run workers) (design ∷ certificate ∷ script ∷ more ∷ rest) old new history settled now h =
         disk_same old new history settled now h
-    leaves_file command.Recover [] old new history settled now h = disk_same old new history settled now h
-    leaves_file command.Recover (design ∷ []) old new history settled now h = disk_same old new history settled now h
-    leaves_file command.Recover (design ∷ certificate ∷ []) old new history settled now h = h.leaves
-    leaves_file command.Recover (design ∷ certificate ∷ more ∷ rest) old new history settled now h = disk_same old new history settled now h
-    leaves_file command.Dump [] old new history settled now h = disk_same old new history settled now h
-    leaves_file command.Dump (design ∷ []) old new history settled now h = disk_same old new history settled now h
-    leaves_file command.Dump (design ∷ certificate ∷ []) old new history settled now h = h.leaves
-    leaves_file command.Dump (design ∷ certificate ∷ more ∷ rest) old new history settled now h = disk_same old new history settled now h
-    leaves_file command.Replies [] old new history settled now h = disk_same old new history settled now h
-    leaves_file command.Replies (design ∷ []) old new history settled now h = disk_same old new history settled now h
-    leaves_file command.Replies (design ∷ certificate ∷ []) old new history settled now h = h.leaves
-    leaves_file command.Replies (design ∷ certificate ∷ more ∷ rest) old new history settled now h = disk_same old new history settled now h
-    leaves_file command.Verify [] old new history settled now h = disk_same old new history settled now h
-    leaves_file command.Verify (design ∷ []) old new history settled now h = disk_same old new history settled now h
-    leaves_file command.Verify (design ∷ certificate ∷ []) old new history settled now h = h.leaves
-    leaves_file command.Verify (design ∷ certificate ∷ more ∷ rest) old new history settled now h = disk_same old new history settled now h
-    leaves_file command.BookingVerify [] old new history settled now h = disk_same old new history settled now h
-    leaves_file command.BookingVerify (design ∷ []) old new history settled now h = disk_same old new history settled now h
-    leaves_file command.BookingVerify (design ∷ certificate ∷ []) old new history settled now h = h.leaves
-    leaves_file command.BookingVerify (design ∷ certificate ∷ more ∷ rest) old new history settled now h =
+    leaves_file faults command.Recover [] old new history settled now h = disk_same old new history settled now h
+    leaves_file faults command.Recover (design ∷ []) old new history settled now h = disk_same old new history settled now h
+    leaves_file faults command.Recover (design ∷ certificate ∷ []) old new history settled now h = h.leaves
+    leaves_file faults command.Recover (design ∷ certificate ∷ more ∷ rest) old new history settled now h = disk_same old new history settled now h
+    leaves_file faults command.Dump [] old new history settled now h = disk_same old new history settled now h
+    leaves_file faults command.Dump (design ∷ []) old new history settled now h = disk_same old new history settled now h
+    leaves_file faults command.Dump (design ∷ certificate ∷ []) old new history settled now h = h.leaves
+    leaves_file faults command.Dump (design ∷ certificate ∷ more ∷ rest) old new history settled now h = disk_same old new history settled now h
+    leaves_file faults command.Replies [] old new history settled now h = disk_same old new history settled now h
+    leaves_file faults command.Replies (design ∷ []) old new history settled now h = disk_same old new history settled now h
+    leaves_file faults command.Replies (design ∷ certificate ∷ []) old new history settled now h = h.leaves
+    leaves_file faults command.Replies (design ∷ certificate ∷ more ∷ rest) old new history settled now h = disk_same old new history settled now h
+    leaves_file faults command.Verify [] old new history settled now h = disk_same old new history settled now h
+    leaves_file faults command.Verify (design ∷ []) old new history settled now h = disk_same old new history settled now h
+    leaves_file faults command.Verify (design ∷ certificate ∷ []) old new history settled now h = h.leaves
+    leaves_file faults command.Verify (design ∷ certificate ∷ more ∷ rest) old new history settled now h = disk_same old new history settled now h
+    leaves_file faults command.Migrate [] old new history settled now h = disk_same old new history settled now h
+    leaves_file faults command.Migrate (design ∷ []) old new history settled now h = disk_same old new history settled now h
+    leaves_file faults command.Migrate (design ∷ certificate ∷ []) old new history settled now h = disk_same old new history settled now h
+    leaves_file faults command.Migrate (design ∷ certificate ∷ source ∷ []) old new history settled now h = h.leaves
+    leaves_file faults command.Migrate (design ∷ certificate ∷ source ∷ more ∷ rest) old new history settled now h =
         disk_same old new history settled now h
-    leaves_file (command.Advise side) files old new history settled now h = disk_same old new history settled now h
-    leaves_file command.Audit files old new history settled now h = disk_same old new history settled now h
-    leaves_file command.TpccDesign files old new history settled now h = disk_same old new history settled now h
-    leaves_file command.BookingDesign files old new history settled now h = disk_same old new history settled now h
-    leaves_file (command.TpccLoad scale) files old new history settled now h = disk_same old new history settled now h
-    leaves_file (command.TpccMix mix) files old new history settled now h = disk_same old new history settled now h
-    leaves_file (command.Bench mix) files old new history settled now h = disk_same old new history settled now h
-    leaves_file command.Play files old new history settled now h = disk_same old new history settled now h
-    leaves_file command.Rehearse files old new history settled now h = disk_same old new history settled now h
-    leaves_file command.Print files old new history settled now h = disk_same old new history settled now h
-    leaves_file command.Draw files old new history settled now h = disk_same old new history settled now h
-    leaves_file command.Check files old new history settled now h = disk_same old new history settled now h
-    leaves_file command.Prove files old new history settled now h = disk_same old new history settled now h
-    leaves_file command.Help files old new history settled now h = disk_same old new history settled now h
-    leaves_file command.Version files old new history settled now h = disk_same old new history settled now h
+    leaves_file faults command.BookingVerify [] old new history settled now h = disk_same old new history settled now h
+    leaves_file faults command.BookingVerify (design ∷ []) old new history settled now h = disk_same old new history settled now h
+    leaves_file faults command.BookingVerify (design ∷ certificate ∷ []) old new history settled now h = h.leaves
+    leaves_file faults command.BookingVerify (design ∷ certificate ∷ more ∷ rest) old new history settled now h =
+        disk_same old new history settled now h
+    leaves_file faults (command.Advise side) files old new history settled now h = disk_same old new history settled now h
+    leaves_file faults command.Audit files old new history settled now h = disk_same old new history settled now h
+    leaves_file faults command.TpccDesign files old new history settled now h = disk_same old new history settled now h
+    leaves_file faults command.BookingDesign files old new history settled now h = disk_same old new history settled now h
+    leaves_file faults (command.TpccLoad scale) files old new history settled now h = disk_same old new history settled now h
+    leaves_file faults (command.TpccMix mix) files old new history settled now h = disk_same old new history settled now h
+    leaves_file faults (command.Bench mix) files old new history settled now h = disk_same old new history settled now h
+    leaves_file faults command.Play files old new history settled now h = disk_same old new history settled now h
+    leaves_file faults command.Rehearse files old new history settled now h = disk_same old new history settled now h
+    leaves_file faults command.Print files old new history settled now h = disk_same old new history settled now h
+    leaves_file faults command.Draw files old new history settled now h = disk_same old new history settled now h
+    leaves_file faults command.Check files old new history settled now h = disk_same old new history settled now h
+    leaves_file faults command.Prove files old new history settled now h = disk_same old new history settled now h
+    leaves_file faults command.Help files old new history settled now h = disk_same old new history settled now h
+    leaves_file faults command.Version files old new history settled now h = disk_same old new history settled now h

@@ -19,5 +19,6 @@ pub mod Tables
 pub mod InMemory
 pub mod LeavesFiles
 pub mod DiskEndings
+pub mod Growths
 pub mod VerifyOvers
 pub mod OneVerifying

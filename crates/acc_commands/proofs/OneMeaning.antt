@@ -16,9 +16,11 @@ use Rattle.acc_io.specs.Causes.{Rose}
 use Rattle.acc_journalled.specs.declared.answers.Ending.TheVariants.{Done, DesignRefused}
 use Rattle.acc_journalled.specs.declared.answers.Wanted.TheVariants.{Counts, Rows, Replies}
 use Rattle.acc_journalled.specs.Making.{MakesJournal}
+use Rattle.acc_journalled.specs.Migrating.{MigratesJournal}
 use Rattle.acc_journalled.specs.Recovering.{RecoversJournal, text_of}
 use Rattle.acc_journalled.specs.Tellings.{Telling}
 use Rattle.acc_journalled.proofs.Once.{making_once, recovering_once}
+use Rattle.acc_journalled.proofs.OneMigration.{migrating_once}
 use Rattle.acc_journal_commands.specs.Text.{Said, said_in}
 use Rattle.acc_journal_commands.specs.Disks.{Seen, TellsAll}
 use Rattle.acc_journal_commands.specs.Notes.{help_text, version_text}
@@ -32,6 +34,7 @@ use Rattle.acc_file_commands.specs.PrintFiles.{PrintsFile, DrawsFile}
 use Rattle.acc_file_commands.specs.CheckFiles.{ChecksFiles, ending_by}
 use Rattle.acc_journal_commands.specs.BookingFiles.{say_seats, BooksSchema, BooksCertified, BooksFiles}
 use Rattle.acc_journal_commands.specs.InitFiles.{InitsJournal, InitsFile}
+use Rattle.acc_journal_commands.specs.MigrateFiles.{MigratesSeen, MigratesCertified, MigratesFiles}
 use Rattle.acc_journal_commands.specs.RecoverFiles.{Saying, RecoversSeen, RecoversCertified, RecoversFiles}
 use Rattle.acc_commands.specs.Alike.{IsWhole, AreByWorkers, AreAlike}
 use Rattle.acc_journal_commands.specs.Words.{is_journalled}
@@ -147,6 +150,7 @@ one_of_files command.Recover points files a b h k = absurd h
 one_of_files command.Dump points files a b h k = absurd h
 one_of_files command.Replies points files a b h k = absurd h
 one_of_files command.Verify points files a b h k = absurd h
+one_of_files command.Migrate points files a b h k = absurd h
 one_of_files command.TpccDesign points [] a b h k = inl (said_same Done (printed shipped_design) (printed shipped_design) a b refl h.says k.says)
 one_of_files command.BookingDesign points [] a b h k = inl (said_same Done (printed booking_design) (printed booking_design) a b refl h.says k.says)
 one_of_files command.TpccDesign points (more ∷ rest) a b h k = absurd h
@@ -211,6 +215,39 @@ module _ (old one other : Seen) (a b : Telling) (all : TellsAll old one other) w
   one_recover say design certificate (inr h) (inr k) =
       one_certified_recovery say k.d certificate
       (subst (λ (d : Design). RecoversCertified say d certificate old one a) (one_design design h.d k.d h.is_text k.is_text) h.says)
+      k.says
+
+  -- ---- migrations
+
+  one_migration : (told : Option (List ℕ)) (d : Design) (source : List ℕ) → old.told ≡ told → MigratesSeen d source old one a
+      → MigratesSeen d source old other b → a ≡ b
+  one_migration None d source is h k = absurd (all.0 is)
+  one_migration (Some file) d source is h k =
+      migrating_once d source file one.told other.told a b (Rose old.faults one.faults) (Rose old.faults other.faults) all.1 all.2
+      (subst (λ t. MigratesJournal d source t one.told (Rose old.faults one.faults) a) is h)
+      (subst (λ t. MigratesJournal d source t other.told (Rose old.faults other.faults) b) is k)
+
+  one_certified_migration : (d : Design) (certificate source : List ℕ) → MigratesCertified d certificate source old one a
+      → MigratesCertified d certificate source old other b → a ≡ b
+  one_certified_migration d certificate source (inl h) (inl k) =
+      telling_same a b (one_certificate_refusal d certificate (said_in a) (said_in b) h.2 k.2) (h.0 ∙ sym k.0)
+  one_certified_migration d certificate source (inl h) (inr k) =
+      absurd (accepted_or_refused d certificate (said_in a) k.accepted h.2)
+  one_certified_migration d certificate source (inr h) (inl k) =
+      absurd (accepted_or_refused d certificate (said_in b) h.accepted k.2)
+  one_certified_migration d certificate source (inr h) (inr k) = one_migration old.told d source refl h.ends k.ends
+
+  one_migrate : (design certificate source : List ℕ) → MigratesFiles design certificate source old one a
+      → MigratesFiles design certificate source old other b → a ≡ b
+  one_migrate design certificate source (inl h) (inl k) =
+      telling_same a b (one_refusal design (said_in a) (said_in b) h.2 k.2) (h.0 ∙ sym k.0)
+  one_migrate design certificate source (inl h) (inr k) =
+      absurd (formed_or_refused design k.d (said_in a) k.is_text k.formed h.2)
+  one_migrate design certificate source (inr h) (inl k) =
+      absurd (formed_or_refused design h.d (said_in b) h.is_text h.formed k.2)
+  one_migrate design certificate source (inr h) (inr k) =
+      one_certified_migration k.d certificate source
+      (subst (λ (d : Design). MigratesCertified d certificate source old one a) (one_design design h.d k.d h.is_text k.is_text) h.says)
       k.says
 
   -- ---- bookings
@@ -342,6 +379,12 @@ one_over_disk command.Verify (design ∷ []) old one other a b all h k = absurd 
 one_over_disk command.Verify (design ∷ certificate ∷ []) old one other a b all h k =
     inl (one_verify old one other a b all design certificate h k)
 one_over_disk command.Verify (design ∷ certificate ∷ more ∷ rest) old one other a b all h k = absurd h
+one_over_disk command.Migrate [] old one other a b all h k = absurd h
+one_over_disk command.Migrate (design ∷ []) old one other a b all h k = absurd h
+one_over_disk command.Migrate (design ∷ certificate ∷ []) old one other a b all h k = absurd h
+one_over_disk command.Migrate (design ∷ certificate ∷ source ∷ []) old one other a b all h k =
+    inl (one_migrate old one other a b all design certificate source h k)
+one_over_disk command.Migrate (design ∷ certificate ∷ source ∷ more ∷ rest) old one other a b all h k = absurd h
 one_over_disk command.BookingVerify [] old one other a b all h k = absurd h
 one_over_disk command.BookingVerify (design ∷ []) old one other a b all h k = absurd h
 one_over_disk command.BookingVerify (design ∷ certificate ∷ []) old one other a b all h k =

@@ -18,7 +18,7 @@ use Rattle.acc_journal_commands.specs.Disks.{Seen, TellsAll}
 use Rattle.acc_journal_commands.specs.Text.{said_in}
 use Rattle.acc_journal_commands.specs.Texts.{IsDesignText}
 use Rattle.acc_journal_commands.specs.VerifyFiles.{VerifiesSeen, VerifiesSchema, VerifiesCertified, VerifiesDesign, VerifiesFiles}
-use Rattle.acc_journal_commands.proofs.JournalEndings.{other_end, refusal_ends, unrecovered_ends, over_true}
+use Rattle.acc_journal_commands.proofs.JournalEndings.{other_end, refusal_ends, untold_ends, over_true}
 use Rattle.acc_journal_commands.proofs.OneDesign.{one_design, one_refusal, formed_or_refused}
 use Rattle.acc_journal_commands.proofs.OneSchema.{one_schema, one_schema_refusal, found_or_refused}
 use Rattle.acc_file_commands.specs.Law.{KeepsConditions}
@@ -94,8 +94,7 @@ module _ (certificate : List ℕ) (old new : Seen) (t : Telling) (so : t.ending 
           e.1 (all_by_place (IsTrueOf s h.recovers.last.rows) CONDITIONS
           (subst KeepsConditions (sym is) (keeps shipped_design has_shipped) s h.recovers.last.rows schema steady.rows h.recovers.idle))
   judged_true d s accepted is schema (inr h) =
-      over_true (Rose old.faults new.faults) t
-      (unrecovered_ends h.error d old.told (Rose old.faults new.faults) t h.cause h.says) so
+      over_true (Rose old.faults new.faults) t (untold_ends d old.told new.told (Rose old.faults new.faults) t h) so
 
   of_design : (design : List ℕ) → IsDesignText design shipped_design → VerifiesDesign design certificate old new t → ⊥
   of_design design is_text h = certified h.says

@@ -12,29 +12,34 @@ use Rattle.acc_journalled.specs.declared.answers.Wanted.TheVariants.{Counts, Row
 use Rattle.acc_journalled.specs.Making.{FindsOne}
 use Rattle.acc_journalled.specs.Recovering.{RefusesSo, text_of}
 use Rattle.acc_journalled.specs.Tellings.{Telling}
+use Rattle.acc_journalled.proofs.Endings.{was_of_bytes}
+use Rattle.acc_journal_commands.specs.Admissions.{IsAcceptedWith}
 use Rattle.acc_journal_commands.specs.Command.{Command}
 use Rattle.acc_journal_commands.specs.Command.TheVariants as command
 use Rattle.acc_journal_commands.specs.Text.{said_in}
 use Rattle.acc_journal_commands.specs.Disks.{Seen}
 use Rattle.acc_journal_commands.specs.BookingFiles.{say_seats, BooksFiles}
 use Rattle.acc_journal_commands.specs.InitFiles.{InitsJournal, InitsFile}
+use Rattle.acc_journal_commands.specs.MigrateFiles.{MigratesSeen, MigratesCertified, MigratesFiles}
 use Rattle.acc_journal_commands.specs.Engines.{ending_at}
 use Rattle.acc_file_commands.specs.Schedules.{TellsScheduleFrom}
 use Rattle.acc_journal_commands.specs.Running.{RunsFrom, IsOpening, WorkersLeave}
 use Rattle.acc_journal_commands.specs.RunFiles.{RunsOfOrder, WorksSeen, RunsOfScript, RunsCertified, RunsTexts}
 use Rattle.acc_journal_commands.specs.RecoverFiles.{Saying, RecoversSeen, RecoversCertified, RecoversFiles}
 use Rattle.acc_commands.specs.Means.{MeansOverDisk}
-use Rattle.acc_commands.specs.Overs.{IsRecovering, LeavesOver, LeavesBy}
+use Rattle.acc_commands.specs.Overs.{IsRecovering, IsMaking, RefusesSource, LeavesOver, LeavesBy}
 use Rattle.acc_commands.proofs.VerifyOvers.{verify_refused, verify_unbegun}
-use Rattle.acc_journal_commands.proofs.JournalEndings.{other_end, refusal_ends, making_ends, recovering_ends, unrecovered_ends}
-use Rattle.acc_journal_commands.proofs.JournalEndings.{over_unbegun, refused_or_recovered}
+use Rattle.acc_journal_commands.proofs.JournalEndings.{other_end, refusal_ends, making_ends, recovering_ends, migrating_ends}
+use Rattle.acc_journal_commands.proofs.JournalEndings.{unrecovered_ends, untold_refused, over_unbegun, refused_or_recovered}
 
 -- ---- which journal is refused
 
--- It is `init`, and a journal is there; or a command that recovers one, and nothing is recovered for some cause.
-abbrev pub RefusesOver : Command → Seen → Seen → Telling → Type 0
-RefusesOver c old new t = ((c ≡ command.Init) × FindsOne old.told new.told t)
+-- It makes a journal, and one is there; or it recovers one, and nothing is recovered for some cause; or it is `migrate`, and nothing is
+-- recovered from its source, and the disk tells what it told.
+abbrev pub RefusesOver : Command → List (List ℕ) → Seen → Seen → Telling → Type 0
+RefusesOver c files old new t = (IsMaking c × FindsOne old.told new.told t)
     ⊎ (IsRecovering c × (d : Design) × RefusesSo d old.told new.told (Rose old.faults new.faults) t)
+    ⊎ (RefusesSource c files × (new.told ≡ old.told))
 
 init_refused : (design : List ℕ) (old new : Seen) (t : Telling) → InitsFile design old new t → t.ending ≡ JournalRefused
     → FindsOne old.told new.told t
@@ -50,7 +55,7 @@ init_refused design old new t (inr h) e = by h.ends
 module _ (say : Saying) (old new : Seen) (t : Telling) (so : t.ending ≡ JournalRefused) where
   seen_refused : (d : Design) → RecoversSeen say d old new t → RefusesSo d old.told new.told (Rose old.faults new.faults) t
   seen_refused d (inl h) = absurd (other_end Done JournalRefused t (λ e. cc) h.says.0 so)
-  seen_refused d (inr h) = h
+  seen_refused d (inr h) = untold_refused d old.told new.told (Rose old.faults new.faults) t so h
 
   certified_refused : (d : Design) (certificate : List ℕ) → RecoversCertified say d certificate old new t
       → RefusesSo d old.told new.told (Rose old.faults new.faults) t
@@ -62,6 +67,42 @@ module _ (say : Saying) (old new : Seen) (t : Telling) (so : t.ending ≡ Journa
   recover_refused design certificate (inl h) =
       absurd (other_end DesignRefused JournalRefused t (λ e. cc) (refusal_ends design (said_in t) h.2) so)
   recover_refused design certificate (inr h) = (h.d, certified_refused h.d certificate h.says)
+
+-- ---- of `migrate`
+
+module _ (design certificate source : List ℕ) (old new : Seen) (t : Telling) (so : t.ending ≡ JournalRefused) where
+  abbrev RefusesMigrating : Type 0
+  RefusesMigrating = FindsOne old.told new.told t
+      ⊎ (RefusesSource command.Migrate (design ∷ certificate ∷ source ∷ []) × (new.told ≡ old.told))
+
+  migrate_refused : MigratesFiles design certificate source old new t → RefusesMigrating
+  migrate_refused (inl h) = absurd (other_end DesignRefused JournalRefused t (λ e. cc) (refusal_ends design (said_in t) h.2) so)
+  migrate_refused (inr h) = certified h.says
+    where
+      over : IsAcceptedWith h.d certificate → MigratesSeen h.d source old new t → RefusesMigrating
+      over accepted (inl k) = absurd (other_end Done JournalRefused t (λ e. cc) k.says.0 so)
+      over accepted (inr (inl k)) = inr (
+        record {
+          is_migrate = refl;
+          design = design;
+          certificate = certificate;
+          source = source;
+          are_files = refl;
+          d = h.d;
+          is_text = h.is_text;
+          accepted = accepted;
+          error = k.error;
+          of_bytes = was_of_bytes k.error t k.says (λ failed. let e : JournalRefused ≡ DiskFailed = sym so ∙ failed in absurd cc);
+          cause = k.cause;
+        },
+        k.same,
+      )
+      over accepted (inr (inr (inl k))) = inl k.finds
+      over accepted (inr (inr (inr k))) = absurd (other_end DiskFailed JournalRefused t (λ e. cc) k.says.0 so)
+
+      certified : MigratesCertified h.d certificate source old new t → RefusesMigrating
+      certified (inl k) = absurd (other_end DesignRefused JournalRefused t (λ e. cc) k.2.ending so)
+      certified (inr k) = over k.accepted k.ends
 
 -- ---- of `booking verify`
 
@@ -113,36 +154,42 @@ module _ (old new : Seen) (t : Telling) (so : t.ending ≡ JournalRefused) where
     texts_refused design certificate script (inr h) = (h.d, run_certified_refused h.d certificate script h.says)
 
 pub refused_over : (c : Command) (files : List (List ℕ)) (old new : Seen) (t : Telling) → t.ending ≡ JournalRefused
-    → MeansOverDisk c files old new t → RefusesOver c old new t
+    → MeansOverDisk c files old new t → RefusesOver c files old new t
 unfolding MeansOverDisk
 refused_over command.Init [] old new t e h = absurd h
-refused_over command.Init (design ∷ []) old new t e h = inl (refl, init_refused design old new t h e)
+refused_over command.Init (design ∷ []) old new t e h = inl (inl refl, init_refused design old new t h e)
 refused_over command.Init (design ∷ more ∷ rest) old new t e h = absurd h
 refused_over command.Recover [] old new t e h = absurd h
 refused_over command.Recover (design ∷ []) old new t e h = absurd h
 refused_over command.Recover (design ∷ certificate ∷ []) old new t e h =
-    let r = recover_refused (text_of Counts) old new t e design certificate h in inr (inr (inl refl), r.0, r.1)
+    let r = recover_refused (text_of Counts) old new t e design certificate h in inr (inl (inr (inl refl), r.0, r.1))
 refused_over command.Recover (design ∷ certificate ∷ more ∷ rest) old new t e h = absurd h
 refused_over command.Dump [] old new t e h = absurd h
 refused_over command.Dump (design ∷ []) old new t e h = absurd h
 refused_over command.Dump (design ∷ certificate ∷ []) old new t e h =
-    let r = recover_refused (text_of Rows) old new t e design certificate h in inr (inr (inr (inl refl)), r.0, r.1)
+    let r = recover_refused (text_of Rows) old new t e design certificate h in inr (inl (inr (inr (inl refl)), r.0, r.1))
 refused_over command.Dump (design ∷ certificate ∷ more ∷ rest) old new t e h = absurd h
 refused_over command.Replies [] old new t e h = absurd h
 refused_over command.Replies (design ∷ []) old new t e h = absurd h
 refused_over command.Replies (design ∷ certificate ∷ []) old new t e h =
-    let r = recover_refused (text_of Replies) old new t e design certificate h in inr (inr (inr (inr (inl refl))), r.0, r.1)
+    let r = recover_refused (text_of Replies) old new t e design certificate h in inr (inl (inr (inr (inr (inl refl))), r.0, r.1))
 refused_over command.Replies (design ∷ certificate ∷ more ∷ rest) old new t e h = absurd h
 refused_over command.Verify [] old new t e h = absurd h
 refused_over command.Verify (design ∷ []) old new t e h = absurd h
 refused_over command.Verify (design ∷ certificate ∷ []) old new t e h =
-    let r = verify_refused old new t design certificate e h in inr (inr (inr (inr (inr (inl refl)))), r.0, r.1)
+    let r = verify_refused old new t design certificate e h in inr (inl (inr (inr (inr (inr (inl refl)))), r.0, r.1))
 refused_over command.Verify (design ∷ certificate ∷ more ∷ rest) old new t e h = absurd h
 refused_over command.BookingVerify [] old new t e h = absurd h
 refused_over command.BookingVerify (design ∷ []) old new t e h = absurd h
 refused_over command.BookingVerify (design ∷ certificate ∷ []) old new t e h =
-    let r = book_refused design certificate old new t e h in inr (inr (inr (inr (inr (inr (inl refl))))), r.0, r.1)
+    let r = book_refused design certificate old new t e h in inr (inl (inr (inr (inr (inr (inr (inl refl))))), r.0, r.1))
 refused_over command.BookingVerify (design ∷ certificate ∷ more ∷ rest) old new t e h = absurd h
+refused_over command.Migrate [] old new t e h = absurd h
+refused_over command.Migrate (design ∷ []) old new t e h = absurd h
+refused_over command.Migrate (design ∷ certificate ∷ []) old new t e h = absurd h
+refused_over command.Migrate (design ∷ certificate ∷ source ∷ []) old new t e h =
+    ⊎_elim (λ finds. inl (inr refl, finds)) (λ refused. inr (inr refused)) (migrate_refused design certificate source old new t e h)
+refused_over command.Migrate (design ∷ certificate ∷ source ∷ more ∷ rest) old new t e h = absurd h
 refused_over (command.Advise side) files old new t e h = absurd h
 refused_over command.Audit files old new t e h = absurd h
 refused_over command.TpccDesign files old new t e h = absurd h
@@ -158,14 +205,14 @@ refused_over command.Sched (design ∷ certificate ∷ []) old new t e h = absur
 refused_over command.Sched (design ∷ certificate ∷ script ∷ []) old new t e h = absurd h
 refused_over command.Sched (design ∷ certificate ∷ script ∷ order ∷ []) old new t e h =
     let r = texts_refused old new t e (RunsOfOrder order) (order_refused old new t e order) design certificate script h in
-    inr (inl refl, r.0, r.1)
+    inr (inl (inl refl, r.0, r.1))
 refused_over command.Sched (design ∷ certificate ∷ script ∷ order ∷ more ∷ rest) old new t e h = absurd h
 refused_over (command.Run workers) [] old new t e h = absurd h
 refused_over (command.Run workers) (design ∷ []) old new t e h = absurd h
 refused_over (command.Run workers) (design ∷ certificate ∷ []) old new t e h = absurd h
 refused_over (command.Run workers) (design ∷ certificate ∷ script ∷ []) old new t e h =
     let r = texts_refused old new t e WorksSeen (workers_refused old new t e) design certificate script h in
-    inr (inr (inr (inr (inr (inr (inr (workers, refl)))))), r.0, r.1)
+    inr (inl (inr (inr (inr (inr (inr (inr (workers, refl)))))), r.0, r.1))
 refused_over (command.Run workers) (design ∷ certificate ∷ script ∷ more ∷ rest) old new t e h = absurd h
 refused_over command.Print files old new t e h = absurd h
 refused_over command.Draw files old new t e h = absurd h
@@ -238,6 +285,17 @@ module _ (old new : Seen) (t : Telling) (so : t.ending ≡ Unbegun) where
       other_end DesignRefused Unbegun t (λ e. cc) (refusal_ends design (said_in t) h.2) so
   recover_unbegun say design certificate (inr h) = recover_certified_unbegun say h.d certificate h.says
 
+  migrate_unbegun : (design certificate source : List ℕ) → MigratesFiles design certificate source old new t → ⊥
+  migrate_unbegun design certificate source (inl h) =
+      other_end DesignRefused Unbegun t (λ e. cc) (refusal_ends design (said_in t) h.2) so
+  migrate_unbegun design certificate source (inr h) = by h.says
+    where
+      by : MigratesCertified h.d certificate source old new t → ⊥
+      by (inl k) = other_end DesignRefused Unbegun t (λ e. cc) k.2.ending so
+      by (inr k) =
+          over_unbegun (Rose old.faults new.faults) t
+          (migrating_ends h.d source old.told new.told (Rose old.faults new.faults) t k.ends) so
+
   book_unbegun : (design certificate : List ℕ) → BooksFiles design certificate old new t → ⊥
   book_unbegun design certificate h =
       ⊎_elim (λ other. other_end DesignRefused Unbegun t (λ e. cc) other.2.0 so)
@@ -291,6 +349,11 @@ unbegun_over command.BookingVerify [] old new t e h = absurd h
 unbegun_over command.BookingVerify (design ∷ []) old new t e h = absurd h
 unbegun_over command.BookingVerify (design ∷ certificate ∷ []) old new t e h = absurd (book_unbegun old new t e design certificate h)
 unbegun_over command.BookingVerify (design ∷ certificate ∷ more ∷ rest) old new t e h = absurd h
+unbegun_over command.Migrate [] old new t e h = absurd h
+unbegun_over command.Migrate (design ∷ []) old new t e h = absurd h
+unbegun_over command.Migrate (design ∷ certificate ∷ []) old new t e h = absurd h
+unbegun_over command.Migrate (design ∷ certificate ∷ source ∷ []) old new t e h = absurd (migrate_unbegun old new t e design certificate source h)
+unbegun_over command.Migrate (design ∷ certificate ∷ source ∷ more ∷ rest) old new t e h = absurd h
 unbegun_over (command.Advise side) files old new t e h = absurd h
 unbegun_over command.Audit files old new t e h = absurd h
 unbegun_over command.TpccDesign files old new t e h = absurd h

@@ -12,7 +12,7 @@ use Rattle.acc_journalled.specs.Verifying.{Verifies, VerifiesJournal}
 use Rattle.acc_journal_commands.specs.Text.{said_in}
 use Rattle.acc_journal_commands.specs.Disks.{Seen}
 use Rattle.acc_journal_commands.specs.VerifyFiles.{VerifiesTables, VerifiesSchema, VerifiesCertified, VerifiesFiles}
-use Rattle.acc_journal_commands.proofs.JournalEndings.{other_end, refusal_ends, unrecovered_ends, over_unbegun, over_true}
+use Rattle.acc_journal_commands.proofs.JournalEndings.{other_end, refusal_ends, untold_ends, untold_refused, over_unbegun, over_true}
 use Rattle.tpcc_tables.specs.Schema.{IsSchemaOf}
 use Rattle.tpcc_tables.specs.declared.tables.TableSet.{TableSet}
 use Rattle.acc_commands.specs.Overs.{FindsFalse}
@@ -50,7 +50,7 @@ module _ (old new : Seen) (t : Telling) where
       by : (d : Design) (s : TableSet) → VerifiesJournal s d old.told new.told (Rose old.faults new.faults) t
           → RefusesSo d old.told new.told (Rose old.faults new.faults) t
       by d s (inl k) = absurd (judged_or s d old new t JournalRefused (λ e. cc) (λ e. cc) so k)
-      by d s (inr k) = k
+      by d s (inr k) = untold_refused d old.told new.told (Rose old.faults new.faults) t so k
 
   -- ---- no place is left unbegun
 
@@ -61,8 +61,7 @@ module _ (old new : Seen) (t : Telling) where
       by : (d : Design) (s : TableSet) → VerifiesJournal s d old.told new.told (Rose old.faults new.faults) t → ⊥
       by d s (inl k) = judged_or s d old new t Unbegun (λ e. cc) (λ e. cc) so k
       by d s (inr k) =
-          over_unbegun (Rose old.faults new.faults) t
-          (unrecovered_ends k.error d old.told (Rose old.faults new.faults) t k.cause k.says) so
+          over_unbegun (Rose old.faults new.faults) t (untold_ends d old.told new.told (Rose old.faults new.faults) t k) so
 
   -- ---- a condition is false
 
@@ -81,5 +80,4 @@ module _ (old new : Seen) (t : Telling) where
           → FindsFalse old new t
       by d s schema (inl k) = judged d s schema k k.ending
       by d s schema (inr k) =
-          absurd (over_true (Rose old.faults new.faults) t
-          (unrecovered_ends k.error d old.told (Rose old.faults new.faults) t k.cause k.says) so)
+          absurd (over_true (Rose old.faults new.faults) t (untold_ends d old.told new.told (Rose old.faults new.faults) t k) so)

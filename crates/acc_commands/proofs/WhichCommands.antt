@@ -224,6 +224,7 @@ module _ (other : Ending) (done_other : Done ≢ other) (design_other : DesignRe
   ends_scheduled command.Dump points files said e h = absurd h
   ends_scheduled command.Replies points files said e h = absurd h
   ends_scheduled command.Verify points files said e h = absurd h
+  ends_scheduled command.Migrate points files said e h = absurd h
   ends_scheduled command.BookingVerify points files said e h = absurd h
   ends_scheduled command.TpccDesign points [] said e h = absurd (not_so Done said done_other h.says.0 e)
   ends_scheduled command.BookingDesign points [] said e h = absurd (not_so Done said done_other h.says.0 e)
@@ -336,7 +337,7 @@ only_audited other done unbegun differs judged c files t e (inr (inr (inr h))) =
 
 -- a journal is refused by a command over it; or a copy of one by an audit, which leaves the disk as it is
 abbrev pub RefusesAnyhow : Command → List (List ℕ) → Seen → Seen → Telling → Type 0
-RefusesAnyhow c files old new t = RefusesOver c old new t ⊎ (RefusesCopy c files × (new ≡ old))
+RefusesAnyhow c files old new t = RefusesOver c files old new t ⊎ (RefusesCopy c files × (new ≡ old))
 
 pub refuses_journal :
     (c : Command) (points files : List (List ℕ)) (old new : Seen) (t : Telling) → t.ending ≡ JournalRefused → Means c points files old new t

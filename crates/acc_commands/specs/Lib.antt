@@ -21,6 +21,7 @@ pub use Rattle.acc_journal_commands.specs.Crashes
 pub use Rattle.acc_journal_commands.specs.Disks
 pub use Rattle.acc_journal_commands.specs.Files
 pub use Rattle.acc_journal_commands.specs.InitFiles
+pub use Rattle.acc_journal_commands.specs.MigrateFiles
 pub use Rattle.acc_journal_commands.specs.ParseError
 pub use Rattle.acc_journal_commands.specs.Recorded
 pub use Rattle.acc_journal_commands.specs.RecoverFiles

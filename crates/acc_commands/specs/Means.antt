@@ -27,6 +27,7 @@ use Rattle.acc_file_commands.specs.Workloads.{PrintsShipped, PrintsBooking, Prin
 use Rattle.acc_file_commands.specs.BenchFiles.{BenchesFiles}
 use Rattle.acc_journal_commands.specs.BookingFiles.{say_seats, BooksFiles}
 use Rattle.acc_journal_commands.specs.InitFiles.{InitsFile, InitLeaves, InitLeft}
+use Rattle.acc_journal_commands.specs.MigrateFiles.{MigratesFiles, MigrateLeaves, MigrateLeft}
 use Rattle.acc_journal_commands.specs.RecoverFiles.{RecoversFiles, RecoverLeaves, RecoverLeft}
 use Rattle.acc_journal_commands.specs.VerifyFiles.{VerifiesFiles, VerifyLeft}
 use Rattle.acc_journal_commands.specs.RunFiles.{RunsFiles, WorksFiles, RunLeaves, OrderRuns, RunLeft}
@@ -67,6 +68,7 @@ MeansOfFiles command.Recover points files = λ said. ⊥
 MeansOfFiles command.Dump points files = λ said. ⊥
 MeansOfFiles command.Replies points files = λ said. ⊥
 MeansOfFiles command.Verify points files = λ said. ⊥
+MeansOfFiles command.Migrate points files = λ said. ⊥
 MeansOfFiles command.TpccDesign points files = λ said. ⊥
 MeansOfFiles command.BookingDesign points files = λ said. ⊥
 MeansOfFiles command.BookingVerify points files = λ said. ⊥
@@ -85,6 +87,7 @@ MeansOverDisk command.Recover (design ∷ certificate ∷ []) = RecoversFiles (t
 MeansOverDisk command.Dump (design ∷ certificate ∷ []) = RecoversFiles (text_of Rows) design certificate
 MeansOverDisk command.Replies (design ∷ certificate ∷ []) = RecoversFiles (text_of Replies) design certificate
 MeansOverDisk command.Verify (design ∷ certificate ∷ []) = VerifiesFiles design certificate
+MeansOverDisk command.Migrate (design ∷ certificate ∷ source ∷ []) = MigratesFiles design certificate source
 MeansOverDisk command.BookingVerify (design ∷ certificate ∷ []) = BooksFiles design certificate
 MeansOverDisk command.Play files = λ old new t. ⊥
 MeansOverDisk command.Rehearse files = λ old new t. ⊥
@@ -101,6 +104,7 @@ MeansOverDisk command.Recover files = λ old new t. ⊥
 MeansOverDisk command.Dump files = λ old new t. ⊥
 MeansOverDisk command.Replies files = λ old new t. ⊥
 MeansOverDisk command.Verify files = λ old new t. ⊥
+MeansOverDisk command.Migrate files = λ old new t. ⊥
 MeansOverDisk command.TpccDesign files = λ old new t. ⊥
 MeansOverDisk command.BookingDesign files = λ old new t. ⊥
 MeansOverDisk command.BookingVerify files = λ old new t. ⊥
@@ -127,6 +131,7 @@ LeavesOfFile command.Recover (design ∷ certificate ∷ []) = RecoverLeaves des
 LeavesOfFile command.Dump (design ∷ certificate ∷ []) = RecoverLeaves design certificate
 LeavesOfFile command.Replies (design ∷ certificate ∷ []) = RecoverLeaves design certificate
 LeavesOfFile command.Verify (design ∷ certificate ∷ []) = RecoverLeaves design certificate
+LeavesOfFile command.Migrate (design ∷ certificate ∷ source ∷ []) = MigrateLeaves design certificate source
 LeavesOfFile command.BookingVerify (design ∷ certificate ∷ []) = RecoverLeaves design certificate
 LeavesOfFile command.Play files = λ file image. image ≡ file
 LeavesOfFile command.Rehearse files = λ file image. image ≡ file
@@ -143,6 +148,7 @@ LeavesOfFile command.Recover files = λ file image. image ≡ file
 LeavesOfFile command.Dump files = λ file image. image ≡ file
 LeavesOfFile command.Replies files = λ file image. image ≡ file
 LeavesOfFile command.Verify files = λ file image. image ≡ file
+LeavesOfFile command.Migrate files = λ file image. image ≡ file
 LeavesOfFile command.TpccDesign files = λ file image. image ≡ file
 LeavesOfFile command.BookingDesign files = λ file image. image ≡ file
 LeavesOfFile command.BookingVerify files = λ file image. image ≡ file
@@ -157,42 +163,47 @@ abbrev pub LeavesDisk : {D : Type 0} → D → D → List Event → ℕ → Type
 LeavesDisk old new history settled = (new ≡ old) × (settled ≡ 0)
 
 module _ {D : Type 0} (clock : D → ℕ) (left_since : D → ℕ → List ℕ → Type 0) (told : D → Option (List ℕ)) (may_leave : D → List ℕ → Type 0)
-  where
-    -- what a command leaves, and the events that it tells, also where memory ran out
-    unfoldable pub LeavesOf : Command → List (List ℕ) → D → D → List Event → ℕ → Type 0
-    LeavesOf command.Init (design ∷ []) = InitLeft clock left_since told may_leave design
-    LeavesOf command.Sched (design ∷ certificate ∷ script ∷ order ∷ []) =
-        RunLeft (OrderRuns clock left_since told may_leave order) design certificate script
-    LeavesOf (command.Run workers) (design ∷ certificate ∷ script ∷ []) =
-        RunLeft (WorksOver clock left_since told may_leave) design certificate script
-    LeavesOf command.Recover (design ∷ certificate ∷ []) = RecoverLeft clock left_since told may_leave (text_of Counts) design certificate
-    LeavesOf command.Dump (design ∷ certificate ∷ []) = RecoverLeft clock left_since told may_leave (text_of Rows) design certificate
-    LeavesOf command.Replies (design ∷ certificate ∷ []) = RecoverLeft clock left_since told may_leave (text_of Replies) design certificate
-    LeavesOf command.Verify (design ∷ certificate ∷ []) = VerifyLeft clock left_since told may_leave design certificate
-    LeavesOf command.BookingVerify (design ∷ certificate ∷ []) = RecoverLeft clock left_since told may_leave say_seats design certificate
-    LeavesOf command.Play files = LeavesDisk
-    LeavesOf command.Rehearse files = LeavesDisk
-    LeavesOf command.Print files = LeavesDisk
-    LeavesOf command.Draw files = LeavesDisk
-    LeavesOf command.Check files = LeavesDisk
-    LeavesOf command.Prove files = LeavesDisk
-    LeavesOf (command.Advise side) files = LeavesDisk
-    LeavesOf command.Audit files = LeavesDisk
-    LeavesOf command.Init files = LeavesDisk
-    LeavesOf command.Sched files = LeavesDisk
-    LeavesOf (command.Run workers) files = LeavesDisk
-    LeavesOf command.Recover files = LeavesDisk
-    LeavesOf command.Dump files = LeavesDisk
-    LeavesOf command.Replies files = LeavesDisk
-    LeavesOf command.Verify files = LeavesDisk
-    LeavesOf command.TpccDesign files = LeavesDisk
-    LeavesOf command.BookingDesign files = LeavesDisk
-    LeavesOf command.BookingVerify files = LeavesDisk
-    LeavesOf (command.TpccLoad scale) files = LeavesDisk
-    LeavesOf (command.TpccMix mix) files = LeavesDisk
-    LeavesOf (command.Bench mix) files = LeavesDisk
-    LeavesOf command.Help files = LeavesDisk
-    LeavesOf command.Version files = LeavesDisk
+    (faults : D → ℕ) where
+  -- what a command leaves, and the events that it tells, also where memory ran out
+  unfoldable pub LeavesOf : Command → List (List ℕ) → D → D → List Event → ℕ → Type 0
+  LeavesOf command.Init (design ∷ []) = InitLeft clock left_since told may_leave design
+  LeavesOf command.Sched (design ∷ certificate ∷ script ∷ order ∷ []) =
+      RunLeft (OrderRuns clock left_since told may_leave order) design certificate script
+  LeavesOf (command.Run workers) (design ∷ certificate ∷ script ∷ []) =
+      RunLeft (WorksOver clock left_since told may_leave) design certificate script
+  LeavesOf command.Recover (design ∷ certificate ∷ []) =
+      RecoverLeft clock left_since told may_leave faults (text_of Counts) design certificate
+  LeavesOf command.Dump (design ∷ certificate ∷ []) = RecoverLeft clock left_since told may_leave faults (text_of Rows) design certificate
+  LeavesOf command.Replies (design ∷ certificate ∷ []) =
+      RecoverLeft clock left_since told may_leave faults (text_of Replies) design certificate
+  LeavesOf command.Verify (design ∷ certificate ∷ []) = VerifyLeft clock left_since told may_leave faults design certificate
+  LeavesOf command.Migrate (design ∷ certificate ∷ source ∷ []) = MigrateLeft clock left_since told may_leave design certificate source
+  LeavesOf command.BookingVerify (design ∷ certificate ∷ []) =
+      RecoverLeft clock left_since told may_leave faults say_seats design certificate
+  LeavesOf command.Play files = LeavesDisk
+  LeavesOf command.Rehearse files = LeavesDisk
+  LeavesOf command.Print files = LeavesDisk
+  LeavesOf command.Draw files = LeavesDisk
+  LeavesOf command.Check files = LeavesDisk
+  LeavesOf command.Prove files = LeavesDisk
+  LeavesOf (command.Advise side) files = LeavesDisk
+  LeavesOf command.Audit files = LeavesDisk
+  LeavesOf command.Init files = LeavesDisk
+  LeavesOf command.Sched files = LeavesDisk
+  LeavesOf (command.Run workers) files = LeavesDisk
+  LeavesOf command.Recover files = LeavesDisk
+  LeavesOf command.Dump files = LeavesDisk
+  LeavesOf command.Replies files = LeavesDisk
+  LeavesOf command.Verify files = LeavesDisk
+  LeavesOf command.Migrate files = LeavesDisk
+  LeavesOf command.TpccDesign files = LeavesDisk
+  LeavesOf command.BookingDesign files = LeavesDisk
+  LeavesOf command.BookingVerify files = LeavesDisk
+  LeavesOf (command.TpccLoad scale) files = LeavesDisk
+  LeavesOf (command.TpccMix mix) files = LeavesDisk
+  LeavesOf (command.Bench mix) files = LeavesDisk
+  LeavesOf command.Help files = LeavesDisk
+  LeavesOf command.Version files = LeavesDisk
 
 -- what a run in memory says and tells; want of memory tells no event
 abbrev pub TellsInMemory : Result Run AllocError → Result Answer AllocError → List Event → Type 0

@@ -1,5 +1,6 @@
--- Which commands go over a recovered journal, which run leaves a place unbegun, where a condition is found false, and what an audit finds.
-use Rattle.std.specs.Prelude.{◌≡◌, ◌≢◌, ◌⊎◌, ◌≤◌, ◌&&◌, ℕ, false, List, [], ◌∷◌, length, Result, Ok, Err}
+-- Which commands go over a recovered journal, which make one and of what, which run leaves a place unbegun, where a condition is found
+-- false, and what an audit finds.
+use Rattle.std.specs.Prelude.{◌≡◌, ◌≢◌, ◌⊎◌, ◌≤◌, ◌&&◌, ℕ, false, List, [], ◌∷◌, length, Some, Result, Ok, Err}
 use Rattle.acc_base.specs.declared.bounds.TheConstants.{MOST_EVENTS}
 use Rattle.acc_base.specs.declared.designs.Design.{Design}
 use Rattle.acc_base.specs.declared.machines.Call.{Call}
@@ -16,8 +17,11 @@ use Rattle.acc_journal_commands.specs.Running.{IsOpening, WorkersLeave}
 use Rattle.acc_journal_commands.specs.Command.{Command}
 use Rattle.acc_journal_commands.specs.Command.TheVariants as command
 use Rattle.acc_formed.specs.WellFormed.{IsWellFormed}
+use Rattle.acc_journal_commands.specs.Admissions.{IsAcceptedWith}
 use Rattle.acc_journal_commands.specs.Texts.{IsDesignText}
 use Rattle.acc_journalled.specs.declared.answers.Ending.TheVariants.{ConditionFalse}
+use Rattle.acc_journalled.specs.RecoverError.{RecoverError}
+use Rattle.acc_journalled.specs.Refusals.{RefusesRecovery, IsOfBytes}
 use Rattle.acc_file_commands.specs.Judging.{Judges}
 use Rattle.acc_file_commands.specs.Judgement.{Judgement}
 use Rattle.acc_file_commands.specs.JudgeError.{JudgeError}
@@ -36,6 +40,25 @@ abbrev pub IsRecovering : Command → Type 0
 IsRecovering c =
     (c ≡ command.Sched) ⊎ (c ≡ command.Recover) ⊎ (c ≡ command.Dump) ⊎ (c ≡ command.Replies) ⊎ (c ≡ command.Verify)
     ⊎ (c ≡ command.BookingVerify) ⊎ ((workers : ℕ) × (c ≡ command.Run workers))
+
+-- it makes a journal
+abbrev pub IsMaking : Command → Type 0
+IsMaking c = (c ≡ command.Init) ⊎ (c ≡ command.Migrate)
+
+-- It is `migrate`: its files are a text of this design, which is accepted with the certificate, and a source, from whose bytes nothing is
+-- recovered for this cause.
+pub record RefusesSource (c : Command) (files : List (List ℕ)) : Type 0 where
+  pub is_migrate : c ≡ command.Migrate
+  pub design : List ℕ
+  pub certificate : List ℕ
+  pub source : List ℕ
+  pub are_files : files ≡ design ∷ certificate ∷ source ∷ []
+  pub d : Design
+  pub is_text : IsDesignText design d
+  pub accepted : IsAcceptedWith d certificate
+  pub error : RecoverError
+  pub of_bytes : IsOfBytes error
+  pub cause : RefusesRecovery d error (Some source) ⊥
 
 -- a schedule from where the turns begin behind a recovered state is told, and one of its places couldn't begin, since the history is full
 pub record LeavesOver (Opens : Design → List Call → World → Play → Type 0) (t : Telling) : Type 0 where

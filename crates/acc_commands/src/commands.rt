@@ -22,6 +22,7 @@ use acc_file_commands::schedules::schedule_files;
 use acc_file_commands::workloads::{print_booking, print_load, print_mix, print_shipped};
 use acc_journal_commands::bookings::book_files;
 use acc_journal_commands::journals::init_file;
+use acc_journal_commands::migrations::migrate_files;
 use acc_journal_commands::recoveries::recover_files;
 use acc_journal_commands::runs::{run_files, work_files};
 use acc_journal_commands::verifications::verify_files;
@@ -85,7 +86,7 @@ pub fn run<'a, D: Disk, C: Crew<Engine<'a, IndexStore, D>>, S: Searchers, P: Pro
     requires ready { C.ready crew.now }
     requires searching { S.ready searchers.now }
     ensures ends { Ends D.told D.may_leave D.faults (Means (command_in request.entry) (points_in request.entry) (texts_in request.entry))
-        (LeavesOf D.clock D.left_since D.told D.may_leave (command_in request.entry) (texts_in request.entry))
+        (LeavesOf D.clock D.left_since D.told D.may_leave D.faults (command_in request.entry) (texts_in request.entry))
         disk result.disk result.answer result.history result.settled }
     ensures without { is_journalled (command_in request.entry) ≡ false → result.disk ≡ disk }
     ensures lacking { is_journalled (command_in request.entry) ≡ false
@@ -115,6 +116,7 @@ pub fn run<'a, D: Disk, C: Crew<Engine<'a, IndexStore, D>>, S: Searchers, P: Pro
         Request::Dump(files) => recover_files(alloc, files, Wanted::Rows, disk, progress),
         Request::Replies(files) => recover_files(alloc, files, Wanted::Replies, disk, progress),
         Request::Verify(files) => verify_files(alloc, files, disk, progress),
+        Request::Migrate(files) => migrate_files(alloc, files, disk, progress),
         Request::TpccDesign => unrun(alloc, disk, print_shipped(alloc)),
         Request::BookingDesign => unrun(alloc, disk, print_booking(alloc)),
         Request::BookingVerify(files) => book_files(alloc, files, disk, progress),

@@ -186,16 +186,30 @@ fn push_behind(
             behind,
             printed,
         ),
+        ([design, certificate, ..], Second::CertificateOfJournal) => push_judged(
+            alloc,
+            out,
+            command,
+            d,
+            *design,
+            *certificate,
+            &[],
+            printed,
+        ),
         ([design, journal, ..], Second::Journal) => {
             push_audit(alloc, out, &d, *design, *journal, printed)
         }
         ([_, script, orders @ ..], Second::Script) => {
             push_script(alloc, out, &d, *script, orders)
         }
-        ([design, ..], Second::Certificate | Second::Journal | Second::Script | Second::None) => {
+        ([design, ..], Second::Certificate | Second::CertificateOfJournal | Second::Journal) => {
             push_alone(alloc, out, &d, *design, printed)
         }
-        ([], Second::Certificate | Second::Journal | Second::Script | Second::None) => Ok(()),
+        ([design, ..], Second::Script | Second::None) => {
+            push_alone(alloc, out, &d, *design, printed)
+        }
+        ([], Second::Certificate | Second::CertificateOfJournal | Second::Journal) => Ok(()),
+        ([], Second::Script | Second::None) => Ok(()),
     }
 }
 
@@ -296,6 +310,7 @@ fn push_done<H: Shelf>(
         Command::Print | Command::Play | Command::Rehearse | Command::Check => Ok(()),
         Command::Init | Command::Sched | Command::Run(_) => Ok(()),
         Command::Recover | Command::Dump | Command::Replies | Command::Verify => Ok(()),
+        Command::Migrate => Ok(()),
         Command::TpccDesign | Command::TpccLoad(_) | Command::TpccMix(_) => Ok(()),
         Command::BookingDesign | Command::BookingVerify | Command::Advise(_) => Ok(()),
         Command::Draw | Command::Audit | Command::Bench(_) => Ok(()),
@@ -336,7 +351,7 @@ fn push_status<H: Shelf>(
 ) -> Result<(), AllocError> {
     match status {
         USAGE => push_usage(out, words, usage),
-        JOURNAL => return push_journal(alloc, out, printed),
+        JOURNAL => return push_journal(alloc, out, words, printed),
         SINK => push_note(out, b"acc", sink_text(), b""),
         UNBEGUN => push_full(out, words),
         MEMORY => push_note(out, b"acc", memory_text(), b""),

@@ -1,7 +1,7 @@
 //! What is told of a journal that is refused, and of a disk that failed.
 use acc_base::bounds::MOST_EVENTS;
 use acc_explain::{begin_note, end_note, push_note, push_with};
-use acc_inputs::{Command, command_of};
+use acc_inputs::{Command, command_of, file_names};
 use acc_page::Page;
 use std::alloc::{AllocError, Global};
 
@@ -11,12 +11,16 @@ struct Said {
     hint: &'static [u8],
 }
 
-/// What is said of a refused journal, by the word that is printed for why.
-fn said_of(why: &str) -> Said {
+/// What is said of a refused journal, by the word that is printed for why, and whether the command only reads it.
+fn said_of(why: &str, is_read: bool) -> Said {
     match why {
         "exists" => Said {
             what: b"a journal is there already, and nothing of it was changed",
             hint: b"`acc recover`, `acc dump`, `acc replies` and `acc verify` tell what it holds; a new one wants another name",
+        },
+        "none" if is_read => Said {
+            what: b"this file is no journal",
+            hint: b"give a journal, or a copy of one",
         },
         "none" => Said {
             what: b"this file is no journal, and nothing of it was changed",
@@ -38,6 +42,10 @@ fn said_of(why: &str) -> Said {
             what: b"this journal has an event that no run of its design has, and holds what it held; so many events stand before it: ",
             hint: b"no crash leaves such a journal: the file was changed, or another program wrote it",
         },
+        "state" => Said {
+            what: b"this journal holds what it held, but a checkpoint in it isn't the rows that its events give; so many stand before it: ",
+            hint: b"no crash leaves such a journal: it was damaged, or another program wrote it; take an older copy, or ask `acc audit`",
+        },
         _ => Said {
             what: b"",
             hint: b"",
@@ -45,22 +53,53 @@ fn said_of(why: &str) -> Said {
     }
 }
 
+/// The place, among the files of a command, of the journal that it only reads, if it reads one.
+fn read_place(command: Command) -> Option<usize> {
+    match command {
+        Command::Audit => Some(1),
+        Command::Migrate => Some(2),
+        Command::Init | Command::Sched | Command::Run(_) | Command::Recover => None,
+        Command::Dump | Command::Replies | Command::Verify | Command::BookingVerify => None,
+        Command::Play | Command::Rehearse | Command::Print | Command::Draw => None,
+        Command::Check | Command::Prove | Command::Advise(_) | Command::Bench(_) => None,
+        Command::TpccDesign | Command::TpccLoad(_) | Command::TpccMix(_) => None,
+        Command::BookingDesign | Command::Help | Command::Version => None,
+    }
+}
+
+/// The name of the file that is refused as a journal, where the command only reads it; none where it is the journal that the command goes
+/// over, as it is where a journal exists.
+pub fn read_name<'a>(words: &'a [String], why: &str) -> Option<&'a str> {
+    let place = read_place(command_of(words)?)?;
+    let name = file_names(words).get(place)?;
+    if why == "exists" {
+        None
+    } else {
+        Some(name.as_str())
+    }
+}
+
 /// Says why a journal is refused: the word and the number that are printed for it.
-fn push_refusal(out: &mut Page, why: &str, number: &str) {
-    let Said { what, hint } = said_of(why);
-    begin_note(out, b"the journal");
+fn push_refusal(out: &mut Page, read: Option<&str>, why: &str, number: &str) {
+    let Said { what, hint } = said_of(why, read.is_some());
+    begin_note(out, read.unwrap_or("the journal").as_bytes());
     out.push(what);
     out.push(number.as_bytes());
     end_note(out, hint);
 }
 
 /// Says why a journal is refused, by the line that is printed.
-pub fn push_journal(alloc: Global, out: &mut Page, printed: &[u8]) -> Result<(), AllocError> {
+pub fn push_journal(
+    alloc: Global,
+    out: &mut Page,
+    words: &[String],
+    printed: &[u8],
+) -> Result<(), AllocError> {
     let text = String::from_utf8_lossy(alloc, printed)?;
     let line = text.trim_end();
     if let Some(reason) = line.strip_prefix("refused journal ") {
         let (why, number) = reason.split_once(" ").unwrap_or((reason, ""));
-        push_refusal(out, why, number);
+        push_refusal(out, read_name(words, why), why, number);
     }
     Ok(())
 }
@@ -68,7 +107,7 @@ pub fn push_journal(alloc: Global, out: &mut Page, printed: &[u8]) -> Result<(),
 /// What stands on a disk that failed under this command.
 fn standing(command: Command) -> &'static [u8] {
     match command {
-        Command::Init =>
+        Command::Init | Command::Migrate =>
             b"there is no journal now, or the new one, or the old file with another first byte; give the command again",
         Command::Sched
         | Command::Run(_)

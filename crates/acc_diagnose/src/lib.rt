@@ -20,6 +20,7 @@ mod workloads;
 
 pub use damage::cut_line;
 pub use explained::explain;
+pub use journals::read_name;
 pub use keeping::Keeping;
 pub use progress::{
     found_line, memory_line, part_line, replay_line, search_line, speed_line, work_line,

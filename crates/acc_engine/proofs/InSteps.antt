@@ -26,7 +26,9 @@ use Rattle.acc_base.specs.Lawful.{IsLawful}
 use Rattle.acc_lift.proofs.Theorem.{event_logged}
 use Rattle.acc_wal.specs.Spellings.{body, event_bytes, Fits}
 use Rattle.acc_wal.specs.Wals.{Journal}
-use Rattle.acc_wal.specs.Settling.{IsSettled, KeepsLists, FailsSo, Pushes}
+use Rattle.acc_wal.specs.Items.{seal_bytes}
+use Rattle.acc_wal.specs.Settling.{IsSettled, KeepsLists, FailsSo, Pushes, PushesSeal}
+use Rattle.acc_wal.specs.declared.items.Seal.{Seal}
 use Rattle.acc_wal.specs.declared.errors.WalError.{WalError}
 use Rattle.acc_wal.specs.declared.errors.WalError.TheVariants as wal_error
 use Rattle.acc_machine.specs.declared.errors.BeginError.{BeginError}
@@ -37,6 +39,8 @@ use Rattle.acc_machine.proofs.Keeping.{kept_after}
 use Rattle.acc_machine.specs.Turns.{IsTurnEvent, step, undo, abort, AddsEvent, AddsBy}
 use Rattle.acc_engine.specs.Keeping.{IsInStep, CallsFit, BeginsFrom, IsNoCrash, call_of, unbegun, is_begun, times_begun, begin_of}
 use Rattle.acc_engine.specs.Lags.{AddsTurn, Lags, CatchesUp, HasSmallCause}
+use Rattle.acc_engine.specs.Sealing.{AreHeld}
+use Rattle.acc_engine.proofs.Sealed.{none_held, held_bytes}
 use Rattle.acc_engine.proofs.Unbegun.{unbegun_set, unbegun_all}
 
 pub few_events : (d : Design) (w : World) → IsKept d w → length w.events ≤ 2 ^ 24
@@ -88,11 +92,11 @@ module _ {D : Type 0} (d : Design) (w : World) (old new : Journal D) (found : �
   in_step_settled (Ok x) s e = settled s
   in_step_settled (Err x) s e = same_lists e
 
--- nothing waits behind a settling, where nothing did before
-pub quiet_settled : {D T E : Type 0} (old new : Journal D) (r : Result T E) → OnOk r (IsSettled old new) → OnErr r (KeepsLists old new)
-    → old.waiting ≡ [] → new.waiting ≡ []
-quiet_settled old new (Ok x) s e quiet = s.waiting
-quiet_settled old new (Err x) s e quiet = e.waiting ∙ quiet
+-- no state waits behind a settling, or those that did
+pub held_settled : {D T E : Type 0} (d : Design) (events : List Event) (old new : Journal D) (r : Result T E) → OnOk r (IsSettled old new)
+    → OnErr r (KeepsLists old new) → AreHeld d events old.waiting → AreHeld d events new.waiting
+held_settled d events old new (Ok x) s e held = none_held d events new.waiting s.waiting
+held_settled d events old new (Err x) s e held = subst (λ (l : List Seal). AreHeld d events l) (sym e.waiting) held
 
 -- ---- a turn
 
@@ -156,6 +160,8 @@ caught_up t events old new result turns is p unspent = record {
       ∙ sym (append_assoc old.durable old.tail (result ∷ [])) ∙ ap (λ e. old.durable ++ old.tail ++ e ∷ []) is ∙ sym turns.added;
   disk = p.disk;
   base = p.base;
+  version = p.version;
+  seals = p.seals;
   durable = p.durable;
   waiting = p.waiting;
   spent = p.spent ∙ sym unspent;
@@ -225,10 +231,12 @@ lags t Ended old new wal a is = record {
 module _ {D : Type 0} (d d2 : Design) (w w2 : World) (old mid new : Journal D) (found : ℕ) (calls : List Call) (marks : List Bool)
     (lowest : ℕ)
     (k : IsInStep d w old.durable old.tail found calls marks lowest) (l : KeepsLists old mid) where
-  pub turn_short : length (body mid.tail) + 14 < 2 ^ 32
-  turn_short =
+  pub turn_short : AreHeld d w.events old.waiting → length (body mid.tail) + seal_bytes mid.waiting + 14 < 2 ^ 32
+  turn_short held =
       omega (
         arith,
+        held_bytes d w.events old.waiting held,
+        ap (λ (ss : List Seal). seal_bytes ss) l.waiting,
         k.sized,
         k.whole,
         ap (λ (es : List Event). length (body es)) l.tail,
@@ -265,6 +273,29 @@ module _ {D : Type 0} (d d2 : Design) (w w2 : World) (old mid new : Journal D) (
         sized = omega (arith, k.sized, up.brief, ap (λ (es : List Event). length (body es)) l.tail, ap length l.tail);
         below = k.below;
       }
+
+-- ---- a state that is put
+
+module _ {D : Type 0} (d : Design) (w : World) (old new : Journal D) (found : ℕ) (calls : List Call) (marks : List Bool) (lowest : ℕ)
+    (k : IsInStep d w old.durable old.tail found calls marks lowest) where
+  pub seal_short : (text : List ℕ) → old.waiting ≡ [] → length text ≤ 2 ^ 22
+      → length (body old.tail) + seal_bytes old.waiting + (5 + length text) < 2 ^ 32
+  seal_short text none short =
+      omega (
+        arith,
+        ap (λ (ss : List Seal). seal_bytes ss) none,
+        short,
+        k.sized,
+        k.whole,
+        few_events d w k.state,
+        ap length k.same,
+        length-append old.durable old.tail,
+      )
+
+  pub in_step_sealed : (text : List ℕ) → PushesSeal text old new → IsInStep d w new.durable new.tail found calls marks lowest
+  in_step_sealed text push =
+      subst (λ (es : List Event). IsInStep d w new.durable es found calls marks lowest) (sym push.tail)
+      (subst (λ (es : List Event). IsInStep d w es old.tail found calls marks lowest) (sym push.durable) k)
 
 -- ---- a begin
 
@@ -376,10 +407,12 @@ module _ {D : Type 0} (d d2 : Design) (w w2 : World) (mid new : Journal D) (foun
     (lowest p : ℕ)
     (call : Call) (k : IsInStep d w mid.durable mid.tail found calls marks lowest) (lt : p < length marks)
     (fresh : get_or marks p false ≡ false) (is : slice_get calls p ≡ Some call) where
-  pub begin_short : length (body mid.tail) + length (event_bytes (Begin call)) < 2 ^ 32
-  begin_short =
+  pub begin_short : AreHeld d w.events mid.waiting
+      → length (body mid.tail) + seal_bytes mid.waiting + length (event_bytes (Begin call)) < 2 ^ 32
+  begin_short held =
       omega (
         arith,
+        held_bytes d w.events mid.waiting held,
         k.sized,
         k.whole,
         unbegun_set p marks calls call lt fresh is,

@@ -1,7 +1,9 @@
 pub mod CallFields
 pub mod Unbegun
+pub mod Sealed
 pub mod InSteps
 pub mod Standing
 pub mod Tails
 pub mod Turned
 pub mod Surviving
+pub mod Sealings

@@ -1,7 +1,7 @@
 -- What an engine keeps, as its calls change it; and what a crash leaves of its history.
 use Rattle.std.proofs.Common.{◌≡◌, ◌⊎◌, inl, inr, ◌≤◌, ◌++◌, [], ◌∷◌, ℕ, List, Bool, false, Option, Some, length, drop, take, refl}
 use Rattle.std.proofs.Common.{sym, ◌∙◌, ap, subst, arith, length-append}
-use Rattle.std.proofs.lemmas.List.{append-nil, drop-append-le, take_all, take_at}
+use Rattle.std.proofs.lemmas.List.{append-nil, drop-append-le, take_all, take_at, take-append-le}
 use Rattle.acc_base.specs.declared.designs.Design.{Design}
 use Rattle.acc_base.specs.declared.machines.Call.{Call}
 use Rattle.acc_base.specs.declared.machines.Event.{Event}
@@ -10,11 +10,13 @@ use Rattle.acc_base.specs.Machine.{World}
 use Rattle.acc_disk.specs.Moments.{AtAnyMoment}
 use Rattle.acc_lift.proofs.Theorem.{event_logged}
 use Rattle.acc_wal.specs.Fronts.{CountsFront}
-use Rattle.acc_wal.specs.Journals.{Counts}
-use Rattle.acc_wal.specs.Settling.{SameButRoom}
+use Rattle.acc_wal.specs.Journals.{Counts, CountsAll}
+use Rattle.acc_wal.specs.Settling.{SameButRoom, PushesSeal}
 use Rattle.acc_wal.specs.Wals.{Journal, CountsEither}
 use Rattle.acc_wal.proofs.FrontLemmas.{front_of_either, front_goes_on}
 use Rattle.acc_wal.proofs.Moments.{weaker}
+use Rattle.acc_wal.specs.declared.items.Seal.{Seal}
+use Rattle.acc_recover.proofs.Sealed.{events_counted}
 use Rattle.acc_machine.specs.Begun.{HasRoom}
 use Rattle.acc_machine.specs.Kept.{IsKept}
 use Rattle.acc_machine.specs.Turns.{AddsEvent}
@@ -70,7 +72,10 @@ front_at_moments clock left_since old new base history settled within run =
 abbrev pub seen : {D : Type 0} → Design → World → Journal D → ℕ → List Call → List Bool → Journalled D
 seen d w wal found calls marks = record {
   disk = wal.disk;
+  version = wal.version;
   base = wal.base;
+  seals = wal.seals;
+  waiting = wal.waiting;
   design = d;
   state = w;
   settled = length wal.durable;
@@ -83,7 +88,7 @@ seen d w wal found calls marks = record {
 -- what its type keeps, with what the journal tells of its disk
 pub sound_in_step : {D : Type 0} (told : D → Option (List ℕ)) (d : Design) (w : World) (wal : Journal D) (found : ℕ) (calls : List Call)
     (marks : List Bool) (lowest : ℕ) → IsInStep d w wal.durable wal.tail found calls marks lowest
-    → (wal.spent ≡ false → (file : List ℕ) → told wal.disk ≡ Some file → Counts file wal.base wal.durable)
+    → (wal.spent ≡ false → (file : List ℕ) → told wal.disk ≡ Some file → CountsAll file wal.base wal.version wal.durable wal.seals)
     → IsSound told (seen d w wal found calls marks)
 sound_in_step told d w wal found calls marks lowest k counts = record {
   kept = k.state;
@@ -91,7 +96,12 @@ sound_in_step told d w wal found calls marks lowest k counts = record {
   within = omega (arith, ap length k.same, length-append wal.durable wal.tail);
   counts = λ unfailed file is.
       subst (λ (h : List Event). CountsFront wal.base h (length wal.durable) file) k.same
-      (front_of_either wal.base file wal.durable wal.tail (inl (counts unfailed file is)));
+      (front_of_either wal.base file wal.durable wal.tail
+      (inl (events_counted file wal.base wal.version wal.durable wal.seals (counts unfailed file is))));
+  journal = λ unfailed file is.
+      subst (λ (es : List Event). CountsAll file wal.base wal.version es wal.seals)
+      (sym (ap (λ (h : List Event). take (length wal.durable) h) (sym k.same) ∙ take_at wal.durable wal.tail (length wal.durable) refl))
+      (counts unfailed file is);
 }
 
 -- the journal's room doesn't show
@@ -99,7 +109,10 @@ pub seen_again : {D : Type 0} (d d2 : Design) (w w2 : World) (old new : Journal 
     → d2 ≡ d → w2 ≡ w → SameButRoom old new → seen d2 w2 new found calls marks ≡ seen d w old found calls marks
 seen_again d d2 w w2 old new found calls marks design state same =
     let disk = same.disk in
+    let version = same.lists.version in
     let base = same.lists.base in
+    let seals = same.lists.seals in
+    let waiting = same.lists.waiting in
     let settled = ap length same.lists.durable in
     let failed = same.spent in
     cc
@@ -117,6 +130,15 @@ sound_on told old new more stays history kept begins sound = record {
       subst (λ (base : List ℕ). CountsFront base new.state.events new.settled file) (sym stays.base)
       (subst (λ (h : List Event). CountsFront old.base h new.settled file) (sym history)
       (front_goes_on old.base file old.state.events more old.settled new.settled (omega (arith, stays.settled)) was));
+  journal = λ unfailed file is.
+      let was = sound.journal (sym stays.failed ∙ unfailed) file (ap told (sym stays.disk) ∙ is) in
+      let first : take new.settled new.state.events ≡ take old.settled old.state.events =
+      ap (λ n. take n new.state.events) stays.settled ∙ ap (λ (h : List Event). take old.settled h) history
+      ∙ take-append-le old.settled old.state.events more sound.within in
+      subst (λ (base : List ℕ). CountsAll file base new.version (take new.settled new.state.events) new.seals) (sym stays.base)
+      (subst (λ n. CountsAll file old.base n (take new.settled new.state.events) new.seals) (sym stays.version)
+      (subst (λ (l : List Seal). CountsAll file old.base old.version (take new.settled new.state.events) l) (sym stays.seals)
+      (subst (λ (es : List Event). CountsAll file old.base old.version es old.seals) (sym first) was)));
 }
 
 -- a turn
@@ -126,7 +148,9 @@ module _ {D : Type 0} (told : D → Option (List ℕ)) (d d2 : Design) (w w2 : W
   stays : StaysBut (seen d w old found calls marks) (seen d2 w2 new found calls marks)
   stays = record {
     disk = up.disk ∙ same.disk;
+    version = up.version ∙ same.lists.version;
     base = up.base ∙ same.lists.base;
+    seals = up.seals ∙ same.lists.seals;
     design = is;
     settled = ap length (up.durable ∙ same.lists.durable);
     found = refl;
@@ -141,6 +165,23 @@ module _ {D : Type 0} (told : D → Option (List ℕ)) (d d2 : Design) (w w2 : W
   pub sound_turned : (t : ℕ) → (w2.events ≡ w.events) ⊎ AddsEvent t w w2 → IsSound told (seen d2 w2 new found calls marks)
   sound_turned t (inl events) = on [] (events ∙ sym (append-nil w.events))
   sound_turned t (inr turns) = on (turns.event ∷ []) turns.added
+
+-- a state that is put
+pub sound_sealed : {D : Type 0} (told : D → Option (List ℕ)) (d : Design) (w : World) (old new : Journal D) (found : ℕ) (calls : List Call)
+    (marks : List Bool) (text : List ℕ) → old.spent ≡ false → PushesSeal text old new → IsSound told (seen d w old found calls marks)
+    → IsSound told (seen d w new found calls marks)
+sound_sealed told d w old new found calls marks text unspent push sound =
+    sound_on told (seen d w old found calls marks) (seen d w new found calls marks) [] (record {
+      disk = push.disk;
+      version = push.version;
+      base = push.base;
+      seals = push.seals;
+      design = refl;
+      settled = ap length push.durable;
+      found = refl;
+      calls = refl;
+      failed = push.spent ∙ sym unspent;
+    }) (sym (append-nil w.events)) sound.kept sound.begins sound
 
 -- the same calls and events, and other marks of the same places
 begins_so : (calls calls2 : List Call) (marks marks2 : List Bool) (events events2 : List Event) → calls2 ≡ calls → events2 ≡ events

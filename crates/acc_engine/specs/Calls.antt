@@ -13,10 +13,12 @@ use Rattle.acc_engine.specs.declared.errors.EngineError.TheVariants.{Disk, Faile
 use Rattle.acc_engine.specs.declared.errors.Drawn.{Drawn}
 use Rattle.acc_engine.specs.declared.errors.Drawn.TheVariants.{Begun, Empty, Full, Crowd}
 
--- nothing but the state, the marks and the journal's memory have changed
+-- nothing but the state, the states that wait, the marks and the journal's memory have changed
 pub record StaysBut {D : Type 0} (old new : Journalled D) : Type 0 where
   pub disk : new.disk ≡ old.disk
+  pub version : new.version ≡ old.version
   pub base : new.base ≡ old.base
+  pub seals : new.seals ≡ old.seals
   pub design : new.design ≡ old.design
   pub settled : new.settled ≡ old.settled
   pub found : new.found ≡ old.found
@@ -81,3 +83,9 @@ abbrev pub answer_for : BeginError → Result Drawn EngineError
 answer_for TooMany = Ok Full
 answer_for TooOpen = Ok Crowd
 answer_for NoMemory = Err Memory
+
+-- why a state isn't put and settled: a fault of the disk, an earlier one, or want of memory before the disk was called
+abbrev pub StopsSealing : EngineError → Bool → Bool → Type 0 → Type 0
+StopsSealing Disk before now fault = (before ≡ false) × (now ≡ true) × fault
+StopsSealing Failed before now fault = before ≡ true
+StopsSealing Memory before now fault = (before ≡ false) × (now ≡ false)

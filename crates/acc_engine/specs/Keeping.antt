@@ -10,13 +10,18 @@ use Rattle.acc_base.specs.declared.machines.Event.TheVariants.{Begin, Step, Abor
 use Rattle.acc_base.specs.Machine.{World, call_fits}
 use Rattle.acc_wal.specs.declared.writing.TheConstants.{LONGEST_TURN}
 use Rattle.acc_wal.specs.Spellings.{body, event_bytes}
+use Rattle.acc_wal.specs.declared.items.Seal.{Seal}
 use Rattle.acc_machine.specs.Kept.{IsKept}
 
--- An engine is seen as its disk, the journal's base text, the design and the state, how many events are durable, how many
--- events it began with, the calls with a mark for each that is begun, and whether a fault of the disk ended it.
+-- An engine is seen as its disk, the journal's version and base text, its durable states with their places and those that wait, the design
+-- and the state, how many events are durable, how many events it began with, the calls with a mark for each that is begun, and whether a
+-- fault of the disk ended it.
 pub record Journalled (D : Type 0) : Type 0 where
   pub disk : D
+  pub version : ℕ
   pub base : List ℕ
+  pub seals : List Seal
+  pub waiting : List Seal
   pub design : Design
   pub state : World
   pub settled : ℕ

@@ -28,6 +28,8 @@ pub record CatchesUp {D : Type 0} (events : List Event) (old new : Journal D) : 
   pub same : new.durable ++ new.tail ≡ events
   pub disk : new.disk ≡ old.disk
   pub base : new.base ≡ old.base
+  pub version : new.version ≡ old.version
+  pub seals : new.seals ≡ old.seals
   pub durable : new.durable ≡ old.durable
   pub waiting : new.waiting ≡ old.waiting
   pub spent : new.spent ≡ old.spent

@@ -3,6 +3,7 @@ pub mod Keeping
 pub mod Lags
 pub mod Calls
 pub mod Acks
+pub mod Sealing
 pub mod Ready
 pub mod Standing
 pub mod Surviving

@@ -2,6 +2,8 @@
 ghost use Rattle.std.specs.Prelude.{◌≡◌};
 ghost use Rattle.acc_engine.specs.Calls.{answer_for};
 
+mod seals;
+
 use crate::acks::has_turn;
 use crate::errors::{Drawn, EngineError};
 use crate::marks::lowest;
@@ -18,10 +20,11 @@ use std::marker::Model;
 
 /// A state of an accepted design, its journal, and the calls of a script.
 ///
-/// Contracts see the disk, the journal's base text, the design and the state, how many events are durable, how many the engine
-/// began with, the calls with a mark for each place that is begun, and whether the engine has failed. Its type keeps that the
-/// journal's events are the state's history; and that of the events that came since the engine was made none is a crash, and the
-/// calls that began are those of the places with a mark, each once. Each call that changes it says what it keeps (`sound`).
+/// Contracts see the disk, the journal's version, base text and states, the design and the state, how many events are durable, how many
+/// the engine began with, the calls with a mark for each place that is begun, and whether the engine has failed. Its type keeps that the
+/// journal's events are the state's history; that of the events that came since the engine was made none is a crash, and the calls that
+/// began are those of the places with a mark, each once; and that at most one state waits, the text of the rows at its place. Each call
+/// that changes it says what it keeps (`sound`).
 #[derive(Drop)]
 pub struct Engine<'a, S: Store, D: Disk> {
     state: State<'a, S>,
@@ -39,12 +42,16 @@ pub struct Engine<'a, S: Store, D: Disk> {
 impl<'a, S: Store, D: Disk> Model for Engine<'a, S, D> {
     ghost use Rattle.std.specs.Prelude.{◌≡◌, [], length};
     ghost use Rattle.acc_engine.specs.Keeping.{Journalled, IsInStep};
+    ghost use Rattle.acc_engine.specs.Sealing.{AreHeld};
 
     ghost Value = { Journalled D };
 
     ghost view = { λ e. record {
       disk = e.wal.disk;
+      version = e.wal.version;
       base = e.wal.base;
+      seals = e.wal.seals;
+      waiting = e.wal.waiting;
       design = e.state.design;
       state = e.state.world;
       settled = length e.wal.durable;
@@ -55,12 +62,12 @@ impl<'a, S: Store, D: Disk> Model for Engine<'a, S, D> {
     } };
 
     ghost invariant = { λ e. IsInStep e.state.design e.state.world e.wal.durable e.wal.tail e.found e.calls e.begun.items e.lowest
-        × (e.failed ≡ e.wal.spent) × (e.wal.waiting ≡ []) };
+        × AreHeld e.state.design e.state.world.events e.wal.waiting × (e.failed ≡ e.wal.spent) };
 }
 
 impl<'a, S: Store, D: Disk> Engine<'a, S, D> {
-    ghost use Rattle.std.specs.Prelude.{◌≡◌, ◌≢◌, ◌≤◌, ◌<◌, ◌+◌, ◌-◌, ◌^◌, ◌++◌, [], map, drop};
-    ghost use Rattle.std.specs.Prelude.{List, ℕ, length, false, true, IfOk, IfErr, OnOk, OnErr, Ok, Err, Some, option_copied};
+    ghost use Rattle.std.specs.Prelude.{◌≡◌, ◌≢◌, ◌↔◌, ◌≤◌, ◌<◌, ◌+◌, ◌-◌, ◌^◌, ◌++◌, [], map, drop};
+    ghost use Rattle.std.specs.Prelude.{List, ℕ, length, false, true, IsTrue, IfOk, IfErr, OnOk, OnErr, Ok, Err, Some, option_copied};
     ghost use Rattle.acc_io.specs.Causes.{Rose};
     ghost use Rattle.acc_disk.specs.Crashes.{Only, IsCalm};
     ghost use Rattle.acc_disk.specs.Moments.{AtAnyMoment};
@@ -74,6 +81,7 @@ impl<'a, S: Store, D: Disk> Engine<'a, S, D> {
     ghost use Rattle.acc_engine.specs.Acks.{durable_reply};
     ghost use Rattle.acc_engine.specs.Calls.{StaysBut, IsUnmoved, RefusesTurn, RefusesSettling, Begins, Draws, DrawsLowest};
     ghost use Rattle.acc_engine.specs.Ready.{IsReady};
+    ghost use Rattle.acc_engine.specs.Sealing.{SealedDurableOrAll};
     ghost use Rattle.acc_engine.specs.Standing.{IsSound, CountsDurableOrAll};
     ghost use Rattle.acc_engine.specs.declared.errors.EngineError.TheVariants.{Failed, Memory};
 
@@ -87,12 +95,13 @@ impl<'a, S: Store, D: Disk> Engine<'a, S, D> {
         requires few { length (body (map begin_of calls)) < 2 ^ 31 }
         ensures state { (result.state ≡ state.entry.world) × (result.design ≡ state.entry.design) }
         ensures journal { (result.disk ≡ wal.disk) × (result.base ≡ wal.base) × (result.failed ≡ false) }
+        ensures states { (result.version ≡ wal.version) × (result.seals ≡ wal.seals) × (result.waiting ≡ []) }
         ensures all { (result.settled ≡ length result.state.events) × (result.found ≡ length result.state.events) }
         ensures calls { (result.calls ≡ calls) × (result.begun ≡ []) }
         ensures sound { IsSound D.told result }
     {
         let found = state.events().len();
-        let _durable = wal.durable();
+        let _seals = wal.seals();
         Engine {
             state,
             wal,
@@ -149,11 +158,18 @@ impl<'a, S: Store, D: Disk> Engine<'a, S, D> {
         self.failed
     }
 
+    /// Whether events have come since the engine was made.
+    pub fn has_grown(&self) -> bool
+        ensures { IsTrue result ↔ (self.now.found < length self.now.state.events) }
+    {
+        self.found < self.state.events().len()
+    }
+
     /// What the engine keeps, for a contract. It does nothing.
     pub fn standing(&self)
         ensures { IsSound D.told self.now }
     {
-        let _durable = self.wal.durable();
+        let _seals = self.wal.seals();
     }
 
     /// The reply of a transaction, once it has ended and its end is durable. It takes no memory, and goes over the events that aren't
@@ -168,16 +184,19 @@ impl<'a, S: Store, D: Disk> Engine<'a, S, D> {
         }
     }
 
-    /// Makes the history durable, and tells how many events it has. It takes no memory.
+    /// Makes the history durable, with the states that wait, and tells how many events it has. It takes no memory.
     ///
     /// From a calm disk a crash at any moment of the call leaves a journal of the events that were durable before, or of all events:
     /// nothing between. After Ok the disk is calm. `Disk` only where the disk's count of faults rose in this call.
     pub fn settle(&mut self) -> Result<u64, EngineError>
-        ensures kept { (self.new.state ≡ self.old.state) × (self.new.base ≡ self.old.base) × (self.new.design ≡ self.old.design) }
+        ensures kept { (self.new.state ≡ self.old.state) × (self.new.base ≡ self.old.base) × (self.new.design ≡ self.old.design)
+            × (self.new.version ≡ self.old.version) }
         ensures calls { (self.new.calls ≡ self.old.calls) × (self.new.begun ≡ self.old.begun) × (self.new.found ≡ self.old.found) }
         ensures ok { IfOk result (λ count. (count ≡ length self.new.state.events)
             × (self.new.settled ≡ length self.new.state.events) × (self.new.failed ≡ false)) }
-        ensures err { OnErr result (self.new.settled ≡ self.old.settled) }
+        ensures states { OnOk result ((self.new.seals ≡ self.old.seals ++ self.old.waiting) × (self.new.waiting ≡ [])) }
+        ensures err { OnErr result ((self.new.settled ≡ self.old.settled) × (self.new.seals ≡ self.old.seals)
+            × (self.new.waiting ≡ self.old.waiting)) }
         ensures why { IfErr result (λ error. RefusesSettling error self.old.failed self.new.failed
             (Rose (D.faults self.old.disk) (D.faults self.new.disk))) }
         ensures failed { self.old.failed ≡ true → (result ≡ Err Failed) × (self.new ≡ self.old) }
@@ -188,11 +207,16 @@ impl<'a, S: Store, D: Disk> Engine<'a, S, D> {
             → Only file (D.may_leave self.old.disk)
             → AtAnyMoment D.clock D.left_since self.old.disk self.new.disk
             (CountsDurableOrAll self.old.base self.old.state.events self.old.settled) }
+        ensures moments_sealed { IsReady D.told D.may_leave self.old
+            → AtAnyMoment D.clock D.left_since self.old.disk self.new.disk
+            (SealedDurableOrAll self.old.design self.old.base self.old.state.events self.old.settled) }
         ensures ready { IsReady D.told D.may_leave self.old → OnOk result (IsReady D.told D.may_leave self.new) }
         ensures sound { IsSound D.told self.new }
     {
+        let _sealed = self.wal.seals();
         let outcome = self.wal.settle();
         self.failed = outcome.is_err();
+        let _seals = self.wal.seals();
         let count = self.wal.durable().len() as u64;
         match outcome {
             Ok(()) => Ok(count),
@@ -218,6 +242,7 @@ impl<'a, S: Store, D: Disk> Engine<'a, S, D> {
         ensures failed { self.old.failed ≡ true → (result ≡ Err Failed) × (self.new ≡ self.old) }
         ensures stays { StaysBut self.old self.new }
         ensures begun { self.new.begun ≡ self.old.begun }
+        ensures waiting { self.new.waiting ≡ self.old.waiting }
         ensures sound { IsSound D.told self.new }
     {
         self.standing();
@@ -254,6 +279,7 @@ impl<'a, S: Store, D: Disk> Engine<'a, S, D> {
         ensures memory { IfErr result (λ error. error ≡ Memory → HasRoom self.old.state) }
         ensures failed { self.old.failed ≡ true → (result ≡ Err Failed) × (self.new ≡ self.old) }
         ensures stays { StaysBut self.old self.new }
+        ensures waiting { self.new.waiting ≡ self.old.waiting }
         ensures sound { IsSound D.told self.new }
     {
         self.standing();
@@ -277,6 +303,7 @@ impl<'a, S: Store, D: Disk> Engine<'a, S, D> {
         ensures err { OnErr result (IsUnmoved self.old self.new) }
         ensures why { IfErr result (λ error. error ≡ Memory) }
         ensures stays { StaysBut self.old self.new }
+        ensures waiting { self.new.waiting ≡ self.old.waiting }
     {
         let index = (place - 1) as usize;
         let event = prepare(&mut self.wal, &mut self.begun, self.calls.as_slice(), index)?;
@@ -299,6 +326,7 @@ impl<'a, S: Store, D: Disk> Engine<'a, S, D> {
         ensures memory { IfErr result (λ error. error ≡ Memory → HasRoom self.old.state) }
         ensures failed { self.old.failed ≡ true → (result ≡ Err Failed) × (self.new ≡ self.old) }
         ensures stays { StaysBut self.old self.new }
+        ensures waiting { self.new.waiting ≡ self.old.waiting }
         ensures sound { IsSound D.told self.new }
     {
         self.standing();
@@ -319,6 +347,8 @@ impl<'a, S: Store, D: Disk> Engine<'a, S, D> {
         ensures disk { (result.1.disk ≡ self.entry.disk) × (result.1.base ≡ self.entry.base) × (result.1.spent ≡ self.entry.failed) }
         ensures same { result.1.durable ++ result.1.tail ≡ self.entry.state.events }
         ensures settled { length result.1.durable ≡ self.entry.settled }
+        ensures states { (result.1.version ≡ self.entry.version) × (result.1.seals ≡ self.entry.seals)
+            × (result.1.waiting ≡ self.entry.waiting) }
     {
         let Engine {
             state,

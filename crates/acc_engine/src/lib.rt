@@ -7,6 +7,8 @@ mod errors;
 mod marks;
 mod noting;
 mod places;
+mod sealing;
 
 pub use engines::Engine;
 pub use errors::{Drawn, EngineError};
+pub use sealing::LONGEST_SEAL;

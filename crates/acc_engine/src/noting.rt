@@ -2,6 +2,7 @@
 ghost use Rattle.std.specs.Prelude.{◌≡◌, ◌≤◌, ◌<◌, ◌+◌, ◌^◌, ◌++◌, [], ◌∷◌, List, length, false, IfOk};
 ghost use Rattle.acc_base.specs.declared.machines.Event.{Event as TheEvent};
 ghost use Rattle.acc_base.specs.declared.machines.Event.TheVariants.{Begin};
+ghost use Rattle.acc_wal.specs.Items.{seal_bytes};
 ghost use Rattle.acc_wal.specs.Spellings.{body, cause_number, event_bytes, Fits};
 ghost use Rattle.acc_wal.specs.Settling.{Pushes};
 ghost use Rattle.acc_machine.specs.Kept.{IsKept};
@@ -25,10 +26,9 @@ pub fn begin_again(alloc: Global, call: &Call) -> Result<Event, AllocError>
 /// Puts an event at the end of the tail, where it has room.
 pub fn put<D: Disk>(wal: &mut Wal<D>, event: Event)
     requires unspent { wal.old.spent ≡ false }
-    requires quiet { wal.old.waiting ≡ [] }
     requires fits { Fits event }
     requires room { length (event_bytes event) ≤ wal.old.room }
-    requires short { length (body wal.old.tail) + length (event_bytes event) < 2 ^ 32 }
+    requires short { length (body wal.old.tail) + seal_bytes wal.old.waiting + length (event_bytes event) < 2 ^ 32 }
     ensures { Pushes event wal.old wal.new }
 {
     match wal.push(event) {
@@ -71,9 +71,8 @@ pub fn note<S: Store, D: Disk>(state: &State<S>, wal: &mut Wal<D>, t: u64, turn:
     requires lags { Lags t turn state.now.world.events wal.old }
     requires number { t < 2 ^ 32 }
     requires unspent { wal.old.spent ≡ false }
-    requires quiet { wal.old.waiting ≡ [] }
     requires room { LONGEST_TURN ≤ wal.old.room }
-    requires short { length (body wal.old.tail) + LONGEST_TURN < 2 ^ 32 }
+    requires short { length (body wal.old.tail) + seal_bytes wal.old.waiting + LONGEST_TURN < 2 ^ 32 }
     ensures up { CatchesUp state.now.world.events wal.old wal.new }
     ensures kept { IsKept state.now.design state.now.world }
 {

@@ -21,6 +21,7 @@ help_lines =
     codes "acc dump DESIGN CERT JOURNAL                does the same, and prints the rows that its events lead to" ∷
     codes "acc replies DESIGN CERT JOURNAL             does the same, and prints how each transaction ended, by its number" ∷
     codes "acc verify DESIGN CERT JOURNAL              does the same, and tells which of TPC-C's conditions 1 to 9 are true of its rows" ∷
+    codes "acc migrate DESIGN CERT OLD JOURNAL         makes JOURNAL a new journal of what is recovered from OLD, which stays as it is" ∷
     codes "acc tpcc design                             prints the design of TPC-C's transactions that the program brings along" ∷
     codes "acc tpcc load W ITEMS CUSTOMERS             prints a script that fills W warehouses of TPC-C, 1 to 10, as the standard says" ∷
     codes "acc tpcc mix W ITEMS CUSTOMERS COUNT START  prints a script of COUNT of TPC-C's transactions behind that, drawn from START" ∷

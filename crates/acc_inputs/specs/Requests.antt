@@ -7,9 +7,10 @@ use Rattle.acc_inputs.specs.declared.requests.CertifiedFiles.{CertifiedFiles}
 use Rattle.acc_inputs.specs.declared.requests.ScheduleFiles.{ScheduleFiles}
 use Rattle.acc_inputs.specs.declared.requests.WorkerFiles.{WorkerFiles}
 use Rattle.acc_inputs.specs.declared.requests.AuditFiles.{AuditFiles}
+use Rattle.acc_inputs.specs.declared.requests.MigrationFiles.{MigrationFiles}
 use Rattle.acc_inputs.specs.declared.requests.Request.{Request}
 use Rattle.acc_inputs.specs.declared.requests.Request.TheVariants.{Play, Rehearse, Print, Draw, Check, Prove, Advise, Audit, Init, Sched}
-use Rattle.acc_inputs.specs.declared.requests.Request.TheVariants.{Run, Recover, Dump, Replies, Verify}
+use Rattle.acc_inputs.specs.declared.requests.Request.TheVariants.{Run, Recover, Dump, Replies, Verify, Migrate}
 use Rattle.acc_inputs.specs.declared.requests.Request.TheVariants.{TpccDesign, TpccLoad, TpccMix, BookingDesign, BookingVerify}
 use Rattle.acc_inputs.specs.declared.requests.Request.TheVariants.{Bench, Help, Version}
 
@@ -29,6 +30,7 @@ command_in (Recover files) = command.Recover
 command_in (Dump files) = command.Dump
 command_in (Replies files) = command.Replies
 command_in (Verify files) = command.Verify
+command_in (Migrate files) = command.Migrate
 command_in TpccDesign = command.TpccDesign
 command_in BookingDesign = command.BookingDesign
 command_in (BookingVerify files) = command.BookingVerify
@@ -46,6 +48,9 @@ certified_texts files = files.design.now ∷ files.certificate.now ∷ []
 
 abbrev pub audited_texts : AuditFiles → List (List ℕ)
 audited_texts files = files.design.now ∷ files.journal.now ∷ []
+
+abbrev pub migrated_texts : MigrationFiles → List (List ℕ)
+migrated_texts files = files.design.now ∷ files.certificate.now ∷ files.old.now ∷ []
 
 abbrev pub scheduled_texts : ScheduleFiles → List (List ℕ)
 scheduled_texts files = files.design.now ∷ files.certificate.now ∷ files.script.now ∷ files.order.now ∷ []
@@ -70,6 +75,7 @@ texts_in (Recover files) = certified_texts files
 texts_in (Dump files) = certified_texts files
 texts_in (Replies files) = certified_texts files
 texts_in (Verify files) = certified_texts files
+texts_in (Migrate files) = migrated_texts files
 texts_in TpccDesign = []
 texts_in BookingDesign = []
 texts_in (BookingVerify files) = certified_texts files
@@ -96,6 +102,7 @@ points_in (Recover files) = []
 points_in (Dump files) = []
 points_in (Replies files) = []
 points_in (Verify files) = []
+points_in (Migrate files) = []
 points_in TpccDesign = []
 points_in BookingDesign = []
 points_in (BookingVerify files) = []

@@ -37,12 +37,13 @@ form_of verb =
     (if bytes_eq verb (codes "dump") then Some (Files command.Dump) else
     (if bytes_eq verb (codes "replies") then Some (Files command.Replies) else
     (if bytes_eq verb (codes "verify") then Some (Files command.Verify) else
+    (if bytes_eq verb (codes "migrate") then Some (Files command.Migrate) else
     (if bytes_eq verb (codes "tpcc") then Some Tpcc else
     (if bytes_eq verb (codes "booking") then Some Booking else
     (if bytes_eq verb (codes "bench") then Some Bench else
     (if bytes_eq verb (codes "--help") then Some (Files command.Help) else
     (if bytes_eq verb (codes "--version") then Some (Files command.Version) else
-    None)))))))))))))))))))
+    None))))))))))))))))))))
 
 -- what this word wants of TPC-C
 unfoldable pub workload_of : List ℕ → Option Workload
@@ -83,6 +84,7 @@ verb_of command.Recover = codes "recover" ∷ []
 verb_of command.Dump = codes "dump" ∷ []
 verb_of command.Replies = codes "replies" ∷ []
 verb_of command.Verify = codes "verify" ∷ []
+verb_of command.Migrate = codes "migrate" ∷ []
 verb_of command.TpccDesign = codes "tpcc" ∷ codes "design" ∷ []
 verb_of command.BookingDesign = codes "booking" ∷ codes "design" ∷ []
 verb_of command.BookingVerify = codes "booking" ∷ codes "verify" ∷ []
@@ -109,6 +111,7 @@ file_count command.Recover = 2
 file_count command.Dump = 2
 file_count command.Replies = 2
 file_count command.Verify = 2
+file_count command.Migrate = 3
 file_count command.TpccDesign = 0
 file_count command.BookingDesign = 0
 file_count command.BookingVerify = 2
@@ -135,6 +138,7 @@ point_count command.Recover = 0
 point_count command.Dump = 0
 point_count command.Replies = 0
 point_count command.Verify = 0
+point_count command.Migrate = 0
 point_count command.TpccDesign = 0
 point_count command.BookingDesign = 0
 point_count command.BookingVerify = 0
@@ -172,6 +176,7 @@ is_journalled command.Recover = true
 is_journalled command.Dump = true
 is_journalled command.Replies = true
 is_journalled command.Verify = true
+is_journalled command.Migrate = true
 is_journalled command.TpccDesign = false
 is_journalled command.BookingDesign = false
 is_journalled command.BookingVerify = true

@@ -21,7 +21,8 @@ pub use files::{Refusal, file_names, files_in, points_in, read_all};
 pub use notes::{help_text, version_text};
 pub use numbers::number_of;
 pub use requests::{
-    AdviceFiles, AuditFiles, CertifiedFiles, PlayFiles, Request, ScheduleFiles, WorkerFiles,
+    AdviceFiles, AuditFiles, CertifiedFiles, MigrationFiles, PlayFiles, Request, ScheduleFiles,
+    WorkerFiles,
 };
 pub use scales::{Mix, Scale};
 pub use schemas::{FoundSchema, find_schema};

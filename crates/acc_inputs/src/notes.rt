@@ -24,6 +24,7 @@ acc recover DESIGN CERT JOURNAL             ends what its events left unfinished
 acc dump DESIGN CERT JOURNAL                does the same, and prints the rows that its events lead to
 acc replies DESIGN CERT JOURNAL             does the same, and prints how each transaction ended, by its number
 acc verify DESIGN CERT JOURNAL              does the same, and tells which of TPC-C's conditions 1 to 9 are true of its rows
+acc migrate DESIGN CERT OLD JOURNAL         makes JOURNAL a new journal of what is recovered from OLD, which stays as it is
 acc tpcc design                             prints the design of TPC-C's transactions that the program brings along
 acc tpcc load W ITEMS CUSTOMERS             prints a script that fills W warehouses of TPC-C, 1 to 10, as the standard says
 acc tpcc mix W ITEMS CUSTOMERS COUNT START  prints a script of COUNT of TPC-C's transactions behind that, drawn from START

@@ -80,6 +80,14 @@ pub struct AuditFiles<'a> {
     pub journal: &'a [u8],
 }
 
+/// The bytes of a design, of its certificate, and of a journal whose events another one is to be made of.
+#[derive(Clone, Copy)]
+pub struct MigrationFiles<'a> {
+    pub design: &'a [u8],
+    pub certificate: &'a [u8],
+    pub old: &'a [u8],
+}
+
 /// A command with the bytes of its files: of a design alone, or of one with others.
 #[derive(Clone, Copy)]
 pub enum Request<'a> {
@@ -100,6 +108,7 @@ pub enum Request<'a> {
     Dump(CertifiedFiles<'a>),
     Replies(CertifiedFiles<'a>),
     Verify(CertifiedFiles<'a>),
+    Migrate(MigrationFiles<'a>),
     TpccDesign,
     BookingDesign,
     BookingVerify(CertifiedFiles<'a>),
@@ -158,6 +167,11 @@ impl<'a> Request<'a> {
             Command::Dump => Request::Dump(CertifiedFiles::new(files)),
             Command::Replies => Request::Replies(CertifiedFiles::new(files)),
             Command::Verify => Request::Verify(CertifiedFiles::new(files)),
+            Command::Migrate => Request::Migrate(MigrationFiles {
+                design: &files[0],
+                certificate: &files[1],
+                old: &files[2],
+            }),
             Command::TpccDesign => Request::TpccDesign,
             Command::BookingDesign => Request::BookingDesign,
             Command::BookingVerify => Request::BookingVerify(CertifiedFiles::new(files)),

@@ -45,6 +45,8 @@ pub enum Command {
     Replies,
     /// `verify DESIGN CERT`, over a journal
     Verify,
+    /// `migrate DESIGN CERT OLD`, over a journal that it makes of OLD, which is one or a copy of one
+    Migrate,
     /// `tpcc design`
     TpccDesign,
     /// `tpcc load W ITEMS CUSTOMERS`
@@ -112,6 +114,7 @@ fn form_of(verb: &str) -> Option<Form>
         "dump" => Some(Form::Files(Command::Dump)),
         "replies" => Some(Form::Files(Command::Replies)),
         "verify" => Some(Form::Files(Command::Verify)),
+        "migrate" => Some(Form::Files(Command::Migrate)),
         "tpcc" => Some(Form::Tpcc),
         "booking" => Some(Form::Booking),
         "bench" => Some(Form::Bench),
@@ -170,7 +173,7 @@ pub(crate) fn verb_count(command: Command) -> usize
         Command::Check | Command::Prove | Command::Advise(_) | Command::Audit => 1,
         Command::Bench(_) => 1,
         Command::Init | Command::Sched | Command::Run(_) | Command::Recover => 1,
-        Command::Dump | Command::Replies | Command::Verify => 1,
+        Command::Dump | Command::Replies | Command::Verify | Command::Migrate => 1,
         Command::Help | Command::Version => 1,
     }
 }
@@ -181,7 +184,7 @@ pub(crate) fn file_count(command: Command) -> usize
     ensures { result ≡ file_count command }
 {
     match command {
-        Command::Play | Command::Run(_) => 3,
+        Command::Play | Command::Run(_) | Command::Migrate => 3,
         Command::Rehearse | Command::Sched => 4,
         Command::Print | Command::Draw | Command::Prove => 1,
         Command::Advise(_) | Command::Init => 1,
@@ -204,7 +207,7 @@ pub(crate) fn point_count(command: Command) -> usize
         Command::Recover | Command::Dump | Command::Replies | Command::Verify => 0,
         Command::TpccDesign | Command::TpccLoad(_) | Command::TpccMix(_) => 0,
         Command::BookingDesign | Command::BookingVerify | Command::Bench(_) => 0,
-        Command::Audit | Command::Help | Command::Version => 0,
+        Command::Migrate | Command::Audit | Command::Help | Command::Version => 0,
     }
 }
 
@@ -215,7 +218,7 @@ fn is_journalled(command: Command) -> bool
     match command {
         Command::Init | Command::Sched | Command::Run(_) => true,
         Command::Recover | Command::Dump | Command::Replies | Command::Verify => true,
-        Command::BookingVerify => true,
+        Command::Migrate | Command::BookingVerify => true,
         Command::Play | Command::Rehearse | Command::Print | Command::Draw => false,
         Command::Check | Command::Prove | Command::Bench(_) | Command::Help | Command::Version =>
             false,

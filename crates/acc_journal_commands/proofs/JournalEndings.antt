@@ -1,5 +1,5 @@
 -- How the commands over a journal end.
-use Rattle.std.proofs.Common.{◌≡◌, ℕ, Bool, true, false, List, [], Option, inl, inr, sym, ◌∙◌, ⊎_elim}
+use Rattle.std.proofs.Common.{◌≡◌, ℕ, Bool, true, false, List, [], Option, Some, inl, inr, sym, ◌∙◌, ⊎_elim}
 use Rattle.std.specs.Prelude.{◌≢◌, ◌⊎◌, codes}
 use Rattle.acc_io.specs.Causes.{Rose}
 use Rattle.acc_base.specs.declared.designs.Design.{Design}
@@ -18,7 +18,8 @@ use Rattle.acc_journalled.specs.declared.answers.Ending.{Ending}
 use Rattle.acc_journalled.specs.declared.answers.Ending.TheVariants.{Done, DesignRefused, ScriptRefused, JournalRefused}
 use Rattle.acc_journalled.specs.declared.answers.Ending.TheVariants.{DiskFailed, Unbegun, Open, ConditionFalse}
 use Rattle.acc_journalled.specs.Making.{MakesJournal}
-use Rattle.acc_journalled.specs.Recovering.{SaysNotRead, SaysNotRecovered, RecoversJournal}
+use Rattle.acc_journalled.specs.Migrating.{MigratesJournal}
+use Rattle.acc_journalled.specs.Recovering.{SaysNotRead, SaysNotRecovered, RefusesSo, EndsUntold, RecoversJournal}
 use Rattle.acc_journalled.specs.Verifying.{VerifiesJournal}
 use Rattle.acc_journalled.specs.Tellings.{Telling}
 use Rattle.tpcc_tables.specs.declared.tables.TableSet.{TableSet}
@@ -26,6 +27,7 @@ use Rattle.acc_inputs.specs.Text.{Said, Says, said_in, IsEarly}
 use Rattle.acc_journal_commands.specs.Disks.{Seen, WithoutDisk}
 use Rattle.acc_inputs.specs.Refusals.{SaysError, RefusesDesign}
 use Rattle.acc_journal_commands.specs.InitFiles.{InitsFile}
+use Rattle.acc_journal_commands.specs.MigrateFiles.{MigratesCertified, MigratesFiles}
 use Rattle.acc_running.specs.Running.{RunsFrom, RunsJournal, WorksJournal, IsOpening, WorkersLeave}
 use Rattle.acc_running.specs.Engines.{ending_at}
 use Rattle.acc_journal_commands.specs.RunFiles.{RunsOfOrder, WorksSeen, RunsOfScript, RunsCertified, RunsTexts, RunsFiles, WorksFiles}
@@ -59,13 +61,33 @@ pub unrecovered_ends : (error : RecoverError) (d : Design) (told : Option (List 
 unrecovered_ends (recovery.Journal error) d told fault t why says = inr (inl (not_read_ends error t says))
 unrecovered_ends recovery.OtherDesign d told fault t why says = inr (inl says.0)
 unrecovered_ends (recovery.Unlawful at) d told fault t why says = inr (inl says.0)
+unrecovered_ends (recovery.Differs place) d told fault t why says = inr (inl says.0)
 unrecovered_ends recovery.Disk d told fault t why says = inr (inr (says.0, why))
 unrecovered_ends recovery.Memory d told fault t why says = absurd says
+
+pub untold_ends : (d : Design) (told told' : Option (List ℕ)) (fault : Type 0) (t : Telling) → EndsUntold d told told' fault t
+    → EndsOver fault t
+untold_ends d told told' fault t (inl h) = unrecovered_ends h.error d told fault t h.cause h.says
+untold_ends d told told' fault t (inr h) = inr (inr (h.says.0, h.failed))
 
 pub recovering_ends : (text : World → ℕ → List ℕ) (d : Design) (told told' : Option (List ℕ)) (fault : Type 0) (t : Telling)
     → RecoversJournal text d told told' fault t → EndsOver fault t
 recovering_ends text d told told' fault t (inl h) = inl h.says.0
-recovering_ends text d told told' fault t (inr h) = unrecovered_ends h.error d told fault t h.cause h.says
+recovering_ends text d told told' fault t (inr h) = untold_ends d told told' fault t h
+
+-- where the fault is another one too
+over_weaker : (fault other : Type 0) (t : Telling) → (fault → other) → EndsOver fault t → EndsOver other t
+over_weaker fault other t so (inl is) = inl is
+over_weaker fault other t so (inr (inl is)) = inr (inl is)
+over_weaker fault other t so (inr (inr is)) = inr (inr (is.0, so is.1))
+
+pub migrating_ends : (d : Design) (source : List ℕ) (told told' : Option (List ℕ)) (fault : Type 0) (t : Telling)
+    → MigratesJournal d source told told' fault t → EndsOver fault t
+migrating_ends d source told told' fault t (inl h) = inl h.says.0
+migrating_ends d source told told' fault t (inr (inl h)) =
+    over_weaker ⊥ fault t (λ none. absurd none) (unrecovered_ends h.error d (Some source) ⊥ t h.cause h.says)
+migrating_ends d source told told' fault t (inr (inr (inl h))) = inr (inl h.finds.says.0)
+migrating_ends d source told told' fault t (inr (inr (inr h))) = inr (inr (h.says.0, h.failed))
 
 pub other_end : (a b : Ending) (t : Telling) → a ≢ b → t.ending ≡ a → t.ending ≡ b → ⊥
 other_end a b t differs is so = differs (sym is ∙ so)
@@ -75,8 +97,20 @@ pub unrecovered_done : (error : RecoverError) (t : Telling) → SaysNotRecovered
 unrecovered_done (recovery.Journal error) t says is = other_end JournalRefused Done t (λ e. cc) (not_read_ends error t says) is
 unrecovered_done recovery.OtherDesign t says is = other_end JournalRefused Done t (λ e. cc) says.0 is
 unrecovered_done (recovery.Unlawful at) t says is = other_end JournalRefused Done t (λ e. cc) says.0 is
+unrecovered_done (recovery.Differs place) t says is = other_end JournalRefused Done t (λ e. cc) says.0 is
 unrecovered_done recovery.Disk t says is = other_end DiskFailed Done t (λ e. cc) says.0 is
 unrecovered_done recovery.Memory t says is = says
+
+pub untold_done : (d : Design) (told told' : Option (List ℕ)) (fault : Type 0) (t : Telling) → EndsUntold d told told' fault t
+    → t.ending ≢ Done
+untold_done d told told' fault t (inl h) is = unrecovered_done h.error t h.says is
+untold_done d told told' fault t (inr h) is = other_end DiskFailed Done t (λ e. cc) h.says.0 is
+
+-- where the journal is refused, nothing is recovered
+pub untold_refused : (d : Design) (told told' : Option (List ℕ)) (fault : Type 0) (t : Telling) → t.ending ≡ JournalRefused
+    → EndsUntold d told told' fault t → RefusesSo d told told' fault t
+untold_refused d told told' fault t so (inl h) = h
+untold_refused d told told' fault t so (inr h) = absurd (other_end DiskFailed JournalRefused t (λ e. cc) h.says.0 so)
 
 -- that isn't an ending before the journal
 pub over_late : (fault : Type 0) (t : Telling) → EndsOver fault t → IsEarly t.ending → ⊥
@@ -95,6 +129,10 @@ pub recovering_late : (text : World → ℕ → List ℕ) (d : Design) (told tol
     → RecoversJournal text d told told' fault t → IsEarly t.ending → ⊥
 recovering_late text d told told' fault t h = over_late fault t (recovering_ends text d told told' fault t h)
 
+pub migrating_late : (d : Design) (source : List ℕ) (told told' : Option (List ℕ)) (fault : Type 0) (t : Telling)
+    → MigratesJournal d source told told' fault t → IsEarly t.ending → ⊥
+migrating_late d source told told' fault t h = over_late fault t (migrating_ends d source told told' fault t h)
+
 -- telling of conditions ends so too, or with one that is false
 abbrev pub EndsJudged : Type 0 → Telling → Type 0
 EndsJudged fault t = EndsOver fault t ⊎ (t.ending ≡ ConditionFalse)
@@ -102,7 +140,7 @@ EndsJudged fault t = EndsOver fault t ⊎ (t.ending ≡ ConditionFalse)
 verifying_ends : (s : TableSet) (d : Design) (told told' : Option (List ℕ)) (fault : Type 0) (t : Telling)
     → VerifiesJournal s d told told' fault t → EndsJudged fault t
 verifying_ends s d told told' fault t (inl h) = ⊎_elim (λ e. inl (inl e.0)) (λ e. inr e.0) h.ending
-verifying_ends s d told told' fault t (inr h) = inl (unrecovered_ends h.error d told fault t h.cause h.says)
+verifying_ends s d told told' fault t (inr h) = inl (untold_ends d told told' fault t h)
 
 judged_late : (fault : Type 0) (t : Telling) → EndsJudged fault t → IsEarly t.ending → ⊥
 judged_late fault t (inl over) early = over_late fault t over early
@@ -169,6 +207,18 @@ EndsOverDisk fault t = IsEarly t.ending ⊎ EndsRun fault t
 pub init_ends : (design : List ℕ) (old new : Seen) (t : Telling) → InitsFile design old new t → EndsOverDisk (Rose old.faults new.faults) t
 init_ends design old new t (inl h) = inl (inl (refusal_ends design (said_in t) h.2))
 init_ends design old new t (inr h) = inr (inl (making_ends h.d old.told new.told (Rose old.faults new.faults) t h.ends))
+
+module _ (source : List ℕ) (old new : Seen) (t : Telling) where
+  made_certified_ends : (d : Design) (certificate : List ℕ) → MigratesCertified d certificate source old new t
+      → EndsOverDisk (Rose old.faults new.faults) t
+  made_certified_ends d certificate (inl h) = inl (inl h.2.ending)
+  made_certified_ends d certificate (inr h) =
+      inr (inl (migrating_ends d source old.told new.told (Rose old.faults new.faults) t h.ends))
+
+  pub migrate_ends : (design certificate : List ℕ) → MigratesFiles design certificate source old new t
+      → EndsOverDisk (Rose old.faults new.faults) t
+  migrate_ends design certificate (inl h) = inl (inl (refusal_ends design (said_in t) h.2))
+  migrate_ends design certificate (inr h) = made_certified_ends h.d certificate h.says
 
 module _ (say : Saying) (old new : Seen) (t : Telling) where
   certified_ends : (d : Design) (certificate : List ℕ) → RecoversCertified say d certificate old new t

@@ -10,10 +10,10 @@ use Rattle.acc_inputs.specs.Bookings.{IsBooking, RefusesBooking}
 use Rattle.acc_inputs.specs.Refusals.{RefusesDesign, RefusesCertificate}
 use Rattle.acc_inputs.specs.Texts.{IsDesignText}
 use Rattle.acc_journalled.specs.Recoveries.{LeavesRecovery}
-use Rattle.acc_journalled.specs.Recovering.{TellsRecovered}
+use Rattle.acc_journalled.specs.Recovering.{Recovers, done_with}
 use Rattle.acc_journalled.specs.Tellings.{Telling}
 use Rattle.acc_journal_commands.specs.Disks.{Seen, WithoutDisk, LeavesSo}
-use Rattle.acc_journal_commands.specs.RecoverFiles.{Saying, RecoversSeen}
+use Rattle.acc_journal_commands.specs.RecoverFiles.{Saying, RecoversSeen, TellsNoneOr, StopsDurable}
 
 abbrev pub seats_text : List ℕ
 seats_text = line (codes "seats true") ++ line (codes "rooms true")
@@ -51,8 +51,14 @@ abbrev pub BooksFiles : List ℕ → List ℕ → Seen → Seen → Telling → 
 BooksFiles design certificate old new t =
     WithoutDisk (RefusesDesign design) old new t ⊎ BooksDesign design certificate old new t
 
--- what a crash leaves of an accepted design's journal, and no event is told or the recovered history
+-- the recovered history of an accepted design's journal, of which something can be said
+pub record TellsShipped (d : Design) (told told' : Option (List ℕ)) (history : List Event) (settled : ℕ) : Type 0 where
+  pub text : List ℕ
+  pub recovers : Recovers (say_seats d) d told told' (done_with text history settled)
+
+-- what a crash leaves of an accepted design's journal, and no event is told or the recovered history, likewise
 pub record ShippedLeft {D : Type 0} (clock : D → ℕ) (left_since : D → ℕ → List ℕ → Type 0) (told : D → Option (List ℕ))
-    (may_leave : D → List ℕ → Type 0) (d : Design) (old new : D) (history : List Event) (settled : ℕ) : Type 0 where
+    (may_leave : D → List ℕ → Type 0) (faults : D → ℕ) (d : Design) (old new : D) (history : List Event) (settled : ℕ) : Type 0 where
   pub leaves : LeavesSo clock left_since told may_leave (LeavesRecovery d) old new
-  pub tells : TellsRecovered (say_seats d) d (told old) (told new) history settled
+  pub tells : TellsNoneOr
+      (TellsShipped d (told old) (told new) history settled ⊎ StopsDurable told may_leave faults d old new history settled) history settled

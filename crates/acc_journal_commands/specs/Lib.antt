@@ -22,6 +22,7 @@ pub use Rattle.acc_running.specs.Running
 pub mod BookingFiles
 pub mod Disks
 pub mod InitFiles
+pub mod MigrateFiles
 pub mod RecoverFiles
 pub mod RunFiles
 pub mod VerifyFiles

@@ -14,7 +14,7 @@ use Rattle.acc_journalled.specs.Recovering.{Recovers, done_with}
 use Rattle.acc_journalled.specs.Verifying.{VerifiesJournal, verdicts_text}
 use Rattle.acc_journalled.specs.Tellings.{Telling}
 use Rattle.acc_journal_commands.specs.Disks.{Seen, WithoutDisk, LeavesSo}
-use Rattle.acc_journal_commands.specs.RecoverFiles.{LeavesAccepted, RecoverLeaves, TellsNoneOr}
+use Rattle.acc_journal_commands.specs.RecoverFiles.{LeavesAccepted, RecoverLeaves, TellsNoneOr, StopsDurable, StopsAccepted, StopsDesign}
 use Rattle.acc_inputs.specs.Refusals.{RefusesDesign, RefusesCertificate}
 use Rattle.acc_inputs.specs.Schemas.{RefusesSchema}
 
@@ -74,18 +74,24 @@ pub record TellsVerifiedDesign (design certificate : List ℕ) (told told' : Opt
     pub tells : TellsVerified d certificate told told' history settled
 
 module _ {D : Type 0} (clock : D → ℕ) (left_since : D → ℕ → List ℕ → Type 0) (told : D → Option (List ℕ)) (may_leave : D → List ℕ → Type 0)
-  where
-    -- what a crash leaves is what it leaves of `recover`; no event is told or the recovered history
-    pub record VerifyLeft (design certificate : List ℕ) (old new : D) (history : List Event) (settled : ℕ) : Type 0 where
-      pub leaves : LeavesSo clock left_since told may_leave (RecoverLeaves design certificate) old new
-      pub tells : TellsNoneOr (TellsVerifiedDesign design certificate (told old) (told new) history settled) history settled
+    (faults : D → ℕ) where
+  -- what a crash leaves is what it leaves of `recover`; no event is told or the recovered history, likewise
+  pub record VerifyLeft (design certificate : List ℕ) (old new : D) (history : List Event) (settled : ℕ) : Type 0 where
+    pub leaves : LeavesSo clock left_since told may_leave (RecoverLeaves design certificate) old new
+    pub tells : TellsNoneOr
+        (TellsVerifiedDesign design certificate (told old) (told new) history settled
+        ⊎ StopsDesign told may_leave faults design certificate old new history settled) history settled
 
-    -- the same of a design, with its certificate
-    pub record CertifiedLeft (d : Design) (certificate : List ℕ) (old new : D) (history : List Event) (settled : ℕ) : Type 0 where
-      pub leaves : LeavesSo clock left_since told may_leave (LeavesAccepted d certificate) old new
-      pub tells : TellsNoneOr (TellsVerified d certificate (told old) (told new) history settled) history settled
+  -- the same of a design, with its certificate
+  pub record CertifiedLeft (d : Design) (certificate : List ℕ) (old new : D) (history : List Event) (settled : ℕ) : Type 0 where
+    pub leaves : LeavesSo clock left_since told may_leave (LeavesAccepted d certificate) old new
+    pub tells : TellsNoneOr
+        (TellsVerified d certificate (told old) (told new) history settled
+        ⊎ StopsAccepted told may_leave faults d certificate old new history settled) history settled
 
-    -- the same of an accepted design
-    pub record TablesLeft (d : Design) (old new : D) (history : List Event) (settled : ℕ) : Type 0 where
-      pub leaves : LeavesSo clock left_since told may_leave (LeavesRecovery d) old new
-      pub tells : TellsNoneOr (TellsTables d (told old) (told new) history settled) history settled
+  -- the same of an accepted design
+  pub record TablesLeft (d : Design) (old new : D) (history : List Event) (settled : ℕ) : Type 0 where
+    pub leaves : LeavesSo clock left_since told may_leave (LeavesRecovery d) old new
+    pub tells : TellsNoneOr
+        (TellsTables d (told old) (told new) history settled ⊎ StopsDurable told may_leave faults d old new history settled)
+        history settled

@@ -9,7 +9,7 @@ ghost use Rattle.acc_inputs.specs.Texts.{IsDesignText};
 ghost use Rattle.acc_io.specs.Causes.{Rose};
 ghost use Rattle.acc_journalled.specs.Recoveries.{LeavesRecovery};
 ghost use Rattle.acc_journalled.specs.declared.answers.Ending.TheVariants.{Done, DiskFailed};
-ghost use Rattle.acc_journalled.specs.Recovering.{RecoversJournal, TellsRecovered};
+ghost use Rattle.acc_journalled.specs.Recovering.{RecoversJournal, TellsRecovered, LeavesTold};
 ghost use Rattle.acc_journalled.specs.Tellings.{telling_of};
 ghost use Rattle.acc_print.specs.Designs.{printed};
 ghost use Rattle.acc_store.specs.Rows.{SumsFit};
@@ -25,10 +25,10 @@ use acc_inputs::{
     Admission, CertifiedFiles, FoundBooking, ReadDesign, admit, design_refused, find_booking,
     read_design,
 };
-use acc_journalled::{Answer, Ended, Ending, empty_rows, not_recovered, unrun};
+use acc_journalled::{Answer, Ended, Ending, recover_sealed, unrun};
 use acc_lift::Accepted;
 use acc_progress::Progress;
-use acc_recover::{Recovered, recover};
+use acc_recover::Recovered;
 use acc_store::{Store, StoreError};
 use std::alloc::{AllocError, Global};
 
@@ -80,19 +80,19 @@ fn book_journal<D: Disk, P: Progress>(
     requires shipped { d.now ≡ booking_design }
     ensures answer { IfOk result.answer (λ a. RecoversJournal (say_seats d.now) d.now (D.told disk) (D.told result.disk)
         (Rose (D.faults disk) (D.faults result.disk)) (telling_of a result.history result.settled)) }
-    ensures recorded { TellsRecovered (say_seats d.now) d.now (D.told disk) (D.told result.disk) result.history result.settled }
+    ensures recorded { TellsRecovered (say_seats d.now) d.now (D.told disk) (D.told result.disk)
+        (Rose (D.faults disk) (D.faults result.disk)) result.history result.settled }
     ensures moments { (file : List ℕ) → D.told disk ≡ Some file → Only file (D.may_leave disk)
         → AtAnyMoment D.clock D.left_since disk result.disk (LeavesRecovery d.now file) }
     ensures left { (file : List ℕ) → D.told disk ≡ Some file → Only file (D.may_leave disk)
         → IfSome (D.told result.disk) (LeavesRecovery d.now file) }
+    ensures behind { (file : List ℕ) → D.told disk ≡ Some file → Only file (D.may_leave disk)
+        → (image : List ℕ) → D.may_leave result.disk image → LeavesTold d.now result.history image }
     ensures calm { IfOk result.answer (λ a. a.ending ≢ DiskFailed → IsCalm (D.told disk) (D.may_leave disk)
         → IsCalm (D.told result.disk) (D.may_leave result.disk)) }
     ensures faults { D.faults disk ≤ D.faults result.disk }
 {
-    let Some(rows) = empty_rows(alloc, d) else {
-        return unrun(alloc, disk, Err(AllocError));
-    };
-    match recover(alloc, d, rows, disk, progress) {
+    match recover_sealed(alloc, d, disk, progress) {
         Ok(found) => {
             let Recovered { state, wal, .. } = found;
             let (store, history) = state.into_parts();
@@ -103,7 +103,7 @@ fn book_journal<D: Disk, P: Progress>(
                 answer: judge_store(alloc, &store),
             }
         }
-        Err((error, _, disk)) => unrun(alloc, disk, not_recovered(alloc, error)),
+        Err(ended) => ended,
     }
 }
 
@@ -116,7 +116,7 @@ fn book_accepted<D: Disk, P: Progress>(
 ) -> Ended<D>
     requires spelled { IsDesignText (printed accepted.now) accepted.now }
     ensures { Ends D.told D.may_leave D.faults (BooksSchema accepted.now)
-        (ShippedLeft D.clock D.left_since D.told D.may_leave accepted.now)
+        (ShippedLeft D.clock D.left_since D.told D.may_leave D.faults accepted.now)
         disk result.disk result.answer result.history result.settled }
 {
     match find_booking(alloc, accepted.design()) {
@@ -137,7 +137,7 @@ fn book_design<D: Disk, P: Progress>(
 ) -> Ended<D>
     requires spelled { IsDesignText (printed d) d }
     ensures { Ends D.told D.may_leave D.faults (BooksCertified d certificate.now)
-        (AcceptedLeft D.clock D.left_since D.told D.may_leave say_seats d certificate.now)
+        (AcceptedLeft D.clock D.left_since D.told D.may_leave D.faults say_seats d certificate.now)
         disk result.disk result.answer result.history result.settled }
 {
     match admit(alloc, d, certificate) {
@@ -156,7 +156,7 @@ pub fn book_files<D: Disk, P: Progress>(
     progress: &mut P,
 ) -> Ended<D>
     ensures { Ends D.told D.may_leave D.faults (BooksFiles files.entry.design.now files.entry.certificate.now)
-        (RecoverLeft D.clock D.left_since D.told D.may_leave say_seats files.entry.design.now files.entry.certificate.now)
+        (RecoverLeft D.clock D.left_since D.told D.may_leave D.faults say_seats files.entry.design.now files.entry.certificate.now)
         disk result.disk result.answer result.history result.settled }
 {
     match read_design(alloc, files.design) {

@@ -3,6 +3,7 @@
 
 pub mod bookings;
 pub mod journals;
+pub mod migrations;
 pub mod recoveries;
 pub mod runs;
 pub mod verifications;
@@ -15,6 +16,7 @@ pub use acc_journalled::IndexStore;
 pub use acc_running::{Alone, Crew, Engine};
 pub use bookings::book_files;
 pub use journals::init_file;
+pub use migrations::migrate_files;
 pub use recoveries::recover_files;
 pub use runs::{run_files, work_files};
 pub use verifications::verify_files;

@@ -20,7 +20,7 @@ fn recover_design<D: Disk, P: Progress>(
     progress: &mut P,
 ) -> Ended<D>
     ensures { Ends D.told D.may_leave D.faults (RecoversCertified (text_of wanted) d certificate.now)
-        (AcceptedLeft D.clock D.left_since D.told D.may_leave (text_of wanted) d certificate.now)
+        (AcceptedLeft D.clock D.left_since D.told D.may_leave D.faults (text_of wanted) d certificate.now)
         disk result.disk result.answer result.history result.settled }
 {
     match admit(alloc, d, certificate) {
@@ -41,7 +41,7 @@ pub fn recover_files<D: Disk, P: Progress>(
     progress: &mut P,
 ) -> Ended<D>
     ensures { Ends D.told D.may_leave D.faults (RecoversFiles (text_of wanted) files.entry.design.now files.entry.certificate.now)
-        (RecoverLeft D.clock D.left_since D.told D.may_leave (text_of wanted) files.entry.design.now files.entry.certificate.now)
+        (RecoverLeft D.clock D.left_since D.told D.may_leave D.faults (text_of wanted) files.entry.design.now files.entry.certificate.now)
         disk result.disk result.answer result.history result.settled }
 {
     match read_design(alloc, files.design) {

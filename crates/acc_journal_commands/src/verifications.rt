@@ -21,7 +21,7 @@ fn verify_accepted<D: Disk, P: Progress>(
     progress: &mut P,
 ) -> Ended<D>
     ensures { Ends D.told D.may_leave D.faults (VerifiesSchema accepted.now)
-        (TablesLeft D.clock D.left_since D.told D.may_leave accepted.now)
+        (TablesLeft D.clock D.left_since D.told D.may_leave D.faults accepted.now)
         disk result.disk result.answer result.history result.settled }
 {
     match find_schema(alloc, accepted.design()) {
@@ -42,7 +42,7 @@ fn verify_design<D: Disk, P: Progress>(
     progress: &mut P,
 ) -> Ended<D>
     ensures { Ends D.told D.may_leave D.faults (VerifiesCertified d certificate.now)
-        (CertifiedLeft D.clock D.left_since D.told D.may_leave d certificate.now)
+        (CertifiedLeft D.clock D.left_since D.told D.may_leave D.faults d certificate.now)
         disk result.disk result.answer result.history result.settled }
 {
     match admit(alloc, d, certificate) {
@@ -61,7 +61,7 @@ pub fn verify_files<D: Disk, P: Progress>(
     progress: &mut P,
 ) -> Ended<D>
     ensures { Ends D.told D.may_leave D.faults (VerifiesFiles files.entry.design.now files.entry.certificate.now)
-        (VerifyLeft D.clock D.left_since D.told D.may_leave files.entry.design.now files.entry.certificate.now)
+        (VerifyLeft D.clock D.left_since D.told D.may_leave D.faults files.entry.design.now files.entry.certificate.now)
         disk result.disk result.answer result.history result.settled }
 {
     match read_design(alloc, files.design) {

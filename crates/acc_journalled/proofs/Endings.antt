@@ -3,23 +3,24 @@ use Rattle.std.proofs.Common.{◌≡◌, inl, inr, ℕ, List, [], ◌∷◌, len
 use Rattle.std.specs.Prelude.{◌≢◌, IfSome, codes}
 use Rattle.std.specs.declared.alloc.AllocError.{AllocError}
 use Rattle.acc_base.specs.Lines.{line}
-use Rattle.acc_disk.specs.Crashes.{Only}
+use Rattle.acc_disk.specs.Crashes.{Only, IsCalm}
 use Rattle.acc_disk.specs.Moments.{AtAnyMoment}
 use Rattle.acc_base.specs.declared.designs.Design.{Design}
 use Rattle.acc_base.specs.declared.machines.Event.{Event}
-use Rattle.acc_base.specs.Annotated.{IsIdle}
 use Rattle.acc_base.specs.Machine.{World}
 use Rattle.acc_print.specs.Designs.{printed}
 use Rattle.tpcc_tables.specs.declared.tables.TableSet.{TableSet}
 use Rattle.acc_wal.specs.Journals.{Counts}
 use Rattle.acc_wal.specs.Wals.{Journal, IsOpened}
+use Rattle.acc_wal.specs.declared.items.Seal.{Seal}
 use Rattle.acc_wal.specs.Creating.{rest_of, IsThere, RefusesNew}
 use Rattle.acc_wal.specs.Attaching.{IsOfBytes as IsOfBytesOld}
 use Rattle.acc_wal.specs.declared.errors.WalError.{WalError}
 use Rattle.acc_wal.specs.declared.errors.WalError.TheVariants.{Exists, NotJournal, OtherVersion, Damaged, Disk, Spent, Memory}
-use Rattle.acc_wal.proofs.Moments.{started}
+use Rattle.acc_wal.proofs.Keeping.{calm_is}
+use Rattle.acc_wal.proofs.Moments.{started, if_some}
+use Rattle.acc_recover.specs.Seals.{IsSealed, HasSeals}
 use Rattle.acc_recover.specs.Recoveries.{LeavesRecovery}
-use Rattle.acc_recover.specs.Answers.{RecoversFile}
 use Rattle.acc_recover.specs.Refusals.{RefusesRecovery, IsOfBytes, IsOfJournal, CountsSame}
 use Rattle.acc_recover.specs.declared.errors.RecoverError.{RecoverError}
 use Rattle.acc_recover.specs.declared.errors.RecoverError.TheVariants as recovery
@@ -28,7 +29,8 @@ use Rattle.acc_journalled.specs.declared.answers.Ending.TheVariants.{Done, DiskF
 use Rattle.acc_journalled.specs.Tellings.{Telling, Says, SaysOf}
 use Rattle.acc_journalled.specs.Making.{IsMakingError, SaysNotMade, MakesJournal}
 use Rattle.acc_journalled.specs.Conditions.{conditions_text, EndsByRows}
-use Rattle.acc_journalled.specs.Recovering.{IsRecoverError, SaysNotRecovered, Recovers, RefusesSo, RecoversJournal, TellsRecovered, done_with}
+use Rattle.acc_journalled.specs.Recovering.{IsRecoverError, SaysNotRecovered, Recovers, RefusesSo, RecoversJournal, TellsRecovered}
+use Rattle.acc_journalled.specs.Recovering.{done_with, RecoversState, TellsUntold, LeavesTold}
 use Rattle.acc_journalled.specs.Verifying.{VerifiesJournal, verdicts_text}
 
 -- the disk of a journal that isn't spent holds its base text and its durable events
@@ -89,43 +91,46 @@ recovering (recovery.Journal Spent) d told fault why = absurd why
 recovering (recovery.Journal Memory) d told fault why = absurd why
 recovering recovery.OtherDesign d told fault why = tt
 recovering (recovery.Unlawful at) d told fault why = tt
+recovering (recovery.Differs place) d told fault why = tt
 recovering recovery.Disk d told fault why = tt
 recovering recovery.Memory d told fault why = tt
 
-recovers_so : {D : Type 0} (text : World → ℕ → List ℕ) (d : Design) (told told' : Option (List ℕ)) (w : World) (wal : Journal D)
-    (compensated : ℕ) (t : Telling)
-    → RecoversFile d told w wal compensated → IsIdle d w.rows → ((file : List ℕ) → told' ≡ Some file → Counts file wal.base wal.durable)
-    → SaysOf (text w compensated) w t → Recovers text d told told' t
-recovers_so text d told told' w wal compensated t file idle counts says = record {
-  found = file.found;
-  counts = file.counts;
+-- some states, each as the rows were
+pub sealed_so : (told : Option (List ℕ)) (d : Design) (events : List Event) (version : ℕ) (seals : List Seal)
+    → IfSome told (IsSealed d version events seals) → IfSome told (HasSeals d events)
+sealed_so None d events version seals sealed = tt
+sealed_so (Some file) d events version seals sealed = (version, seals, sealed)
+
+-- what is told of a recovered state
+pub recovers_told : (text : World → ℕ → List ℕ) (d : Design) (told told' : Option (List ℕ)) (w : World) (compensated : ℕ) (t : Telling)
+    → RecoversState d told told' w compensated → SaysOf (text w compensated) w t → Recovers text d told told' t
+recovers_told text d told told' w compensated t state says = record {
+  found = state.found;
+  counts = state.counts;
+  sealed = state.sealed;
   last = w;
-  recovery = file.recovery;
-  idle = idle;
+  recovery = state.recovery;
+  idle = state.idle;
   compensated = compensated;
-  unfinished_were = file.unfinished_were;
-  holds = holds wal (printed d) w.events told' file.settled counts;
+  unfinished_were = state.unfinished_were;
+  holds = state.holds;
+  grown = state.grown;
   says = says;
 }
 
-pub recovered_so : {D : Type 0} (text : World → ℕ → List ℕ) (d : Design) (told told' : Option (List ℕ)) (fault : Type 0) (w : World)
-    (wal : Journal D) (compensated : ℕ) (t : Telling)
-    → RecoversFile d told w wal compensated → IsIdle d w.rows → ((file : List ℕ) → told' ≡ Some file → Counts file wal.base wal.durable)
-    → SaysOf (text w compensated) w t → RecoversJournal text d told told' fault t
-recovered_so text d told told' fault w wal compensated t file idle counts says =
-    inl (recovers_so text d told told' w wal compensated t file idle counts says)
+pub recovered_so : (text : World → ℕ → List ℕ) (d : Design) (told told' : Option (List ℕ)) (fault : Type 0) (w : World) (compensated : ℕ)
+    (t : Telling)
+    → RecoversState d told told' w compensated → SaysOf (text w compensated) w t → RecoversJournal text d told told' fault t
+recovered_so text d told told' fault w compensated t state says = inl (recovers_told text d told told' w compensated t state says)
 
 -- each condition was tried on the recovered rows
-pub verified_so : {D : Type 0} (s : TableSet) (d : Design) (told told' : Option (List ℕ)) (fault : Type 0) (w : World) (wal : Journal D)
-    (compensated : ℕ) (t : Telling)
-    → RecoversFile d told w wal compensated → IsIdle d w.rows → ((file : List ℕ) → told' ≡ Some file → Counts file wal.base wal.durable)
-    → t.text ≡ conditions_text s w.rows → EndsByRows s w.rows t.ending → t.history ≡ w.events → t.settled ≡ length w.events
-    → VerifiesJournal s d told told' fault t
-unfolding recovers_so
-verified_so s d told told' fault w wal compensated t file idle counts says ends same all = inl (record {
+pub verified_so : (s : TableSet) (d : Design) (told told' : Option (List ℕ)) (fault : Type 0) (w : World) (compensated : ℕ) (t : Telling)
+    → RecoversState d told told' w compensated → t.text ≡ conditions_text s w.rows → EndsByRows s w.rows t.ending → t.history ≡ w.events
+    → t.settled ≡ length w.events → VerifiesJournal s d told told' fault t
+unfolding recovers_told
+verified_so s d told told' fault w compensated t state says ends same all = inl (record {
   recovers =
-      recovers_so (verdicts_text s) d told told' w wal compensated (done_with t.text t.history t.settled) file idle counts
-      (refl, says, same, all);
+      recovers_told (verdicts_text s) d told told' w compensated (done_with t.text t.history t.settled) state (refl, says, same, all);
   ending = ends;
 })
 
@@ -134,20 +139,35 @@ pub was_of_bytes : (error : RecoverError) (t : Telling) → SaysNotRecovered err
 was_of_bytes (recovery.Journal error) t says none = tt
 was_of_bytes recovery.OtherDesign t says none = tt
 was_of_bytes (recovery.Unlawful at) t says none = tt
+was_of_bytes (recovery.Differs place) t says none = tt
 was_of_bytes recovery.Disk t says none = none says.0
 was_of_bytes recovery.Memory t says none = says
 
 -- whatever is said of it, the recovered history is told
-pub recovered_tells : {D : Type 0} (text : World → ℕ → List ℕ) (d : Design) (told told' : Option (List ℕ)) (w : World) (wal : Journal D)
-    (compensated : ℕ) (history : List Event) (settled : ℕ)
-    → RecoversFile d told w wal compensated → IsIdle d w.rows → ((file : List ℕ) → told' ≡ Some file → Counts file wal.base wal.durable)
-    → history ≡ w.events → settled ≡ length w.events → TellsRecovered text d told told' history settled
-recovered_tells text d told told' w wal compensated history settled file idle counts same all =
-    inr (
+pub recovered_tells : (text : World → ℕ → List ℕ) (d : Design) (told told' : Option (List ℕ)) (fault : Type 0) (w : World) (compensated : ℕ)
+    (history : List Event) (settled : ℕ)
+    → RecoversState d told told' w compensated → history ≡ w.events → settled ≡ length w.events
+    → TellsRecovered text d told told' fault history settled
+recovered_tells text d told told' fault w compensated history settled state same all =
+    inr (inl (
       text w compensated,
-      recovers_so text d told told' w wal compensated (done_with (text w compensated) history settled) file idle counts
-          (refl, refl, same, all),
-    )
+      recovers_told text d told told' w compensated (done_with (text w compensated) history settled) state (refl, refl, same, all),
+    ))
+
+-- and so it is where nothing is said of it
+pub untold_tells : (text : World → ℕ → List ℕ) (d : Design) (told told' : Option (List ℕ)) (fault : Type 0) (history : List Event)
+    (settled : ℕ)
+    → TellsUntold d told told' fault history settled → TellsRecovered text d told told' fault history settled
+untold_tells text d told told' fault history settled (inl none) = inl none
+untold_tells text d told told' fault history settled (inr stops) = inr (inr stops)
+
+-- behind a call that leaves a calm disk a crash leaves what it holds
+pub calm_told : (d : Design) (told : Option (List ℕ)) (may_leave : List ℕ → Type 0) (history : List Event) → IsCalm told may_leave
+    → IfSome told (λ file. Counts file (printed d) history) → (image : List ℕ) → may_leave image → LeavesTold d history image
+calm_told d told may_leave history calm holds image left =
+    let now = calm_is told may_leave calm in
+    inr (subst (λ f. Counts f (printed d) history) (sym (now.2 image left))
+    (if_some told (λ file. Counts file (printed d) history) now.0 now.1 holds))
 
 pub refuses_so : (error : RecoverError) (d : Design) (told told' : Option (List ℕ)) (fault : Type 0) (t : Telling)
     → RefusesRecovery d error told fault → (IsOfJournal error → told' ≡ told) → (IsOfBytes error → CountsSame told told')

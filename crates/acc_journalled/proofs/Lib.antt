@@ -1,5 +1,11 @@
 pub mod Endings
 pub mod Lawfuls
+pub mod Differing
 pub mod Numbered
 pub mod Once
+pub mod OneMigration
 pub mod Verdicts
+pub mod Places
+pub mod Putting
+pub mod Bounds
+pub mod Migrated

@@ -15,26 +15,29 @@ use Rattle.acc_wal.proofs.Once.{one_reading}
 use Rattle.acc_wal.specs.declared.errors.WalError.{WalError}
 use Rattle.acc_wal.specs.declared.errors.WalError.TheVariants as wal
 use Rattle.acc_recover.specs.Recoveries.{IsRecovery, LeavesUnfinished}
-use Rattle.acc_recover.specs.Refusals.{IsOfOther, IsUnlawfulAt, RefusesJournal, RefusesRecovery}
+use Rattle.acc_recover.specs.Seals.{HasSeals}
+use Rattle.acc_recover.specs.Refusals.{IsOfOther, IsUnlawfulAt, IsDifferentAt, RefusesJournal, RefusesRecovery}
+use Rattle.acc_recover.proofs.Sealed.{events_counted}
 use Rattle.acc_recover.proofs.Single.{one_recovery}
 use Rattle.acc_recover.specs.declared.errors.RecoverError.{RecoverError}
-use Rattle.acc_recover.specs.declared.errors.RecoverError.TheVariants.{Journal, OtherDesign, Unlawful, Disk, Memory}
+use Rattle.acc_recover.specs.declared.errors.RecoverError.TheVariants.{Journal, OtherDesign, Unlawful, Differs, Disk, Memory}
 use Rattle.acc_journalled.specs.declared.answers.Ending.{Ending}
 use Rattle.acc_journalled.specs.declared.answers.Ending.TheVariants.{Done, JournalRefused, DiskFailed}
 use Rattle.acc_journalled.specs.Tellings.{Telling, Says}
 use Rattle.acc_journalled.specs.Making.{MakesJournal}
 use Rattle.acc_journalled.specs.Conditions.{AreConsistent, EndsByRows}
-use Rattle.acc_journalled.specs.Recovering.{SaysNotRead, SaysNotRecovered, Recovers, RefusesSo, RecoversJournal, done_with}
+use Rattle.acc_journalled.specs.Recovering.{SaysNotRead, SaysNotRecovered, Recovers, RefusesSo, EndsUntold, RecoversJournal, done_with}
 use Rattle.acc_journalled.specs.Verifying.{Verifies, VerifiesJournal, verdicts_text}
 use Rattle.acc_journalled.proofs.Lawfuls.{lead_once, lawful_or, first_once}
+use Rattle.acc_journalled.proofs.Differing.{one_differing, sealed_or}
 
 -- ---- tellings
 
-telling_same : (a b : Telling) → a.ending ≡ b.ending → a.text ≡ b.text → a.history ≡ b.history → a.settled ≡ b.settled → a ≡ b
+pub telling_same : (a b : Telling) → a.ending ≡ b.ending → a.text ≡ b.text → a.history ≡ b.history → a.settled ≡ b.settled → a ≡ b
 telling_same a b ending text history settled =
     λ i. record { ending = ending i; text = text i; history = history i; settled = settled i }
 
-says_same : (ending : Ending) (t u : List ℕ) (a b : Telling) → t ≡ u → Says ending t a → Says ending u b → a ≡ b
+pub says_same : (ending : Ending) (t u : List ℕ) (a b : Telling) → t ≡ u → Says ending t a → Says ending u b → a ≡ b
 says_same ending t u a b same h k = telling_same a b (h.0 ∙ sym k.0) (h.1 ∙ same ∙ sym k.1) (h.2 ∙ sym k.2) (h.3 ∙ sym k.3)
 
 not_read_once : (e : WalError) (a b : Telling) → SaysNotRead e a → SaysNotRead e b → a ≡ b
@@ -46,10 +49,11 @@ not_read_once wal.Disk a b h k = absurd h
 not_read_once wal.Spent a b h k = absurd h
 not_read_once wal.Memory a b h k = absurd h
 
-not_recovered_once : (e : RecoverError) (a b : Telling) → SaysNotRecovered e a → SaysNotRecovered e b → a ≡ b
+pub not_recovered_once : (e : RecoverError) (a b : Telling) → SaysNotRecovered e a → SaysNotRecovered e b → a ≡ b
 not_recovered_once (Journal e) a b h k = not_read_once e a b h k
 not_recovered_once OtherDesign a b h k = says_same JournalRefused _ _ a b refl h k
 not_recovered_once (Unlawful at) a b h k = says_same JournalRefused _ _ a b refl h k
+not_recovered_once (Differs place) a b h k = says_same JournalRefused _ _ a b refl h k
 not_recovered_once Disk a b h k = says_same DiskFailed _ _ a b refl h k
 not_recovered_once Memory a b h k = absurd h
 
@@ -105,9 +109,19 @@ module _ (d : Design) (file : List ℕ) where
       first_once d k.events start h.here k.here p q
       (subst (λ (es : List Event). IsFirstUnlawful d start es p h.here) (same_events h.events k.events h.counts k.counts) h.first) k.first
 
+  counted_at : (place : ℕ) (h : IsDifferentAt d file place) → Counts file (printed d) h.events
+  counted_at place h = events_counted file (printed d) h.version h.events h.seals h.counts
+
+  -- where all events are lawful, none isn't
+  lawful_so : (place at : ℕ) → IsDifferentAt d file place → IsUnlawfulAt d file at → ⊥
+  lawful_so place at h k =
+      lawful_or d k.events start h.lawful.0 k.here at
+      (subst (λ (es : List Event). LeadLawfully d start es h.lawful.0) (same_events h.events k.events (counted_at place h) k.counts)
+      h.lawful.1) k.first
+
   -- ---- a refusal has one cause
 
-  refused_once : (e f : RecoverError) (x y : Type 0) (a b : Telling) → ¬ x → ¬ y → RefusesRecovery d e (Some file) x
+  pub refused_once : (e f : RecoverError) (x y : Type 0) (a b : Telling) → ¬ x → ¬ y → RefusesRecovery d e (Some file) x
       → RefusesRecovery d f (Some file) y → SaysNotRecovered e a → SaysNotRecovered f b → e ≡ f
   refused_once (Journal p) (Journal q) x y a b calm sound h k s r = ap (λ z. Journal z) (one_reason p q h k)
   refused_once (Journal p) OtherDesign x y a b calm sound h k s r = absurd (read_or p k.base k.events k.counts h)
@@ -118,6 +132,13 @@ module _ (d : Design) (file : List ℕ) where
   refused_once (Unlawful at) (Journal q) x y a b calm sound h k s r = absurd (read_or q (printed d) h.events h.counts k)
   refused_once (Unlawful at) OtherDesign x y a b calm sound h k s r = absurd (text_or h.events h.counts k)
   refused_once (Unlawful at) (Unlawful to) x y a b calm sound h k s r = ap (λ n. Unlawful n) (one_place at to h k)
+  refused_once (Journal p) (Differs place) x y a b calm sound h k s r = absurd (read_or p (printed d) k.events (counted_at place k) h)
+  refused_once OtherDesign (Differs place) x y a b calm sound h k s r = absurd (text_or k.events (counted_at place k) h)
+  refused_once (Unlawful at) (Differs place) x y a b calm sound h k s r = absurd (lawful_so place at k h)
+  refused_once (Differs place) (Journal q) x y a b calm sound h k s r = absurd (read_or q (printed d) h.events (counted_at place h) k)
+  refused_once (Differs place) OtherDesign x y a b calm sound h k s r = absurd (text_or h.events (counted_at place h) k)
+  refused_once (Differs place) (Unlawful at) x y a b calm sound h k s r = absurd (lawful_so place at h k)
+  refused_once (Differs place) (Differs to) x y a b calm sound h k s r = ap (λ n. Differs n) (one_differing d file place to h k)
   refused_once Disk f x y a b calm sound h k s r = absurd (calm h)
   refused_once Memory f x y a b calm sound h k s r = absurd s
   refused_once (Journal p) Disk x y a b calm sound h k s r = absurd (sound k)
@@ -126,17 +147,25 @@ module _ (d : Design) (file : List ℕ) where
   refused_once OtherDesign Memory x y a b calm sound h k s r = absurd r
   refused_once (Unlawful at) Disk x y a b calm sound h k s r = absurd (sound k)
   refused_once (Unlawful at) Memory x y a b calm sound h k s r = absurd r
+  refused_once (Differs place) Disk x y a b calm sound h k s r = absurd (sound k)
+  refused_once (Differs place) Memory x y a b calm sound h k s r = absurd r
 
   -- what is recovered isn't refused
   pub recovered_or : (found : List Event) (last : World) (e : RecoverError) (x : Type 0) (b : Telling) → ¬ x → Counts file (printed d) found
-      → IsRecovery d found last → RefusesRecovery d e (Some file) x → SaysNotRecovered e b → ⊥
-  recovered_or found last (Journal q) x b calm c r k s = read_or q (printed d) found c k
-  recovered_or found last OtherDesign x b calm c r k s = text_or found c k
-  recovered_or found last (Unlawful at) x b calm c r k s =
+      → HasSeals d found file → IsRecovery d found last → RefusesRecovery d e (Some file) x → SaysNotRecovered e b → ⊥
+  recovered_or found last (Journal q) x b calm c sealed r k s = read_or q (printed d) found c k
+  recovered_or found last OtherDesign x b calm c sealed r k s = text_or found c k
+  recovered_or found last (Unlawful at) x b calm c sealed r k s =
       lawful_or d k.events start r.first k.here at
       (subst (λ (es : List Event). LeadLawfully d start es r.first) (same_events found k.events c k.counts) r.comes) k.first
-  recovered_or found last Disk x b calm c r k s = calm k
-  recovered_or found last Memory x b calm c r k s = s
+  recovered_or found last (Differs place) x b calm c sealed r k s = sealed_or d file found place sealed k
+  recovered_or found last Disk x b calm c sealed r k s = calm k
+  recovered_or found last Memory x b calm c sealed r k s = s
+
+  untold_or : (found : List Event) (last : World) (told' : Option (List ℕ)) (x : Type 0) (b : Telling) → ¬ x → Counts file (printed d) found
+      → HasSeals d found file → IsRecovery d found last → EndsUntold d (Some file) told' x b → ⊥
+  untold_or found last told' x b calm c sealed r (inl k) = recovered_or found last k.error x b calm c sealed r k.cause k.says
+  untold_or found last told' x b calm c sealed r (inr k) = calm k.failed
 
   module _ (text : World → ℕ → List ℕ) (one other : Option (List ℕ)) (a b : Telling) where
     last_once : (h : Recovers text d (Some file) one a) (k : Recovers text d (Some file) other b) → h.last ≡ k.last
@@ -162,14 +191,18 @@ module _ (d : Design) (file : List ℕ) where
         let same = refused_once h.error k.error x y a b calm sound h.cause k.cause h.says k.says in
         not_recovered_once k.error a b (subst (λ (e : RecoverError). SaysNotRecovered e a) same h.says) k.says
 
+    -- nor of a call that tells of no recovered state
+    untold_once : (x y : Type 0) → ¬ x → ¬ y → EndsUntold d (Some file) one x a → EndsUntold d (Some file) other y b → a ≡ b
+    untold_once x y calm sound (inl h) (inl k) = refuses_once x y calm sound h k
+    untold_once x y calm sound (inr h) k = absurd (calm h.failed)
+    untold_once x y calm sound (inl h) (inr k) = absurd (sound k.failed)
+
     pub recovering_once : (x y : Type 0) → ¬ x → ¬ y → RecoversJournal text d (Some file) one x a
         → RecoversJournal text d (Some file) other y b → a ≡ b
     recovering_once x y calm sound (inl h) (inl k) = recovers_once h k
-    recovering_once x y calm sound (inl h) (inr k) =
-        absurd (recovered_or h.found h.last k.error y b sound h.counts h.recovery k.cause k.says)
-    recovering_once x y calm sound (inr h) (inl k) =
-        absurd (recovered_or k.found k.last h.error x a calm k.counts k.recovery h.cause h.says)
-    recovering_once x y calm sound (inr h) (inr k) = refuses_once x y calm sound h k
+    recovering_once x y calm sound (inl h) (inr k) = absurd (untold_or h.found h.last other y b sound h.counts h.sealed h.recovery k)
+    recovering_once x y calm sound (inr h) (inl k) = absurd (untold_or k.found k.last one x a calm k.counts k.sealed k.recovery h)
+    recovering_once x y calm sound (inr h) (inr k) = untold_once x y calm sound h k
 
   -- ---- which conditions are true of one state
 
@@ -194,9 +227,7 @@ module _ (d : Design) (file : List ℕ) where
         → a ≡ b
     verifying_once x y calm sound (inl h) (inl k) = verifies_once h k
     verifying_once x y calm sound (inl h) (inr k) =
-        absurd
-        (recovered_or h.recovers.found h.recovers.last k.error y b sound h.recovers.counts h.recovers.recovery k.cause k.says)
+        let r = h.recovers in absurd (untold_or r.found r.last other y b sound r.counts r.sealed r.recovery k)
     verifying_once x y calm sound (inr h) (inl k) =
-        absurd
-        (recovered_or k.recovers.found k.recovers.last h.error x a calm k.recovers.counts k.recovers.recovery h.cause h.says)
-    verifying_once x y calm sound (inr h) (inr k) = refuses_once (verdicts_text s) one other a b x y calm sound h k
+        let r = k.recovers in absurd (untold_or r.found r.last one x a calm r.counts r.sealed r.recovery h)
+    verifying_once x y calm sound (inr h) (inr k) = untold_once (verdicts_text s) one other a b x y calm sound h k

@@ -2,10 +2,10 @@
 use Rattle.std.proofs.Common.{◌≡◌, ℕ, zero, suc, ◌+◌, ◌-◌, ◌<◌, List, [], ◌∷◌, ◌++◌, length, Bool, true, false, refl, sym, ap, ◌∙◌}
 use Rattle.std.proofs.Common.{Option, Some, None, All, find, get_or, arith, subst, inl, inr, ⊎_elim, add-one, Result, Ok, Err}
 use Rattle.std.proofs.Common.{◌≤◌, ◌*◌, ◌^◌, ℤ, pos}
-use Rattle.std.specs.Prelude.{◌≢◌, ◌⊎◌, IfOk, ◌&&◌, is_none, option_map, cond, unsigned_abs, slice_index_or}
+use Rattle.std.specs.Prelude.{◌≢◌, ◌⊎◌, IfOk, ◌&&◌, is_none, option_map, unsigned_abs, slice_index_or}
 use Rattle.std.specs.List.{flat_map, range_with_len}
 use Rattle.std.proofs.lemmas.List.{length-map, get_or_default}
-use Rattle.std.proofs.lemmas.List.Elements.{All-nil, All-cons, All-head, All-tail, All-weaker}
+use Rattle.std.proofs.lemmas.List.Elements.{All-nil, All-cons, All-weaker}
 use Rattle.std.proofs.lemmas.Option.{none-some}
 use Rattle.acc_base.specs.declared.designs.Design.{Design}
 use Rattle.acc_base.specs.declared.tables.Row.{Row}

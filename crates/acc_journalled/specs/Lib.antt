@@ -1,9 +1,12 @@
+pub use Rattle.acc_recover.specs.Seals
 pub use Rattle.acc_recover.specs.Recoveries
 pub use Rattle.acc_recover.specs.Refusals
 pub use Rattle.acc_recover.specs.declared.errors.RecoverError
 pub mod Tellings
 pub mod Making
+pub mod Sealing
 pub mod Recovering
 pub mod Laws
 pub mod Conditions
 pub mod Verifying
+pub mod Migrating

@@ -5,7 +5,7 @@ use Rattle.acc_base.specs.declared.designs.Design.{Design}
 use Rattle.acc_io.specs.Causes.{Rose}
 use Rattle.tpcc_tables.specs.declared.tables.TableSet.{TableSet}
 use Rattle.acc_journalled.specs.Conditions.{conditions_text, EndsByRows}
-use Rattle.acc_journalled.specs.Recovering.{Recovers, RefusesSo, done_with}
+use Rattle.acc_journalled.specs.Recovering.{Recovers, EndsUntold, done_with}
 use Rattle.acc_journalled.specs.Tellings.{Telling}
 
 -- what is told of a recovered state: a line for each condition
@@ -18,9 +18,9 @@ pub record Verifies (s : TableSet) (d : Design) (told told' : Option (List ℕ))
   pub recovers : Recovers (verdicts_text s) d told told' (done_with t.text t.history t.settled)
   pub ending : EndsByRows s recovers.last.rows t.ending
 
--- or it isn't recovered, for some cause
+-- or it isn't recovered, for some cause, or the disk failed behind the recovery
 abbrev pub VerifiesJournal : TableSet → Design → Option (List ℕ) → Option (List ℕ) → Type 0 → Telling → Type 0
-VerifiesJournal s d told told' fault t = Verifies s d told told' t ⊎ RefusesSo d told told' fault t
+VerifiesJournal s d told told' fault t = Verifies s d told told' t ⊎ EndsUntold d told told' fault t
 
 -- of a disk that tells its bytes this says one thing, where none of its calls fails
 abbrev pub VerifyingSaysOne : Type 0

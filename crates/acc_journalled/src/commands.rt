@@ -10,17 +10,17 @@ ghost use Rattle.acc_recover.specs.Recoveries.{LeavesRecovery};
 ghost use Rattle.acc_journalled.specs.declared.answers.Ending.TheVariants.{Done, DiskFailed};
 ghost use Rattle.acc_journalled.specs.Tellings.{telling_of, unrun_telling, Says};
 ghost use Rattle.acc_journalled.specs.Making.{MakesJournal};
-ghost use Rattle.acc_journalled.specs.Recovering.{RecoversJournal, TellsRecovered, text_of};
+ghost use Rattle.acc_journalled.specs.Recovering.{RecoversJournal, TellsRecovered, LeavesTold, text_of};
 
 use crate::answers::{Answer, Ended, Ending, Wanted, unrun};
-use crate::lines::{not_made, not_recovered, one_line, tell_state};
-use crate::rows::empty_rows;
+use crate::lines::{not_made, one_line, tell_state};
+use crate::sealing::recover_sealed;
 use acc_base::designs::Design;
 use acc_disk::Disk;
 use acc_lift::Accepted;
 use acc_print::{PrintError, print};
 use acc_progress::Progress;
-use acc_recover::{Recovered, recover};
+use acc_recover::Recovered;
 use acc_wal::Wal;
 use std::alloc::{AllocError, Global};
 
@@ -71,11 +71,13 @@ pub fn init_journal<D: Disk>(alloc: Global, d: &Design, disk: D) -> Ended<D>
 }
 
 /// Recovers the journal of an accepted design: its events are done again, and what they leave unfinished is compensated and made
-/// durable. Says of it what is wanted: how many events there are then, and how many transactions were compensated; or the rows.
+/// durable; where anything was, the text of the rows is put behind it. Says of it what is wanted: how many events there are then, and how
+/// many transactions were compensated; or the rows.
 ///
 /// From a calm disk a crash at any moment leaves a journal of the events that were found, or of the whole recovered history, and the disk
-/// holds such a one afterwards. It is calm again, unless one of its calls failed. What is no journal is left as it is. The recovered
-/// history is told also where memory lacks for what is said of it.
+/// holds such a one afterwards; one behind the call leaves one of all events that are told. The disk is calm again, unless one of its calls
+/// failed. What is no journal is left as it is. The recovered history is told also where memory lacks, or the disk fails, behind the
+/// recovery.
 pub fn recover_journal<D: Disk, P: Progress>(
     alloc: Global,
     d: &Accepted,
@@ -85,19 +87,19 @@ pub fn recover_journal<D: Disk, P: Progress>(
 ) -> Ended<D>
     ensures answer { IfOk result.answer (λ a. RecoversJournal (text_of wanted d.now) d.now (D.told disk) (D.told result.disk)
         (Rose (D.faults disk) (D.faults result.disk)) (telling_of a result.history result.settled)) }
-    ensures recorded { TellsRecovered (text_of wanted d.now) d.now (D.told disk) (D.told result.disk) result.history result.settled }
+    ensures recorded { TellsRecovered (text_of wanted d.now) d.now (D.told disk) (D.told result.disk)
+        (Rose (D.faults disk) (D.faults result.disk)) result.history result.settled }
     ensures moments { (file : List ℕ) → D.told disk ≡ Some file → Only file (D.may_leave disk)
         → AtAnyMoment D.clock D.left_since disk result.disk (LeavesRecovery d.now file) }
     ensures left { (file : List ℕ) → D.told disk ≡ Some file → Only file (D.may_leave disk)
         → IfSome (D.told result.disk) (LeavesRecovery d.now file) }
+    ensures behind { (file : List ℕ) → D.told disk ≡ Some file → Only file (D.may_leave disk)
+        → (image : List ℕ) → D.may_leave result.disk image → LeavesTold d.now result.history image }
     ensures calm { IfOk result.answer (λ a. a.ending ≢ DiskFailed → IsCalm (D.told disk) (D.may_leave disk)
         → IsCalm (D.told result.disk) (D.may_leave result.disk)) }
     ensures faults { D.faults disk ≤ D.faults result.disk }
 {
-    let Some(rows) = empty_rows(alloc, d) else {
-        return unrun(alloc, disk, Err(AllocError));
-    };
-    match recover(alloc, d, rows, disk, progress) {
+    match recover_sealed(alloc, d, disk, progress) {
         Ok(found) => {
             let Recovered {
                 state,
@@ -113,6 +115,6 @@ pub fn recover_journal<D: Disk, P: Progress>(
                 answer,
             }
         }
-        Err((error, _, disk)) => unrun(alloc, disk, not_recovered(alloc, error)),
+        Err(ended) => ended,
     }
 }

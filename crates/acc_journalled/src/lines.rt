@@ -5,7 +5,8 @@ ghost use Rattle.acc_base.specs.Machine.{unfinished};
 ghost use Rattle.acc_journalled.specs.declared.answers.Ending.TheVariants.{Done};
 ghost use Rattle.acc_journalled.specs.Tellings.{unrun_telling, Says};
 ghost use Rattle.acc_journalled.specs.Making.{IsMakingError, SaysNotMade};
-ghost use Rattle.acc_journalled.specs.Recovering.{IsReadingError, IsRecoverError, SaysNotRead, SaysUnlawful, SaysNotRecovered};
+ghost use Rattle.acc_journalled.specs.Recovering.{IsReadingError, IsRecoverError, SaysNotRead, SaysUnlawful, SaysDiffering};
+ghost use Rattle.acc_journalled.specs.Recovering.{SaysNotRecovered};
 ghost use Rattle.acc_journalled.specs.Recovering.{counts_text, text_of};
 
 use crate::answers::{Answer, Ending, Wanted};
@@ -63,6 +64,14 @@ fn unlawful(alloc: Global, at: u64) -> Result<Answer, AllocError>
     one_line(alloc, Ending::JournalRefused, text.as_str())
 }
 
+/// What is said of a journal with a state that isn't the text of the rows there.
+fn differing(alloc: Global, place: u64) -> Result<Answer, AllocError>
+    ensures { IfOk result (λ a. SaysDiffering place (unrun_telling a)) }
+{
+    let text = format!(in alloc; "refused journal state {place}")?;
+    one_line(alloc, Ending::JournalRefused, text.as_str())
+}
+
 /// What is said where nothing is recovered.
 pub fn not_recovered(alloc: Global, error: RecoverError) -> Result<Answer, AllocError>
     requires { IsRecoverError error }
@@ -75,6 +84,7 @@ pub fn not_recovered(alloc: Global, error: RecoverError) -> Result<Answer, Alloc
             one_line(alloc, Ending::JournalRefused, "refused journal design")
         }
         RecoverError::Unlawful(at) => unlawful(alloc, at),
+        RecoverError::Differs(place) => differing(alloc, place),
         RecoverError::Disk => one_line(alloc, Ending::DiskFailed, "fault disk"),
         RecoverError::Memory => Err(AllocError),
     }

@@ -7,18 +7,17 @@ ghost use Rattle.acc_recover.specs.Recoveries.{LeavesRecovery};
 ghost use Rattle.tpcc_tables.specs.Schema.{IsSchemaOf};
 ghost use Rattle.acc_journalled.specs.declared.answers.Ending.TheVariants.{DiskFailed};
 ghost use Rattle.acc_journalled.specs.Tellings.{telling_of};
-ghost use Rattle.acc_journalled.specs.Recovering.{TellsRecovered};
+ghost use Rattle.acc_journalled.specs.Recovering.{TellsRecovered, LeavesTold};
 ghost use Rattle.acc_journalled.specs.Verifying.{VerifiesJournal, verdicts_text};
 
-use crate::answers::{Ended, unrun};
+use crate::answers::Ended;
 use crate::conditions::judge_store;
-use crate::lines::not_recovered;
-use crate::rows::empty_rows;
+use crate::sealing::recover_sealed;
 use acc_disk::Disk;
 use acc_lift::Accepted;
 use acc_progress::Progress;
-use acc_recover::{Recovered, recover};
-use std::alloc::{AllocError, Global};
+use acc_recover::Recovered;
+use std::alloc::Global;
 use tpcc_tables::TableSet;
 
 /// Recovers the journal of an accepted design as `recover_journal` does, and tells of each consistency condition of TPC-C whether it is
@@ -35,19 +34,19 @@ pub fn verify_journal<D: Disk, P: Progress>(
     requires schema { IsSchemaOf tables.now d.now }
     ensures answer { IfOk result.answer (λ a. VerifiesJournal tables.now d.now (D.told disk) (D.told result.disk)
         (Rose (D.faults disk) (D.faults result.disk)) (telling_of a result.history result.settled)) }
-    ensures recorded { TellsRecovered (verdicts_text tables.now) d.now (D.told disk) (D.told result.disk) result.history result.settled }
+    ensures recorded { TellsRecovered (verdicts_text tables.now) d.now (D.told disk) (D.told result.disk)
+        (Rose (D.faults disk) (D.faults result.disk)) result.history result.settled }
     ensures moments { (file : List ℕ) → D.told disk ≡ Some file → Only file (D.may_leave disk)
         → AtAnyMoment D.clock D.left_since disk result.disk (LeavesRecovery d.now file) }
     ensures left { (file : List ℕ) → D.told disk ≡ Some file → Only file (D.may_leave disk)
         → IfSome (D.told result.disk) (LeavesRecovery d.now file) }
+    ensures behind { (file : List ℕ) → D.told disk ≡ Some file → Only file (D.may_leave disk)
+        → (image : List ℕ) → D.may_leave result.disk image → LeavesTold d.now result.history image }
     ensures calm { IfOk result.answer (λ a. a.ending ≢ DiskFailed → IsCalm (D.told disk) (D.may_leave disk)
         → IsCalm (D.told result.disk) (D.may_leave result.disk)) }
     ensures faults { D.faults disk ≤ D.faults result.disk }
 {
-    let Some(rows) = empty_rows(alloc, d) else {
-        return unrun(alloc, disk, Err(AllocError));
-    };
-    match recover(alloc, d, rows, disk, progress) {
+    match recover_sealed(alloc, d, disk, progress) {
         Ok(found) => {
             let Recovered { state, wal, .. } = found;
             let (store, history) = state.into_parts();
@@ -58,6 +57,6 @@ pub fn verify_journal<D: Disk, P: Progress>(
                 answer: judge_store(alloc, tables, &store),
             }
         }
-        Err((error, _, disk)) => unrun(alloc, disk, not_recovered(alloc, error)),
+        Err(ended) => ended,
     }
 }

@@ -20,10 +20,11 @@ pub fn take_journal(words: &mut Vec<String>) -> Option<String>
     }
 }
 
-/// How the command of these words opens its journal: `init` makes one, over no file but what an `init` that was cut short left.
+/// How the command of these words opens its journal: `init` and `migrate` make one, over no file but what one of them that was cut short
+/// left.
 fn opening(words: &[String]) -> Opening {
     match command_of(words) {
-        Some(Command::Init) => Opening::Make(&FIRST_BYTES),
+        Some(Command::Init | Command::Migrate) => Opening::Make(&FIRST_BYTES),
         Some(Command::Sched | Command::Run(_)) => Opening::Use,
         Some(Command::Recover | Command::Dump | Command::Replies | Command::Verify) => Opening::Use,
         Some(Command::Play | Command::Rehearse | Command::Print | Command::Draw) => Opening::Use,

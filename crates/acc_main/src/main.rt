@@ -15,7 +15,7 @@ use crate::terminal::TerminalProgress;
 use crate::work::TerminalGate;
 use acc_cli::{IndexStore, acc, help_text};
 use acc_diagnose::statuses::{DISK, FILE, JOURNAL, MEMORY, SINK};
-use acc_diagnose::{Keeping, cut_line, explain, room_line, system_reason};
+use acc_diagnose::{Keeping, cut_line, explain, read_name, room_line, system_reason};
 use acc_disk::{Disk, FileDisk, MemDisk};
 use acc_inputs::{Command, command_of, file_names};
 use acc_io::{FolderShelf, StdSink};
@@ -134,7 +134,7 @@ fn answer_in_threads<'a, 'd, R: Threads + Wait + Sync>(
 fn is_by_crew(words: &[String]) -> bool {
     match command_of(words) {
         Some(Command::Run(_)) => true,
-        Some(Command::Init | Command::Sched) => false,
+        Some(Command::Init | Command::Sched | Command::Migrate) => false,
         Some(Command::Recover | Command::Dump | Command::Replies | Command::Verify) => false,
         Some(Command::Play | Command::Rehearse | Command::Print | Command::Draw) => false,
         Some(Command::Check | Command::Prove | Command::Audit | Command::Bench(_)) => false,
@@ -187,7 +187,8 @@ fn answer_over<R: Threads + Wait + Sync>(
         _ => tell(rt, status, words, out.kept()),
     }
     if status == JOURNAL {
-        tell_if_any(rt, cut_line(rt.alloc(), path.as_str(), out.kept()));
+        let refused = read_name(words, "").unwrap_or(path.as_str());
+        tell_if_any(rt, cut_line(rt.alloc(), refused, out.kept()));
     }
     tell_if_any(rt, room_line(rt.alloc(), path.as_str(), events));
     Ok(status)

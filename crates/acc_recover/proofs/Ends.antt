@@ -1,5 +1,5 @@
 -- What a recovery ends with.
-use Rattle.std.proofs.Common.{◌≡◌, inr, ℕ, List, [], ◌∷◌, ◌++◌, length, Option, sym, ◌∙◌, ap, subst, append_assoc}
+use Rattle.std.proofs.Common.{◌≡◌, inr, ℕ, List, [], ◌∷◌, ◌++◌, length, Option, Some, None, sym, ◌∙◌, ap, subst, append_assoc}
 use Rattle.std.specs.Prelude.{IfSome}
 use Rattle.std.proofs.lemmas.List.{append-nil}
 use Rattle.acc_base.specs.declared.tables.Row.{Row}
@@ -15,13 +15,16 @@ use Rattle.acc_lift.proofs.FormRules.{run_rules}
 use Rattle.acc_lift.proofs.Theorem.{event_logged, good_start, good_run, idle}
 use Rattle.acc_print.specs.Designs.{printed}
 use Rattle.acc_machine.specs.Running.{Running}
-use Rattle.acc_wal.specs.Journals.{Counts}
+use Rattle.acc_wal.specs.Journals.{Counts, CountsAll}
+use Rattle.acc_wal.specs.declared.items.Seal.{Seal}
 use Rattle.acc_wal.specs.Wals.{Journal, IsOpened}
 use Rattle.acc_machine.specs.Kept.{IsKept}
+use Rattle.acc_recover.specs.Seals.{AreFrom, AreSealsOf, IsSealed}
 use Rattle.acc_recover.specs.Recoveries.{IsRecovery, GoesOn, AreRowsOfRecovery}
 use Rattle.acc_recover.specs.Answers.{RecoversFile, IsReplayed}
 use Rattle.acc_recover.specs.Refusals.{AreRowsOnTheWay}
 use Rattle.acc_recover.proofs.Ways.{on_the_way}
+use Rattle.acc_recover.proofs.Comparisons.{counted_rise}
 
 led_logged : (d : Design) (events : List Event) (w last : World) → LeadLawfully d w events last → last.events ≡ w.events ++ events
 led_logged d [] w last l = ap (λ (x : World). x.events) (sym l) ∙ sym (append-nil w.events)
@@ -49,16 +52,32 @@ module _ {D : Type 0} (d : Design) (old : Journal D) (state : Running) (read : I
       IfSome told (λ file. Counts file (printed d) old.durable)
   counts_text told counts = subst (λ (b : List ℕ). IfSome told (λ file. Counts file b old.durable)) read.text counts
 
+  -- its states were compared with those events
+  sealed : (told : Option (List ℕ)) (version : ℕ) (seals : List Seal) → version ≡ old.version → seals ≡ old.seals
+      → IfSome told (λ file. CountsAll file old.base old.version old.durable old.seals)
+      → (AreFrom 0 old.seals → AreSealsOf d old.durable old.seals) → IfSome told (IsSealed d version old.durable seals)
+  sealed None version seals same are counts each = tt
+  sealed (Some file) version seals same are counts each =
+      subst (λ n. IsSealed d n old.durable seals file) (sym same)
+      (subst (λ (l : List Seal). IsSealed d old.version old.durable l file) (sym are) (record {
+        counts = subst (λ (b : List ℕ). CountsAll file b old.version old.durable old.seals) read.text counts;
+        each = each (counted_rise file old.base old.version old.durable old.seals counts);
+      }))
+
   pub recovers_file : (told : Option (List ℕ)) (now : Journal D) (w : World) (frames : List Frame) (count : ℕ)
       → IfSome told (λ file. Counts file old.base old.durable) → IsRecovery state.design state.world.events w
-      → IsOpened old.base w.events now → frames ≡ unfinished state.world → count ≡ length frames → RecoversFile d told w now count
-  recovers_file told now w frames count counts r opened are long = record {
+      → IsOpened old.base w.events now → frames ≡ unfinished state.world → count ≡ length frames
+      → IfSome told (λ file. CountsAll file old.base old.version old.durable old.seals)
+      → (now.version ≡ old.version) × (now.seals ≡ old.seals) → (AreFrom 0 old.seals → AreSealsOf d old.durable old.seals)
+      → RecoversFile d told w now count
+  recovers_file told now w frames count counts r opened are long counts_all states each = record {
     found = old.durable;
     counts = counts_text told counts;
     recovery = subst (λ x. IsRecovery x old.durable w) read.design
         (subst (λ (es : List Event). IsRecovery state.design es w) same_events r);
     settled = subst (λ (b : List ℕ). IsOpened b w.events now) read.text opened;
     unfinished_were = record { first = state.world; comes = read.comes; count_is = long ∙ ap length are };
+    sealed = sealed told now.version now.seals states.0 states.1 counts_all each;
   }
 
   pub rows_on_the_way : (told : Option (List ℕ)) (e : Design) (w : World) (rows : List Row) →

@@ -61,7 +61,13 @@ module _ {D : Type 0} (events : List Event) where
   }
 
 pub tail_none : {D : Type 0} (wal : Journal D) → TailOnly wal wal
-tail_none wal = record { disk = refl; base = refl; durable = refl }
+tail_none wal = record { disk = refl; base = refl; version = refl; seals = refl; durable = refl }
 
 pub tail_more : {D : Type 0} (old mid new : Journal D) → TailOnly old mid → TailOnly mid new → TailOnly old new
-tail_more old mid new a b = record { disk = b.disk ∙ a.disk; base = b.base ∙ a.base; durable = b.durable ∙ a.durable }
+tail_more old mid new a b = record {
+  disk = b.disk ∙ a.disk;
+  base = b.base ∙ a.base;
+  version = b.version ∙ a.version;
+  seals = b.seals ∙ a.seals;
+  durable = b.durable ∙ a.durable;
+}

@@ -3,6 +3,9 @@ pub mod Ways
 pub mod InSteps
 pub mod Single
 pub mod Ends
+pub mod Counting
+pub mod Sealed
+pub mod Comparisons
 pub mod Attached
 pub mod Refused
 pub mod Compensating

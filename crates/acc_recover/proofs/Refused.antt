@@ -7,16 +7,17 @@ use Rattle.acc_base.specs.declared.designs.Design.{Design}
 use Rattle.acc_base.specs.declared.machines.Event.{Event}
 use Rattle.acc_disk.specs.Crashes.{Only, IsCalm}
 use Rattle.acc_disk.specs.Moments.{AtAnyMoment}
-use Rattle.acc_wal.specs.Journals.{Counts}
+use Rattle.acc_wal.specs.Journals.{Counts, CountsAll}
+use Rattle.acc_wal.specs.declared.items.Seal.{Seal}
 use Rattle.acc_wal.proofs.Moments.{weaker, if_some}
-use Rattle.acc_wal.proofs.Once.{one_reading}
+use Rattle.acc_wal.proofs.Once.{one_reading, one_of_all}
 use Rattle.acc_wal.specs.Attaching.{RefusesOld, LeavesOld, IsOfBytes as IsOfBytesOld}
 use Rattle.acc_wal.specs.declared.errors.WalError.{WalError}
 use Rattle.acc_wal.specs.declared.errors.WalError.TheVariants as wal
 use Rattle.acc_recover.specs.Recoveries.{CountsRecovered, LeavesRecovery}
-use Rattle.acc_recover.specs.Refusals.{RefusesHistory, FailsToSettle, refusal_for, IsOfJournal, IsOfBytes, CountsSame}
+use Rattle.acc_recover.specs.Refusals.{RefusesHistory, FailsToSettle, refusal_for, IsOfJournal, IsOfBytes, CountsSame, CountsSameAll}
 use Rattle.acc_recover.specs.declared.errors.RecoverError.{RecoverError}
-use Rattle.acc_recover.specs.declared.errors.RecoverError.TheVariants.{Journal as NotRead, OtherDesign, Unlawful, Disk, Memory}
+use Rattle.acc_recover.specs.declared.errors.RecoverError.TheVariants.{Journal as NotRead, OtherDesign, Unlawful, Differs, Disk, Memory}
 
 calm_by : (told : Option (List ℕ)) (old new : List ℕ → Type 0) → ((file : List ℕ) → Only file old → Only file new) → IsCalm told old →
     IsCalm told new
@@ -46,6 +47,21 @@ pub read_counts : (told told' : Option (List ℕ)) (base : List ℕ) (events : L
 read_counts told told' base events read then file other more is counts now now_is =
     let one = one_reading file base other events more (if_some told (λ f. Counts f base events) file is read) counts in
     subst (λ b. Counts now b more) one.0 (subst (λ es. Counts now base es) one.1 (then now now_is))
+
+pub same_counts_all : (told told' : Option (List ℕ)) → told' ≡ told → CountsSameAll told told'
+same_counts_all told told' same file base version events seals is counts now now_is =
+    subst (λ f. CountsAll f base version events seals) (same_Some file now (sym is ∙ sym same ∙ now_is)) counts
+
+pub read_counts_all : (told told' : Option (List ℕ)) (base : List ℕ) (version : ℕ) (events : List Event) (seals : List Seal)
+    → IfSome told (λ file. CountsAll file base version events seals)
+    → ((now : List ℕ) → told' ≡ Some now → CountsAll now base version events seals) → CountsSameAll told told'
+read_counts_all told told' base version events seals read then file other another more others is counts now now_is =
+    let one = one_of_all file base other version another events more seals others
+    (if_some told (λ f. CountsAll f base version events seals) file is read) counts in
+    subst (λ (l : List Seal). CountsAll now other another more l) one.3
+    (subst (λ (es : List Event). CountsAll now other another es seals) one.2
+    (subst (λ n. CountsAll now other n events seals) one.1
+    (subst (λ (b : List ℕ). CountsAll now b version events seals) one.0 (then now now_is))))
 
 -- ---- what a crash leaves
 
@@ -86,13 +102,14 @@ bytes_refused wal.Memory told fault why of = absurd of
 
 -- ---- what stands behind attaching refuses
 
-pub history_read : (d : Design) (base : List ℕ) (events : List Event) (error : RecoverError) (rows : List Row)
-    → RefusesHistory d base events error rows → IsOfJournal error → ⊥
-history_read d base events OtherDesign rows why of = of
-history_read d base events (Unlawful at) rows why of = of
-history_read d base events Memory rows why of = of
-history_read d base events (NotRead error) rows why of = why
-history_read d base events Disk rows why of = of
+pub history_read : (d : Design) (base : List ℕ) (events : List Event) (seals : List Seal) (error : RecoverError) (rows : List Row)
+    → RefusesHistory d base events seals error rows → IsOfJournal error → ⊥
+history_read d base events seals OtherDesign rows why of = of
+history_read d base events seals (Unlawful at) rows why of = of
+history_read d base events seals (Differs place) rows why of = of
+history_read d base events seals Memory rows why of = of
+history_read d base events seals (NotRead error) rows why of = why
+history_read d base events seals Disk rows why of = of
 
 pub settle_read : (error : RecoverError) (fault : Type 0) → FailsToSettle error fault → IsOfJournal error → ⊥
 settle_read Disk fault why of = of
@@ -100,6 +117,7 @@ settle_read Memory fault why of = of
 settle_read (NotRead error) fault why of = why
 settle_read OtherDesign fault why of = why
 settle_read (Unlawful at) fault why of = why
+settle_read (Differs place) fault why of = why
 
 pub settle_of_bytes : (error : RecoverError) (fault : Type 0) → FailsToSettle error fault → IsOfBytes error → ⊥
 settle_of_bytes Disk fault why of = of
@@ -107,3 +125,4 @@ settle_of_bytes Memory fault why of = of
 settle_of_bytes (NotRead error) fault why of = why
 settle_of_bytes OtherDesign fault why of = why
 settle_of_bytes (Unlawful at) fault why of = why
+settle_of_bytes (Differs place) fault why of = why

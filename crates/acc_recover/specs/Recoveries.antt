@@ -6,7 +6,8 @@ use Rattle.acc_base.specs.declared.machines.Event.{Event}
 use Rattle.acc_base.specs.Machine.{World, start, unfinished}
 use Rattle.acc_base.specs.Lawful.{LeadLawfully}
 use Rattle.acc_base.specs.Compensation.{Recovers}
-use Rattle.acc_wal.specs.Journals.{Counts}
+use Rattle.acc_wal.specs.Journals.{Counts, CountsAll}
+use Rattle.acc_wal.specs.declared.items.Seal.{Seal}
 use Rattle.acc_machine.specs.Replays.{HasCome}
 
 -- the recovered state of this history, whose events are the recovered history
@@ -33,6 +34,12 @@ pub record GoesOn (d : Design) (from now : World) : Type 0 where
 abbrev pub CountsRecovered : Design → List ℕ → List Event → List ℕ → Type 0
 CountsRecovered d base found image =
     Counts image base found ⊎ ((last : World) × IsRecovery d found last × Counts image base last.events)
+
+-- of this version too, and with these states
+abbrev pub CountsAllRecovered : Design → List ℕ → ℕ → List Event → List Seal → List ℕ → Type 0
+CountsAllRecovered d base version found seals image =
+    CountsAll image base version found seals
+    ⊎ ((last : World) × IsRecovery d found last × CountsAll image base version last.events seals)
 
 -- the bytes are those of the file; or, where it is a journal, they are one of what it counts, or of the recovered history
 abbrev pub LeavesRecovery : Design → List ℕ → List ℕ → Type 0

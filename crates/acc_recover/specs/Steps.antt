@@ -16,4 +16,6 @@ pub record InStep {D : Type 0} (events : List Event) (wal : Journal D) : Type 0 
 pub record TailOnly {D : Type 0} (old new : Journal D) : Type 0 where
   pub disk : new.disk ≡ old.disk
   pub base : new.base ≡ old.base
+  pub version : new.version ≡ old.version
+  pub seals : new.seals ≡ old.seals
   pub durable : new.durable ≡ old.durable

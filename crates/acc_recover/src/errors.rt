@@ -11,6 +11,9 @@ pub enum RecoverError {
     OtherDesign,
     /// The event with so many before it is the first that isn't lawful.
     Unlawful(u64),
+    /// All events are lawful. Of the journal's states the one with so many events before it is the first that isn't the text of the
+    /// rows there, or with something unfinished there.
+    Differs(u64),
     /// The disk failed: its count of faults rose in this call.
     Disk,
     /// Memory ran out.

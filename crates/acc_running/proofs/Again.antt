@@ -11,9 +11,12 @@ use Rattle.acc_wal.specs.Journals.{Counts}
 use Rattle.acc_wal.proofs.Once.{one_reading}
 use Rattle.acc_recover.specs.Recoveries.{IsRecovery}
 use Rattle.acc_recover.specs.Refusals.{RefusesRecovery, IsOfBytes}
+use Rattle.acc_recover.specs.Seals.{HasSeals, HasSealsOver}
 use Rattle.acc_recover.specs.declared.errors.RecoverError.{RecoverError}
-use Rattle.acc_recover.specs.declared.errors.RecoverError.TheVariants.{Journal, OtherDesign, Unlawful, Disk, Memory}
+use Rattle.acc_recover.specs.declared.errors.RecoverError.TheVariants.{Journal, OtherDesign, Unlawful, Differs, Disk, Memory}
 use Rattle.acc_recover.proofs.Single.{one_recovery}
+use Rattle.acc_recover.proofs.Sealed.{events_counted}
+use Rattle.acc_journalled.proofs.Differing.{sealed_or}
 use Rattle.acc_journalled.proofs.Lawfuls.{lawful_or}
 use Rattle.acc_journalled.proofs.Once.{read_or, text_or, same_events}
 use Rattle.acc_running.specs.Crashes.{LeavesEvents, IsRecoveredPart, IsRecoverable, IsFrontOf}
@@ -50,8 +53,11 @@ recovered_leads d found last r =
 
 -- ---- recovery
 
-module _ (d : Design) (image : List ℕ) (events : List Event) (last : World) (counts : Counts image (printed d) events)
+module _ (d : Design) (image : List ℕ) (events : List Event) (last : World) (sealed : HasSeals d events image)
     (leads : LeadLawfully d start events last) where
+  counts : Counts image (printed d) events
+  counts = events_counted image (printed d) sealed.0 events sealed.1 sealed.2.counts
+
   unrefused :
       (error : RecoverError) (before after : ℕ) → RefusesRecovery d error (Some image) (Rose before after) → IsOfBytes error → ⊥
   unrefused (Journal e) before after why of = read_or d image e (printed d) events counts why
@@ -59,6 +65,7 @@ module _ (d : Design) (image : List ℕ) (events : List Event) (last : World) (c
   unrefused (Unlawful at) before after why of =
       lawful_or d why.events start last why.here at
       (subst (λ (es : List Event). LeadLawfully d start es last) (same_events d image events why.events counts why.counts) leads) why.first
+  unrefused (Differs place) before after why of = sealed_or d image events place sealed why
   unrefused Disk before after why of = of
   unrefused Memory before after why of = of
 
@@ -74,7 +81,7 @@ pub end_recovers : EndRecovers
 end_recovers d history settled image lawful front =
     let k = front_leads d history start lawful.0 front.count lawful.1 in (
       take front.count history,
-      recoverable d image (take front.count history) k.0 front.counts k.1,
+      recoverable d image (take front.count history) k.0 front.sealed k.1,
       record { count = front.count; at_least = front.at_least; within = front.within; is = refl },
     )
 
@@ -84,11 +91,15 @@ module _ (d : Design) (file image : List ℕ) (history : List Event) (first : Wo
   read : (e.base ≡ printed d) × (e.found ≡ f.found)
   read = one_reading file e.base (printed d) e.found f.found e.counts f.counts
 
-  counted : Counts image (printed d) e.events
-  counted = subst (λ (base : List ℕ). Counts image base e.events) read.0 e.left
+  -- the states that recovery found are right, so these are
+  sealed : HasSeals d e.events image
+  sealed =
+      let here = subst (λ (es : List Event). HasSeals d es file) (sym read.1) f.sealed in
+      let there = e.sealed (subst (λ (base : List ℕ). HasSealsOver base d e.found file) (sym read.0) here) in
+      subst (λ (base : List ℕ). HasSealsOver base d e.events image) read.0 there
 
   again : (last : World) → LeadLawfully d start e.events last → IsRecoverable d image e.events
-  again last leads = recoverable d image e.events last counted leads
+  again last leads = recoverable d image e.events last sealed leads
 
   same_state : (w : World) → IsRecovery d e.found w → w ≡ first
   same_state w r = one_recovery d f.found w first (subst (λ (es : List Event). IsRecovery d es w) read.1 r) f.recovery
@@ -122,7 +133,7 @@ module _ (d : Design) (file image : List ℕ) (history : List Event) (first : Wo
 pub crash_recovers : CrashRecovers
 crash_recovers d file image history first f lawful (inl same) = (
   f.found,
-  recoverable d image f.found f.recovery.first (subst (λ (x : List ℕ). Counts x (printed d) f.found) (sym same) f.counts) f.recovery.comes,
+  recoverable d image f.found f.recovery.first (subst (λ (x : List ℕ). HasSeals d f.found x) (sym same) f.sealed) f.recovery.comes,
   inl refl,
 )
 crash_recovers d file image history first f lawful (inr e) =

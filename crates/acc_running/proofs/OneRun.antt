@@ -27,9 +27,9 @@ module _ (d : Design) (calls : List Call) (order : List ℕ) (file : List ℕ) (
       → (a ≡ b) ⊎ X
   running_or X Opens both x y calm sound (inl h) (inl k) = inr (both h k)
   running_or X Opens both x y calm sound (inl h) (inr (inr k)) =
-      absurd (recovered_or d file h.found.found h.first k.error y b sound h.found.counts h.found.recovery k.cause k.says)
+      absurd (recovered_or d file h.found.found h.first k.error y b sound h.found.counts h.found.sealed h.found.recovery k.cause k.says)
   running_or X Opens both x y calm sound (inr (inr h)) (inl k) =
-      absurd (recovered_or d file k.found.found k.first h.error x a calm k.found.counts k.found.recovery h.cause h.says)
+      absurd (recovered_or d file k.found.found k.first h.error x a calm k.found.counts k.found.sealed k.found.recovery h.cause h.says)
   running_or X Opens both x y calm sound (inr (inr h)) (inr (inr k)) =
       inl (refuses_once d file (λ w n. a.text) one other a b x y calm sound h k)
   running_or X Opens both x y calm sound (inr (inl h)) k = absurd (calm h.failed)

@@ -1,5 +1,5 @@
 -- What is recorded of an engine's run over a recovered state, and what is said of it.
-use Rattle.std.proofs.Common.{◌≡◌, ◌≤◌, inl, inr, ℕ, List, ◌++◌, length, take, drop, true, false, Option, Some, None, refl}
+use Rattle.std.proofs.Common.{◌≡◌, ◌≤◌, inl, inr, ℕ, List, ◌++◌, length, take, drop, Bool, true, false, Option, Some, None, refl}
 use Rattle.std.proofs.Common.{sym, ap, subst, ◌∙◌, arith}
 use Rattle.std.specs.Prelude.{IfSome, option_and_then}
 use Rattle.std.specs.List.{flat_map, range_with_len}
@@ -24,6 +24,7 @@ use Rattle.acc_engine.specs.Surviving.{GoesOn}
 use Rattle.acc_settling.specs.Runs.{IsAckedButOne}
 use Rattle.acc_settling.specs.Wholes.{IsFrontOfSchedule, TellsDurablePart}
 use Rattle.acc_journalled.specs.declared.answers.Answer.{Answer}
+use Rattle.acc_journalled.specs.Sealing.{SealsGrowth}
 use Rattle.acc_running.specs.Engines.{SaysAll, SaysFault, SaysRun, HandsOver}
 use Rattle.acc_journalled.specs.Tellings.{telling_of}
 use Rattle.acc_running.specs.Recorded.{IsFound, IsRecorded, IsDurableButOne}
@@ -126,7 +127,8 @@ module _ {D : Type 0} (d : Design) (calls : List Call) (first : World) (old new 
       (front : IsFrontOfSchedule d calls order opened new.state.events)
       (told told' : Option (List ℕ)) (found : IsFound d told first)
       (counts : new.failed ≡ false → (file : List ℕ) → told' ≡ Some file
-      → CountsFront new.base new.state.events new.settled file) where
+      → CountsFront new.base new.state.events new.settled file)
+      (grew : Bool) (grown : (s : Answer) → SaysAll d calls order opened grew new s → SealsGrowth d told told' new.state.events) where
     whole : new.failed ≡ false → new.settled ≡ length new.state.events
         → IfSome told' (λ file. Counts file (printed d) new.state.events)
     whole unfailed all =
@@ -137,7 +139,7 @@ module _ {D : Type 0} (d : Design) (calls : List Call) (first : World) (old new 
         subst (λ (t : List ℕ). Counts file t new.state.events) (on.base ∙ b.base)
         (subst (λ (es : List Event). Counts file new.base es) events c.counts))
 
-    runs_through : (s : Answer) → SaysAll d calls order opened new s
+    runs_through : (s : Answer) → SaysAll d calls order opened grew new s
         → RunsThrough d calls order Opens told told' (telling_of s new.state.events new.settled)
     runs_through s all = record {
       first = first;
@@ -150,6 +152,7 @@ module _ {D : Type 0} (d : Design) (calls : List Call) (first : World) (old new 
       ending = all.ending;
       settled = all.settled;
       holds = whole all.unfailed all.settled;
+      grown = grown s all;
     }
 
     breaks_off : (fault : Type 0) → (new.failed ≡ true → fault) → (s : Answer)
@@ -183,7 +186,7 @@ module _ {D : Type 0} (d : Design) (calls : List Call) (first : World) (old new 
       text = f.says.1;
     }
 
-    pub runs_from : (fault : Type 0) → (new.failed ≡ true → fault) → (s : Answer) → SaysRun d calls order opened new s
+    pub runs_from : (fault : Type 0) → (new.failed ≡ true → fault) → (s : Answer) → SaysRun d calls order opened grew new s
         → RunsFrom d calls order Opens told told' fault (telling_of s new.state.events new.settled)
     runs_from fault so s (inl all) = inl (runs_through s all)
     runs_from fault so s (inr f) = inr (inl (breaks_off fault so s f))

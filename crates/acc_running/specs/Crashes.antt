@@ -10,11 +10,12 @@ use Rattle.acc_base.specs.Plays.{Play}
 use Rattle.acc_disk.specs.Crashes.{Only}
 use Rattle.acc_disk.specs.Moments.{AtAnyMoment}
 use Rattle.acc_print.specs.Designs.{printed}
-use Rattle.acc_wal.specs.Fronts.{CountsFront}
 use Rattle.acc_wal.specs.Journals.{Counts}
 use Rattle.acc_recover.specs.Recoveries.{IsRecovery, LeavesRecovery}
 use Rattle.acc_recover.specs.Refusals.{RefusesRecovery, IsOfBytes}
+use Rattle.acc_recover.specs.Seals.{HasSealsOver}
 use Rattle.acc_recover.specs.declared.errors.RecoverError.{RecoverError}
+use Rattle.acc_engine.specs.Sealing.{SealedFront}
 use Rattle.acc_running.specs.Recorded.{Records, IsDurableButOne}
 use Rattle.acc_running.specs.Running.{Follows, IsOpening, WorkersLeave}
 
@@ -32,13 +33,15 @@ IsRecoveredPart recovered history events =
     ⊎ (((more : List Event) × (history ≡ recovered ++ more)) × IsFrontOf history (length recovered) events)
 
 -- The file is a journal of what was found, and the image one of these events: of just that, or of the recovered history, or of a front of
--- the run's history with all of the recovered one.
+-- the run's history with all of the recovered one. Where each state of the file is the text of the rows at its place, so is each of the
+-- image.
 pub record LeavesEvents (d : Design) (file : List ℕ) (history : List Event) (image : List ℕ) : Type 0 where
   pub base : List ℕ
   pub found : List Event
   pub counts : Counts file base found
   pub events : List Event
   pub left : Counts image base events
+  pub sealed : HasSealsOver base d found file → HasSealsOver base d events image
   pub which : (events ≡ found) ⊎ ((first : World) × IsRecovery d found first × IsRecoveredPart first.events history events)
 
 -- at any moment of a run over a file: its bytes; or a journal of some first of the events that were there, or came
@@ -51,10 +54,11 @@ pub record LeavesNone (d : Design) (file : List ℕ) (history : List Event) (set
   pub none_durable : settled ≡ 0
   pub left : LeavesRecovery d file image
 
--- after a run: a front of the history with all that is durable, where something was recovered
+-- after a run: a front of the history with all that is durable, and states that are the texts of the rows at their places, where something
+-- was recovered
 abbrev pub LeavesDurable : Design → List ℕ → List Event → ℕ → List ℕ → Type 0
 LeavesDurable d file history settled image =
-    LeavesNone d file history settled image ⊎ CountsFront (printed d) history settled image
+    LeavesNone d file history settled image ⊎ SealedFront d (printed d) history settled image
 
 -- What a run over a disk leaves, however it ends. Where the disk was calm, a crash at any moment of it and one after it leave a front of
 -- what is recorded.

@@ -7,7 +7,7 @@ use Rattle.acc_base.specs.Lawful.{AreLawful}
 use Rattle.acc_base.specs.Machine.{World}
 use Rattle.acc_io.specs.Causes.{Rose}
 use Rattle.acc_print.specs.Designs.{printed}
-use Rattle.acc_wal.specs.Fronts.{CountsFront}
+use Rattle.acc_engine.specs.Sealing.{SealedFront}
 use Rattle.acc_journalled.specs.Tellings.{Telling}
 use Rattle.acc_running.specs.Recorded.{IsFound}
 use Rattle.acc_running.specs.Running.{RunsJournal}
@@ -30,5 +30,5 @@ CrashRecovers = (d : Design) (file image : List ℕ) (history : List Event) (fir
 -- and so is what a crash leaves after it
 abbrev pub EndRecovers : Type 0
 EndRecovers = (d : Design) (history : List Event) (settled : ℕ) (image : List ℕ)
-    → AreLawful d history → CountsFront (printed d) history settled image
+    → AreLawful d history → SealedFront d (printed d) history settled image
     → (events : List Event) × IsRecoverable d image events × IsFrontOf history settled events

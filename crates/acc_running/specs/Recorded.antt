@@ -11,11 +11,14 @@ use Rattle.acc_wal.specs.Journals.{Counts}
 use Rattle.acc_engine.specs.Keeping.{BeginsFrom}
 use Rattle.acc_schedule.specs.Schedules.{IsIdleBetween}
 use Rattle.acc_recover.specs.Recoveries.{IsRecovery}
+use Rattle.acc_recover.specs.Seals.{HasSeals}
 
--- The file, where its bytes are told, was a journal of the design's printed text. This is the state that recovery made of its events.
+-- The file, where its bytes are told, was a journal of the design's printed text, and each of its states was the text of the rows at its
+-- place. This is the state that recovery made of its events.
 pub record IsFound (d : Design) (told : Option (List ℕ)) (first : World) : Type 0 where
   pub found : List Event
   pub counts : IfSome told (λ file. Counts file (printed d) found)
+  pub sealed : IfSome told (HasSeals d found)
   pub recovery : IsRecovery d found first
   pub idle : IsIdle d first.rows
 

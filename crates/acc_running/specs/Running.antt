@@ -8,6 +8,7 @@ use Rattle.acc_base.specs.Lines.{line, settled_line}
 use Rattle.acc_base.specs.Machine.{World, world}
 use Rattle.acc_base.specs.Plays.{Play}
 use Rattle.acc_print.specs.Designs.{printed}
+use Rattle.acc_journalled.specs.Sealing.{SealsGrowth}
 use Rattle.acc_wal.specs.Journals.{Counts}
 use Rattle.acc_engine.specs.Keeping.{call_of, is_begun}
 use Rattle.acc_schedule.specs.Schedules.{TellsScheduleFrom}
@@ -53,6 +54,7 @@ pub record RunsThrough (d : Design) (calls : List Call) (order : List ℕ) (Open
   pub ending : t.ending ≡ ending_at all_begun
   pub settled : t.settled ≡ length t.history
   pub holds : IfSome told' (λ file. Counts file (printed d) t.history)
+  pub grown : SealsGrowth d told told' t.history
 
 -- a line each place, by the state after the durable events: its reply there, or that it is unsettled
 pub record TellsDurable (d : Design) (calls : List Call) (begun : List Bool) (history : List Event) (settled : ℕ) (text : List ℕ) : Type 0

@@ -1,5 +1,5 @@
 //! Runs of an engine.
-ghost use Rattle.std.specs.Prelude.{◌≡◌, [], true, length, All, IfOk};
+ghost use Rattle.std.specs.Prelude.{◌≡◌, [], true, false, length, All, IfOk};
 ghost use Rattle.acc_base.specs.Plays.{Play};
 ghost use Rattle.acc_script.specs.OrderLines.{IsPlace};
 ghost use Rattle.acc_engine.specs.Standing.{IsSound};
@@ -54,42 +54,47 @@ fn answer_of(told: Result<Scheduled, Stopped>) -> Result<Answer, AllocError>
     }
 }
 
-/// Schedules an engine's calls, none of which has begun, in the order, and says what came of it.
+/// Schedules an engine's calls, none of which has begun, in the order, and says what came of it. `grew` says whether the history grew
+/// before the engine was made.
 pub fn say<S: Store, D: Disk>(
     alloc: Global,
     player: &mut Settling<S, D>,
     d: &Design,
     order: &[u64],
+    grew: bool,
 ) -> Result<Answer, AllocError>
     requires design { player.old.design ≡ d.now }
     requires fresh { IsFresh player.old }
     requires places { All (IsPlace (length player.old.calls)) order.now }
-    ensures says { IfOk result (SaysRun d.now player.old.calls order.now (opening_at player.old.state player.old.calls) player.new) }
+    ensures says { IfOk result (SaysRun d.now player.old.calls order.now (opening_at player.old.state player.old.calls) grew player.new) }
     ensures front { IsFrontOfSchedule d.now player.old.calls order.now (opening_at player.old.state player.old.calls)
         player.new.state.events }
     ensures runs { RunsOn D.clock D.left_since D.told D.may_leave D.faults player.old player.new }
     ensures one_end { IsAckedButOne player.new }
 {
-    let told = schedule(alloc, player, d, order);
+    let told = schedule(alloc, player, d, order, grew);
     answer_of(told)
 }
 
 /// Ends what workers left of an engine's calls, of which the first have begun behind so many transactions, and says what came of all.
+/// `grew` says whether the history grew before the engine was made.
 pub fn say_rest<S: Store, D: Disk>(
     alloc: Global,
     player: &mut Settling<S, D>,
     d: &Design,
     before: usize,
+    grew: bool,
 ) -> Result<Answer, AllocError>
     requires design { player.old.design ≡ d.now }
     requires begun { HasBegunFirst player.old }
-    ensures says { IfOk result (λ s. (p : Play) → IsWorked before player.old p → SaysRun d.now player.old.calls [] p player.new s) }
+    requires quiet { player.old.failed ≡ false → player.old.waiting ≡ [] }
+    ensures says { IfOk result (λ s. (p : Play) → IsWorked before player.old p → SaysRun d.now player.old.calls [] p grew player.new s) }
     ensures front { (p : Play) → IsWorked before player.old p
         → IsFrontOfSchedule d.now player.old.calls [] p player.new.state.events }
     ensures failed { player.old.failed ≡ true → player.new ≡ player.old }
     ensures survives { Survives D.clock D.left_since D.told D.may_leave D.faults player.old player.new }
 {
-    let told = finish(alloc, player, d, before);
+    let told = finish(alloc, player, d, before, grew);
     answer_of(told)
 }
 

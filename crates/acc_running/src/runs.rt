@@ -6,7 +6,9 @@ ghost use Rattle.acc_engine.specs.Keeping.{CallsFit};
 ghost use Rattle.acc_script.specs.BeginSizes.{begins_size};
 ghost use Rattle.acc_script.specs.OrderLines.{IsPlace};
 ghost use Rattle.acc_journalled.specs.declared.answers.Ending.TheVariants.{DiskFailed};
+ghost use Rattle.acc_journalled.specs.Sealing.{SealsGrowth};
 ghost use Rattle.acc_journalled.specs.Tellings.{telling_of};
+ghost use Rattle.acc_running.specs.Engines.{IsThrough};
 ghost use Rattle.acc_running.specs.Running.{RunsJournal, WorksJournal};
 ghost use Rattle.acc_running.specs.Crashes.{SchedulesOver, WorksOver};
 
@@ -35,9 +37,13 @@ use std::alloc::{AllocError, Global};
 /// However it ends, the events are the first of those of the whole schedule, which is what the same order gives where nothing fails; and
 /// where the disk fails, the lines are those of that schedule's places, as far as they are durable.
 ///
+/// Where the history grew in this call, the journal's last state is the text of the rows behind all events then, unless the journal has no
+/// states by its version or the text is too long.
+///
 /// From a calm disk a crash at any moment leaves a journal of the events that were found, or of the whole recovered history, or of some
 /// first of the events that are handed back, with all of the recovered ones; and after the call, with all that are told as durable. Each
-/// reply but one at most is among these. The disk is calm again, unless one of its calls failed. What is no journal is left as it is.
+/// state of it is the text of the rows at its place. Each reply but one at most is among these. The disk is calm again, unless one of its
+/// calls failed. What is no journal is left as it is.
 pub fn schedule_journal<D: Disk, P: Progress>(
     alloc: Global,
     d: &Accepted,
@@ -56,6 +62,8 @@ pub fn schedule_journal<D: Disk, P: Progress>(
     ensures calm { IfOk result.answer (λ a. a.ending ≢ DiskFailed → IsCalm (D.told disk) (D.may_leave disk)
         → IsCalm (D.told result.disk) (D.may_leave result.disk)) }
     ensures faults { D.faults disk ≤ D.faults result.disk }
+    ensures sealed { IfOk result.answer (λ a. IsThrough a.ending
+        → SealsGrowth d.now (D.told disk) (D.told result.disk) result.history) }
 {
     let Some(rows) = empty_rows(alloc, d) else {
         return unrun(alloc, disk, Err(AllocError));
@@ -65,11 +73,11 @@ pub fn schedule_journal<D: Disk, P: Progress>(
             let Recovered {
                 state,
                 wal,
-                compensated: _,
+                compensated,
             } = recovered;
             let engine = over_journal(alloc, state, wal, calls);
             let mut player = Settling { engine };
-            let answer = say(alloc, &mut player, d.design(), order);
+            let answer = say(alloc, &mut player, d.design(), order, compensated > 0);
             closed(player, answer)
         }
         Err((error, _, disk)) => unrun(alloc, disk, not_recovered(alloc, error)),
@@ -85,6 +93,9 @@ pub fn schedule_journal<D: Disk, P: Progress>(
 ///
 /// However it ends, the events are a lawful run that begins with the recovered history, whoever took which turn; where the workers left
 /// off, so many of the first calls had begun, each as the next transaction, and what stands behind is the ending of a schedule.
+///
+/// Where the history grew in this call, the journal's last state is the text of the rows behind all events then, as after
+/// `schedule_journal`.
 ///
 /// From a calm disk a crash leaves what one in `schedule_journal` does: a journal of some first of the events that are handed back, and
 /// after the call of all that are told as durable. The disk is calm again, unless one of its calls failed.
@@ -106,6 +117,8 @@ pub fn work_journal<'a, D: Disk, C: Crew<Engine<'a, IndexStore, D>>, P: Progress
     ensures calm { IfOk result.answer (λ a. a.ending ≢ DiskFailed → IsCalm (D.told disk) (D.may_leave disk)
         → IsCalm (D.told result.disk) (D.may_leave result.disk)) }
     ensures faults { D.faults disk ≤ D.faults result.disk }
+    ensures sealed { IfOk result.answer (λ a. IsThrough a.ending
+        → SealsGrowth d.now (D.told disk) (D.told result.disk) result.history) }
 {
     let Some(rows) = empty_rows(alloc, d) else {
         return unrun(alloc, disk, Err(AllocError));
@@ -115,13 +128,13 @@ pub fn work_journal<'a, D: Disk, C: Crew<Engine<'a, IndexStore, D>>, P: Progress
             let Recovered {
                 state,
                 wal,
-                compensated: _,
+                compensated,
             } = recovered;
             let engine = over_journal(alloc, state, wal, calls);
             let before = transactions(&engine);
             let engine = crew.work(alloc, engine, workers);
             let mut player = Settling { engine };
-            let answer = say_rest(alloc, &mut player, d.design(), before);
+            let answer = say_rest(alloc, &mut player, d.design(), before, compensated > 0);
             closed(player, answer)
         }
         Err((error, _, disk)) => unrun(alloc, disk, not_recovered(alloc, error)),

@@ -85,33 +85,34 @@ room_to_start old place engine_error.Memory room is call at full = full (room re
 
 module _ {D : Type 0} (clock : D → ℕ) (left_since : D → ℕ → List ℕ → Type 0) (told : D → Option (List ℕ)) (may_leave : D → List ℕ → Type 0)
     (count : D → ℕ) (only_now : (disk : D) (image : List ℕ) → left_since disk (clock disk) image → may_leave disk image)
-    (old new : Journalled D) (stays : StaysBut old new) (unfailed : old.failed ≡ false) (within : old.settled ≤ length old.state.events)
-  where
-    begun_leaves : (place t : ℕ) → Begins place t old new → LeavesEngine clock left_since told may_leave count None old new
-    begun_leaves place t begins =
-        let history = begin_history old new place t stays begins in
-        let acked = acked_begun old new place t stays begins within in (
-          runs_stays clock left_since told may_leave count only_now old new (Begin begins.call ∷ []) stays history
-              (λ a. but_one new (acked a)),
-          again_stays told may_leave old new (Begin begins.call ∷ []) stays history unfailed acked,
-        )
+    (old new : Journalled D) (stays : StaysBut old new) (waiting : new.waiting ≡ old.waiting) (unfailed : old.failed ≡ false)
+    (within : old.settled ≤ length old.state.events) where
+  begun_leaves : (place t : ℕ) → Begins place t old new → LeavesEngine clock left_since told may_leave count None old new
+  begun_leaves place t begins =
+      let history = begin_history old new place t stays begins in
+      let acked = acked_begun old new place t stays begins within in (
+        runs_stays clock left_since told may_leave count only_now old new (Begin begins.call ∷ []) stays waiting history
+            (λ a. but_one new (acked a)),
+        again_stays told may_leave old new (Begin begins.call ∷ []) stays history unfailed acked,
+      )
 
-    same_leaves : new.state ≡ old.state → LeavesEngine clock left_since told may_leave count None old new
-    same_leaves same =
-        let history = ap (λ (w : World). w.events) same ∙ sym (append-nil old.state.events) in (
-          runs_stays clock left_since told may_leave count only_now old new [] stays history (one_same old new stays same within),
-          again_stays told may_leave old new [] stays history unfailed (acked_same old new stays same within),
-        )
+  same_leaves : new.state ≡ old.state → LeavesEngine clock left_since told may_leave count None old new
+  same_leaves same =
+      let history = ap (λ (w : World). w.events) same ∙ sym (append-nil old.state.events) in (
+        runs_stays clock left_since told may_leave count only_now old new [] stays waiting history (one_same old new stays same within),
+        again_stays told may_leave old new [] stays history unfailed (acked_same old new stays same within),
+      )
 
-    pub draws_leave : (place : ℕ) (drawn : Drawn) → Draws drawn place old new → LeavesEngine clock left_since told may_leave count None old new
-    draws_leave place (Begun t) h = begun_leaves place t h.0
-    draws_leave place Empty h = absurd h
-    draws_leave place Full h = same_leaves h.1.state
-    draws_leave place Crowd h = same_leaves h.2.state
+  pub draws_leave : (place : ℕ) (drawn : Drawn) → Draws drawn place old new
+      → LeavesEngine clock left_since told may_leave count None old new
+  draws_leave place (Begun t) h = begun_leaves place t h.0
+  draws_leave place Empty h = absurd h
+  draws_leave place Full h = same_leaves h.1.state
+  draws_leave place Crowd h = same_leaves h.2.state
 
-    -- a begin or a turn that is refused
-    pub refuses_leave : (error : EngineError) → RefusesTurn error old.failed → new.state ≡ old.state
-        → LeavesEngine clock left_since told may_leave count (Some (stop_of error)) old new
-    refuses_leave engine_error.Disk why same = absurd why
-    refuses_leave engine_error.Failed why same = absurd (let e = sym unfailed ∙ why in cc)
-    refuses_leave engine_error.Memory why same = ((same_leaves same).0, stays.failed ∙ unfailed)
+  -- a begin or a turn that is refused
+  pub refuses_leave : (error : EngineError) → RefusesTurn error old.failed → new.state ≡ old.state
+      → LeavesEngine clock left_since told may_leave count (Some (stop_of error)) old new
+  refuses_leave engine_error.Disk why same = absurd why
+  refuses_leave engine_error.Failed why same = absurd (let e = sym unfailed ∙ why in cc)
+  refuses_leave engine_error.Memory why same = ((same_leaves same).0, stays.failed ∙ unfailed)

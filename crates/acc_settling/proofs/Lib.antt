@@ -1,5 +1,6 @@
 pub mod Acks
 pub mod Settlings
+pub mod Sealings
 pub mod Beginning
 pub mod Counts
 pub mod Boards

@@ -3,11 +3,11 @@ use Rattle.std.proofs.Common.{◌≡◌, ◌≤◌, ℕ, List, [], length, false
 use Rattle.std.proofs.lemmas.List.{append-nil}
 use Rattle.acc_io.specs.Causes.{Rose}
 use Rattle.acc_base.specs.Machine.{World, reply_at}
-use Rattle.acc_disk.specs.Crashes.{Only}
 use Rattle.acc_disk.specs.Moments.{AtAnyMoment}
-use Rattle.acc_wal.specs.Fronts.{CountsFront}
 use Rattle.acc_engine.specs.Calls.{RefusesSettling}
 use Rattle.acc_engine.specs.Keeping.{Journalled}
+use Rattle.acc_engine.specs.Ready.{IsReady}
+use Rattle.acc_engine.specs.Sealing.{SealedDurableOrAll}
 use Rattle.acc_engine.specs.declared.errors.EngineError.{EngineError}
 use Rattle.acc_engine.specs.declared.errors.EngineError.TheVariants.{Disk as DiskFails, Failed as HasFailed, Memory as NoMemory}
 use Rattle.acc_engine.proofs.Surviving.{Kept, survives_fault}
@@ -28,14 +28,16 @@ module _ {D : Type 0} (clock : D → ℕ) (left_since : D → ℕ → List ℕ �
     (count : D → ℕ) (only_now : (disk : D) (image : List ℕ) → left_since disk (clock disk) image → may_leave disk image)
     (counts_now : (disk : D) (time : ℕ) (image : List ℕ) → time ≤ clock disk → may_leave disk image → left_since disk time image)
     (old new : Journalled D) (k : Kept old new) (unfailed : old.failed ≡ false) (faults : count old.disk ≤ count new.disk)
-    (moments : old.failed ≡ false → (file : List ℕ) → told old.disk ≡ Some file → Only file (may_leave old.disk)
-    → AtAnyMoment clock left_since old.disk new.disk (CountsFront old.base old.state.events old.settled))
+    (moments : IsReady told may_leave old
+    → AtAnyMoment clock left_since old.disk new.disk (SealedDurableOrAll old.design old.base old.state.events old.settled))
     (same : new.settled ≡ old.settled) (within : old.settled ≤ length old.state.events) where
   pub settling_leaves : (error : EngineError) → RefusesSettling error old.failed new.failed (Rose (count old.disk) (count new.disk))
       → LeavesEngine clock left_since told may_leave count (Some (stop_of error)) old new
   settling_leaves DiskFails why = (
     record {
-      survives = survives_fault clock left_since told may_leave count only_now old new k moments faults counts_now same why.1 why.2;
+      survives =
+          survives_fault clock left_since told may_leave count only_now old new k unfailed within moments faults counts_now same why.1
+          why.2;
       ends = λ acked. one_settling old new k same within (but_one old acked);
     },
     (why.1, why.2),

@@ -27,10 +27,11 @@ module _ {D : Type 0} (told : D → Option (List ℕ)) (may_leave : D → List �
 
 module _ {D : Type 0} (clock : D → ℕ) (left_since : D → ℕ → List ℕ → Type 0) (told : D → Option (List ℕ)) (may_leave : D → List ℕ → Type 0)
     (count : D → ℕ) (only_now : (disk : D) (image : List ℕ) → left_since disk (clock disk) image → may_leave disk image) where
-  pub runs_stays : (old new : Journalled D) (more : List Event) → StaysBut old new → new.state.events ≡ old.state.events ++ more
-      → (IsAcked old → IsAckedButOne new) → RunsOn clock left_since told may_leave count old new
-  runs_stays old new more s is ends =
-      record { survives = survives_stays clock left_since told may_leave count only_now old new more s is; ends = ends }
+  pub runs_stays : (old new : Journalled D) (more : List Event) → StaysBut old new → new.waiting ≡ old.waiting
+      → new.state.events ≡ old.state.events ++ more → (IsAcked old → IsAckedButOne new)
+      → RunsOn clock left_since told may_leave count old new
+  runs_stays old new more s waiting is ends =
+      record { survives = survives_stays clock left_since told may_leave count only_now old new more s waiting is; ends = ends }
 
   pub runs_none : (e : Journalled D) → RunsOn clock left_since told may_leave count e e
   runs_none e = record { survives = survives_none clock left_since told may_leave count only_now e; ends = but_one e }

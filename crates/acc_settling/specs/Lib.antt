@@ -1,5 +1,6 @@
 pub mod Runs
 pub mod Chains
+pub mod Growth
 pub mod Leaving
 pub mod Openings
 pub mod Replies

@@ -11,11 +11,12 @@ use Rattle.acc_engine.specs.Keeping.{Journalled, is_begun}
 abbrev pub opening_at : World → List Call → Play
 opening_at w calls = record { world = w; numbers = replicate (length calls) None; places = replicate (length w.transactions) 0 }
 
--- an engine as it is made: no place has begun, it hasn't failed, and all its events are durable
+-- an engine as it is made: no place has begun, it hasn't failed, all its events are durable, and no state of the rows waits
 pub record IsFresh {D : Type 0} (e : Journalled D) : Type 0 where
   pub begun : e.begun ≡ []
   pub unfailed : e.failed ≡ false
   pub settled : e.settled ≡ length e.state.events
+  pub waiting : e.waiting ≡ []
 
 -- the engine hasn't begun the place with so many before it
 abbrev pub CanBegin : {D : Type 0} → Journalled D → ℕ → Type 0

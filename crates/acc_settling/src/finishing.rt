@@ -5,7 +5,9 @@ ghost use Rattle.std.specs.List.{range_with_len};
 ghost use Rattle.acc_base.specs.Plays.{Play};
 ghost use Rattle.acc_player.specs.Boards.{play_of, IsBoardOf};
 ghost use Rattle.acc_schedule.specs.Schedules.{TellsScheduleFrom};
+ghost use Rattle.acc_engine.specs.Sealing.{EndsSealed};
 ghost use Rattle.acc_engine.specs.Surviving.{Survives};
+ghost use Rattle.acc_settling.specs.Growth.{HasGrown};
 ghost use Rattle.acc_settling.specs.Openings.{CanBegin};
 ghost use Rattle.acc_settling.specs.Schedules.{TellsFailed, TellsPartOfSchedule};
 ghost use Rattle.acc_settling.specs.Wholes.{IsFrontOfSchedule};
@@ -76,24 +78,29 @@ fn board_of_begun<S: Store, D: Disk>(
 /// a turn; then each place that hasn't begun is begun and ended, in the order of the calls. Each end is made durable before the next turn.
 /// `before` says how many transactions there were when the engine was made. Where the engine has failed, nothing is changed.
 ///
-/// It tells the reply of each place in the order of the calls, and how many events there are; and then all of them are durable.
+/// It tells the reply of each place in the order of the calls, and how many events there are; and then all of them are durable. Where the
+/// history grew, by the workers too, the text of all rows is durable behind its last event then, unless the journal has no states or the
+/// text is too long; `grew` says whether it grew before the engine was made.
 ///
 /// However it ends, the history goes on from the engine's; from a calm disk a crash at any moment of the call leaves a journal of some
-/// first of the events, of all that were durable before at least, and one after the call, of all that are durable then; and the events are
-/// the first of those of the whole ending, which is what comes of the play that the workers left where nothing fails. Where the disk has
-/// failed, in this call or before, the lines are those of the whole ending's places: a reply of its, where that is durable, or that it is
-/// unsettled.
+/// first of the events, of all that were durable before at least, and one after the call, of all that are durable then, with states that
+/// are the texts of the rows at their places; and the events are the first of those of the whole ending, which is what comes of the play
+/// that the workers left where nothing fails. Where the disk has failed, in this call or before, the lines are those of the whole ending's
+/// places: a reply of its, where that is durable, or that it is unsettled.
 pub fn finish<S: Store, D: Disk>(
     alloc: Global,
     player: &mut Settling<S, D>,
     d: &Design,
     before: usize,
+    grew: bool,
 ) -> Result<Scheduled, Stopped>
     requires design { player.old.design ≡ d.now }
     requires begun { HasBegunFirst player.old }
+    requires quiet { player.old.failed ≡ false → player.old.waiting ≡ [] }
     ensures tells { IfOk result (λ s. (p : Play) → IsWorked before player.old p
         → TellsScheduleFrom d.now player.old.calls p [] s.text.items player.new.state.events s.all_begun) }
     ensures settled { OnOk result ((player.new.settled ≡ length player.new.state.events) × (player.new.failed ≡ false)) }
+    ensures sealed { OnOk result (HasGrown grew player.new → EndsSealed player.new) }
     ensures stops { IfErr result (TellsFailed player.new) }
     ensures front { (p : Play) → IsWorked before player.old p
         → IsFrontOfSchedule d.now player.old.calls [] p player.new.state.events }
@@ -109,5 +116,5 @@ pub fn finish<S: Store, D: Disk>(
     if player.engine.has_failed() {
         return Err(told_of(alloc, player, &board, Stop::Disk));
     }
-    schedule_from(alloc, player, board, d, &[])
+    schedule_from(alloc, player, board, d, &[], grew)
 }

@@ -8,6 +8,7 @@ mod finishing;
 mod openings;
 mod replies;
 mod schedules;
+mod sealing;
 mod settling;
 mod turns;
 

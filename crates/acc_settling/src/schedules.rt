@@ -6,7 +6,9 @@ ghost use Rattle.acc_base.specs.Plays.{Play};
 ghost use Rattle.acc_script.specs.OrderLines.{IsPlace};
 ghost use Rattle.acc_player.specs.Boards.{play_of, IsBoardOf, IsUnbegun};
 ghost use Rattle.acc_player.specs.Ways.{PlayPrecedes, PlayPrecedesEach};
+ghost use Rattle.acc_engine.specs.Sealing.{EndsSealed};
 ghost use Rattle.acc_schedule.specs.Schedules.{TellsScheduleFrom};
+ghost use Rattle.acc_settling.specs.Growth.{HasGrown};
 ghost use Rattle.acc_settling.specs.Leaving.{LeavesEngine};
 ghost use Rattle.acc_settling.specs.Openings.{opening_at, IsFresh, CanBegin};
 ghost use Rattle.acc_settling.specs.Runs.{RunsOn, IsAckedButOne};
@@ -67,16 +69,47 @@ fn play_out<S: Store, D: Disk>(
     requires unfailed { player.old.failed ≡ false }
     ensures tells { IfOk result (λ begun. TellsScheduleFrom d.now player.old.calls (play_of player.old.state board.old) order.now
         board.new.text.items player.new.state.events begun) }
+    ensures over { OnOk result (unfinished player.new.state ≡ []) }
     ensures settled { OnOk result (player.new.settled ≡ length player.new.state.events) }
     ensures board { IsBoardOf player.new.calls (CanBegin player.new) board.new }
     ensures done { OnOk result (LeavesEngine D.clock D.left_since D.told D.may_leave D.faults None player.old player.new) }
     ensures stops { IfErr result (λ stop. LeavesEngine D.clock D.left_since D.told D.may_leave D.faults (Some stop) player.old player.new) }
-    ensures front { OnErr result (PlayPrecedesEach (play_of player.new.state board.new)
-        (IsAfterSchedule d.now player.old.calls order.now (play_of player.old.state board.old))) }
+    ensures front { PlayPrecedesEach (play_of player.new.state board.new)
+        (IsAfterSchedule d.now player.old.calls order.now (play_of player.old.state board.old)) }
 {
     run(alloc, player, board, d, Detail::Lines, order)?;
     player.settle()?;
     Ok(close(player, board)?)
+}
+
+/// Plays a board out, and then, where the history grew, puts the text of all rows behind its last event.
+fn play_and_seal<S: Store, D: Disk>(
+    alloc: Global,
+    player: &mut Settling<S, D>,
+    board: &mut Board,
+    d: &Design,
+    order: &[u64],
+    grew: bool,
+) -> Result<bool, Stop>
+    requires design { player.old.design ≡ d.now }
+    requires board { IsBoardOf player.old.calls (CanBegin player.old) board.old }
+    requires places { All (IsPlace (length player.old.calls)) order.now }
+    requires text { board.old.text.items ≡ [] }
+    requires unfailed { player.old.failed ≡ false }
+    requires quiet { player.old.waiting ≡ [] }
+    ensures tells { IfOk result (λ begun. TellsScheduleFrom d.now player.old.calls (play_of player.old.state board.old) order.now
+        board.new.text.items player.new.state.events begun) }
+    ensures settled { OnOk result (player.new.settled ≡ length player.new.state.events) }
+    ensures sealed { OnOk result (HasGrown grew player.new → EndsSealed player.new) }
+    ensures board { IsBoardOf player.new.calls (CanBegin player.new) board.new }
+    ensures done { OnOk result (LeavesEngine D.clock D.left_since D.told D.may_leave D.faults None player.old player.new) }
+    ensures stops { IfErr result (λ stop. LeavesEngine D.clock D.left_since D.told D.may_leave D.faults (Some stop) player.old player.new) }
+    ensures front { PlayPrecedesEach (play_of player.new.state board.new)
+        (IsAfterSchedule d.now player.old.calls order.now (play_of player.old.state board.old)) }
+{
+    let begun = play_out(alloc, player, board, d, order)?;
+    player.seal(alloc, grew)?;
+    Ok(begun)
 }
 
 /// What is told of a schedule that stopped.
@@ -106,22 +139,25 @@ pub fn schedule_from<S: Store, D: Disk>(
     board: Board,
     d: &Design,
     order: &[u64],
+    grew: bool,
 ) -> Result<Scheduled, Stopped>
     requires design { player.old.design ≡ d.now }
     requires board { IsBoardOf player.old.calls (CanBegin player.old) board }
     requires places { All (IsPlace (length player.old.calls)) order.now }
     requires text { board.text.items ≡ [] }
     requires unfailed { player.old.failed ≡ false }
+    requires quiet { player.old.waiting ≡ [] }
     ensures tells { IfOk result (λ s. TellsScheduleFrom d.now player.old.calls (play_of player.old.state board) order.now
         s.text.items player.new.state.events s.all_begun) }
     ensures settled { OnOk result ((player.new.settled ≡ length player.new.state.events) × (player.new.failed ≡ false)) }
+    ensures sealed { OnOk result (HasGrown grew player.new → EndsSealed player.new) }
     ensures stops { IfErr result (λ stop. TellsStop D.faults stop player.old player.new) }
     ensures front { IsFrontOfSchedule d.now player.old.calls order.now (play_of player.old.state board) player.new.state.events }
     ensures unsettled { IfErr result (TellsPartOfSchedule d.now player.old.calls order.now (play_of player.old.state board) player.new) }
     ensures runs { RunsOn D.clock D.left_since D.told D.may_leave D.faults player.old player.new }
 {
     let mut board = board;
-    match play_out(alloc, player, &mut board, d, order) {
+    match play_and_seal(alloc, player, &mut board, d, order, grew) {
         Ok(all_begun) => Ok(Scheduled {
             text: board.text,
             all_begun,
@@ -135,11 +171,14 @@ pub fn schedule_from<S: Store, D: Disk>(
 /// that hasn't begun is begun and ended, in the order of the calls. Each end is made durable before the next turn.
 ///
 /// It tells a line each mention, the reply of each place in the order of the calls, and how many events there were; and then all of
-/// them are durable. `Disk` comes only where the disk's count of faults rose in this call.
+/// them are durable. Where the history grew, the text of all rows is durable behind its last event then, unless the journal has no states
+/// or the text is too long; `grew` says whether it grew before the engine was made. `Disk` comes only where the disk's count of faults
+/// rose in this call.
 ///
 /// However it ends, the history goes on from the engine's; from a calm disk a crash at any moment of the call leaves a journal of some
-/// first of the events, of all that were durable before at least, and one after the call, of all that are durable then; unless the engine
-/// has failed, the disk is calm again; and each reply but one at most is durable.
+/// first of the events, of all that were durable before at least, and one after the call, of all that are durable then, with states that
+/// are the texts of the rows at their places; unless the engine has failed, the disk is calm again; and each reply but one at most is
+/// durable.
 ///
 /// However it ends, the events are the first of those of the whole schedule, which is what the same order gives where nothing fails. Where
 /// the disk fails, the lines are those of the whole schedule's places: a reply of its, where that is durable, or that it is unsettled.
@@ -148,6 +187,7 @@ pub fn schedule<S: Store, D: Disk>(
     player: &mut Settling<S, D>,
     d: &Design,
     order: &[u64],
+    grew: bool,
 ) -> Result<Scheduled, Stopped>
     requires design { player.old.design ≡ d.now }
     requires fresh { IsFresh player.old }
@@ -155,6 +195,7 @@ pub fn schedule<S: Store, D: Disk>(
     ensures tells { IfOk result (λ s. TellsScheduleFrom d.now player.old.calls (opening_at player.old.state player.old.calls) order.now
         s.text.items player.new.state.events s.all_begun) }
     ensures settled { OnOk result ((player.new.settled ≡ length player.new.state.events) × (player.new.failed ≡ false)) }
+    ensures sealed { OnOk result (HasGrown grew player.new → EndsSealed player.new) }
     ensures stops { IfErr result (λ stop. TellsStop D.faults stop player.old player.new) }
     ensures front { IsFrontOfSchedule d.now player.old.calls order.now (opening_at player.old.state player.old.calls)
         player.new.state.events }
@@ -164,7 +205,7 @@ pub fn schedule<S: Store, D: Disk>(
     ensures one_end { IsAckedButOne player.new }
 {
     match opening(alloc, player) {
-        Ok(board) => schedule_from(alloc, player, board, d, order),
+        Ok(board) => schedule_from(alloc, player, board, d, order, grew),
         Err(_) => Err(Stopped::Memory),
     }
 }

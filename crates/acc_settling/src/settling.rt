@@ -1,12 +1,14 @@
 //! An engine, each of whose ends is made durable before the next turn.
 ghost use Rattle.std.specs.Prelude.{◌≡◌};
 
+use crate::sealing::seal;
 use crate::turns::{begin, settle, take};
 use acc_base::machines::{Frame, Reply, Turn};
 use acc_disk::Disk;
 use acc_engine::Engine;
 use acc_player::{Ender, Player, Stop};
 use acc_store::Store;
+use std::alloc::Global;
 use std::marker::Model;
 
 /// An engine as a player, which makes each end durable before its next turn. Contracts see the engine; its type keeps what an engine
@@ -28,7 +30,10 @@ impl<'a, S: Store, D: Disk> Model for Settling<'a, S, D> {
 }
 
 impl<'a, S: Store, D: Disk> Settling<'a, S, D> {
-    ghost use Rattle.std.specs.Prelude.{◌≡◌, length, false, None, Some, IfErr, OnOk};
+    ghost use Rattle.std.specs.Prelude.{◌≡◌, [], length, false, None, Some, IfErr, OnOk};
+    ghost use Rattle.acc_base.specs.Machine.{unfinished};
+    ghost use Rattle.acc_engine.specs.Sealing.{EndsSealed};
+    ghost use Rattle.acc_settling.specs.Growth.{HasGrown};
     ghost use Rattle.acc_settling.specs.Leaving.{LeavesEngine};
     ghost use Rattle.acc_settling.specs.Runs.{IsAcked, IsAckedButOne};
 
@@ -45,6 +50,25 @@ impl<'a, S: Store, D: Disk> Settling<'a, S, D> {
         ensures stops { IfErr result (λ stop. LeavesEngine D.clock D.left_since D.told D.may_leave D.faults (Some stop) self.old self.new) }
     {
         settle(&mut self.engine)
+    }
+
+    /// Where the history grew, puts the text of all rows behind its last event, and makes that durable too. `grew` says whether it grew
+    /// before the engine was made.
+    pub fn seal(&mut self, alloc: Global, grew: bool) -> Result<(), Stop>
+        requires idle { unfinished self.old.state ≡ [] }
+        requires quiet { self.old.waiting ≡ [] }
+        requires unfailed { self.old.failed ≡ false }
+        requires all { self.old.settled ≡ length self.old.state.events }
+        ensures state { self.new.state ≡ self.old.state }
+        ensures design { self.new.design ≡ self.old.design }
+        ensures calls { self.new.calls ≡ self.old.calls }
+        ensures begun { self.new.begun ≡ self.old.begun }
+        ensures all { self.new.settled ≡ length self.new.state.events }
+        ensures sealed { OnOk result (HasGrown grew self.new → EndsSealed self.new) }
+        ensures done { OnOk result (LeavesEngine D.clock D.left_since D.told D.may_leave D.faults None self.old self.new) }
+        ensures stops { IfErr result (λ stop. LeavesEngine D.clock D.left_since D.told D.may_leave D.faults (Some stop) self.old self.new) }
+    {
+        seal(alloc, &mut self.engine, grew)
     }
 }
 

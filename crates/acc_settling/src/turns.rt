@@ -17,8 +17,8 @@ use acc_engine::{Drawn, Engine, EngineError};
 use acc_player::Stop;
 use acc_store::Store;
 
-// Why a player stops where a call of its engine isn't done.
-fn stop_of(error: EngineError) -> Stop
+/// Why a player stops where a call of its engine isn't done.
+pub fn stop_of(error: EngineError) -> Stop
     ensures { result ≡ stop_of error }
 {
     match error {

@@ -13,7 +13,8 @@ append_last-requires-clause-next g c =
     let old = c.args.engine.now in
     let new = c.draw.new.self in
     begin_next g.D.Disk.clock g.D.Disk.left_since g.D.Disk.told g.D.Disk.may_leave g.D.Disk.faults g.met.D.Disk.only_now
-    g.B.Run.script g.B.Room.start g.B.Run.engine old new c.draw.ensures.stays c.requires.serves (λ f. (c.draw.ensures.failed f).1)
+    g.B.Run.script g.B.Room.start g.B.Run.engine old new c.draw.ensures.stays c.draw.ensures.waiting c.requires.serves
+    (λ f. (c.draw.ensures.failed f).1)
     c.args.joined c.in-Begun.field-0 c.events.result.now c.requires.tied
     (subst (λ (x : Drawn). DrawsLowest x old new) c.in-Begun.is c.in-Ok.ensures.ok)
     (c.events.ensures.events ∙ ap (λ (w : World). w.events) c.state.ensures.state.0)
@@ -26,7 +27,8 @@ returns-in-Begun g c =
     let added : c.events.result.now ≡ new.state.events = c.events.ensures.events ∙ ap (λ (w : World). w.events) c.state.ensures.state.0 in
     let drew =
     drew_begun g.D.Disk.clock g.D.Disk.left_since g.D.Disk.told g.D.Disk.may_leave g.D.Disk.faults g.met.D.Disk.only_now
-    g.B.Run.script g.B.Room.start g.B.Run.engine old new c.draw.ensures.stays c.requires.serves (λ f. (c.draw.ensures.failed f).1)
+    g.B.Run.script g.B.Room.start g.B.Run.engine old new c.draw.ensures.stays c.draw.ensures.waiting c.requires.serves
+    (λ f. (c.draw.ensures.failed f).1)
     joined c.append_last.result c.in-Begun.field-0 c.requires.tied
     (subst (λ (x : Drawn). DrawsLowest x old new) c.in-Begun.is c.in-Ok.ensures.ok)
     (λ event is.
@@ -46,7 +48,8 @@ returns-in-Empty g c =
     let new = c.draw.new.self in
     let drew =
     drew_empty g.D.Disk.clock g.D.Disk.left_since g.D.Disk.told g.D.Disk.may_leave g.D.Disk.faults g.met.D.Disk.only_now
-    g.B.Run.script g.B.Room.start g.B.Run.engine old new c.draw.ensures.stays c.requires.serves (λ f. (c.draw.ensures.failed f).1)
+    g.B.Run.script g.B.Room.start g.B.Run.engine old new c.draw.ensures.stays c.draw.ensures.waiting c.requires.serves
+    (λ f. (c.draw.ensures.failed f).1)
     c.args.joined c.requires.tied (subst (λ (x : Drawn). DrawsLowest x old new) c.in-Empty.is c.in-Ok.ensures.ok) in
     record {
       tied = drew.tied;
@@ -61,7 +64,8 @@ returns-in-Full g c =
     let new = c.draw.new.self in
     let drew =
     drew_full g.D.Disk.clock g.D.Disk.left_since g.D.Disk.told g.D.Disk.may_leave g.D.Disk.faults g.met.D.Disk.only_now
-    g.B.Run.script g.B.Room.start g.B.Run.engine old new c.draw.ensures.stays c.requires.serves (λ f. (c.draw.ensures.failed f).1)
+    g.B.Run.script g.B.Room.start g.B.Run.engine old new c.draw.ensures.stays c.draw.ensures.waiting c.requires.serves
+    (λ f. (c.draw.ensures.failed f).1)
     c.args.joined c.requires.tied (subst (λ (x : Drawn). DrawsLowest x old new) c.in-Full.is c.in-Ok.ensures.ok) in
     record {
       tied = drew.tied;
@@ -76,7 +80,8 @@ returns-in-Crowd g c =
     let new = c.draw.new.self in
     let drew =
     drew_crowd g.D.Disk.clock g.D.Disk.left_since g.D.Disk.told g.D.Disk.may_leave g.D.Disk.faults g.met.D.Disk.only_now
-    g.B.Run.script g.B.Room.start g.B.Run.engine old new c.draw.ensures.stays c.requires.serves (λ f. (c.draw.ensures.failed f).1)
+    g.B.Run.script g.B.Room.start g.B.Run.engine old new c.draw.ensures.stays c.draw.ensures.waiting c.requires.serves
+    (λ f. (c.draw.ensures.failed f).1)
     c.args.joined c.requires.tied (subst (λ (x : Drawn). DrawsLowest x old new) c.in-Crowd.is c.in-Ok.ensures.ok) in
     record {
       tied = drew.tied;
@@ -90,6 +95,7 @@ returns-in-Err g c =
     let err = c.in-Err.ensures.err in
     let fails =
     failing g.D.Disk.clock g.D.Disk.left_since g.D.Disk.told g.D.Disk.may_leave g.D.Disk.faults g.met.D.Disk.only_now
-    g.B.Run.script g.B.Room.start g.B.Run.engine c.args.engine.now c.draw.new.self c.draw.ensures.stays c.requires.serves
+    g.B.Run.script g.B.Room.start g.B.Run.engine c.args.engine.now c.draw.new.self c.draw.ensures.stays c.draw.ensures.waiting
+    c.requires.serves
     (λ f. (c.draw.ensures.failed f).1) c.args.joined c.in-Err.error c.requires.tied err.state err.marks c.in-Err.ensures.why in
     record { tied = fails.tied; serves = fails.serves'; causes = fails.causes; draws = fails.fails }

@@ -23,7 +23,8 @@ append_last-requires g c =
       room = short g.B.Run.script.design joined old c.requires.tied c.requires.serves.kept;
       next =
           turn_next g.D.Disk.clock g.D.Disk.left_since g.D.Disk.told g.D.Disk.may_leave g.D.Disk.faults g.met.D.Disk.only_now
-          g.B.Run.script g.B.Room.start g.B.Run.engine old new stays c.requires.serves (λ f. (c.turn.ensures.failed f).1)
+          g.B.Run.script g.B.Room.start g.B.Run.engine old new stays c.turn.ensures.waiting c.requires.serves
+          (λ f. (c.turn.ensures.failed f).1)
           c.args.t c.requires.live c.turn.ensures.begun kept joined c.events.result.now c.requires.tied c.requires.own
           (adds_event c.args.t c.in-Ok.turn old.state new.state (unblocked c.in-Ok.turn c.in-Stepped.is) c.in-Ok.ensures.adds)
           (c.events.ensures.events ∙ ap (λ (w : World). w.events) c.state.ensures.state.0);
@@ -38,7 +39,8 @@ returns-in-Blocked-clause-turns g c =
     let is = subst (λ (x : Turn). IsTurn old.design old.state new.state c.args.t x) c.in-Blocked.is c.in-Ok.ensures.turn in
     let went =
     went_blocked g.D.Disk.clock g.D.Disk.left_since g.D.Disk.told g.D.Disk.may_leave g.D.Disk.faults g.met.D.Disk.only_now
-    g.B.Run.script g.B.Room.start g.B.Run.engine old new c.turn.ensures.stays c.requires.serves (λ f. (c.turn.ensures.failed f).1)
+    g.B.Run.script g.B.Room.start g.B.Run.engine old new c.turn.ensures.stays c.turn.ensures.waiting c.requires.serves
+    (λ f. (c.turn.ensures.failed f).1)
     c.args.t c.requires.live c.turn.ensures.begun (subst (IsKept g.B.Run.script.design) (sym same) c.requires.serves.kept)
     joined c.in-Blocked.field-0 c.in-Blocked.field-1 c.requires.tied is same in
     subst (λ (x : Turn). Turns g.B.Run.script.design c.args.t joined joined x) (sym c.in-Blocked.is) went.turns
@@ -56,7 +58,7 @@ returns-in-Stepped g c =
     let a = adds_event c.args.t c.in-Ok.turn old.state new.state moved c.in-Ok.ensures.adds in
     let went =
     went_on g.D.Disk.clock g.D.Disk.left_since g.D.Disk.told g.D.Disk.may_leave g.D.Disk.faults g.met.D.Disk.only_now
-    g.B.Run.script g.B.Room.start g.B.Run.engine old new stays c.requires.serves (λ f. (c.turn.ensures.failed f).1)
+    g.B.Run.script g.B.Room.start g.B.Run.engine old new stays c.turn.ensures.waiting c.requires.serves (λ f. (c.turn.ensures.failed f).1)
     c.args.t c.requires.live c.turn.ensures.begun kept joined c.append_last.result c.in-Ok.turn c.requires.tied c.in-Ok.ensures.turn a
     (λ event is.
     subst (λ (l : List Event). c.append_last.result ≡ known true joined.broken l (joined.mine ++ (length joined.seen, event) ∷ []))

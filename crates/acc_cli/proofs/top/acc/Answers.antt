@@ -6,8 +6,10 @@ use Rattle.acc_cli.proofs.BenchLemmas.{tells_bench, bench_promise}
 use Rattle.acc_cli.proofs.BookingLemmas.{sells_once}
 use Rattle.acc_cli.proofs.CreationLemmas.{is_created}
 use Rattle.acc_cli.proofs.ProvingLemmas.{is_proved}
-use Rattle.acc_cli.proofs.LineLemmas.{leaves_line, runs_line, works_line, tells_somehow, verified_somehow}
+use Rattle.acc_cli.proofs.LineLemmas.{leaves_line, runs_line, works_line, tells_somehow, verified_somehow, migrated_somehow}
+use Rattle.acc_cli.proofs.MigrationLemmas.{tells_migration}
 use Rattle.acc_cli.proofs.RecoveryLemmas.{tells_recovery, left_refused}
+use Rattle.acc_cli.proofs.SealedLemmas.{tells_sealed}
 use Rattle.acc_cli.proofs.VerificationLemmas.{tells_verification}
 use Rattle.acc_cli.proofs.StatusLemmas.{zero_is_done, seven_is_sink, four_is_refused}
 use Rattle.acc_cli.proofs.top.acc.Goals as goal
@@ -45,17 +47,29 @@ returns-clause-proved g c is zero =
 pub returns-clause-recovered : goal.returns-clause-recovered
 returns-clause-recovered g c command wanted is by =
     rw c.code.ensures
-    (tells_recovery _ _ command wanted _ _ _ _ _ _ _ _ by _ _ _ is
-    (λ unsaid. tells_somehow g.D.Disk.clock g.D.Disk.left_since g.D.Disk.told g.D.Disk.may_leave _ _ c.args.disk
+    (tells_recovery _ _ command wanted _ _ _ _ _ _ _ _ _ by
+    (λ unsaid. tells_somehow g.D.Disk.clock g.D.Disk.left_since g.D.Disk.told g.D.Disk.may_leave g.D.Disk.faults _ _ c.args.disk
     c.answer_line-closed.result.disk _ _ _ _ _ unsaid command wanted is by c.answer_line-closed.ensures.leaves)
-    c.answer_line-closed.ensures.answered)
+    _ _ _ is c.answer_line-closed.ensures.answered)
 
 pub returns-clause-verified : goal.returns-clause-verified
 returns-clause-verified g c is =
     rw c.code.ensures
-    (tells_verification _ _ _ _ _ _ _ _ _ _ _ _ _ is
-    (λ nine. verified_somehow g.D.Disk.clock g.D.Disk.left_since g.D.Disk.told g.D.Disk.may_leave _ _ c.args.disk
-    c.answer_line-closed.result.disk _ _ _ _ _ nine is c.answer_line-closed.ensures.leaves)
+    (tells_verification _ _ _ _ _ _ _ _ _ _ _
+    (λ broken. verified_somehow g.D.Disk.clock g.D.Disk.left_since g.D.Disk.told g.D.Disk.may_leave g.D.Disk.faults _ _ c.args.disk
+    c.answer_line-closed.result.disk _ _ _ _ _ broken is c.answer_line-closed.ensures.leaves)
+    _ _ _ is c.answer_line-closed.ensures.answered)
+
+pub returns-clause-sealed : goal.returns-clause-sealed
+returns-clause-sealed g c command is recovers =
+    rw c.code.ensures (tells_sealed _ _ command recovers _ _ _ _ _ _ _ _ _ _ _ is c.answer_line-closed.ensures.answered)
+
+pub returns-clause-migrated : goal.returns-clause-migrated
+returns-clause-migrated g c is =
+    rw c.code.ensures
+    (tells_migration _ _ _ _ _ _ _ _ _ _ _ _ _ is
+    (λ unsaid. migrated_somehow g.D.Disk.clock g.D.Disk.left_since g.D.Disk.told g.D.Disk.may_leave g.D.Disk.faults _ _ c.args.disk
+    c.answer_line-closed.result.disk _ _ _ _ _ unsaid is c.answer_line-closed.ensures.leaves)
     c.answer_line-closed.ensures.answered)
 
 pub returns-clause-booked : goal.returns-clause-booked
@@ -84,20 +98,20 @@ returns-clause-unchanged g c four =
 
 pub returns-clause-runs : goal.returns-clause-runs
 returns-clause-runs g c is =
-    runs_line g.D.Disk.clock g.D.Disk.left_since g.D.Disk.told g.D.Disk.may_leave _ _ c.args.disk c.answer_line-closed.result.disk _ _ is
+    runs_line g.D.Disk.clock g.D.Disk.left_since g.D.Disk.told g.D.Disk.may_leave g.D.Disk.faults _ _ c.args.disk c.answer_line-closed.result.disk _ _ is
     c.answer_line-closed.ensures.leaves
 
 pub returns-clause-works : goal.returns-clause-works
 returns-clause-works g c workers is =
-    works_line g.D.Disk.clock g.D.Disk.left_since g.D.Disk.told g.D.Disk.may_leave _ _ c.args.disk c.answer_line-closed.result.disk _ _
+    works_line g.D.Disk.clock g.D.Disk.left_since g.D.Disk.told g.D.Disk.may_leave g.D.Disk.faults _ _ c.args.disk c.answer_line-closed.result.disk _ _
     workers is c.answer_line-closed.ensures.leaves
 
 pub returns-clause-crash : goal.returns-clause-crash
 returns-clause-crash g c file is only =
-    (leaves_line g.D.Disk.clock g.D.Disk.left_since g.D.Disk.told g.D.Disk.may_leave _ _ c.args.disk c.answer_line-closed.result.disk _ _
+    (leaves_line g.D.Disk.clock g.D.Disk.left_since g.D.Disk.told g.D.Disk.may_leave g.D.Disk.faults _ _ c.args.disk c.answer_line-closed.result.disk _ _
     (g.met.D.Disk.only_now c.args.disk) c.answer_line-closed.ensures.leaves).moments file is only
 
 pub returns-clause-left : goal.returns-clause-left
 returns-clause-left g c file is only =
-    (leaves_line g.D.Disk.clock g.D.Disk.left_since g.D.Disk.told g.D.Disk.may_leave _ _ c.args.disk c.answer_line-closed.result.disk _ _
+    (leaves_line g.D.Disk.clock g.D.Disk.left_since g.D.Disk.told g.D.Disk.may_leave g.D.Disk.faults _ _ c.args.disk c.answer_line-closed.result.disk _ _
     (g.met.D.Disk.only_now c.args.disk) c.answer_line-closed.ensures.leaves).left file is only

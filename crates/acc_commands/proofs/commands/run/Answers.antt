@@ -157,6 +157,10 @@ pub returns-in-Verify-clause-ends : goal.returns-in-Verify-clause-ends
 unfolding MeansOverDisk LeavesOf
 returns-in-Verify-clause-ends g c = rw c.in-Verify.is c.verify_files.ensures
 
+pub returns-in-Migrate-clause-ends : goal.returns-in-Migrate-clause-ends
+unfolding MeansOverDisk LeavesOf
+returns-in-Migrate-clause-ends g c = rw c.in-Migrate.is c.migrate_files.ensures
+
 pub returns-in-BookingVerify-clause-ends : goal.returns-in-BookingVerify-clause-ends
 unfolding MeansOverDisk LeavesOf
 returns-in-BookingVerify-clause-ends g c = rw c.in-BookingVerify.is c.book_files.ensures

@@ -15,7 +15,6 @@ put-requires g c =
     let brief = subst (λ (e : Event). length (event_bytes e) ≤ 14) (sym same) (turn_brief c.args.t turns.event turns.of_turn) in
     record {
       unspent = c.requires.unspent;
-      quiet = c.requires.quiet;
       fits =
           subst Fits (sym same)
           (turn_fits c.args.t turns.event turns.of_turn c.requires.number (subst HasSmallCause same c.last_turn.ensures.small));

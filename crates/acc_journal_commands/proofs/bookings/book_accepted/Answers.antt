@@ -1,4 +1,4 @@
-use Rattle.std.proofs.Common.{inl, inr, refl, subst}
+use Rattle.std.proofs.Common.{inl, inr, ⊎_elim, refl, subst}
 use Rattle.acc_base.specs.declared.designs.Design.{Design}
 use Rattle.acc_inputs.specs.Answers.{said_alone}
 use Rattle.acc_inputs.specs.Bookings.{IsBooking, RefusesBooking, FindsBooking}
@@ -32,7 +32,8 @@ returns-in-Ok-Found g c =
     (λ old new t ends. inr (record { shipped = is; ends = ends })) found.answer
     (record {
       leaves = record { moments = found.moments; left = found.left };
-      tells = found.recorded;
+      tells = ⊎_elim (λ none. inl none) (⊎_elim (λ told. inr (inl (record { text = told.0; recovers = told.1 })))
+          (λ stops. inr (inr (record { stops = stops; behind = found.behind })))) found.recorded;
     }) found.calm found.faults
 
 pub returns-in-Ok-Refused : goal.returns-in-Ok-Refused

@@ -29,14 +29,15 @@ returns-in-Ok-Accepted g c =
     subst (Admits c.args.d certificate) c.in-Ok-Accepted.field-0-is c.in-Ok-Accepted.ensures in
     let by = subst (λ (d : Design). IsAcceptedWith d certificate) (sym admitted.0) admitted.1 in
     subst (λ (d : Design). Ends disk.told disk.may_leave disk.faults (BooksCertified d certificate)
-    (AcceptedLeft disk.clock disk.left_since disk.told disk.may_leave say_seats d certificate)
+    (AcceptedLeft disk.clock disk.left_since disk.told disk.may_leave disk.faults say_seats d certificate)
     c.args.disk new.disk new.answer new.history new.settled) admitted.0
     (ends_weaker
-    {Leaves = ShippedLeft disk.clock disk.left_since disk.told disk.may_leave accepted}
+    {Leaves = ShippedLeft disk.clock disk.left_since disk.told disk.may_leave disk.faults accepted}
     (λ old new t says. inr (record { accepted = by; says = says }))
     (λ left. record {
       leaves = leaves_weaker (LeavesRecovery accepted) (LeavesAccepted accepted certificate) (λ file image left. inr (by, left)) left.leaves;
-      tells = ⊎_elim (λ none. inl none) (λ tells. inr (record { accepted = by; text = tells.0; recovers = tells.1 })) left.tells;
+      tells = ⊎_elim (λ none. inl none) (⊎_elim (λ told. inr (inl (record { accepted = by; text = told.text; recovers = told.recovers })))
+          (λ stops. inr (inr (record { accepted = by; durable = stops })))) left.tells;
     }) c.book_accepted.ensures)
 
 pub returns-in-Ok-Refused : goal.returns-in-Ok-Refused

@@ -20,7 +20,7 @@ returns-in-Ok-Read g c =
     let certificate = c.args.files.certificate.now in
     let read : IsRead design d = subst (Reads design) c.in-Ok-Read.field-0-is c.in-Ok-Read.ensures in
     ends_weaker
-    {Leaves = AcceptedLeft disk.clock disk.left_since disk.told disk.may_leave say_seats d certificate}
+    {Leaves = AcceptedLeft disk.clock disk.left_since disk.told disk.may_leave disk.faults say_seats d certificate}
     (λ old new t says. inr (record { d = d; is_text = read.is_text; formed = read.formed; says = says }))
     (λ left. record {
       leaves = leaves_weaker (LeavesAccepted d certificate) (RecoverLeaves design certificate)
@@ -31,12 +31,9 @@ returns-in-Ok-Read g c =
             accepted = left.0;
             left = left.1;
           }))) left.leaves;
-      tells = ⊎_elim (λ none. inl none) (λ tells. inr (record {
-        d = d;
-        is_text = read.is_text;
-        formed = read.formed;
-        tells = tells;
-      })) left.tells;
+      tells = ⊎_elim (λ none. inl none) (⊎_elim
+          (λ told. inr (inl (record { d = d; is_text = read.is_text; formed = read.formed; tells = told })))
+          (λ stops. inr (inr (record { d = d; is_text = read.is_text; formed = read.formed; stops = stops })))) left.tells;
     }) c.book_design.ensures
 
 pub returns-in-Ok-Refused : goal.returns-in-Ok-Refused

@@ -23,7 +23,7 @@ returns-in-Ok-Accepted g c =
     subst (Admits c.args.d certificate) c.in-Ok-Accepted.field-0-is c.in-Ok-Accepted.ensures in
     let by = subst (λ (d : Design). IsAcceptedWith d certificate) (sym admitted.0) admitted.1 in
     subst (λ (d : Design). Ends disk.told disk.may_leave disk.faults (RecoversCertified say d certificate)
-    (AcceptedLeft disk.clock disk.left_since disk.told disk.may_leave say d certificate)
+    (AcceptedLeft disk.clock disk.left_since disk.told disk.may_leave disk.faults say d certificate)
     c.args.disk new.disk new.answer new.history new.settled) admitted.0
     (ends_late (RecoversSeen say accepted) (RecoversCertified say accepted certificate)
     (λ old new t. recovering_late (say accepted) accepted old.told new.told (Rose old.faults new.faults) t)
@@ -31,7 +31,8 @@ returns-in-Ok-Accepted g c =
     (record {
       leaves = leaves_weaker (LeavesRecovery accepted) (LeavesAccepted accepted certificate) (λ file image left. inr (by, left))
           (record { moments = found.moments; left = found.left });
-      tells = ⊎_elim (λ none. inl none) (λ tells. inr (record { accepted = by; text = tells.0; recovers = tells.1 })) found.recorded;
+      tells = ⊎_elim (λ none. inl none) (⊎_elim (λ told. inr (inl (record { accepted = by; text = told.0; recovers = told.1 })))
+          (λ stops. inr (inr (record { accepted = by; durable = record { stops = stops; behind = found.behind } })))) found.recorded;
     }) found.calm found.faults)
 
 pub returns-in-Ok-Refused : goal.returns-in-Ok-Refused

@@ -31,9 +31,9 @@ returns-in-Ok-Found g c =
     (λ old new t ends. inr (record { tables = tables; schema = schema; ends = ends })) found.answer
     (record {
       leaves = record { moments = found.moments; left = found.left };
-      tells =
-          ⊎_elim (λ none. inl none)
-          (λ tells. inr (record { tables = tables; schema = schema; text = tells.0; recovers = tells.1 })) found.recorded;
+      tells = ⊎_elim (λ none. inl none)
+          (⊎_elim (λ told. inr (inl (record { tables = tables; schema = schema; text = told.0; recovers = told.1 })))
+          (λ stops. inr (inr (record { stops = stops; behind = found.behind })))) found.recorded;
     }) found.calm found.faults
 
 pub returns-in-Ok-Refused : goal.returns-in-Ok-Refused

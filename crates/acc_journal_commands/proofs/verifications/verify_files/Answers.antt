@@ -13,7 +13,7 @@ returns-in-Ok-Read g c =
     let certificate = c.args.files.certificate.now in
     let read : IsRead design d = subst (Reads design) c.in-Ok-Read.field-0-is c.in-Ok-Read.ensures in
     ends_weaker
-    {Leaves = CertifiedLeft disk.clock disk.left_since disk.told disk.may_leave d certificate}
+    {Leaves = CertifiedLeft disk.clock disk.left_since disk.told disk.may_leave disk.faults d certificate}
     (λ old new t says. inr (record { d = d; is_text = read.is_text; formed = read.formed; says = says }))
     (λ left. record {
       leaves = leaves_weaker (LeavesAccepted d certificate) (RecoverLeaves design certificate)
@@ -24,12 +24,9 @@ returns-in-Ok-Read g c =
             accepted = left.0;
             left = left.1;
           }))) left.leaves;
-      tells = ⊎_elim (λ none. inl none) (λ tells. inr (record {
-        d = d;
-        is_text = read.is_text;
-        formed = read.formed;
-        tells = tells;
-      })) left.tells;
+      tells = ⊎_elim (λ none. inl none) (⊎_elim
+          (λ told. inr (inl (record { d = d; is_text = read.is_text; formed = read.formed; tells = told })))
+          (λ stops. inr (inr (record { d = d; is_text = read.is_text; formed = read.formed; stops = stops })))) left.tells;
     }) c.verify_design.ensures
 
 pub returns-in-Ok-Refused : goal.returns-in-Ok-Refused

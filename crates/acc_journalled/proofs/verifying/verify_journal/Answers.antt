@@ -1,37 +1,22 @@
 use Rattle.std.proofs.Common.{◌≡◌, List, inr, length, sym, ap, subst, ◌∙◌}
-use Rattle.std.specs.Prelude.{◌≢◌, IfOk}
+use Rattle.std.specs.Prelude.{IfSome}
 use Rattle.std.proofs.lemmas.Result.{IfOk-weaker}
+use Rattle.acc_base.specs.declared.machines.Event.{Event}
 use Rattle.acc_base.specs.declared.tables.Row.{Row}
 use Rattle.acc_base.specs.Tables.{IsInOrder}
 use Rattle.acc_store.specs.Rows.{SumsFit}
-use Rattle.acc_io.specs.Causes.{Rose}
 use Rattle.acc_disk.specs.Crashes.{IsCalm}
 use Rattle.acc_disk.specs.Moments.{AtAnyMoment}
-use Rattle.acc_wal.proofs.Moments.{read_left}
+use Rattle.acc_print.specs.Designs.{printed}
+use Rattle.acc_wal.specs.Journals.{Counts}
+use Rattle.acc_wal.proofs.Moments.{read_left, calm_of}
 use Rattle.acc_recover.specs.Recoveries.{LeavesRecovery}
-use Rattle.acc_journalled.specs.declared.answers.Answer.{Answer}
-use Rattle.acc_journalled.specs.declared.answers.Ending.TheVariants.{DiskFailed}
 use Rattle.acc_journalled.specs.Conditions.{conditions_text, EndsByRows}
-use Rattle.acc_journalled.specs.Verifying.{VerifiesJournal, verdicts_text}
-use Rattle.acc_journalled.specs.Tellings.{telling_of, unrun_telling}
-use Rattle.acc_journalled.proofs.Endings.{leaves_file, verified_so, recovered_tells, refuses_so, was_of_bytes, by_unrun}
+use Rattle.acc_journalled.specs.Recovering.{RecoversState}
+use Rattle.acc_journalled.specs.Verifying.{verdicts_text}
+use Rattle.acc_journalled.proofs.Endings.{verified_so, recovered_tells, untold_tells, calm_told}
 use Rattle.acc_journalled.proofs.Verdicts.{both_ok, eleven_tables, steady_sums}
 use Rattle.acc_journalled.proofs.verifying.verify_journal.Goals as goal
-
--- ---- memory lacks for the rows
-
-pub returns-in_default-clause-moments : goal.returns-in_default-clause-moments
-returns-in_default-clause-moments g c file told only =
-    leaves_file g.D.Disk.clock g.D.Disk.left_since (g.D.Disk.may_leave c.args.disk) c.args.d.now file c.args.disk c.unrun.result.disk
-    c.unrun.ensures.disk (g.met.D.Disk.only_now c.args.disk) only
-
-pub returns-in_default-clause-left : goal.returns-in_default-clause-left
-returns-in_default-clause-left g c file told only =
-    let x = c.unrun.result.disk in
-    read_left g.D.Disk.clock g.D.Disk.left_since c.args.disk x (g.D.Disk.told x) (g.D.Disk.may_leave x)
-    (LeavesRecovery c.args.d.now file) (g.met.D.Disk.nothing_lost x)
-    (λ time image le left. g.met.D.Disk.counts_now x time image le left)
-    (returns-in_default-clause-moments g c file told only)
 
 -- ---- it is recovered
 
@@ -51,11 +36,13 @@ pub returns-in-Ok-clause-answer : goal.returns-in-Ok-clause-answer
 returns-in-Ok-clause-answer g c =
     let r = c.in-Ok.found in
     let s = c.args.tables.now in
+    let told = g.D.Disk.told in
     let same = c.into_parts-store.ensures.store in
     let events = c.into_parts-store.ensures.events in
     IfOk-weaker c.judge_store.result _ _
-    (λ a says. verified_so s c.args.d.now (g.D.Disk.told c.args.disk) (g.D.Disk.told c.give_back.result) _ r.state.world
-    r.wal r.compensated _ c.in-Ok.ensures.ok c.in-Ok.ensures.idle (c.give_back.ensures.counts c.in-Ok.ensures.ok.settled.unspent)
+    (λ a says. verified_so s c.args.d.now (told c.args.disk) (told c.give_back.result) _ r.state.world r.compensated _
+    (subst (λ x. RecoversState c.args.d.now (told c.args.disk) (told x) r.state.world r.compensated) (sym c.give_back.ensures.disk)
+    c.in-Ok.ensures.ok)
     (subst (λ (db : List Row). a.text.items ≡ conditions_text s db) same says.0)
     (subst (λ (db : List Row). EndsByRows s db a.ending) same says.1) events (c.len.ensures ∙ ap length events))
     (both_ok c.judge_store.result _ _ c.judge_store.ensures.text c.judge_store.ensures.ending)
@@ -63,16 +50,18 @@ returns-in-Ok-clause-answer g c =
 pub returns-in-Ok-clause-recorded : goal.returns-in-Ok-clause-recorded
 returns-in-Ok-clause-recorded g c =
     let r = c.in-Ok.found in
-    let ok = c.in-Ok.ensures.ok in
+    let told = g.D.Disk.told in
     let same = c.into_parts-store.ensures.events in
-    recovered_tells (verdicts_text c.args.tables.now) c.args.d.now (g.D.Disk.told c.args.disk) (g.D.Disk.told c.give_back.result)
-    r.state.world r.wal r.compensated _ _ ok c.in-Ok.ensures.idle (c.give_back.ensures.counts ok.settled.unspent) same
-    (c.len.ensures ∙ ap length same)
+    recovered_tells (verdicts_text c.args.tables.now) c.args.d.now (told c.args.disk) (told c.give_back.result) _ r.state.world
+    r.compensated _ _
+    (subst (λ x. RecoversState c.args.d.now (told c.args.disk) (told x) r.state.world r.compensated) (sym c.give_back.ensures.disk)
+    c.in-Ok.ensures.ok)
+    same (c.len.ensures ∙ ap length same)
 
 pub returns-in-Ok-clause-moments : goal.returns-in-Ok-clause-moments
 returns-in-Ok-clause-moments g c file told only =
     subst (λ x. AtAnyMoment g.D.Disk.clock g.D.Disk.left_since c.args.disk x (LeavesRecovery c.args.d.now file))
-    (sym c.give_back.ensures.disk) (c.in-Ok.ensures.leaves file told only)
+    (sym c.give_back.ensures.disk) (c.in-Ok.ensures.moments file told only)
 
 pub returns-in-Ok-clause-left : goal.returns-in-Ok-clause-left
 returns-in-Ok-clause-left g c file told only =
@@ -82,38 +71,34 @@ returns-in-Ok-clause-left g c file told only =
     (λ time image le left. g.met.D.Disk.counts_now x time image le left)
     (returns-in-Ok-clause-moments g c file told only)
 
--- ---- it is refused
+pub returns-in-Ok-clause-behind : goal.returns-in-Ok-clause-behind
+returns-in-Ok-clause-behind g c file told only image left =
+    let told_by = g.D.Disk.told in
+    let may_leave = g.D.Disk.may_leave in
+    let x = c.give_back.result in
+    let calm = c.in-Ok.ensures.calm (calm_of (told_by c.args.disk) (may_leave c.args.disk) file told only) in
+    calm_told c.args.d.now (told_by x) (may_leave x) _ (subst (λ y. IsCalm (told_by y) (may_leave y)) (sym c.give_back.ensures.disk) calm)
+    (subst (λ y. IfSome (told_by y) (λ f. Counts f (printed c.args.d.now) c.into_parts-store.result.1)) (sym c.give_back.ensures.disk)
+    (subst (λ (es : List Event). IfSome (told_by c.in-Ok.found.wal.disk) (λ f. Counts f (printed c.args.d.now) es))
+    (sym c.into_parts-store.ensures.events) c.in-Ok.ensures.ok.holds))
+    image left
 
-pub returns-clause-answer : goal.returns-clause-answer
-returns-clause-answer g c =
+-- ---- nothing is told of it
+
+pub returns-in-Err-clause-answer : goal.returns-in-Err-clause-answer
+returns-in-Err-clause-answer g c =
+    IfOk-weaker c.in-Err.ended.answer _ _ (λ a ends. inr ends) c.in-Err.ensures.untold
+
+pub returns-in-Err-clause-recorded : goal.returns-in-Err-clause-recorded
+returns-in-Err-clause-recorded g c =
     let told = g.D.Disk.told in
-    let faults = g.D.Disk.faults in
-    let R = c.unrun-in-Err.result in
-    by_unrun (λ x r es n. IfOk r (λ (a : Answer). VerifiesJournal c.args.tables.now c.args.d.now (told c.args.disk) (told x)
-    (Rose (faults c.args.disk) (faults x)) (telling_of a es n))) c.in-Err.disk R.disk c.not_recovered.result R.answer R.history R.settled
-    c.unrun-in-Err.ensures.disk c.unrun-in-Err.ensures.answer c.unrun-in-Err.ensures.none
-    (IfOk-weaker c.not_recovered.result _ _
-    (λ a says. inr (refuses_so c.in-Err.error c.args.d.now (told c.args.disk) (told c.in-Err.disk) _ (unrun_telling a) c.in-Err.ensures.why
-    (λ of. (c.in-Err.ensures.unread of).0) c.in-Err.ensures.kept says))
-    c.not_recovered.ensures.says)
+    untold_tells (verdicts_text c.args.tables.now) c.args.d.now (told c.args.disk) (told c.in-Err.ended.disk) _ c.in-Err.ended.history
+    c.in-Err.ended.settled c.in-Err.ensures.recorded
 
-pub returns-clause-left : goal.returns-clause-left
-returns-clause-left g c file told only =
-    let x = c.unrun-in-Err.result.disk in
+pub returns-in-Err-clause-left : goal.returns-in-Err-clause-left
+returns-in-Err-clause-left g c file told only =
+    let x = c.in-Err.ended.disk in
     read_left g.D.Disk.clock g.D.Disk.left_since c.args.disk x (g.D.Disk.told x) (g.D.Disk.may_leave x)
     (LeavesRecovery c.args.d.now file) (g.met.D.Disk.nothing_lost x)
     (λ time image le left. g.met.D.Disk.counts_now x time image le left)
-    (subst (λ y. AtAnyMoment g.D.Disk.clock g.D.Disk.left_since c.args.disk y (LeavesRecovery c.args.d.now file)) (sym c.unrun-in-Err.ensures.disk)
-    (c.in-Err.ensures.leaves_refused file told only))
-
-pub returns-clause-calm : goal.returns-clause-calm
-returns-clause-calm g c =
-    let told = g.D.Disk.told in
-    let may_leave = g.D.Disk.may_leave in
-    let R = c.unrun-in-Err.result in
-    by_unrun (λ x r es n. IfOk r (λ (a : Answer). a.ending ≢ DiskFailed → IsCalm (told c.args.disk) (may_leave c.args.disk)
-    → IsCalm (told x) (may_leave x))) c.in-Err.disk R.disk c.not_recovered.result R.answer R.history R.settled
-    c.unrun-in-Err.ensures.disk c.unrun-in-Err.ensures.answer c.unrun-in-Err.ensures.none
-    (IfOk-weaker c.not_recovered.result _ _
-    (λ a says none calm. c.in-Err.ensures.calm_refused calm (was_of_bytes c.in-Err.error (unrun_telling a) says none))
-    c.not_recovered.ensures.says)
+    (c.in-Err.ensures.moments_untold file told only)

@@ -1,14 +1,15 @@
-use Rattle.std.proofs.Common.{◌∙◌, refl, sym, subst}
+use Rattle.std.proofs.Common.{◌≡◌, ℕ, List, Some, ◌∙◌, refl, sym, subst}
 use Rattle.acc_base.specs.Machine.{unfinished}
-use Rattle.acc_wal.specs.Journals.{Counts}
+use Rattle.acc_wal.specs.Journals.{Counts, CountsAll}
 use Rattle.acc_disk.specs.Moments.{AtAnyMoment}
 use Rattle.acc_wal.proofs.Moments.{if_some, calm_of}
-use Rattle.acc_recover.specs.Recoveries.{IsRecovery, CountsRecovered, LeavesRecovery}
+use Rattle.acc_recover.specs.Recoveries.{IsRecovery, CountsRecovered, CountsAllRecovered, LeavesRecovery}
 use Rattle.acc_recover.proofs.InSteps.{in_step_new}
 use Rattle.acc_recover.proofs.Ends.{same_events, recovers_file, is_idle, rows_on_the_way}
-use Rattle.acc_recover.proofs.Attached.{history_refused, history_back, settle_back, attached, moments_all}
+use Rattle.acc_recover.proofs.Attached.{history_refused, history_back, settle_back, attached, attached_all, moments_all, states_stay}
 use Rattle.acc_recover.specs.Refusals.{IsOfJournal, IsOfBytes}
 use Rattle.acc_recover.proofs.Refused.{leaves_attached, leaves_counted, calm_again, same_counts, read_counts}
+use Rattle.acc_recover.proofs.Refused.{same_counts_all, read_counts_all}
 use Rattle.acc_recover.proofs.Refused.{read_refused, bytes_refused, history_read, settle_read, settle_of_bytes}
 use Rattle.acc_disk.specs.Crashes.{IsCalm}
 use Rattle.acc_recover.proofs.recovered.recover.Goals as goal
@@ -43,18 +44,29 @@ returns-in-Err-clause-leaves_refused g c file told only =
     leaves_attached g.D.Disk.clock g.D.Disk.left_since c.args.d.now file c.args.disk c.in-Err.disk
     (c.in-Err.ensures.leaves file told only)
 
--- ---- its events are refused
+pub returns-in-Err-clause-moments_all_refused : goal.returns-in-Err-clause-moments_all_refused
+returns-in-Err-clause-moments_all_refused g c file base version found seals told only counts =
+    attached_all g.D.Disk.clock g.D.Disk.left_since c.args.d.now base version found seals c.args.disk c.in-Err.disk
+    (c.in-Err.ensures.moments_all file base version found seals told only counts)
+
+pub returns-in-Err-clause-kept_all : goal.returns-in-Err-clause-kept_all
+returns-in-Err-clause-kept_all g c of =
+    same_counts_all (g.D.Disk.told c.args.disk) (g.D.Disk.told c.in-Err.disk)
+    (c.in-Err.ensures.refused
+    (bytes_refused c.in-Err.error (g.D.Disk.told c.args.disk) _ c.in-Err.ensures.why (subst IsOfBytes c.refusal_of.ensures of))).0
+
+-- ---- its events are refused, or its states
 
 pub returns-in-Err-replayed-clause-why : goal.returns-in-Err-replayed-clause-why
 returns-in-Err-replayed-clause-why g c =
-    history_refused c.args.d.now (g.D.Disk.told c.args.disk) c.in-Ok.wal.base c.in-Ok.wal.durable (g.S.Store.rows c.in-Err-replayed.s)
-    c.in-Ok.ensures.counts
+    history_refused c.args.d.now (g.D.Disk.told c.args.disk) c.in-Ok.wal.base c.in-Ok.wal.version c.in-Ok.wal.durable c.in-Ok.wal.seals
+    (g.S.Store.rows c.in-Err-replayed.s) c.in-Ok.ensures.counts c.in-Ok.ensures.counts_all
     c.in-Err-replayed.error _ c.in-Err-replayed.ensures.why
 
 pub returns-in-Err-replayed-clause-back : goal.returns-in-Err-replayed-clause-back
 returns-in-Err-replayed-clause-back g c =
-    history_back c.args.d.now (g.D.Disk.told c.args.disk) c.in-Ok.wal.base c.in-Ok.wal.durable (g.S.Store.rows c.in-Err-replayed.s)
-    c.in-Ok.ensures.counts
+    history_back c.args.d.now (g.D.Disk.told c.args.disk) c.in-Ok.wal.base c.in-Ok.wal.version c.in-Ok.wal.durable c.in-Ok.wal.seals
+    (g.S.Store.rows c.in-Err-replayed.s) c.in-Ok.ensures.counts c.in-Ok.ensures.counts_all
     c.in-Err-replayed.error c.in-Err-replayed.ensures.why
 
 pub returns-in-Err-replayed-clause-moments_refused : goal.returns-in-Err-replayed-clause-moments_refused
@@ -66,7 +78,8 @@ returns-in-Err-replayed-clause-moments_refused g c file base found told only cou
 
 pub returns-in-Err-replayed-clause-unread : goal.returns-in-Err-replayed-clause-unread
 returns-in-Err-replayed-clause-unread g c of =
-    absurd (history_read c.args.d.now c.in-Ok.wal.base c.in-Ok.wal.durable c.in-Err-replayed.error (g.S.Store.rows c.in-Err-replayed.s)
+    let wal = c.in-Ok.wal in
+    absurd (history_read c.args.d.now wal.base wal.durable wal.seals c.in-Err-replayed.error (g.S.Store.rows c.in-Err-replayed.s)
     c.in-Err-replayed.ensures.why of)
 
 pub returns-in-Err-replayed-clause-calm_refused : goal.returns-in-Err-replayed-clause-calm_refused
@@ -85,6 +98,21 @@ returns-in-Err-replayed-clause-leaves_refused g c file told only =
     (leaves_attached g.D.Disk.clock g.D.Disk.left_since c.args.d.now file c.args.disk c.in-Ok.wal.disk
     (c.in-Ok.ensures.leaves file told only))
 
+pub returns-in-Err-replayed-clause-moments_all_refused : goal.returns-in-Err-replayed-clause-moments_all_refused
+returns-in-Err-replayed-clause-moments_all_refused g c file base version found seals told only counts =
+    subst (λ x. AtAnyMoment g.D.Disk.clock g.D.Disk.left_since c.args.disk x (CountsAllRecovered c.args.d.now base version found seals))
+    (sym c.give_back.ensures.disk)
+    (attached_all g.D.Disk.clock g.D.Disk.left_since c.args.d.now base version found seals c.args.disk c.in-Ok.wal.disk
+    (c.in-Ok.ensures.moments_all file base version found seals told only counts))
+
+pub returns-in-Err-replayed-clause-kept_all : goal.returns-in-Err-replayed-clause-kept_all
+returns-in-Err-replayed-clause-kept_all g c of =
+    let wal = c.in-Ok.wal in
+    read_counts_all (g.D.Disk.told c.args.disk) (g.D.Disk.told c.give_back.result) wal.base wal.version wal.durable wal.seals
+    c.in-Ok.ensures.counts_all
+    (subst (λ x. (file : List ℕ) → g.D.Disk.told x ≡ Some file → CountsAll file wal.base wal.version wal.durable wal.seals)
+    (sym c.give_back.ensures.disk) (c.in-Err-replayed.ensures.counts_all c.in-Ok.ensures.ok.1))
+
 -- ---- what is unfinished is ended
 
 pub end_and_settle-requires-clause-in_step : goal.end_and_settle-requires-clause-in_step
@@ -98,7 +126,8 @@ returns-in-Ok-end_and_settle-clause-ok g c =
     c.end_and_settle.new.wal c.end_and_settle.new.state.world
     (unfinished c.in-Ok-replayed.state.world) _ c.in-Ok.ensures.counts c.in-Ok-end_and_settle.ensures.ok
     c.in-Ok-end_and_settle.ensures.durable refl
-    (c.found_in-found.ensures.each ∙ c.found_in-found.ensures.unfinished)
+    (c.found_in-found.ensures.each ∙ c.found_in-found.ensures.unfinished) c.in-Ok.ensures.counts_all
+    c.in-Ok-end_and_settle.ensures.states c.in-Ok-replayed.ensures.sealed
 
 pub returns-in-Ok-end_and_settle-clause-idle : goal.returns-in-Ok-end_and_settle-clause-idle
 returns-in-Ok-end_and_settle-clause-idle g c =
@@ -165,3 +194,31 @@ returns-in-Err-end_and_settle-clause-leaves_refused g c file told only =
     let counts = if_some (g.D.Disk.told c.args.disk) (λ f. Counts f wal.base wal.durable) file told c.in-Ok.ensures.counts in
     leaves_counted g.D.Disk.clock g.D.Disk.left_since c.args.d.now file c.args.disk c.give_back-in-Err-end_and_settle.result wal.base
     wal.durable counts (returns-in-Err-end_and_settle-clause-moments_refused g c file wal.base wal.durable told only counts)
+
+-- ---- the states stay
+
+pub returns-in-Ok-end_and_settle-clause-moments_all : goal.returns-in-Ok-end_and_settle-clause-moments_all
+returns-in-Ok-end_and_settle-clause-moments_all g c file base version found seals told only counts =
+    let wal = c.in-Ok.wal in
+    states_stay g.D.Disk.clock g.D.Disk.left_since c.args.d.now base version found seals g.D.Disk.told g.D.Disk.may_leave file c.args.disk
+    c.end_and_settle.new.wal.disk wal c.in-Ok-replayed.state c.in-Ok-replayed.ensures.ok counts
+    (if_some (g.D.Disk.told c.args.disk) (λ f. CountsAll f wal.base wal.version wal.durable wal.seals) file told c.in-Ok.ensures.counts_all)
+    (c.in-Ok.ensures.moments_all file base version found seals told only counts)
+    (c.in-Ok.ensures.calm (calm_of (g.D.Disk.told c.args.disk) (g.D.Disk.may_leave c.args.disk) file told only))
+    (c.in-Ok-replayed.ensures.counts_all c.in-Ok.ensures.ok.1) c.end_and_settle.ensures.moments_all
+
+pub returns-in-Err-end_and_settle-clause-moments_all_refused : goal.returns-in-Err-end_and_settle-clause-moments_all_refused
+returns-in-Err-end_and_settle-clause-moments_all_refused g c file base version found seals told only counts =
+    let wal = c.in-Ok.wal in
+    let run = states_stay g.D.Disk.clock g.D.Disk.left_since c.args.d.now base version found seals g.D.Disk.told g.D.Disk.may_leave file
+    c.args.disk c.end_and_settle.new.wal.disk wal c.in-Ok-replayed.state c.in-Ok-replayed.ensures.ok counts
+    (if_some (g.D.Disk.told c.args.disk) (λ f. CountsAll f wal.base wal.version wal.durable wal.seals) file told c.in-Ok.ensures.counts_all)
+    (c.in-Ok.ensures.moments_all file base version found seals told only counts)
+    (c.in-Ok.ensures.calm (calm_of (g.D.Disk.told c.args.disk) (g.D.Disk.may_leave c.args.disk) file told only))
+    (c.in-Ok-replayed.ensures.counts_all c.in-Ok.ensures.ok.1) c.end_and_settle.ensures.moments_all in
+    subst (λ x. AtAnyMoment g.D.Disk.clock g.D.Disk.left_since c.args.disk x (CountsAllRecovered c.args.d.now base version found seals))
+    (sym c.give_back-in-Err-end_and_settle.ensures.disk) run
+
+pub returns-in-Err-end_and_settle-clause-kept_all : goal.returns-in-Err-end_and_settle-clause-kept_all
+returns-in-Err-end_and_settle-clause-kept_all g c of =
+    absurd (settle_of_bytes c.in-Err-end_and_settle.error _ c.in-Err-end_and_settle.ensures.why of)

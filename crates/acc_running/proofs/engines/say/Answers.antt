@@ -8,6 +8,7 @@ returns-clause-says g c =
     let old = c.args.player.now in
     let told = c.schedule-told in
     IfOk-weaker c.answer_of.result _ _
-    (says_one c.args.d.now old.calls c.args.order.now (opening_at old.state old.calls) told.new.player told.result told.ensures.tells
-    told.ensures.settled (IfErr-weaker told.result _ _ (λ stop tells. tells.0) told.ensures.stops) told.ensures.unsettled)
+    (says_one c.args.d.now old.calls c.args.order.now (opening_at old.state old.calls) c.args.grew told.new.player told.result
+    told.ensures.tells told.ensures.settled told.ensures.sealed (IfErr-weaker told.result _ _ (λ stop tells. tells.0) told.ensures.stops)
+    told.ensures.unsettled)
     c.answer_of.ensures

@@ -1,22 +1,26 @@
 use Rattle.std.proofs.Common.{◌∙◌, List, [], length, refl, sym, ap, subst, arith}
-use Rattle.std.specs.Prelude.{All, IfOk}
+use Rattle.std.specs.Prelude.{nat_lt, All, IfOk}
 use Rattle.acc_base.specs.declared.designs.Design.{Design}
 use Rattle.acc_base.specs.declared.machines.Call.{Call}
 use Rattle.acc_base.specs.Machine.{World}
+use Rattle.acc_print.specs.Designs.{printed}
 use Rattle.acc_script.specs.OrderLines.{IsPlace}
 use Rattle.acc_disk.specs.Moments.{AtAnyMoment}
 use Rattle.acc_wal.proofs.Moments.{read_left}
-use Rattle.acc_recover.specs.Recoveries.{LeavesRecovery}
 use Rattle.acc_engine.specs.Keeping.{CallsFit}
 use Rattle.acc_settling.specs.Openings.{opening_at}
 use Rattle.acc_settling.specs.Wholes.{IsFrontOfSchedule}
 use Rattle.acc_journalled.proofs.Endings.{recovering, leaves_file}
+use Rattle.acc_running.specs.Crashes.{LeavesRun}
 use Rattle.acc_running.specs.Engines.{SaysRun}
 use Rattle.acc_running.specs.Recorded.{IsDurableButOne}
 use Rattle.acc_running.specs.Running.{IsOpening}
+use Rattle.acc_running.proofs.Crashing.{recovered_moments, calm_states}
+use Rattle.acc_running.proofs.Growing.{grown_since}
 use Rattle.acc_running.proofs.Recording.{begins_so, durable, handed, moved}
-use Rattle.acc_running.proofs.OverJournals.{ends_so, Went, went_answer, went_calm, went_faults, went_over}
-use Rattle.acc_running.proofs.OverJournals.{refused_answer, refused_over, refused_calm, refused_faults}
+use Rattle.acc_running.proofs.OverJournals.{ends_so, Went, went_answer, went_calm, went_faults, went_over, went_sealed}
+use Rattle.acc_running.proofs.OverJournals.{refused_answer, refused_over, refused_calm, refused_faults, refused_sealed}
+use Rattle.acc_running.proofs.States.{has_seals, seals_of_calm}
 use Rattle.acc_running.proofs.runs.schedule_journal.Goals as goal
 
 -- ---- the journal is recovered
@@ -33,8 +37,8 @@ pub say-answer-requires-clause-places : goal.say-answer-requires-clause-places
 say-answer-requires-clause-places g c =
     subst (λ (cs : List Call). All (IsPlace (length cs)) c.args.order.now) (sym c.over_journal-engine.ensures.calls) c.requires.places
 
-pub returns-in-Ok-clause-answer : goal.returns-in-Ok-clause-answer
-returns-in-Ok-clause-answer g c =
+pub returns-in-Ok : goal.returns-in-Ok
+returns-in-Ok g c =
     let d = c.args.d.now in
     let calls = c.args.calls in
     let order = c.args.order.now in
@@ -46,19 +50,32 @@ returns-in-Ok-clause-answer g c =
     let old = c.over_journal-engine.result in
     let new = c.say-answer.new.player in
     let s = c.say-answer.ensures in
+    let grew = nat_lt 0 r.compensated in
     let b = begins_so d calls r.state.world r.state.design r.wal old c.in-Ok.ensures.design ok.settled o.fresh o.state o.journal o.found
     o.calls in
     let opened = opening_at old.state old.calls in
     let same = ap D.faults o.journal.0 in
-    let went : Went D.clock D.left_since D.told D.may_leave D.faults d calls order (IsOpening calls) disk r.state.world old new = record {
+    let went : Went D.clock D.left_since D.told D.may_leave D.faults d calls order (IsOpening calls) disk grew r.state.world
+    old new = record {
       begins = b;
-      found = record { found = ok.found; counts = ok.counts; recovery = ok.recovery; idle = c.in-Ok.ensures.idle };
+      found = record {
+        found = ok.found;
+        counts = ok.counts;
+        sealed = has_seals (D.told disk) d r.wal.version ok.found r.wal.seals ok.sealed;
+        recovery = ok.recovery;
+        idle = c.in-Ok.ensures.idle;
+      };
       faults = omega (arith, c.in-Ok.ensures.faults, same);
       unfailed = o.fresh.unfailed;
-      ready = λ calm. o.ready (c.in-Ok.ensures.calm calm);
-      recovering = λ file is only.
-          subst (λ x. AtAnyMoment D.clock D.left_since disk x (LeavesRecovery d file)) (sym o.journal.0)
-          (c.in-Ok.ensures.leaves file is only);
+      ready = λ calm.
+          o.ready (c.in-Ok.ensures.calm calm)
+          (seals_of_calm (D.told disk) (D.may_leave disk) d r.state.design r.wal.version ok.found r.wal.seals r.state.world
+          c.in-Ok.ensures.design calm ok.sealed ok.recovery);
+      recovering = λ file is only history.
+          subst (λ x. AtAnyMoment D.clock D.left_since disk x (LeavesRun d file history)) (sym o.journal.0)
+          (recovered_moments D.clock D.left_since d file (D.told disk) disk r.wal.disk r.wal.version ok.found r.wal.seals history is
+          ok.sealed
+          (c.in-Ok.ensures.moments_all file (printed d) r.wal.version ok.found r.wal.seals is only));
       survives = s.runs.survives;
       sound = c.closed.ensures.sound;
       opened = opened;
@@ -66,140 +83,40 @@ returns-in-Ok-clause-answer g c =
       front =
           subst (λ (cs : List Call). IsFrontOfSchedule d cs order opened new.state.events) b.calls_are
           (subst (λ (x : Design). IsFrontOfSchedule x old.calls order opened new.state.events) c.design.ensures.design s.front);
+      grown = grown_since d ok.found r.state.world r.compensated new (s.runs.survives.goes_on.found ∙ b.found) ok.recovery
+          ok.unfinished_were;
     } in
     let says =
-    subst (λ (cs : List Call). IfOk c.say-answer.result (SaysRun d cs order opened new)) b.calls_are
-    (subst (λ (x : Design). IfOk c.say-answer.result (SaysRun x old.calls order opened new)) c.design.ensures.design s.says) in
-    let R = c.closed.result in
-    went_answer D.clock D.left_since D.told D.may_leave D.faults d calls order (IsOpening calls) disk r.state.world old new went R.disk R.history R.settled
-    c.closed.ensures.hands c.say-answer.result R.answer c.closed.ensures.answer says
-
-pub returns-in-Ok-clause-runs : goal.returns-in-Ok-clause-runs
-returns-in-Ok-clause-runs g c =
-    let d = c.args.d.now in
-    let calls = c.args.calls in
-    let order = c.args.order.now in
-    let disk = c.args.disk in
-    let D = g.D.Disk in
-    let r = c.in-Ok.recovered in
-    let ok = c.in-Ok.ensures.ok in
-    let o = c.over_journal-engine.ensures in
-    let old = c.over_journal-engine.result in
-    let new = c.say-answer.new.player in
-    let s = c.say-answer.ensures in
-    let b = begins_so d calls r.state.world r.state.design r.wal old c.in-Ok.ensures.design ok.settled o.fresh o.state o.journal o.found
-    o.calls in
-    let opened = opening_at old.state old.calls in
-    let same = ap D.faults o.journal.0 in
-    let went : Went D.clock D.left_since D.told D.may_leave D.faults d calls order (IsOpening calls) disk r.state.world old new = record {
-      begins = b;
-      found = record { found = ok.found; counts = ok.counts; recovery = ok.recovery; idle = c.in-Ok.ensures.idle };
-      faults = omega (arith, c.in-Ok.ensures.faults, same);
-      unfailed = o.fresh.unfailed;
-      ready = λ calm. o.ready (c.in-Ok.ensures.calm calm);
-      recovering = λ file is only.
-          subst (λ x. AtAnyMoment D.clock D.left_since disk x (LeavesRecovery d file)) (sym o.journal.0)
-          (c.in-Ok.ensures.leaves file is only);
-      survives = s.runs.survives;
-      sound = c.closed.ensures.sound;
-      opened = opened;
-      opens = ap (λ (w : World). opening_at w old.calls) b.state ∙ ap (opening_at r.state.world) b.calls_are;
-      front =
-          subst (λ (cs : List Call). IsFrontOfSchedule d cs order opened new.state.events) b.calls_are
-          (subst (λ (x : Design). IsFrontOfSchedule x old.calls order opened new.state.events) c.design.ensures.design s.front);
-    } in
+    subst (λ (cs : List Call). IfOk c.say-answer.result (SaysRun d cs order opened grew new)) b.calls_are
+    (subst (λ (x : Design). IfOk c.say-answer.result (SaysRun x old.calls order opened grew new)) c.design.ensures.design
+    s.says) in
     let R = c.closed.result in
     let over =
-    went_over D.clock D.left_since D.told D.may_leave D.faults d calls order (IsOpening calls) disk r.state.world old new went R.disk R.history R.settled
-    c.closed.ensures.hands
+    went_over D.clock D.left_since D.told D.may_leave D.faults d calls order (IsOpening calls) disk grew r.state.world old new
+    went R.disk R.history R.settled c.closed.ensures.hands
     (λ P run. read_left D.clock D.left_since disk R.disk (D.told R.disk) (D.may_leave R.disk) P (g.met.D.Disk.nothing_lost R.disk)
     (λ time image le left. g.met.D.Disk.counts_now R.disk time image le left) run) in
     record {
-      over = over;
-      durable =
-          handed (λ x es n. IsDurableButOne d es n) new R.disk R.history R.settled c.closed.ensures.hands
-          (durable d calls r.state.world old new b s.runs.survives.goes_on s.runs.survives.settled
-          (ends_so D.told new c.closed.ensures.sound) s.one_end);
+      answer =
+          went_answer D.clock D.left_since D.told D.may_leave D.faults d calls order (IsOpening calls) disk grew r.state.world
+          old new went R.disk R.history R.settled c.closed.ensures.hands c.say-answer.result R.answer c.closed.ensures.answer says;
+      runs = record {
+        over = over;
+        durable =
+            handed (λ x es n. IsDurableButOne d es n) new R.disk R.history R.settled c.closed.ensures.hands
+            (durable d calls r.state.world old new b s.runs.survives.goes_on s.runs.survives.settled
+            (ends_so D.told new c.closed.ensures.sound) s.one_end);
+      };
+      calm =
+          went_calm D.clock D.left_since D.told D.may_leave D.faults d calls order (IsOpening calls) disk grew r.state.world
+          old new went R.disk R.history R.settled c.closed.ensures.hands c.say-answer.result R.answer c.closed.ensures.answer says;
+      faults =
+          went_faults D.clock D.left_since D.told D.may_leave D.faults d calls order (IsOpening calls) disk grew r.state.world
+          old new went R.disk R.history R.settled c.closed.ensures.hands;
+      sealed =
+          went_sealed D.clock D.left_since D.told D.may_leave D.faults d calls order (IsOpening calls) disk grew r.state.world
+          old new went R.disk R.history R.settled c.closed.ensures.hands c.say-answer.result R.answer c.closed.ensures.answer says;
     }
-
-pub returns-in-Ok-clause-calm : goal.returns-in-Ok-clause-calm
-returns-in-Ok-clause-calm g c =
-    let d = c.args.d.now in
-    let calls = c.args.calls in
-    let order = c.args.order.now in
-    let disk = c.args.disk in
-    let D = g.D.Disk in
-    let r = c.in-Ok.recovered in
-    let ok = c.in-Ok.ensures.ok in
-    let o = c.over_journal-engine.ensures in
-    let old = c.over_journal-engine.result in
-    let new = c.say-answer.new.player in
-    let s = c.say-answer.ensures in
-    let b = begins_so d calls r.state.world r.state.design r.wal old c.in-Ok.ensures.design ok.settled o.fresh o.state o.journal o.found
-    o.calls in
-    let opened = opening_at old.state old.calls in
-    let same = ap D.faults o.journal.0 in
-    let went : Went D.clock D.left_since D.told D.may_leave D.faults d calls order (IsOpening calls) disk r.state.world old new = record {
-      begins = b;
-      found = record { found = ok.found; counts = ok.counts; recovery = ok.recovery; idle = c.in-Ok.ensures.idle };
-      faults = omega (arith, c.in-Ok.ensures.faults, same);
-      unfailed = o.fresh.unfailed;
-      ready = λ calm. o.ready (c.in-Ok.ensures.calm calm);
-      recovering = λ file is only.
-          subst (λ x. AtAnyMoment D.clock D.left_since disk x (LeavesRecovery d file)) (sym o.journal.0)
-          (c.in-Ok.ensures.leaves file is only);
-      survives = s.runs.survives;
-      sound = c.closed.ensures.sound;
-      opened = opened;
-      opens = ap (λ (w : World). opening_at w old.calls) b.state ∙ ap (opening_at r.state.world) b.calls_are;
-      front =
-          subst (λ (cs : List Call). IsFrontOfSchedule d cs order opened new.state.events) b.calls_are
-          (subst (λ (x : Design). IsFrontOfSchedule x old.calls order opened new.state.events) c.design.ensures.design s.front);
-    } in
-    let says =
-    subst (λ (cs : List Call). IfOk c.say-answer.result (SaysRun d cs order opened new)) b.calls_are
-    (subst (λ (x : Design). IfOk c.say-answer.result (SaysRun x old.calls order opened new)) c.design.ensures.design s.says) in
-    let R = c.closed.result in
-    went_calm D.clock D.left_since D.told D.may_leave D.faults d calls order (IsOpening calls) disk r.state.world old new went R.disk R.history R.settled
-    c.closed.ensures.hands c.say-answer.result R.answer c.closed.ensures.answer says
-
-pub returns-in-Ok-clause-faults : goal.returns-in-Ok-clause-faults
-returns-in-Ok-clause-faults g c =
-    let d = c.args.d.now in
-    let calls = c.args.calls in
-    let order = c.args.order.now in
-    let disk = c.args.disk in
-    let D = g.D.Disk in
-    let r = c.in-Ok.recovered in
-    let ok = c.in-Ok.ensures.ok in
-    let o = c.over_journal-engine.ensures in
-    let old = c.over_journal-engine.result in
-    let new = c.say-answer.new.player in
-    let s = c.say-answer.ensures in
-    let b = begins_so d calls r.state.world r.state.design r.wal old c.in-Ok.ensures.design ok.settled o.fresh o.state o.journal o.found
-    o.calls in
-    let opened = opening_at old.state old.calls in
-    let same = ap D.faults o.journal.0 in
-    let went : Went D.clock D.left_since D.told D.may_leave D.faults d calls order (IsOpening calls) disk r.state.world old new = record {
-      begins = b;
-      found = record { found = ok.found; counts = ok.counts; recovery = ok.recovery; idle = c.in-Ok.ensures.idle };
-      faults = omega (arith, c.in-Ok.ensures.faults, same);
-      unfailed = o.fresh.unfailed;
-      ready = λ calm. o.ready (c.in-Ok.ensures.calm calm);
-      recovering = λ file is only.
-          subst (λ x. AtAnyMoment D.clock D.left_since disk x (LeavesRecovery d file)) (sym o.journal.0)
-          (c.in-Ok.ensures.leaves file is only);
-      survives = s.runs.survives;
-      sound = c.closed.ensures.sound;
-      opened = opened;
-      opens = ap (λ (w : World). opening_at w old.calls) b.state ∙ ap (opening_at r.state.world) b.calls_are;
-      front =
-          subst (λ (cs : List Call). IsFrontOfSchedule d cs order opened new.state.events) b.calls_are
-          (subst (λ (x : Design). IsFrontOfSchedule x old.calls order opened new.state.events) c.design.ensures.design s.front);
-    } in
-    let R = c.closed.result in
-    went_faults D.clock D.left_since D.told D.may_leave D.faults d calls order (IsOpening calls) disk r.state.world old new went R.disk R.history R.settled
-    c.closed.ensures.hands
 
 -- ---- it isn't recovered
 
@@ -211,18 +128,21 @@ returns-in-Err-clause-answer g c =
     let D = g.D.Disk in
     let R = c.unrun-in-Err.result in
     let e = c.in-Err.ensures in
-    refused_answer D.clock D.left_since D.told D.may_leave D.faults c.args.d.now c.args.calls c.args.order.now (IsOpening c.args.calls) c.args.disk
+    refused_answer D.clock D.left_since D.told D.may_leave D.faults c.args.d.now c.args.calls c.args.order.now (IsOpening c.args.calls)
+    c.args.disk
     c.in-Err.disk R.disk R.history R.settled c.unrun-in-Err.ensures.disk c.unrun-in-Err.ensures.none
-    c.in-Err.error c.not_recovered.result R.answer c.unrun-in-Err.ensures.answer e.why (λ of. (e.unread of).0) e.kept c.not_recovered.ensures.says
+    c.in-Err.error c.not_recovered.result R.answer c.unrun-in-Err.ensures.answer e.why (λ of. (e.unread of).0) e.kept
+    c.not_recovered.ensures.says
 
 pub returns-in-Err-clause-runs : goal.returns-in-Err-clause-runs
 returns-in-Err-clause-runs g c =
     let D = g.D.Disk in
     let R = c.unrun-in-Err.result in
     let over =
-    refused_over D.clock D.left_since D.told D.may_leave D.faults c.args.d.now c.args.calls c.args.order.now (IsOpening c.args.calls) c.args.disk
+    refused_over D.clock D.left_since D.told D.may_leave D.faults c.args.d.now c.args.calls c.args.order.now (IsOpening c.args.calls)
+    c.args.disk
     c.in-Err.disk R.disk R.history R.settled c.unrun-in-Err.ensures.disk c.unrun-in-Err.ensures.none
-    c.in-Err.ensures.leaves_refused
+    c.in-Err.ensures.leaves_refused c.in-Err.ensures.moments_all_refused
     (λ time image le left. g.met.D.Disk.counts_now c.in-Err.disk time image le left)
     (λ P run. read_left D.clock D.left_since c.args.disk R.disk (D.told R.disk) (D.may_leave R.disk) P (g.met.D.Disk.nothing_lost R.disk)
     (λ time image le left. g.met.D.Disk.counts_now R.disk time image le left) run) in
@@ -237,7 +157,8 @@ pub returns-in-Err-clause-calm : goal.returns-in-Err-clause-calm
 returns-in-Err-clause-calm g c =
     let D = g.D.Disk in
     let R = c.unrun-in-Err.result in
-    refused_calm D.clock D.left_since D.told D.may_leave D.faults c.args.d.now c.args.calls c.args.order.now (IsOpening c.args.calls) c.args.disk
+    refused_calm D.clock D.left_since D.told D.may_leave D.faults c.args.d.now c.args.calls c.args.order.now (IsOpening c.args.calls)
+    c.args.disk
     c.in-Err.disk R.disk R.history R.settled c.unrun-in-Err.ensures.disk c.unrun-in-Err.ensures.none
     c.in-Err.error c.not_recovered.result R.answer c.unrun-in-Err.ensures.answer c.in-Err.ensures.calm_refused c.not_recovered.ensures.says
 
@@ -245,9 +166,18 @@ pub returns-in-Err-clause-faults : goal.returns-in-Err-clause-faults
 returns-in-Err-clause-faults g c =
     let D = g.D.Disk in
     let R = c.unrun-in-Err.result in
-    refused_faults D.clock D.left_since D.told D.may_leave D.faults c.args.d.now c.args.calls c.args.order.now (IsOpening c.args.calls) c.args.disk
+    refused_faults D.clock D.left_since D.told D.may_leave D.faults c.args.d.now c.args.calls c.args.order.now (IsOpening c.args.calls)
+    c.args.disk
     c.in-Err.disk R.disk R.history R.settled c.unrun-in-Err.ensures.disk c.unrun-in-Err.ensures.none
     c.in-Err.ensures.faults_refused
+
+pub returns-in-Err-clause-sealed : goal.returns-in-Err-clause-sealed
+returns-in-Err-clause-sealed g c =
+    let D = g.D.Disk in
+    let R = c.unrun-in-Err.result in
+    refused_sealed D.clock D.left_since D.told D.may_leave D.faults c.args.d.now c.args.calls c.args.order.now (IsOpening c.args.calls)
+    c.args.disk
+    c.in-Err.disk R.disk R.history R.settled c.unrun-in-Err.ensures.disk c.unrun-in-Err.ensures.none R.answer
 
 -- ---- memory lacks for the rows
 
@@ -256,10 +186,14 @@ returns-in_default-clause-runs g c =
     let D = g.D.Disk in
     let R = c.unrun.result in
     let over =
-    refused_over D.clock D.left_since D.told D.may_leave D.faults c.args.d.now c.args.calls c.args.order.now (IsOpening c.args.calls) c.args.disk
+    refused_over D.clock D.left_since D.told D.may_leave D.faults c.args.d.now c.args.calls c.args.order.now (IsOpening c.args.calls)
+    c.args.disk
     c.args.disk R.disk R.history R.settled c.unrun.ensures.disk c.unrun.ensures.none
     (λ file is only. leaves_file D.clock D.left_since (D.may_leave c.args.disk) c.args.d.now file c.args.disk c.args.disk refl
     (g.met.D.Disk.only_now c.args.disk) only)
+    (λ file base version found seals is only counts. calm_states D.clock D.left_since c.args.d.now file c.args.disk
+    (D.may_leave c.args.disk)
+    base version found seals (g.met.D.Disk.only_now c.args.disk) only counts)
     (λ time image le left. g.met.D.Disk.counts_now c.args.disk time image le left)
     (λ P run. read_left D.clock D.left_since c.args.disk R.disk (D.told R.disk) (D.may_leave R.disk) P (g.met.D.Disk.nothing_lost R.disk)
     (λ time image le left. g.met.D.Disk.counts_now R.disk time image le left) run) in

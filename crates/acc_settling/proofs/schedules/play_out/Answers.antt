@@ -1,7 +1,7 @@
 use Rattle.std.proofs.Common.{◌∙◌, Some, None, length, refl, sym, ap}
 use Rattle.acc_player.specs.declared.stops.Stop.TheVariants.{Memory}
 use Rattle.acc_player.specs.Boards.{play_of}
-use Rattle.acc_player.proofs.Items.{if_stopped, if_handed}
+use Rattle.acc_player.proofs.Items.{if_handed}
 use Rattle.acc_player.proofs.Wholes.{behind_whole}
 use Rattle.acc_lock_rules.specs.LockRules.{with_locks}
 use Rattle.acc_lock_rules.proofs.Orderly.{locks_are_orderly}
@@ -35,9 +35,8 @@ returns-in_err-settle-clause-front g c =
     let old = c.args.player.now in
     let b = c.run.new.board in
     let run = c.in_ok-run.ensures.runs in
-    if_stopped c.from_residual-in_err-settle.result
-    (behind_whole (with_locks d) (locks_are_orderly d) old.calls c.args.order.now (play_of old.state c.args.board.now) run.mentions
-    (play_of c.run.new.player.state b) (play_of c.settle.new.self.state b) run.schedules (sym c.settle.ensures.state) refl)
+    behind_whole (with_locks d) (locks_are_orderly d) old.calls c.args.order.now (play_of old.state c.args.board.now) run.mentions
+    (play_of c.run.new.player.state b) (play_of c.settle.new.self.state b) run.schedules (sym c.settle.ensures.state) refl
 
 -- ---- and closed
 
@@ -63,10 +62,18 @@ returns-in_err-close-clause-front g c =
     let d = c.args.d.now in
     let old = c.args.player.now in
     let run = c.in_ok-run.ensures.runs in
-    if_stopped c.from_residual-in_err-close.result
-    (behind_whole (with_locks d) (locks_are_orderly d) old.calls c.args.order.now (play_of old.state c.args.board.now) run.mentions
+    behind_whole (with_locks d) (locks_are_orderly d) old.calls c.args.order.now (play_of old.state c.args.board.now) run.mentions
     (play_of c.run.new.player.state c.run.new.board) (play_of c.settle.new.self.state c.close.new.board) run.schedules
-    (sym c.settle.ensures.state) (sym c.close.ensures.numbers))
+    (sym c.settle.ensures.state) (sym c.close.ensures.numbers)
+
+pub returns-clause-front : goal.returns-clause-front
+returns-clause-front g c =
+    let d = c.args.d.now in
+    let old = c.args.player.now in
+    let run = c.in_ok-run.ensures.runs in
+    behind_whole (with_locks d) (locks_are_orderly d) old.calls c.args.order.now (play_of old.state c.args.board.now) run.mentions
+    (play_of c.run.new.player.state c.run.new.board) (play_of c.settle.new.self.state c.close.new.board) run.schedules
+    (sym c.settle.ensures.state) (sym c.close.ensures.numbers)
 
 pub returns-clause-done : goal.returns-clause-done
 returns-clause-done g c =

@@ -21,14 +21,16 @@ returns-in-Ok-clause-unmoved g c =
 pub returns-in-Ok-clause-done : goal.returns-in-Ok-clause-done
 returns-in-Ok-clause-done g c =
     draws_leave g.D.Disk.clock g.D.Disk.left_since g.D.Disk.told g.D.Disk.may_leave g.D.Disk.faults g.met.D.Disk.only_now
-    c.args.engine.now c.begin_at.new.self c.begin_at.ensures.stays c.requires.unfailed c.requires.sound.within (c.args.place - 1)
+    c.args.engine.now c.begin_at.new.self c.begin_at.ensures.stays c.begin_at.ensures.waiting c.requires.unfailed c.requires.sound.within
+    (c.args.place - 1)
     c.in-Ok.drawn c.in-Ok.ensures.ok
 
 pub returns-in-Err-clause-stops : goal.returns-in-Err-clause-stops
 returns-in-Err-clause-stops g c =
     rw c.stop_of.ensures
     (refuses_leave g.D.Disk.clock g.D.Disk.left_since g.D.Disk.told g.D.Disk.may_leave g.D.Disk.faults g.met.D.Disk.only_now
-    c.args.engine.now c.begin_at.new.self c.begin_at.ensures.stays c.requires.unfailed c.requires.sound.within c.in-Err.error
+    c.args.engine.now c.begin_at.new.self c.begin_at.ensures.stays c.begin_at.ensures.waiting c.requires.unfailed c.requires.sound.within
+    c.in-Err.error
     c.in-Err.ensures.why c.in-Err.ensures.err.state)
 
 pub returns-in-Err-clause-room : goal.returns-in-Err-clause-room

@@ -14,7 +14,8 @@ pub returns-in-Err-clause-stops : goal.returns-in-Err-clause-stops
 returns-in-Err-clause-stops g c =
     rw c.stop_of.ensures
     (refuses_leave g.D.Disk.clock g.D.Disk.left_since g.D.Disk.told g.D.Disk.may_leave g.D.Disk.faults g.met.D.Disk.only_now
-    c.args.engine.now c.turn.new.self c.turn.ensures.stays c.requires.unfailed c.requires.sound.within c.in-Err.error c.in-Err.ensures.why
+    c.args.engine.now c.turn.new.self c.turn.ensures.stays c.turn.ensures.waiting c.requires.unfailed c.requires.sound.within c.in-Err.error
+    c.in-Err.ensures.why
     c.in-Err.ensures.err)
 
 pub returns-in-Err-clause-err : goal.returns-in-Err-clause-err
@@ -31,10 +32,11 @@ returns-in-Stepped-clause-done g c =
     let within = c.requires.sound.within in
     let more = turn_adds old.state mid.state t x c.in-Ok.ensures.adds in (
       runs_stays g.D.Disk.clock g.D.Disk.left_since g.D.Disk.told g.D.Disk.may_leave g.D.Disk.faults g.met.D.Disk.only_now old mid more.0
-          stays more.1
+          stays c.turn.ensures.waiting more.1
           (acked_turned old mid more.0 stays.design stays.settled more.1 within t x c.requires.unfinished turned),
       again_stays g.D.Disk.told g.D.Disk.may_leave old mid more.0 stays more.1 c.requires.unfailed
-          (acked_unended old mid more.0 stays.design stays.settled more.1 within t x c.requires.unfinished turned (unended x c.in-Stepped.is)),
+          (acked_unended old mid more.0 stays.design stays.settled more.1 within t x c.requires.unfinished turned
+          (unended x c.in-Stepped.is)),
     )
 
 pub returns-in_ok-settle-in-Ended-clause-done : goal.returns-in_ok-settle-in-Ended-clause-done
@@ -53,7 +55,7 @@ returns-in_ok-settle-in-Ended-clause-done g c =
     let ready_again = ready_stays g.D.Disk.told g.D.Disk.may_leave old mid more.0 stays more.1 in (
       runs_behind g.D.Disk.clock g.D.Disk.left_since g.D.Disk.told g.D.Disk.may_leave g.D.Disk.faults g.met.D.Disk.only_now old mid new
           (runs_stays g.D.Disk.clock g.D.Disk.left_since g.D.Disk.told g.D.Disk.may_leave g.D.Disk.faults g.met.D.Disk.only_now old mid
-          more.0 stays more.1 ends) ready_again (λ acked. c.settle.ensures.one (ends acked)) settled.done.0,
+          more.0 stays c.turn.ensures.waiting more.1 ends) ready_again (λ acked. c.settle.ensures.one (ends acked)) settled.done.0,
       record {
         unfailed = settled.done.1.unfailed;
         ready = λ ready. settled.done.1.ready (ready_again ready);
@@ -81,7 +83,7 @@ returns-in_err-settle-in-Ended-clause-stops g c =
     c.from_residual.result stop c.from_residual.ensures.1 (
       runs_behind g.D.Disk.clock g.D.Disk.left_since g.D.Disk.told g.D.Disk.may_leave g.D.Disk.faults g.met.D.Disk.only_now old mid new
           (runs_stays g.D.Disk.clock g.D.Disk.left_since g.D.Disk.told g.D.Disk.may_leave g.D.Disk.faults g.met.D.Disk.only_now old mid
-          more.0 stays more.1 ends) (ready_stays g.D.Disk.told g.D.Disk.may_leave old mid more.0 stays more.1)
+          more.0 stays c.turn.ensures.waiting more.1 ends) (ready_stays g.D.Disk.told g.D.Disk.may_leave old mid more.0 stays more.1)
           (λ acked. c.settle.ensures.one (ends acked)) left.0,
       stops_since g.D.Disk.faults stop old mid new (omega (arith, same)) left.1,
     )

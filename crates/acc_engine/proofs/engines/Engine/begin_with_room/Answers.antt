@@ -1,17 +1,23 @@
-use Rattle.std.proofs.Common.{◌≡◌, ◌-◌, ◌+◌, ◌^◌, ◌<◌, ◌∙◌, List, Bool, Some, false, true, length, get_or, slice_get, ap, subst, sym, arith}
+use Rattle.std.proofs.Common.{◌≡◌, ◌-◌, ◌+◌, ◌^◌, ◌<◌, ◌∙◌, List, [], ◌∷◌, Bool, Some, false, true, length, get_or}
+use Rattle.std.proofs.Common.{slice_get, ap, subst, sym, arith}
 use Rattle.std.specs.Prelude.{All}
 use Rattle.std.proofs.lemmas.Option.{same_Some}
-use Rattle.std.proofs.lemmas.List.{get_or-set_same, get_or-set_other}
+use Rattle.std.proofs.lemmas.List.{append-nil, get_or-set_same, get_or-set_other}
 use Rattle.acc_base.specs.declared.designs.Design.{Design}
 use Rattle.acc_base.specs.declared.machines.Call.{Call}
 use Rattle.acc_base.specs.declared.machines.Event.{Event}
 use Rattle.acc_base.specs.declared.machines.Event.TheVariants.{Begin}
 use Rattle.acc_base.specs.Machine.{World, next_number, after_event}
 use Rattle.acc_base.proofs.Items.{got}
+use Rattle.acc_lift.proofs.Theorem.{event_logged}
 use Rattle.acc_wal.specs.Spellings.{body, event_bytes, Fits}
+use Rattle.acc_wal.specs.Items.{seal_bytes}
 use Rattle.acc_wal.specs.Settling.{Pushes}
+use Rattle.acc_wal.specs.declared.items.Seal.{Seal}
 use Rattle.acc_engine.specs.Keeping.{Journalled}
+use Rattle.acc_engine.specs.Sealing.{AreHeld}
 use Rattle.acc_engine.proofs.CallFields.{all_fields}
+use Rattle.acc_engine.proofs.Sealed.{still_held}
 use Rattle.acc_engine.proofs.InSteps.{in_step_widened, begin_short, in_step_begun, in_step_same, same_world}
 use Rattle.acc_engine.proofs.engines.Engine.begin_with_room.Goals as goal
 
@@ -20,9 +26,6 @@ prepare-requires-clause-fits g c =
     let inside = c.self.inside in
     subst (λ (l : List Call). All (λ (call : Call). Fits (Begin call)) l) (sym c.as_slice.ensures)
     (all_fields inside.state.design inside.calls c.self.invariant.0.state.accepted.formed c.self.invariant.0.fits)
-
-pub put-requires-clause-quiet : goal.put-requires-clause-quiet
-put-requires-clause-quiet g c = c.prepare.ensures.lists.lists.waiting ∙ c.self.invariant.2
 
 pub put-requires-clause-short : goal.put-requires-clause-short
 put-requires-clause-short g c =
@@ -47,8 +50,11 @@ put-requires-clause-short g c =
     inside.begun.items marks inside.lowest c.self.invariant.0 c.prepare.ensures.lists.lists (c.prepare.ensures.same inside.calls)
     c.prepare.ensures.marks in
     let short = begin_short inside.state.design inside.state.design inside.state.world inside.state.world c.prepare.new.wal
-    c.prepare.new.wal inside.found inside.calls marks inside.lowest p found.call wide lt fresh is in
-    subst (λ (e : Event). length (body c.prepare.new.wal.tail) + length (event_bytes e) < 2 ^ 32) (sym found.event_is) short
+    c.prepare.new.wal inside.found inside.calls marks inside.lowest p found.call wide lt fresh is
+    (subst (λ (l : List Seal). AreHeld inside.state.design inside.state.world.events l) (sym c.prepare.ensures.lists.lists.waiting)
+    c.self.invariant.1) in
+    subst (λ (e : Event). length (body c.prepare.new.wal.tail) + seal_bytes c.prepare.new.wal.waiting + length (event_bytes e) < 2 ^ 32)
+    (sym found.event_is) short
 
 pub invariant_of-self-in-Ok : goal.invariant_of-self-in-Ok
 invariant_of-self-in-Ok g c =
@@ -85,8 +91,11 @@ invariant_of-self-in-Ok g c =
           inside.found inside.calls marks inside.lowest p call wide lt fresh again
           (record { leave = answer.2; event = answer.1 }) c.begin.ensures.design
           (subst (λ (e : Event). Pushes e c.prepare.new.wal c.put.new.wal) event c.put.ensures),
-      c.self.invariant.1 ∙ ap (λ (j : Journalled g.row.D.Denot). j.failed) c.self.view_is ∙ c.requires.unfailed ∙ sym c.put.ensures.spent,
-      c.put.ensures.waiting ∙ c.prepare.ensures.lists.lists.waiting ∙ c.self.invariant.2,
+      still_held inside.state.design c.begin.new.self.design inside.state.world.events c.begin.new.self.world.events (Begin call ∷ [])
+          inside.wal.waiting c.put.new.wal.waiting c.begin.ensures.design
+          (event_logged inside.state.design inside.state.world (Begin call) c.begin.new.self.world answer.1)
+          (c.put.ensures.waiting ∙ c.prepare.ensures.lists.lists.waiting) c.self.invariant.1,
+      c.self.invariant.2 ∙ ap (λ (j : Journalled g.row.D.Denot). j.failed) c.self.view_is ∙ c.requires.unfailed ∙ sym c.put.ensures.spent,
     )
 
 pub returns-in-Ok-clause-ok : goal.returns-in-Ok-clause-ok
@@ -135,10 +144,13 @@ invariant_of-self-in-Err-Memory-2 g c =
     let marks = c.prepare.new.begun.items in
     let wide =
     in_step_widened old.design old.world inside.wal wal inside.found inside.calls inside.begun.items marks inside.lowest c.self.invariant.0
-    c.prepare.ensures.lists.lists (c.prepare.ensures.same inside.calls) c.prepare.ensures.marks in (
+    c.prepare.ensures.lists.lists (c.prepare.ensures.same inside.calls) c.prepare.ensures.marks in
+    let same =
+    same_world old.design old.world now.world c.index-as_slice-index.result c.in-Err-Memory.field-0 c.in-Err-Memory.ensures.answer in (
       in_step_same old.design now.design old.world now.world wal.durable wal.tail inside.found inside.calls marks inside.lowest wide
-          c.begin.ensures.design
-          (same_world old.design old.world now.world c.index-as_slice-index.result c.in-Err-Memory.field-0 c.in-Err-Memory.ensures.answer),
-      c.self.invariant.1 ∙ sym c.prepare.ensures.lists.spent,
-      c.prepare.ensures.lists.lists.waiting ∙ c.self.invariant.2,
+          c.begin.ensures.design same,
+      still_held old.design now.design old.world.events now.world.events [] inside.wal.waiting wal.waiting c.begin.ensures.design
+          (ap (λ (w : World). w.events) same ∙ sym (append-nil old.world.events)) c.prepare.ensures.lists.lists.waiting
+          c.self.invariant.1,
+      c.self.invariant.2 ∙ sym c.prepare.ensures.lists.spent,
     )

@@ -1,5 +1,6 @@
 use Rattle.std.proofs.Common.{length, sym, ap, ◌∙◌}
 use Rattle.acc_engine.proofs.InSteps.{in_step_new}
+use Rattle.acc_engine.proofs.Sealed.{none_held}
 use Rattle.acc_engine.proofs.Standing.{sound_in_step}
 use Rattle.acc_engine.proofs.engines.Engine.new.Goals as goal
 
@@ -9,8 +10,8 @@ invariant_of-result g c = (
       (record { accepted = c.events.ensures.accepted; good = c.events.ensures.good })
       c.requires.same c.requires.settled c.requires.fits c.requires.few c.new.ensures.items
       (c.len-found.ensures ∙ ap length c.events.ensures.events),
+  none_held c.args.state.design c.args.state.world.events c.args.wal.waiting c.requires.quiet,
   sym c.requires.unspent,
-  c.requires.quiet,
 )
 
 pub returns-clause-sound : goal.returns-clause-sound
@@ -20,4 +21,4 @@ returns-clause-sound g c =
     (record { accepted = c.events.ensures.accepted; good = c.events.ensures.good })
     c.requires.same c.requires.settled c.requires.fits c.requires.few c.new.ensures.items
     (c.len-found.ensures ∙ ap length c.events.ensures.events))
-    c.durable-durable.ensures.counts
+    c.seals-seals.ensures.counts

@@ -8,4 +8,4 @@ returns g c =
     let inside = c.self.inside in
     subst (IsSound g.D.Disk.told) c.self.view_is
     (sound_in_step g.D.Disk.told inside.state.design inside.state.world inside.wal inside.found inside.calls inside.begun.items
-    inside.lowest c.self.invariant.0 c.durable-durable.ensures.counts)
+    inside.lowest c.self.invariant.0 c.seals-seals.ensures.counts)

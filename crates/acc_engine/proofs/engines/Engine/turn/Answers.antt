@@ -3,12 +3,17 @@ use Rattle.acc_base.specs.Machine.{World}
 use Rattle.acc_machine.specs.Turned.{IsUnfinished}
 use Rattle.acc_engine.specs.Keeping.{Journalled}
 use Rattle.acc_engine.specs.Standing.{IsSound}
-use Rattle.acc_engine.proofs.InSteps.{in_step_turned, adds_or, small_number}
+use Rattle.acc_engine.proofs.InSteps.{turn_short, in_step_turned, adds_or, small_number}
+use Rattle.acc_engine.proofs.Sealed.{still_held}
 use Rattle.acc_engine.proofs.Standing.{seen_again, sound_turned}
+use Rattle.acc_engine.proofs.Turned.{turn_adds}
 use Rattle.acc_engine.proofs.engines.Engine.turn.Goals as goal
 
-pub note-requires-clause-quiet : goal.note-requires-clause-quiet
-note-requires-clause-quiet g c = c.reserve.ensures.same.lists.waiting ∙ c.self.invariant.2
+pub note-requires-clause-short : goal.note-requires-clause-short
+note-requires-clause-short g c =
+    let old = c.self.inside in
+    turn_short old.state.design old.state.design old.state.world old.state.world old.wal c.reserve.new.self c.reserve.new.self old.found
+    old.calls old.begun.items old.lowest c.self.invariant.0 c.reserve.ensures.same.lists c.self.invariant.1
 
 pub note-requires-clause-number : goal.note-requires-clause-number
 note-requires-clause-number g c =
@@ -25,8 +30,10 @@ invariant_of-self-in-Ok-turn g c =
           old.begun.items old.lowest c.self.invariant.0 c.reserve.ensures.same.lists
           c.args.t (adds_or c.args.t c.in-Ok-turn.turn old.state.world now.world c.in-Ok-turn.ensures.adds) c.turn.ensures.design
           c.note.ensures.kept c.note.ensures.up,
-      c.self.invariant.1 ∙ sym (c.note.ensures.up.spent ∙ c.reserve.ensures.same.spent),
-      c.note.ensures.up.waiting ∙ c.reserve.ensures.same.lists.waiting ∙ c.self.invariant.2,
+      let more = turn_adds old.state.world now.world c.args.t c.in-Ok-turn.turn c.in-Ok-turn.ensures.adds in
+          still_held old.state.design now.design old.state.world.events now.world.events more.0 old.wal.waiting c.note.new.wal.waiting
+          c.turn.ensures.design more.1 (c.note.ensures.up.waiting ∙ c.reserve.ensures.same.lists.waiting) c.self.invariant.1,
+      c.self.invariant.2 ∙ sym (c.note.ensures.up.spent ∙ c.reserve.ensures.same.spent),
     )
 
 pub returns-in-Ok-turn-clause-sound : goal.returns-in-Ok-turn-clause-sound

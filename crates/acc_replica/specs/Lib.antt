@@ -1,0 +1,4 @@
+pub mod Coming
+pub mod Ends
+pub mod Steps
+pub mod Replicas
