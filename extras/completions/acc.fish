@@ -8,6 +8,7 @@ set -g __acc_forms \
     'prove DESIGN|makes such a certificate, or tells which obligations stay open' \
     'advise DESIGN HELD STEP SIDE|tells which entry lets the step go where HELD is held, and forbids least' \
     'audit DESIGN COPY|tells whether a clause is false after an event of a journal, whoever wrote it' \
+    'follow DESIGN CERT COPY SIZE|replays a journal\'s whole batches, read in pieces of SIZE bytes, and prints the rows' \
     'init DESIGN JOURNAL|makes JOURNAL a journal of the design without events, if it isn\'t one already' \
     'sched DESIGN CERT SCRIPT ORDER JOURNAL|recovers the journal, and goes on as `rehearse`; each end is kept in it' \
     'run DESIGN CERT SCRIPT WORKERS JOURNAL|recovers the journal, and 1 to 64 workers run the script; each end is kept in it' \

@@ -1,4 +1,5 @@
 pub mod Formed
+pub mod EventRows
 pub mod Keys
 pub mod SmallFrames
 pub mod Meaning
@@ -6,3 +7,5 @@ pub mod Sounds
 pub mod Telling
 pub mod FirstFrames
 pub mod OneTelling
+pub mod Moving
+pub mod Knowing

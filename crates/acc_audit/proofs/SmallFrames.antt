@@ -1,14 +1,15 @@
 -- The frames of the unfinished transactions of a run are small.
 use Rattle.std.proofs.Common.{◌≡◌, ℕ, zero, suc, ◌+◌, ◌<◌, ◌≤◌, ◌^◌, List, [], ◌∷◌, ◌++◌, length, Option, Some, None, All, refl, sym, ap, ◌∙◌, arith}
-use Rattle.std.proofs.Common.{subst, slice_get, filter_map, IfSome}
+use Rattle.std.proofs.Common.{subst, slice_get, filter_map, IfSome, Bool, true, false, cond, ◌==◌}
 use Rattle.std.specs.List.{cons_option, AllByRecursion}
-use Rattle.std.proofs.lemmas.List.Elements.{All-from_recursion}
+use Rattle.std.proofs.lemmas.List.Elements.{All-from_recursion, recursion_from_All}
 use Rattle.std.proofs.lemmas.Option.{none-some, same_Some}
 use Rattle.acc_base.specs.declared.designs.Design.{Design}
 use Rattle.acc_base.specs.declared.machines.Frame.{Frame}
 use Rattle.acc_base.specs.declared.machines.Transaction.{Transaction}
 use Rattle.acc_base.specs.Machine.{World, frame_in, unfinished}
 use Rattle.acc_base.specs.Runnable.{IsSmallFrame}
+use Rattle.acc_audit.specs.Since.{frame_of}
 use Rattle.acc_plain.specs.Reached.{IsReached}
 use Rattle.acc_plain.proofs.Fitting.{IsOwn, AreFit, fits_frame}
 use Rattle.acc_plain.proofs.Steady.{steady_reached}
@@ -26,6 +27,18 @@ pub frames_small : (d : Design) (w : World) → IsReached d w → length w.event
 frames_small d w reached few =
     let s = steady_reached d w reached (omega (arith, few)) in
     All-from_recursion IsSmallFrame (unfinished w) (small_frames 1 w.transactions s.fit (omega (arith, few, s.counted)))
+
+-- and so is each that is found by its number
+pub found_small : (frames : List Frame) (t : ℕ) (f : Frame) → All IsSmallFrame frames → frame_of t frames ≡ Some f → IsSmallFrame f
+found_small frames t f all = among frames (recursion_from_All IsSmallFrame frames all)
+  where
+    among : (fs : List Frame) → AllByRecursion IsSmallFrame fs → frame_of t fs ≡ Some f → IsSmallFrame f
+    among [] a h = absurd (none-some f h)
+    among (g ∷ fs) a h = by (g.t == t) h (among fs a.1)
+      where
+        by : (b : Bool) → cond b (Some g) (frame_of t fs) ≡ Some f → (frame_of t fs ≡ Some f → IsSmallFrame f) → IsSmallFrame f
+        by true e ih = subst IsSmallFrame (same_Some g f e) a.0
+        by false e ih = ih e
 
 -- an unfinished transaction among all
 pub record IsUnfinishedAt (ts : List Transaction) (f : Frame) : Type 0 where

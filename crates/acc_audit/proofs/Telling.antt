@@ -29,6 +29,14 @@ nothing_walked d events w is = record {
   clear = λ k from to. absurd (omega (arith, from, to));
 }
 
+-- before the first event nothing is known, and behind each nothing is wrong
+pub clear_now : (d : Design) (events : List Event) (n : ℕ) (w : World) → IsWalked d events n w → (n ≡ 0) ⊎ IsClear d w.rows (unfinished w)
+clear_now d events zero w walked = inl refl
+clear_now d events (suc n) w walked =
+    let at : IsClearAt d events (suc n) = walked.clear (suc n) (omega arith) (omega arith) in
+    let same : at.state ≡ w = same_Some at.state w (sym at.is_state ∙ walked.run) in
+    inr (subst (λ (x : World). IsClear d x.rows (unfinished x)) same at.clear)
+
 up : (k i : ℕ) → (k ≤ i) ⊎ (k ≡ i + 1) → (suc k ≤ suc i) ⊎ (suc k ≡ suc i + 1)
 up k i (inl h) = inl (omega (arith, h))
 up k i (inr h) = inr (omega (arith, h))

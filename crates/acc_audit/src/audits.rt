@@ -49,7 +49,8 @@ fn walk<S: Store, P: Progress>(
 ///
 /// The design needs no certificate. Where it is sound and the events are lawful, the answer is never `False` or `NotRun`.
 ///
-/// No row is copied. After each event each clause is tried at each tuple of its values, and how far it is, is told.
+/// No row is copied. After each event each clause that it can have changed is tried at each tuple of its values: one of a table that it
+/// writes, or of the transaction that it began or moved. How far it is, is told.
 pub fn audit<P: Progress>(
     alloc: Global,
     d: &Design,

@@ -5,6 +5,7 @@ pub mod audits;
 mod frames;
 pub mod laws;
 mod steps;
+mod writes;
 
 pub use audits::audit;
 pub use steps::{AuditError, Finding};

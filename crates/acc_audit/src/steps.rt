@@ -1,19 +1,21 @@
 //! One event more, and what is found after it.
-ghost use Rattle.std.specs.Prelude.{◌≡◌, ◌<◌, ◌≤◌, ◌+◌, ◌^◌, length, IfOk};
+ghost use Rattle.std.specs.Prelude.{◌≡◌, ◌⊎◌, ◌<◌, ◌≤◌, ◌+◌, ◌^◌, length, IfOk};
 ghost use Rattle.acc_formed.specs.WellFormed.{IsWellFormed};
 ghost use Rattle.acc_audit.specs.declared.steps.AuditError.TheVariants.{Memory as OutOfMemory};
-ghost use Rattle.acc_audit.specs.Audits.{IsFirstIn};
+ghost use Rattle.acc_audit.specs.Audits.{IsClear, IsFirstIn};
 ghost use Rattle.acc_audit.specs.Events.{told, TellsEvent};
+ghost use Rattle.acc_audit.specs.Since.{IsKnown, known_at, moved_by};
 ghost use Rattle.acc_base.specs.Machine.{unfinished};
 
-use crate::frames::state_complaint;
+use crate::frames::{Known, state_complaint};
+use crate::writes::{moved_by, writes_of};
 use acc_base::designs::Design;
-use acc_base::machines::Event;
+use acc_base::machines::{Event, Frame};
 use acc_base::sequences::Seq;
 use acc_complaints::Complaint;
 use acc_plain::{Machine, PlainError};
 use acc_ranges::KeyedStore;
-use acc_store::Store;
+use acc_store::{Store, Write};
 use std::alloc::{AllocError, Global};
 
 /// What an audit finds.
@@ -61,14 +63,34 @@ fn complaint_now<S: Store>(
     alloc: Global,
     d: &Design,
     machine: &Machine<'_, KeyedStore<S>>,
+    known: Option<Known<'_>>,
 ) -> Result<Option<(u64, u32, Complaint)>, AllocError>
     requires formed { IsWellFormed d.now }
     requires design { machine.now.design ≡ d.now }
     requires few { length machine.now.world.events < 2 ^ 31 }
+    requires known { IsKnown d.now machine.now.world.rows (unfinished machine.now.world) known }
     ensures { IfOk result (IsFirstIn d.now machine.now.world.rows (unfinished machine.now.world)) }
 {
     let _run = machine.events();
-    state_complaint(alloc, d, machine.store(), machine.unfinished())
+    state_complaint(alloc, d, machine.store(), machine.unfinished(), known)
+}
+
+/// What is known behind so many events of the state before the last: nothing, where that was the state before any event.
+fn known_at<'a>(
+    place: u64,
+    event: &Event,
+    frames: &[Frame],
+    writes: &'a [Write],
+) -> Option<Known<'a>>
+    ensures { result ≡ known_at place (moved_by event.now frames.now) writes.entry }
+{
+    if place == 0 {
+        return None;
+    }
+    Some(Known {
+        writes,
+        moved: moved_by(event, frames),
+    })
 }
 
 /// What a complaint tells after so many events.
@@ -84,7 +106,7 @@ fn told(place: u64, found: Option<(u64, u32, Complaint)>) -> Result<Option<Findi
     }
 }
 
-/// Does one event more, behind so many, and tells what is found after it: none where nothing is.
+/// Does one event more, behind so many, and tells what is found after it: none where nothing is. Nothing may have been found before it.
 pub fn take_event<S: Store>(
     alloc: Global,
     d: &Design,
@@ -96,13 +118,17 @@ pub fn take_event<S: Store>(
     requires design { machine.old.design ≡ d.now }
     requires few { length machine.old.world.events < 2 ^ 30 }
     requires place { place < 2 ^ 30 }
+    requires clear { (place ≡ 0) ⊎ IsClear d.now machine.old.world.rows (unfinished machine.old.world) }
     ensures told { TellsEvent d.now machine.old.world event.now place machine.new.world result }
     ensures design { machine.new.design ≡ d.now }
     ensures count { length machine.new.world.events ≤ length machine.old.world.events + 1 }
 {
+    let writes = writes_of(alloc, d, machine, event)?;
     if !machine.take(event)? {
         return Err(AuditError::NotRun(place));
     }
-    let found = complaint_now(alloc, d, machine)?;
+    let _run = machine.events();
+    let known = known_at(place, event, machine.unfinished(), writes.as_slice());
+    let found = complaint_now(alloc, d, machine, known)?;
     told(place + 1, found)
 }

@@ -214,7 +214,7 @@ pub fn answer<R: Files<File = File> + Print + AllocGlobal, T: Threads + Wait + S
         },
         "device" | "journal" | "relation" | "workload" => kinds::tell(rt, kinds, line),
         "machine" | "text" | "search" => kinds::tell_or_take(rt, kinds, line),
-        "state" | "engine" => kinds::tell_or_accept(rt, kinds, line),
+        "state" | "engine" | "replica" => kinds::tell_or_accept(rt, kinds, line),
         "design" => kinds::tell_lines(rt, line),
         _ => answer_command(rt, &mut kinds.explained, line),
     }

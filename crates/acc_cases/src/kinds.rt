@@ -85,6 +85,7 @@ fn answered_over<R: AllocGlobal>(
     let (kind, rest) = first_word(line);
     match kind {
         "state" => acc_state_cases::answer(rt.alloc(), accepted, rest),
+        "replica" => acc_replica_cases::answer(rt.alloc(), accepted, rest),
         _ => acc_engine_cases::answer(rt.alloc(), accepted, rest),
     }
 }

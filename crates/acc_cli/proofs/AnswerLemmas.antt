@@ -19,7 +19,7 @@ use Rattle.acc_commands.specs.Files.{AreFiles, IsFirstRefused, SaysRefused}
 use Rattle.acc_commands.specs.Requests.{command_in, texts_in}
 use Rattle.acc_commands.specs.Text.{IsEarly}
 use Rattle.acc_commands.specs.Request.{Request}
-use Rattle.acc_commands.specs.Request.TheVariants.{Play, Rehearse, Print, Draw, Check, Prove, Advise, Audit, Init, Sched, Run}
+use Rattle.acc_commands.specs.Request.TheVariants.{Play, Rehearse, Print, Draw, Check, Prove, Advise, Audit, Follow, Init, Sched, Run}
 use Rattle.acc_commands.specs.Request.TheVariants.{Recover, Dump, Replies, Verify, Migrate, TpccDesign, TpccLoad, TpccMix, BookingDesign}
 use Rattle.acc_commands.specs.Request.TheVariants.{BookingVerify, Bench, Help, Version}
 use Rattle.acc_journalled.specs.declared.answers.Answer.{Answer}
@@ -109,6 +109,7 @@ texts_count (Check files) = refl
 texts_count (Prove design) = refl
 texts_count (Advise files side) = refl
 texts_count (Audit files) = refl
+texts_count (Follow files size) = refl
 texts_count (Init design) = refl
 texts_count (Sched files) = refl
 texts_count (Run files workers) = refl

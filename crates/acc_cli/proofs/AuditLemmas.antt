@@ -36,7 +36,7 @@ use Rattle.acc_cli.specs.declared.status.Status.TheVariants.{File, Sink, Ran}
 use Rattle.acc_cli.proofs.StatusLemmas.{zero_is_done}
 
 -- the design or the journal stood against it
-abbrev IsRefused : Ending → Type 0
+abbrev pub IsRefused : Ending → Type 0
 IsRefused ending = (ending ≡ DesignRefused) ⊎ (ending ≡ JournalRefused)
 
 module _ (held : List ℕ → Told) (words : List (List ℕ)) where

@@ -16,7 +16,7 @@ use Rattle.acc_commands.specs.Words.{command_of, files_of, points_of}
 use Rattle.acc_cli.specs.Meant.{Runs, MeansForm, Meant}
 use Rattle.acc_cli.specs.Answered.{Answered}
 use Rattle.acc_cli.specs.Causes.{EndsSo, LeavesInMemory, LeavesUnbegun, FindsJournal, RefusesRecovering, RefusesMigration, RefusesAudit, RefusesJournal}
-use Rattle.acc_cli.specs.Causes.{LeavesOpen, FindsConditionFalse, HasCauses}
+use Rattle.acc_cli.specs.Causes.{StopsFollowing, LeavesOpen, FindsConditionFalse, HasCauses}
 use Rattle.acc_journalled.proofs.Endings.{was_of_bytes}
 use Rattle.acc_commands.specs.Overs.{LeavesBy, LeavesBench}
 use Rattle.acc_commands.proofs.WhichCommands.{LeftAnyhow, RefusesAnyhow, leaves_unbegun, leaves_open, finds_false, refuses_journal, fails_by_disk}
@@ -55,7 +55,9 @@ module _ (held : List ℕ → Told) (counts counts' : Counts) (disk disk' : Seen
       by : RefusesAnyhow ends.command ends.files disk disk' ends.said
           → FindsJournal ends.command disk disk' ⊎ RefusesRecovering ends.command disk disk'
           ⊎ RefusesMigration ends.command ends.files disk disk' ⊎ RefusesAudit ends.command ends.files disk disk'
-      by (inr copied) = inr (inr (inr (record { copy = copied.0; same = ap (λ (s : Seen). s.told) copied.1 })))
+          ⊎ StopsFollowing ends.command ends.files disk disk'
+      by (inr (inl copied, same)) = inr (inr (inr (inl (record { copy = copied; same = ap (λ (s : Seen). s.told) same }))))
+      by (inr (inr stops, same)) = inr (inr (inr (inr (record { following = stops; same = ap (λ (s : Seen). s.told) same }))))
       by (inl (inl found)) = inl (record { is_making = found.0; there = found.1.there; same = found.1.same })
       by (inl (inr (inr source))) = inr (inr (inl (record { source = source.0; same = source.1 })))
       by (inl (inr (inl refused))) =

@@ -14,5 +14,6 @@ pub mod AnswerLemmas
 pub mod LineLemmas
 pub mod Surviving
 pub mod AuditLemmas
+pub mod FollowLemmas
 pub mod MigrationLemmas
 pub mod SealedLemmas

@@ -145,6 +145,7 @@ module _ {D : Type 0} (clock : D → ℕ) (left_since : D → ℕ → List ℕ �
     of_recovering command.BookingVerify w (design ∷ certificate ∷ more ∷ rest) by h = absurd (omega (arith, h.0))
     of_recovering (command.Advise side) w files by h = absurd cc
     of_recovering command.Audit w files by h = absurd cc
+    of_recovering (command.Follow size) w files by h = absurd cc
     of_recovering command.TpccDesign w files by h = absurd cc
     of_recovering command.BookingDesign w files by h = absurd cc
     of_recovering (command.TpccLoad scale) w files by h = absurd cc

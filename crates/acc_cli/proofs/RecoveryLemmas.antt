@@ -39,7 +39,7 @@ use Rattle.acc_cli.specs.Replies.{Reply}
 use Rattle.acc_cli.specs.Status.{code_of}
 use Rattle.acc_cli.specs.Meant.{MeansForm, Meant}
 use Rattle.acc_cli.specs.Answered.{Answered, Ends}
-use Rattle.acc_cli.specs.Causes.{FindsJournal, RefusesRecovering, RefusesMigration, RefusesAudit, RefusesJournal}
+use Rattle.acc_cli.specs.Causes.{FindsJournal, RefusesRecovering, RefusesMigration, RefusesAudit, StopsFollowing, RefusesJournal}
 use Rattle.acc_cli.specs.Recoveries.{wanted_by, IsRecovered, IsBroken, TellsRecovery, IsJournal, LeavesRefused}
 use Rattle.acc_cli.proofs.StatusLemmas.{zero_is_done, seven_is_sink}
 
@@ -70,10 +70,12 @@ left_refused held counts counts' disk disk' words refused = by refused.why
   where
     by : FindsJournal refused.ends.command disk disk' ⊎ RefusesRecovering refused.ends.command disk disk'
         ⊎ RefusesMigration refused.ends.command refused.ends.files disk disk'
-        ⊎ RefusesAudit refused.ends.command refused.ends.files disk disk' → LeavesRefused disk.told disk'.told
+        ⊎ RefusesAudit refused.ends.command refused.ends.files disk disk'
+        ⊎ StopsFollowing refused.ends.command refused.ends.files disk disk' → LeavesRefused disk.told disk'.told
     by (inl found) = inl found.same
     by (inr (inr (inl source))) = inl source.same
-    by (inr (inr (inr copied))) = inl copied.same
+    by (inr (inr (inr (inl copied)))) = inl copied.same
+    by (inr (inr (inr (inr stops)))) = inl stops.same
     by (inr (inl r)) =
         unrecovered_left r.error r.d disk.told disk'.told (Rose disk.faults disk'.faults) r.of_bytes r.cause r.same r.kept
 
@@ -238,6 +240,7 @@ of_command held words command.BookingVerify w disk disk' old new code points (de
 of_command held words command.BookingVerify w disk disk' old new code points (design ∷ certificate ∷ more ∷ rest) t is given h = absurd h
 of_command held words (command.Advise side) w disk disk' old new code points files t is given h = absurd cc
 of_command held words command.Audit w disk disk' old new code points files t is given h = absurd cc
+of_command held words (command.Follow size) w disk disk' old new code points files t is given h = absurd cc
 of_command held words command.TpccDesign w disk disk' old new code points files t is given h = absurd cc
 of_command held words command.BookingDesign w disk disk' old new code points files t is given h = absurd cc
 of_command held words (command.TpccLoad scale) w disk disk' old new code points files t is given h = absurd cc

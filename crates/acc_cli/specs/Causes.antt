@@ -21,7 +21,7 @@ use Rattle.acc_commands.specs.Words.{command_of, files_of, points_of}
 use Rattle.acc_commands.specs.Files.{AreFiles, IsFirstRefused, SaysRefused}
 use Rattle.acc_commands.specs.Means.{Means}
 use Rattle.acc_commands.specs.Overs.{IsRecovering, IsMaking, RefusesSource, LeavesBy, FindsFalse, LeavesBench, BenchFindsFalse}
-use Rattle.acc_commands.specs.Overs.{RefusesCopy, AuditFinds}
+use Rattle.acc_commands.specs.Overs.{RefusesCopy, AuditFinds, RefusesFollowing}
 use Rattle.acc_commands.specs.ProveFiles.{StaysOpen}
 use Rattle.acc_journalled.specs.Tellings.{Telling}
 use Rattle.acc_commands.specs.Disks.{Seen}
@@ -89,11 +89,17 @@ pub record RefusesAudit (c : Command) (files : List (List ℕ)) (disk disk' : Se
   pub copy : RefusesCopy c files
   pub same : disk'.told ≡ disk.told
 
--- the journal is there already, or isn't one that is recovered, or an old one or a copy isn't one that is recovered or judged
+-- It is `follow`, and the bytes of the copy give a cause why they aren't followed on. The disk is asked nothing.
+pub record StopsFollowing (c : Command) (files : List (List ℕ)) (disk disk' : Seen) : Type 0 where
+  pub following : RefusesFollowing c files
+  pub same : disk'.told ≡ disk.told
+
+-- the journal is there already, or isn't one that is recovered, or an old one or a copy isn't one that is recovered, judged or followed on
 pub record RefusesJournal (held : List ℕ → Told) (counts counts' : Counts) (disk disk' : Seen) (words : List (List ℕ)) : Type 0 where
   pub ends : EndsSo held counts counts' disk disk' words JournalRefused
   pub why : FindsJournal ends.command disk disk' ⊎ RefusesRecovering ends.command disk disk'
       ⊎ RefusesMigration ends.command ends.files disk disk' ⊎ RefusesAudit ends.command ends.files disk disk'
+      ⊎ StopsFollowing ends.command ends.files disk disk'
 
 -- it is `prove`, and obligations of the design stay open: what is said has a line for each
 pub record LeavesOpen (held : List ℕ → Told) (counts counts' : Counts) (disk disk' : Seen) (words : List (List ℕ)) : Type 0 where

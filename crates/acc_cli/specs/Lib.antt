@@ -15,5 +15,6 @@ pub mod Bookings
 pub mod Migrations
 pub mod Sealings
 pub mod Audits
+pub mod Followings
 pub mod Runs
 pub mod Headline

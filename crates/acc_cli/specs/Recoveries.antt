@@ -39,6 +39,7 @@ wanted_by command.Check = None
 wanted_by command.Prove = None
 wanted_by (command.Advise side) = None
 wanted_by command.Audit = None
+wanted_by (command.Follow size) = None
 wanted_by command.Init = None
 wanted_by command.Sched = None
 wanted_by (command.Run workers) = None

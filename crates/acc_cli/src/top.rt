@@ -25,6 +25,7 @@ ghost use Rattle.acc_cli.specs.Migrations.{TellsMigration};
 ghost use Rattle.acc_cli.specs.Sealings.{TellsSealed};
 ghost use Rattle.acc_cli.specs.Verifications.{TellsVerification};
 ghost use Rattle.acc_cli.specs.Audits.{TellsAudit};
+ghost use Rattle.acc_cli.specs.Followings.{TellsFollowing};
 ghost use Rattle.acc_cli.specs.Benches.{TellsBench};
 ghost use Rattle.acc_commands.specs.RecoverFiles.{Saying};
 ghost use Rattle.acc_commands.specs.Command.{Command as TheCommand};
@@ -34,6 +35,7 @@ ghost use Rattle.acc_commands.specs.Requests.{command_in, texts_in, points_in};
 ghost use Rattle.acc_commands.specs.Means.{LeavesOf};
 ghost use Rattle.acc_commands.specs.Overs.{IsRecovering};
 ghost use Rattle.acc_commands.specs.Command.TheVariants.{Rehearse, Sched, Run, Init, Prove, Verify, Migrate, BookingVerify, Bench, Audit};
+ghost use Rattle.acc_commands.specs.Command.TheVariants.{Follow};
 ghost use Rattle.acc_commands.specs.Mix.{Mix};
 
 use crate::status::Status;
@@ -359,6 +361,11 @@ pub fn acc<
     // ranges. A sound design finds nothing false in lawful events. Else nothing is told.
     ensures audited { command_of (map string_bytes words.now) ≡ Some Audit
         → TellsAudit (H.held shelf.old) (map string_bytes words.now) (K.bytes out.old) (K.bytes out.new) result.status }
+    // Where `follow` ended with status 0 or 7, all batches of the copy that came whole are done, and the state is that of their events,
+    // which are annotated; with 0 how many there are, how many transactions are unfinished behind them, and the rows were said. This is
+    // the same for each number of a piece's bytes. Else no rows are told.
+    ensures followed { (size : ℕ) → command_of (map string_bytes words.now) ≡ Some (Follow size)
+        → TellsFollowing (H.held shelf.old) (map string_bytes words.now) size (K.bytes out.old) (K.bytes out.new) result.status }
     // What `bench` ran is a lawful and annotated run of an accepted design, as that of `rehearse`.
     ensures bench_promise { (mix : Mix) → command_of (map string_bytes words.now) ≡ Some (Bench mix)
         → KeepsPromise (H.held shelf.old) (map string_bytes words.now) (Bench mix) result.history }

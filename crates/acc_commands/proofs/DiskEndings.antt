@@ -53,6 +53,7 @@ ends_over_disk command.BookingVerify (design ∷ certificate ∷ []) old new t h
 ends_over_disk command.BookingVerify (design ∷ certificate ∷ more ∷ rest) old new t h = absurd h
 ends_over_disk (command.Advise side) files old new t h = absurd h
 ends_over_disk command.Audit files old new t h = absurd h
+ends_over_disk (command.Follow size) files old new t h = absurd h
 ends_over_disk command.TpccDesign files old new t h = absurd h
 ends_over_disk command.BookingDesign files old new t h = absurd h
 ends_over_disk (command.TpccLoad scale) files old new t h = absurd h

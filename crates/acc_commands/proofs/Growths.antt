@@ -206,6 +206,7 @@ growth_over command.Check files old new t is h = absurd h
 growth_over command.Prove files old new t is h = absurd h
 growth_over (command.Advise side) files old new t is h = absurd h
 growth_over command.Audit files old new t is h = absurd h
+growth_over (command.Follow size) files old new t is h = absurd h
 growth_over command.TpccDesign files old new t is h = absurd h
 growth_over command.BookingDesign files old new t is h = absurd h
 growth_over (command.TpccLoad scale) files old new t is h = absurd h

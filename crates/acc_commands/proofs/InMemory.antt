@@ -33,6 +33,7 @@ module _ {D : Type 0} (clock : D → ℕ) (left_since : D → ℕ → List ℕ �
   leaves_disk command.BookingVerify files old new history settled is same none = (let e : true ≡ false = is in absurd cc)
   leaves_disk (command.Advise side) files old new history settled is same none = (same, none)
   leaves_disk command.Audit files old new history settled is same none = (same, none)
+  leaves_disk (command.Follow size) files old new history settled is same none = (same, none)
   leaves_disk command.TpccDesign files old new history settled is same none = (same, none)
   leaves_disk command.BookingDesign files old new history settled is same none = (same, none)
   leaves_disk (command.TpccLoad scale) files old new history settled is same none = (same, none)

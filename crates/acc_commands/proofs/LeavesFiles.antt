@@ -114,6 +114,7 @@ module _ {D : Type 0} (clock : D → ℕ) (left_since : D → ℕ → List ℕ �
         disk_same old new history settled now h
     leaves_file faults (command.Advise side) files old new history settled now h = disk_same old new history settled now h
     leaves_file faults command.Audit files old new history settled now h = disk_same old new history settled now h
+    leaves_file faults (command.Follow size) files old new history settled now h = disk_same old new history settled now h
     leaves_file faults command.TpccDesign files old new history settled now h = disk_same old new history settled now h
     leaves_file faults command.BookingDesign files old new history settled now h = disk_same old new history settled now h
     leaves_file faults (command.TpccLoad scale) files old new history settled now h = disk_same old new history settled now h

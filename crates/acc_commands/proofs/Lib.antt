@@ -1,4 +1,5 @@
 pub use Rattle.acc_file_commands.proofs.Auditing
+pub use Rattle.acc_file_commands.proofs.Following
 pub use Rattle.acc_file_commands.proofs.Judged
 pub use Rattle.acc_journal_commands.proofs.Again
 pub use Rattle.acc_journal_commands.proofs.Disks
@@ -21,4 +22,5 @@ pub mod LeavesFiles
 pub mod DiskEndings
 pub mod Growths
 pub mod VerifyOvers
+pub mod OneFollowing
 pub mod OneVerifying

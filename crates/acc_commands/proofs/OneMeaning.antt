@@ -43,6 +43,7 @@ use Rattle.acc_journal_commands.proofs.OneDesign.{said_same, one_design, one_ref
 use Rattle.acc_file_commands.proofs.OneAdvice.{one_advice}
 use Rattle.acc_file_commands.proofs.OneAudit.{one_audit}
 use Rattle.acc_commands.proofs.OneProving.{SaidAlike, one_prove}
+use Rattle.acc_commands.proofs.OneFollowing.{one_follow_of}
 use Rattle.acc_commands.proofs.OneVerifying.{telling_same, one_verify}
 use Rattle.acc_commands.proofs.OneBenching.{one_bench_of}
 use Rattle.acc_commands.proofs.OneRun.{one_of_script, one_play, one_certificate_refusal, accepted_or_refused, one_certified}
@@ -143,6 +144,12 @@ one_of_files command.Audit points [] a b h k = absurd h
 one_of_files command.Audit points (design ∷ []) a b h k = absurd h
 one_of_files command.Audit points (design ∷ journal ∷ []) a b h k = inl (one_audit design journal a b h k)
 one_of_files command.Audit points (design ∷ journal ∷ more ∷ rest) a b h k = absurd h
+one_of_files (command.Follow size) points [] a b h k = absurd h
+one_of_files (command.Follow size) points (design ∷ []) a b h k = absurd h
+one_of_files (command.Follow size) points (design ∷ certificate ∷ []) a b h k = absurd h
+one_of_files (command.Follow size) points (design ∷ certificate ∷ copy ∷ []) a b h k =
+    inl (one_follow_of design certificate copy a b h k)
+one_of_files (command.Follow size) points (design ∷ certificate ∷ copy ∷ more ∷ rest) a b h k = absurd h
 one_of_files command.Init points files a b h k = absurd h
 one_of_files command.Sched points files a b h k = absurd h
 one_of_files (command.Run workers) points files a b h k = absurd h
@@ -392,6 +399,7 @@ one_over_disk command.BookingVerify (design ∷ certificate ∷ []) old one othe
 one_over_disk command.BookingVerify (design ∷ certificate ∷ more ∷ rest) old one other a b all h k = absurd h
 one_over_disk (command.Advise side) files old one other a b all h k = absurd h
 one_over_disk command.Audit files old one other a b all h k = absurd h
+one_over_disk (command.Follow size) files old one other a b all h k = absurd h
 one_over_disk command.TpccDesign files old one other a b all h k = absurd h
 one_over_disk command.BookingDesign files old one other a b all h k = absurd h
 one_over_disk (command.TpccLoad scale) files old one other a b all h k = absurd h

@@ -192,6 +192,7 @@ refused_over command.Migrate (design ∷ certificate ∷ source ∷ []) old new 
 refused_over command.Migrate (design ∷ certificate ∷ source ∷ more ∷ rest) old new t e h = absurd h
 refused_over (command.Advise side) files old new t e h = absurd h
 refused_over command.Audit files old new t e h = absurd h
+refused_over (command.Follow size) files old new t e h = absurd h
 refused_over command.TpccDesign files old new t e h = absurd h
 refused_over command.BookingDesign files old new t e h = absurd h
 refused_over (command.TpccLoad scale) files old new t e h = absurd h
@@ -356,6 +357,7 @@ unbegun_over command.Migrate (design ∷ certificate ∷ source ∷ []) old new 
 unbegun_over command.Migrate (design ∷ certificate ∷ source ∷ more ∷ rest) old new t e h = absurd h
 unbegun_over (command.Advise side) files old new t e h = absurd h
 unbegun_over command.Audit files old new t e h = absurd h
+unbegun_over (command.Follow size) files old new t e h = absurd h
 unbegun_over command.TpccDesign files old new t e h = absurd h
 unbegun_over command.BookingDesign files old new t e h = absurd h
 unbegun_over (command.TpccLoad scale) files old new t e h = absurd h

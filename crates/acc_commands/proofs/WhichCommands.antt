@@ -21,10 +21,16 @@ use Rattle.acc_file_commands.specs.JudgeError.{JudgeError}
 use Rattle.acc_journal_commands.specs.Text.{Said, said_in}
 use Rattle.acc_journal_commands.specs.Disks.{Seen}
 use Rattle.acc_journal_commands.specs.Refusals.{SaysError, RefusesDesign}
+use Rattle.acc_formed.specs.WellFormed.{IsWellFormed}
+use Rattle.acc_journal_commands.specs.Texts.{IsDesignText}
 use Rattle.acc_journal_commands.specs.Scripts.{SaysOfOrder, SaysOfScript}
 use Rattle.acc_file_commands.specs.Advising.{held_at, step_at, SaysOfPoints, AdvisesFile}
 use Rattle.acc_file_commands.specs.Auditing.{SaysJudged, AuditsFiles}
 use Rattle.acc_file_commands.proofs.Auditing.{refused_ending}
+use Rattle.acc_file_commands.specs.Ends.{Ends}
+use Rattle.acc_file_commands.specs.Following.{SaysEnd, FollowsCertified, FollowsFiles}
+use Rattle.acc_file_commands.specs.ReplicaError.{ReplicaError}
+use Rattle.acc_file_commands.proofs.Following.{unfollowed_ending}
 use Rattle.acc_file_commands.proofs.OneAudit.{says_no_lack}
 use Rattle.acc_file_commands.specs.PlayFiles.{SaysPlay, PlaysFiles}
 use Rattle.acc_file_commands.specs.ScheduleFiles.{SaysSchedule, SaysOfCertificate, SchedulesFiles, ending_at}
@@ -34,6 +40,7 @@ use Rattle.acc_file_commands.specs.ProveFiles.{EndsProving, StaysOpen, ProvesFil
 use Rattle.acc_journal_commands.specs.Words.{is_journalled}
 use Rattle.acc_commands.specs.Means.{AdvisesGiven, MeansOfFiles, MeansBy, Means}
 use Rattle.acc_commands.specs.Overs.{LeavesBy, FindsFalse, RunsBench, LeavesBench, BenchFindsFalse, IsAuditOf, RefusesCopy, AuditFinds}
+use Rattle.acc_commands.specs.Overs.{RefusesFollowing}
 use Rattle.acc_commands.proofs.BenchOvers.{runs_bench, never_bench, leaves_bench, bench_finds_false}
 use Rattle.acc_journal_commands.proofs.JournalEndings.{failed_by, never_false, never_open, other_end}
 use Rattle.acc_commands.proofs.DiskEndings.{ends_over_disk}
@@ -59,12 +66,21 @@ pub record Audited (c : Command) (files : List (List ℕ)) (said : Said) : Type 
   pub audit : IsAuditOf c files told
   pub says : SaysJudged told said
 
--- a schedule, open obligations, a load and a mix, or an audit
+-- a copy of a journal isn't followed on, and that is said
+pub record Unfollowed (c : Command) (files : List (List ℕ)) (said : Said) : Type 0 where
+  pub refuses : RefusesFollowing c files
+  pub ending : said.ending ≡ JournalRefused
+
+-- this is made of a copy of a journal
+abbrev pub ReadsCopy : Command → List (List ℕ) → Said → Type 0
+ReadsCopy c files said = Audited c files said ⊎ Unfollowed c files said
+
+-- a schedule, open obligations, a load and a mix, an audit, or a copy that isn't followed on
 abbrev pub EndsOtherwise : Command → List (List ℕ) → Said → Type 0
-EndsOtherwise c files said = Scheduled c said ⊎ Opens c files said ⊎ RunsBench c said ⊎ Audited c files said
+EndsOtherwise c files said = Scheduled c said ⊎ Opens c files said ⊎ RunsBench c said ⊎ ReadsCopy c files said
 
 -- An ending that is neither that all is done nor a refusal of the design or the script. A command without a journal that ends so is
--- `rehearse`, or `prove` with obligations that stay open, or `bench`, or `audit`.
+-- `rehearse`, or `prove` with obligations that stay open, or `bench`, or `audit`, or `follow` with a copy that is refused.
 module _ (other : Ending) (done_other : Done ≢ other) (design_other : DesignRefused ≢ other) (script_other : ScriptRefused ≢ other) where
   -- what ends otherwise doesn't end so
   not_so : (ending : Ending) (said : Said) → ending ≢ other → said.ending ≡ ending → said.ending ≡ other → ⊥
@@ -183,6 +199,39 @@ module _ (other : Ending) (done_other : Done ≢ other) (design_other : DesignRe
     says = h.audit.says;
   }
 
+  followed_so : (size : ℕ) (design certificate copy : List ℕ) (d : Design) (said : Said) → said.ending ≡ other → IsDesignText design d
+      → IsWellFormed d → FollowsCertified d certificate copy said
+      → Unfollowed (command.Follow size) (design ∷ certificate ∷ copy ∷ []) said
+  followed_so size design certificate copy d said so is_text formed (inl h) = absurd (not_so DesignRefused said design_other h.ending so)
+  followed_so size design certificate copy d said so is_text formed (inr h) = by h.follows.refused h.follows.ends h.follows.says
+    where
+      by : (refused : Option ReplicaError) → Ends d copy refused h.follows.here → SaysEnd d h.follows.here refused said
+          → Unfollowed (command.Follow size) (design ∷ certificate ∷ copy ∷ []) said
+      by None ends says = absurd (not_so Done said done_other says.0 so)
+      by (Some error) ends says = record {
+        refuses = record {
+          size = size;
+          is_follow = refl;
+          design = design;
+          certificate = certificate;
+          copy = copy;
+          are_files = refl;
+          d = d;
+          is_text = is_text;
+          formed = formed;
+          accepted = h.accepted;
+          error = error;
+          here = h.follows.here;
+          ends = ends;
+        };
+        ending = unfollowed_ending error said says;
+      }
+
+  follow_so : (size : ℕ) (design certificate copy : List ℕ) (said : Said) → said.ending ≡ other → FollowsFiles design certificate copy said
+      → Unfollowed (command.Follow size) (design ∷ certificate ∷ copy ∷ []) said
+  follow_so size design certificate copy said so (inl h) = absurd (refusal_other design said h so)
+  follow_so size design certificate copy said so (inr h) = followed_so size design certificate copy h.d said so h.is_text h.formed h.says
+
   pub ends_scheduled :
       (c : Command) (points files : List (List ℕ)) (said : Said) → said.ending ≡ other → MeansOfFiles c points files said
       → EndsOtherwise c files said
@@ -215,8 +264,15 @@ module _ (other : Ending) (done_other : Done ≢ other) (design_other : DesignRe
   ends_scheduled (command.Advise side) points files said e h = absurd (given_other side points files said e h)
   ends_scheduled command.Audit points [] said e h = absurd h
   ends_scheduled command.Audit points (design ∷ []) said e h = absurd h
-  ends_scheduled command.Audit points (design ∷ journal ∷ []) said e h = inr (inr (inr (audit_so design journal said e h)))
+  ends_scheduled command.Audit points (design ∷ journal ∷ []) said e h =
+      inr (inr (inr (inl (audit_so design journal said e h))))
   ends_scheduled command.Audit points (design ∷ journal ∷ more ∷ rest) said e h = absurd h
+  ends_scheduled (command.Follow size) points [] said e h = absurd h
+  ends_scheduled (command.Follow size) points (design ∷ []) said e h = absurd h
+  ends_scheduled (command.Follow size) points (design ∷ certificate ∷ []) said e h = absurd h
+  ends_scheduled (command.Follow size) points (design ∷ certificate ∷ copy ∷ []) said e h =
+      inr (inr (inr (inr (follow_so size design certificate copy said e h))))
+  ends_scheduled (command.Follow size) points (design ∷ certificate ∷ copy ∷ more ∷ rest) said e h = absurd h
   ends_scheduled command.Init points files said e h = absurd h
   ends_scheduled command.Sched points files said e h = absurd h
   ends_scheduled (command.Run workers) points files said e h = absurd h
@@ -281,6 +337,12 @@ never_audited other done judged refused c files t e a = by a.told a.says
     by (Ok (Large place k clause)) h = judged (sym h.0 ∙ e)
     by (Err error) h = refused (sym (refused_ending error (said_in t) h) ∙ e)
 
+-- neither does what is made of a copy end otherwise
+never_reads : (other : Ending) → Done ≢ other → ConditionFalse ≢ other → JournalRefused ≢ other → (c : Command) (files : List (List ℕ))
+    (t : Telling) → t.ending ≡ other → ReadsCopy c files (said_in t) → ⊥
+never_reads other done judged refused c files t e (inl audited) = never_audited other done judged refused c files t e audited
+never_reads other done judged refused c files t e (inr stops) = refused (sym stops.ending ∙ e)
+
 -- the copy isn't judged
 copy_refused : (c : Command) (files : List (List ℕ)) (t : Telling) → t.ending ≡ JournalRefused → Audited c files (said_in t)
     → RefusesCopy c files
@@ -307,8 +369,7 @@ left_of : (c : Command) (files : List (List ℕ)) (t : Telling) → t.ending ≡
     → EndsOtherwise c files (said_in t) → LeftAnyhow c t
 left_of c files t e (inr (inl opens)) = absurd (never_opens Unbegun (λ e. cc) c files t e opens)
 left_of c files t e (inr (inr (inl runs))) = inr (inr (leaves_bench c t runs e))
-left_of c files t e (inr (inr (inr audited))) =
-    absurd (never_audited Unbegun (λ e. cc) (λ e. cc) (λ e. cc) c files t e audited)
+left_of c files t e (inr (inr (inr reads))) = absurd (never_reads Unbegun (λ e. cc) (λ e. cc) (λ e. cc) c files t e reads)
 left_of c files t e (inl (is, d, calls, order, says)) =
     let begun : says.all_begun ≡ false = ending_unbegun says.all_begun (sym says.ending ∙ e) in
     inl (is, d, calls, order, subst (TellsSchedule d calls order t.text t.history) begun says.tells)
@@ -327,17 +388,26 @@ not_scheduled :
 not_scheduled other done unbegun c t e (is, d, calls, order, says) =
     ending_else other says.all_begun done unbegun (sym says.ending ∙ e)
 
--- a command without a journal that refuses one, or fails by its disk, is an audit
-only_audited : (other : Ending) → Done ≢ other → Unbegun ≢ other → Open ≢ other → ConditionFalse ≢ other → (c : Command)
-    (files : List (List ℕ)) (t : Telling) → t.ending ≡ other → EndsOtherwise c files (said_in t) → Audited c files (said_in t)
-only_audited other done unbegun differs judged c files t e (inl h) = absurd (not_scheduled other done unbegun c t e h)
-only_audited other done unbegun differs judged c files t e (inr (inl h)) = absurd (never_opens other differs c files t e h)
-only_audited other done unbegun differs judged c files t e (inr (inr (inl h))) = absurd (never_bench c t h other done unbegun judged e)
-only_audited other done unbegun differs judged c files t e (inr (inr (inr h))) = h
+-- a command without a journal that refuses one, or fails by its disk, reads a copy
+only_reads : (other : Ending) → Done ≢ other → Unbegun ≢ other → Open ≢ other → ConditionFalse ≢ other → (c : Command)
+    (files : List (List ℕ)) (t : Telling) → t.ending ≡ other → EndsOtherwise c files (said_in t) → ReadsCopy c files (said_in t)
+only_reads other done unbegun differs judged c files t e (inl h) = absurd (not_scheduled other done unbegun c t e h)
+only_reads other done unbegun differs judged c files t e (inr (inl h)) = absurd (never_opens other differs c files t e h)
+only_reads other done unbegun differs judged c files t e (inr (inr (inl h))) = absurd (never_bench c t h other done unbegun judged e)
+only_reads other done unbegun differs judged c files t e (inr (inr (inr h))) = h
 
--- a journal is refused by a command over it; or a copy of one by an audit, which leaves the disk as it is
+-- a copy of a journal is refused by an audit, or isn't followed on
+abbrev pub RefusesEither : Command → List (List ℕ) → Type 0
+RefusesEither c files = RefusesCopy c files ⊎ RefusesFollowing c files
+
+either_refused : (c : Command) (files : List (List ℕ)) (t : Telling) → t.ending ≡ JournalRefused → ReadsCopy c files (said_in t)
+    → RefusesEither c files
+either_refused c files t e (inl audited) = inl (copy_refused c files t e audited)
+either_refused c files t e (inr stops) = inr stops.refuses
+
+-- a journal is refused by a command over it; or a copy of one, and the disk is left as it is
 abbrev pub RefusesAnyhow : Command → List (List ℕ) → Seen → Seen → Telling → Type 0
-RefusesAnyhow c files old new t = RefusesOver c files old new t ⊎ (RefusesCopy c files × (new ≡ old))
+RefusesAnyhow c files old new t = RefusesOver c files old new t ⊎ (RefusesEither c files × (new ≡ old))
 
 pub refuses_journal :
     (c : Command) (points files : List (List ℕ)) (old new : Seen) (t : Telling) → t.ending ≡ JournalRefused → Means c points files old new t
@@ -347,7 +417,7 @@ refuses_journal c points files old new t e = by (is_journalled c)
     by : (over : Bool) → MeansBy over c points files old new t → RefusesAnyhow c files old new t
     by true h = inl (refused_over c files old new t e h)
     by false h = inr (
-      copy_refused c files t e (only_audited JournalRefused (λ e. cc) (λ e. cc) (λ e. cc) (λ e. cc) c files t e
+      either_refused c files t e (only_reads JournalRefused (λ e. cc) (λ e. cc) (λ e. cc) (λ e. cc) c files t e
           (ends_scheduled JournalRefused (λ e. cc) (λ e. cc) (λ e. cc) c points files (said_in t) e h.2)),
       h.1,
     )
@@ -362,8 +432,8 @@ fails_by_disk c points files old new t e = by (is_journalled c)
         ⊎_elim (λ others. failed_by (Rose old.faults new.faults) t others e)
         (λ finds. absurd (other_end ConditionFalse DiskFailed t (λ e. cc) finds.1 e)) (ends_over_disk c files old new t h)
     by false h =
-        absurd (never_audited DiskFailed (λ e. cc) (λ e. cc) (λ e. cc) c files t e
-        (only_audited DiskFailed (λ e. cc) (λ e. cc) (λ e. cc) (λ e. cc) c files t e
+        absurd (never_reads DiskFailed (λ e. cc) (λ e. cc) (λ e. cc) c files t e
+        (only_reads DiskFailed (λ e. cc) (λ e. cc) (λ e. cc) (λ e. cc) c files t e
         (ends_scheduled DiskFailed (λ e. cc) (λ e. cc) (λ e. cc) c points files (said_in t) e h.2)))
 
 -- a command that leaves something open is `prove`
@@ -376,7 +446,7 @@ leaves_open c points files old new t e = by (is_journalled c)
     open_so (inl h) = absurd (not_scheduled Open (λ e. cc) (λ e. cc) c t e h)
     open_so (inr (inl h)) = h
     open_so (inr (inr (inl h))) = absurd (never_bench c t h Open (λ e. cc) (λ e. cc) (λ e. cc) e)
-    open_so (inr (inr (inr h))) = absurd (never_audited Open (λ e. cc) (λ e. cc) (λ e. cc) c files t e h)
+    open_so (inr (inr (inr h))) = absurd (never_reads Open (λ e. cc) (λ e. cc) (λ e. cc) c files t e h)
 
     by : (over : Bool) → MeansBy over c points files old new t → Opens c files (said_in t)
     by true h =
@@ -398,7 +468,8 @@ finds_false c points files old new t e = by (is_journalled c)
     false_so (inl h) = absurd (not_scheduled ConditionFalse (λ e. cc) (λ e. cc) c t e h)
     false_so (inr (inl h)) = absurd (never_opens ConditionFalse (λ e. cc) c files t e h)
     false_so (inr (inr (inl h))) = inr (inl (bench_finds_false c t h e))
-    false_so (inr (inr (inr h))) = inr (inr (audit_finds c files t e h))
+    false_so (inr (inr (inr (inl h)))) = inr (inr (audit_finds c files t e h))
+    false_so (inr (inr (inr (inr h)))) = (let s : JournalRefused ≡ ConditionFalse = sym h.ending ∙ e in absurd cc)
 
     by : (over : Bool) → MeansBy over c points files old new t → FindsAnyhow c files old new t
     by true h =

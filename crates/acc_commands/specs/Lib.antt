@@ -1,6 +1,8 @@
 pub use Rattle.acc_file_commands.specs.Advising
 pub use Rattle.acc_file_commands.specs.Auditing
 pub use Rattle.acc_file_commands.specs.BenchFiles
+pub use Rattle.acc_file_commands.specs.Ends
+pub use Rattle.acc_file_commands.specs.Following
 pub use Rattle.acc_file_commands.specs.JudgeError
 pub use Rattle.acc_file_commands.specs.Judgement
 pub use Rattle.acc_file_commands.specs.Judging
@@ -8,6 +10,7 @@ pub use Rattle.acc_file_commands.specs.JudgementLines
 pub use Rattle.acc_file_commands.specs.Mix
 pub use Rattle.acc_file_commands.specs.ProveFiles
 pub use Rattle.acc_file_commands.specs.Provings
+pub use Rattle.acc_file_commands.specs.ReplicaError
 pub use Rattle.acc_file_commands.specs.ScheduleFiles
 pub use Rattle.acc_file_commands.specs.Schedules
 pub use Rattle.acc_file_commands.specs.ShippedText

@@ -18,6 +18,7 @@ use Rattle.acc_journal_commands.specs.Disks.{Seen, WithoutDisk}
 use Rattle.acc_journal_commands.specs.Notes.{help_text, version_text}
 use Rattle.acc_file_commands.specs.Advising.{AdvisesFile}
 use Rattle.acc_file_commands.specs.Auditing.{AuditsFiles}
+use Rattle.acc_file_commands.specs.Following.{FollowsFiles}
 use Rattle.acc_file_commands.specs.PlayFiles.{PlaysFiles}
 use Rattle.acc_file_commands.specs.ScheduleFiles.{SchedulesFiles}
 use Rattle.acc_file_commands.specs.PrintFiles.{PrintsFile, DrawsFile}
@@ -47,6 +48,7 @@ MeansOfFiles command.Check points (design ∷ certificate ∷ []) = ChecksFiles 
 MeansOfFiles command.Prove points (design ∷ []) = ProvesFile design
 MeansOfFiles (command.Advise side) points files = AdvisesGiven side points files
 MeansOfFiles command.Audit points (design ∷ journal ∷ []) = AuditsFiles design journal
+MeansOfFiles (command.Follow size) points (design ∷ certificate ∷ copy ∷ []) = FollowsFiles design certificate copy
 MeansOfFiles command.TpccDesign points [] = PrintsShipped
 MeansOfFiles command.BookingDesign points [] = PrintsBooking
 MeansOfFiles (command.TpccLoad scale) points [] = PrintsLoad scale
@@ -60,6 +62,7 @@ MeansOfFiles command.Print points files = λ said. ⊥
 MeansOfFiles command.Draw points files = λ said. ⊥
 MeansOfFiles command.Check points files = λ said. ⊥
 MeansOfFiles command.Audit points files = λ said. ⊥
+MeansOfFiles (command.Follow size) points files = λ said. ⊥
 MeansOfFiles command.Prove points files = λ said. ⊥
 MeansOfFiles command.Init points files = λ said. ⊥
 MeansOfFiles command.Sched points files = λ said. ⊥
@@ -97,6 +100,7 @@ MeansOverDisk command.Check files = λ old new t. ⊥
 MeansOverDisk command.Prove files = λ old new t. ⊥
 MeansOverDisk (command.Advise side) files = λ old new t. ⊥
 MeansOverDisk command.Audit files = λ old new t. ⊥
+MeansOverDisk (command.Follow size) files = λ old new t. ⊥
 MeansOverDisk command.Init files = λ old new t. ⊥
 MeansOverDisk command.Sched files = λ old new t. ⊥
 MeansOverDisk (command.Run workers) files = λ old new t. ⊥
@@ -141,6 +145,7 @@ LeavesOfFile command.Check files = λ file image. image ≡ file
 LeavesOfFile command.Prove files = λ file image. image ≡ file
 LeavesOfFile (command.Advise side) files = λ file image. image ≡ file
 LeavesOfFile command.Audit files = λ file image. image ≡ file
+LeavesOfFile (command.Follow size) files = λ file image. image ≡ file
 LeavesOfFile command.Init files = λ file image. image ≡ file
 LeavesOfFile command.Sched files = λ file image. image ≡ file
 LeavesOfFile (command.Run workers) files = λ file image. image ≡ file
@@ -188,6 +193,7 @@ module _ {D : Type 0} (clock : D → ℕ) (left_since : D → ℕ → List ℕ �
   LeavesOf command.Prove files = LeavesDisk
   LeavesOf (command.Advise side) files = LeavesDisk
   LeavesOf command.Audit files = LeavesDisk
+  LeavesOf (command.Follow size) files = LeavesDisk
   LeavesOf command.Init files = LeavesDisk
   LeavesOf command.Sched files = LeavesDisk
   LeavesOf (command.Run workers) files = LeavesDisk

@@ -1,5 +1,5 @@
 -- Which commands go over a recovered journal, which make one and of what, which run leaves a place unbegun, where a condition is found
--- false, and what an audit finds.
+-- false, what an audit finds, and which copy of a journal isn't followed on.
 use Rattle.std.specs.Prelude.{◌≡◌, ◌≢◌, ◌⊎◌, ◌≤◌, ◌&&◌, ℕ, false, List, [], ◌∷◌, length, Some, Result, Ok, Err}
 use Rattle.acc_base.specs.declared.bounds.TheConstants.{MOST_EVENTS}
 use Rattle.acc_base.specs.declared.designs.Design.{Design}
@@ -7,6 +7,8 @@ use Rattle.acc_base.specs.declared.machines.Call.{Call}
 use Rattle.acc_base.specs.Machine.{World}
 use Rattle.acc_base.specs.Plays.{Play}
 use Rattle.acc_file_commands.specs.Auditing.{ending_of}
+use Rattle.acc_file_commands.specs.Ends.{Ends}
+use Rattle.acc_file_commands.specs.ReplicaError.{ReplicaError}
 use Rattle.acc_file_commands.specs.BenchFiles.{SaysBench}
 use Rattle.acc_bench.specs.Conditions.{IsLowestFalse}
 use Rattle.acc_bench.specs.declared.results.FalseCondition.{FalseCondition}
@@ -137,3 +139,20 @@ pub record AuditFinds (c : Command) (files : List (List ℕ)) : Type 0 where
   pub judgement : Judgement
   pub audit : IsAuditOf c files (Ok judgement)
   pub wrong : ending_of judgement ≡ ConditionFalse
+
+-- It is `follow`: its files are a text of this well-formed design, which is accepted with the certificate, and a copy of a journal, whose
+-- bytes lead to this state, where this refusal comes.
+pub record RefusesFollowing (c : Command) (files : List (List ℕ)) : Type 0 where
+  pub size : ℕ
+  pub is_follow : c ≡ command.Follow size
+  pub design : List ℕ
+  pub certificate : List ℕ
+  pub copy : List ℕ
+  pub are_files : files ≡ design ∷ certificate ∷ copy ∷ []
+  pub d : Design
+  pub is_text : IsDesignText design d
+  pub formed : IsWellFormed d
+  pub accepted : IsAcceptedWith d certificate
+  pub error : ReplicaError
+  pub here : World
+  pub ends : Ends d copy (Some error) here

@@ -15,6 +15,7 @@ use acc_file_commands::advices::advise_file;
 use acc_file_commands::audits::audit_files;
 use acc_file_commands::benches::bench_files;
 use acc_file_commands::designs::{check_files, draw_file, print_file};
+use acc_file_commands::follows::follow_files;
 use acc_file_commands::memory_runs::Run;
 use acc_file_commands::plays::play_files;
 use acc_file_commands::provings::prove_file;
@@ -107,6 +108,7 @@ pub fn run<'a, D: Disk, C: Crew<Engine<'a, IndexStore, D>>, S: Searchers, P: Pro
             unrun(alloc, disk, advise_file(alloc, files, side, searchers))
         }
         Request::Audit(files) => unrun(alloc, disk, audit_files(alloc, files, progress)),
+        Request::Follow(files, size) => unrun(alloc, disk, follow_files(alloc, files, size)),
         Request::Init(design) => init_file(alloc, design, disk),
         Request::Sched(files) => run_files(alloc, files, disk, progress),
         Request::Run(files, workers) => {

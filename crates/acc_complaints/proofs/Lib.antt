@@ -4,3 +4,5 @@ pub mod Judging
 pub mod Firsts
 pub mod OneFirst
 pub mod OneComplaint
+pub mod Unwritten
+pub mod Standing

@@ -1,2 +1,3 @@
 pub mod Tuples
 pub mod Complaints
+pub mod Since

@@ -2,13 +2,15 @@
 ghost use Rattle.std.specs.Prelude.{◌≡◌, ◌≤◌, ◌+◌, ◌<◌, ◌^◌, length, All, IfOk};
 ghost use Rattle.acc_trial.specs.Trials.{AreKeyed, CanTry};
 ghost use Rattle.acc_complaints.specs.Complaints.{AreRanges, Judges, IsFirst, IsShort};
+ghost use Rattle.acc_complaints.specs.Since.{WasClear};
 
 use crate::counts::are_few;
+use crate::reads::clause_reads;
 use crate::searches::{Complaint, first_bad};
 use acc_base::forms::Clause;
 use acc_base::sequences::Seq;
 use acc_ranges::{KeyedStore, range};
-use acc_store::Store;
+use acc_store::{Store, Write};
 use std::alloc::{AllocError, Global};
 
 /// The number of a clause's own variable: these come behind those outside.
@@ -57,6 +59,26 @@ fn complaint<S: Store>(
     first_bad(alloc, s, clause, outside.len(), &mut values, &ranges)
 }
 
+/// What is wrong with a clause with which nothing was wrong before some writes, if something is.
+fn complaint_since<S: Store>(
+    alloc: Global,
+    s: &KeyedStore<S>,
+    clause: &Clause,
+    outside: &[i64],
+    writes: &[Write],
+) -> Result<Option<Complaint>, AllocError>
+    requires keyed { AreKeyed s.now }
+    requires can { CanTry clause.now }
+    requires few { IsShort outside.now clause.now }
+    requires since { WasClear writes.now s.now outside.now clause.now }
+    ensures { IfOk result (Judges s.now outside.now clause.now) }
+{
+    if !clause_reads(writes, clause) {
+        return Ok(None);
+    }
+    complaint(alloc, s, clause, outside)
+}
+
 /// The number, from 1, of the first of some clauses with which something is wrong, and what that is; none exactly where nothing is.
 ///
 /// `outside` are the values of the variables that the clauses take from outside. The own variables of a clause range over 0, these
@@ -80,6 +102,30 @@ pub fn first_complaint<S: Store>(
     for i in 0..clauses.len() {
         if let Some(found) = complaint(alloc, s, &clauses[i], outside)? {
             return Ok(Some((i as u32 + 1, found)));
+        }
+    }
+    Ok(None)
+}
+
+/// The same, of clauses with which nothing was wrong before some writes led to the rows. A clause of whose tables they change none isn't
+/// tried again.
+pub fn first_complaint_since<S: Store>(
+    alloc: Global,
+    s: &KeyedStore<S>,
+    clauses: &[Clause],
+    outside: &[i64],
+    writes: &[Write],
+) -> Result<Option<(u32, Complaint)>, AllocError>
+    requires keyed { AreKeyed s.now }
+    requires can { All CanTry clauses.now }
+    requires short { All (IsShort outside.now) clauses.now }
+    requires few { length clauses.now < 2 ^ 32 }
+    requires since { All (WasClear writes.now s.now outside.now) clauses.now }
+    ensures { IfOk result (IsFirst s.now outside.now clauses.now) }
+{
+    for at in 0..clauses.len() {
+        if let Some(found) = complaint_since(alloc, s, &clauses[at], outside, writes)? {
+            return Ok(Some((at as u32 + 1, found)));
         }
     }
     Ok(None)

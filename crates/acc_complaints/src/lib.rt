@@ -3,7 +3,8 @@
 
 pub mod complaints;
 mod counts;
+mod reads;
 mod searches;
 
-pub use complaints::first_complaint;
+pub use complaints::{first_complaint, first_complaint_since};
 pub use searches::Complaint;

@@ -21,7 +21,7 @@ pub fn asks_tables(command: Command) -> Workload {
         Command::Rehearse | Command::Check | Command::Sched | Command::Run(_) => Workload::None,
         Command::Recover | Command::Dump | Command::Replies | Command::Draw => Workload::None,
         Command::Play | Command::Print | Command::Prove | Command::Init => Workload::None,
-        Command::Audit | Command::Migrate => Workload::None,
+        Command::Audit | Command::Follow(_) | Command::Migrate => Workload::None,
         Command::TpccDesign | Command::TpccLoad(_) | Command::TpccMix(_) => Workload::None,
         Command::BookingDesign | Command::Advise(_) | Command::Help | Command::Version => {
             Workload::None
@@ -52,7 +52,7 @@ pub fn second_of(command: Command) -> Second {
         Command::Recover | Command::Dump | Command::Replies | Command::Verify =>
             Second::Certificate,
         Command::Bench(_) | Command::BookingVerify => Second::Certificate,
-        Command::Migrate => Second::CertificateOfJournal,
+        Command::Migrate | Command::Follow(_) => Second::CertificateOfJournal,
         Command::Audit => Second::Journal,
         Command::Play => Second::Script,
         Command::Print | Command::Draw | Command::Prove => Second::None,

@@ -13,6 +13,11 @@ fn damaged_place(alloc: Global, printed: &[u8]) -> Result<Option<u64>, AllocErro
     Ok(place.filter(|place| *place > HEADER))
 }
 
+/// A path as a shell takes it between single quotes.
+pub fn between_quotes(alloc: Global, path: &str) -> Result<String, AllocError> {
+    Ok(path.replace(alloc, "'", "'\\''")?)
+}
+
 /// A line with the commands that keep a copy of the damaged journal at this path, and cut it before its damage: by the line that is
 /// printed of it. None where that is no damage, or nothing stands before it.
 pub fn cut_line(alloc: Global, path: &str, printed: &[u8]) -> Result<Option<String>, AllocError> {
@@ -20,7 +25,7 @@ pub fn cut_line(alloc: Global, path: &str, printed: &[u8]) -> Result<Option<Stri
         return Ok(None);
     };
     let length = place.saturating_add(1);
-    let name = path.replace(alloc, "'", "'\\''")?;
+    let name = between_quotes(alloc, path)?;
     let line = format!(in alloc;
         "{path}: to go on without the events behind that byte: cp -- '{name}' '{name}.damaged' && truncate -s {length} -- '{name}'\n"
     )?;

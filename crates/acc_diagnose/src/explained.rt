@@ -310,7 +310,7 @@ fn push_done<H: Shelf>(
         Command::Print | Command::Play | Command::Rehearse | Command::Check => Ok(()),
         Command::Init | Command::Sched | Command::Run(_) => Ok(()),
         Command::Recover | Command::Dump | Command::Replies | Command::Verify => Ok(()),
-        Command::Migrate => Ok(()),
+        Command::Migrate | Command::Follow(_) => Ok(()),
         Command::TpccDesign | Command::TpccLoad(_) | Command::TpccMix(_) => Ok(()),
         Command::BookingDesign | Command::BookingVerify | Command::Advise(_) => Ok(()),
         Command::Draw | Command::Audit | Command::Bench(_) => Ok(()),

@@ -1,4 +1,5 @@
 //! What is told of a journal that is refused, and of a disk that failed.
+use crate::damage::between_quotes;
 use acc_base::bounds::MOST_EVENTS;
 use acc_explain::{begin_note, end_note, push_note, push_with};
 use acc_inputs::{Command, command_of, file_names};
@@ -57,7 +58,7 @@ fn said_of(why: &str, is_read: bool) -> Said {
 fn read_place(command: Command) -> Option<usize> {
     match command {
         Command::Audit => Some(1),
-        Command::Migrate => Some(2),
+        Command::Migrate | Command::Follow(_) => Some(2),
         Command::Init | Command::Sched | Command::Run(_) | Command::Recover => None,
         Command::Dump | Command::Replies | Command::Verify | Command::BookingVerify => None,
         Command::Play | Command::Rehearse | Command::Print | Command::Draw => None,
@@ -88,6 +89,31 @@ fn push_refusal(out: &mut Page, read: Option<&str>, why: &str, number: &str) {
     end_note(out, hint);
 }
 
+/// What helps where a batch was being written while the copy of a journal was taken, by the place of the gate that stays open.
+fn past_hint(alloc: Global, name: &str, place: &str) -> Result<String, AllocError> {
+    let kept = place.parse::<u64>().unwrap_or(0).saturating_add(1);
+    let name = between_quotes(alloc, name)?;
+    format!(in alloc; "cut the copy to its first {kept} bytes: truncate -s {kept} -- '{name}'")
+}
+
+/// Says that bytes stand behind the gate at this place, which isn't open.
+fn push_past(
+    alloc: Global,
+    out: &mut Page,
+    read: Option<&str>,
+    place: &str,
+) -> Result<(), AllocError> {
+    let name = read.unwrap_or("the journal");
+    let hint = past_hint(alloc, name, place)?;
+    begin_note(out, name.as_bytes());
+    out.push(
+        b"a batch was being written when this copy was taken, and its gate isn't open yet: bytes stand behind byte ",
+    );
+    out.push(place.as_bytes());
+    end_note(out, hint.as_bytes());
+    Ok(())
+}
+
 /// Says why a journal is refused, by the line that is printed.
 pub fn push_journal(
     alloc: Global,
@@ -99,7 +125,11 @@ pub fn push_journal(
     let line = text.trim_end();
     if let Some(reason) = line.strip_prefix("refused journal ") {
         let (why, number) = reason.split_once(" ").unwrap_or((reason, ""));
-        push_refusal(out, read_name(words, why), why, number);
+        let read = read_name(words, why);
+        if why == "past" {
+            return push_past(alloc, out, read, number);
+        }
+        push_refusal(out, read, why, number);
     }
     Ok(())
 }
@@ -121,7 +151,7 @@ fn standing(command: Command) -> &'static [u8] {
         Command::Draw | Command::Prove | Command::Bench(_) => b"",
         Command::Help | Command::Version => b"",
         Command::TpccDesign | Command::TpccLoad(_) | Command::TpccMix(_) => b"",
-        Command::BookingDesign | Command::Advise(_) | Command::Audit => b"",
+        Command::BookingDesign | Command::Advise(_) | Command::Audit | Command::Follow(_) => b"",
     }
 }
 

@@ -1,8 +1,8 @@
 //! What is told where the words of a command line are no command.
 use acc_explain::{push_grouped, push_quoted, push_with};
 use acc_inputs::{
-    LARGEST_START, MOST_CUSTOMERS, MOST_ITEMS, MOST_TRANSACTIONS, MOST_WAREHOUSES, MOST_WORKERS,
-    number_of,
+    LARGEST_START, MOST_CUSTOMERS, MOST_ITEMS, MOST_PIECE, MOST_TRANSACTIONS, MOST_WAREHOUSES,
+    MOST_WORKERS, number_of,
 };
 use acc_page::Page;
 use acc_spot::is_one_of;
@@ -23,6 +23,13 @@ const WORKERS: Number = Number {
     what: b"number of workers",
     least: 1,
     most: MOST_WORKERS,
+};
+
+/// The number of `follow`.
+const PIECE: Number = Number {
+    what: b"number of bytes",
+    least: 1,
+    most: MOST_PIECE,
 };
 
 /// The numbers of `tpcc mix` and of `bench`, of which the first three are those of `tpcc load`.
@@ -131,6 +138,9 @@ pub fn push_usage(out: &mut Page, words: &[String], usage: &[u8]) {
     match words {
         [verb, _, _, _, workers] if verb.as_str() == "run" => {
             push_number(out, b"run", workers.as_bytes(), WORKERS)
+        }
+        [verb, _, _, _, size] if verb.as_str() == "follow" => {
+            push_number(out, b"follow", size.as_bytes(), PIECE)
         }
         [verb, behind @ ..] if verb.as_str() == "tpcc" => push_tpcc(out, behind, usage),
         [verb, _, _, numbers @ ..] if verb.as_str() == "bench" && numbers.len() == 5 => {

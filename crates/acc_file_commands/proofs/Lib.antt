@@ -6,6 +6,8 @@ pub use Rattle.tpcc_steps.proofs.Theorem
 pub mod Auditing
 pub mod OneAdvice
 pub mod OneAudit
+pub mod Following
+pub mod OneFollow
 pub mod Named
 pub mod Scales
 pub mod MixLines

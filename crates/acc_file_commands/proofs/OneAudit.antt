@@ -16,7 +16,7 @@ use Rattle.acc_wal.specs.declared.errors.WalError.{WalError}
 use Rattle.acc_wal.specs.declared.errors.WalError.TheVariants as wal
 use Rattle.acc_file_commands.specs.Auditing.{ending_of, telling_alone, SaysJudged, SaysAudit, AuditsFiles}
 
-alone_same : (ending : Ending) (text : List ℕ) (a b : Said) → Says ending text (telling_alone a) → Says ending text (telling_alone b) → a ≡ b
+pub alone_same : (ending : Ending) (text : List ℕ) (a b : Said) → Says ending text (telling_alone a) → Says ending text (telling_alone b) → a ≡ b
 alone_same ending text a b h k = said_same ending text text a b refl (h.0, h.1, h.2) (k.0, k.1, k.2)
 
 one_not_read : (why : WalError) (a b : Said) → SaysNotRead why (telling_alone a) → SaysNotRead why (telling_alone b) → a ≡ b

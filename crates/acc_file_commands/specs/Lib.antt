@@ -4,6 +4,8 @@ pub use Rattle.acc_judged.specs.JudgementLines
 pub use Rattle.acc_judged.specs.declared.journals.JudgeError
 pub use Rattle.acc_judged.specs.declared.journals.Judgement
 pub use Rattle.acc_prove.specs.Provings
+pub use Rattle.acc_replica.specs.Ends
+pub use Rattle.acc_replica.specs.declared.errors.ReplicaError
 pub use Rattle.acc_schedule.specs.Schedules
 pub use Rattle.acc_booking.specs.BookingText
 pub use Rattle.acc_draw.specs.Pictures
@@ -11,6 +13,7 @@ pub use Rattle.tpcc_steps.specs.Law
 pub use Rattle.tpcc_steps.specs.ShippedText
 pub mod Advising
 pub mod Auditing
+pub mod Following
 pub mod PlayFiles
 pub mod ScheduleFiles
 pub mod PrintFiles

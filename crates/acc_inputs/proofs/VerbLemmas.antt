@@ -13,12 +13,12 @@ use Rattle.acc_inputs.specs.declared.words.Form.TheVariants.{Files}
 use Rattle.acc_inputs.specs.declared.scales.Scale.{Scale}
 use Rattle.acc_inputs.specs.declared.scales.Mix.{Mix}
 use Rattle.tpcc_gen.specs.declared.bounds.TheConstants.{MOST_WAREHOUSES, MOST_ITEMS, MOST_CUSTOMERS, MOST_TRANSACTIONS, LARGEST_START}
-use Rattle.acc_inputs.specs.declared.words.TheConstants.{MOST_WORKERS}
+use Rattle.acc_inputs.specs.declared.words.TheConstants.{MOST_WORKERS, MOST_PIECE}
 use Rattle.acc_inputs.specs.Scales.{IsWithin, is_scale, is_mix}
 use Rattle.acc_form.specs.Judged.{side_word}
-use Rattle.acc_inputs.specs.Words.{form_of, workload_of, booking_of, side_of, file_count, point_count, IsCrew, workers_in}
+use Rattle.acc_inputs.specs.Words.{form_of, workload_of, booking_of, side_of, file_count, point_count, IsCrew, IsPiece, number_in}
 use Rattle.acc_inputs.specs.Words.{scale_of, mix_of}
-use Rattle.acc_inputs.specs.Words.{with_files, with_workers, with_bench, with_advice, given_files, with_form, command_of}
+use Rattle.acc_inputs.specs.Words.{with_files, with_workers, with_pieces, with_bench, with_advice, given_files, with_form, command_of}
 use Rattle.acc_inputs.specs.Notes.{help_lines}
 use Rattle.acc_inputs.specs.Verbs.{mix_numbers, EachHasVerb, EachHasHelp}
 use Rattle.acc_inputs.proofs.Workers.{number_of_numeral}
@@ -36,8 +36,14 @@ verb_given c verb names form count = ap (λ o. with_form o (names ++ [])) form �
 run_given : (n : ℕ) (names : List (List ℕ)) → IsCrew n → length names ≡ 3
     → with_workers (names ++ decimal n ∷ []) ≡ Some (command.Run n)
 run_given n names few count =
-    ap (λ words. option_map command.Run (workers_in words)) (drop_at names (decimal n ∷ []) 3 count)
+    ap (λ words. option_map command.Run (number_in 1 MOST_WORKERS words)) (drop_at names (decimal n ∷ []) 3 count)
     ∙ ap (option_map command.Run) (number_of_numeral 1 MOST_WORKERS n (omega arith) few)
+
+follow_given : (n : ℕ) (names : List (List ℕ)) → IsPiece n → length names ≡ 3
+    → with_pieces (names ++ decimal n ∷ []) ≡ Some (command.Follow n)
+follow_given n names few count =
+    ap (λ words. option_map command.Follow (number_in 1 MOST_PIECE words)) (drop_at names (decimal n ∷ []) 3 count)
+    ∙ ap (option_map command.Follow) (number_of_numeral 1 MOST_PIECE n (omega arith) few)
 
 -- `tpcc design` names no file
 design_given : (names : List (List ℕ)) → length names ≡ 0 → command_of (codes "tpcc" ∷ codes "design" ∷ (names ++ [])) ≡ Some command.TpccDesign
@@ -119,6 +125,7 @@ verbs command.Check names few count = verb_given command.Check (codes "check") n
 verbs command.Prove names few count = verb_given command.Prove (codes "prove") names refl count
 verbs (command.Advise side) names few count = advice_given side names count
 verbs command.Audit names few count = verb_given command.Audit (codes "audit") names refl count
+verbs (command.Follow n) names few count = follow_given n names few count
 verbs command.Init names few count = verb_given command.Init (codes "init") names refl count
 verbs command.Sched names few count = verb_given command.Sched (codes "sched") names refl count
 verbs (command.Run n) names few count = run_given n names few count
@@ -155,19 +162,20 @@ help command.Check = line_at 4 (codes "acc check ") (omega arith) refl
 help command.Prove = line_at 5 (codes "acc prove ") (omega arith) refl
 help (command.Advise side) = line_at 6 (codes "acc advise ") (omega arith) refl
 help command.Audit = line_at 7 (codes "acc audit ") (omega arith) refl
-help command.Init = line_at 8 (codes "acc init ") (omega arith) refl
-help command.Sched = line_at 9 (codes "acc sched ") (omega arith) refl
-help (command.Run workers) = line_at 10 (codes "acc run ") (omega arith) refl
-help command.Recover = line_at 11 (codes "acc recover ") (omega arith) refl
-help command.Dump = line_at 12 (codes "acc dump ") (omega arith) refl
-help command.Replies = line_at 13 (codes "acc replies ") (omega arith) refl
-help command.Verify = line_at 14 (codes "acc verify ") (omega arith) refl
-help command.Migrate = line_at 15 (codes "acc migrate ") (omega arith) refl
-help command.TpccDesign = line_at 16 (codes "acc tpcc design ") (omega arith) refl
-help (command.TpccLoad scale) = line_at 17 (codes "acc tpcc load ") (omega arith) refl
-help (command.TpccMix mix) = line_at 18 (codes "acc tpcc mix ") (omega arith) refl
-help command.BookingDesign = line_at 19 (codes "acc booking design ") (omega arith) refl
-help command.BookingVerify = line_at 20 (codes "acc booking verify ") (omega arith) refl
-help (command.Bench mix) = line_at 21 (codes "acc bench ") (omega arith) refl
-help command.Help = line_at 22 (codes "acc --help ") (omega arith) refl
-help command.Version = line_at 23 (codes "acc --version ") (omega arith) refl
+help (command.Follow size) = line_at 8 (codes "acc follow ") (omega arith) refl
+help command.Init = line_at 9 (codes "acc init ") (omega arith) refl
+help command.Sched = line_at 10 (codes "acc sched ") (omega arith) refl
+help (command.Run workers) = line_at 11 (codes "acc run ") (omega arith) refl
+help command.Recover = line_at 12 (codes "acc recover ") (omega arith) refl
+help command.Dump = line_at 13 (codes "acc dump ") (omega arith) refl
+help command.Replies = line_at 14 (codes "acc replies ") (omega arith) refl
+help command.Verify = line_at 15 (codes "acc verify ") (omega arith) refl
+help command.Migrate = line_at 16 (codes "acc migrate ") (omega arith) refl
+help command.TpccDesign = line_at 17 (codes "acc tpcc design ") (omega arith) refl
+help (command.TpccLoad scale) = line_at 18 (codes "acc tpcc load ") (omega arith) refl
+help (command.TpccMix mix) = line_at 19 (codes "acc tpcc mix ") (omega arith) refl
+help command.BookingDesign = line_at 20 (codes "acc booking design ") (omega arith) refl
+help command.BookingVerify = line_at 21 (codes "acc booking verify ") (omega arith) refl
+help (command.Bench mix) = line_at 22 (codes "acc bench ") (omega arith) refl
+help command.Help = line_at 23 (codes "acc --help ") (omega arith) refl
+help command.Version = line_at 24 (codes "acc --version ") (omega arith) refl

@@ -1,15 +1,15 @@
 -- Which number a word tells.
-use Rattle.std.proofs.Common.{⊎_elim, ◌≡◌, ◌≢◌, ◌<◌, ◌^◌, ℕ, Bool, true, false, List, [], ◌∷◌, length, get_or, map, refl, sym, ap, subst, ◌∙◌, arith}
-use Rattle.std.proofs.Common.{Option, None, Some, Result, Ok, Global, string_bytes}
+use Rattle.std.proofs.Common.{⊎_elim, ◌≡◌, ◌≢◌, ◌<◌, ◌^◌, ℕ, Bool, true, false, List, [], ◌∷◌, length, get_or, map, refl, sym, ap}
+use Rattle.std.proofs.Common.{subst, ◌∙◌, arith, drop, Option, None, Some, Result, Ok, Global, string_bytes}
 use Rattle.std.specs.Prelude.{◌⊎◌, ◌&&◌, if◌then◌else◌, option_map, String, decimal, MatchOption}
 use Rattle.std.specs.Str.{bytes_eq}
 use Rattle.std.specs.Str.Parse.{digits_value, ParsesUnsigned}
 use Rattle.std.proofs.lemmas.Bool.Decides.{nat_tests}
 use Rattle.std.proofs.lemmas.Fmt.{decimal_is_IsNumeral, parse-decimal}
 use Rattle.std.proofs.lemmas.Slice.Eq.{bytes_eq-Decides}
-use Rattle.acc_inputs.specs.declared.words.Command.TheVariants.{Run}
+use Rattle.acc_inputs.specs.declared.words.Command.{Command}
 use Rattle.acc_inputs.specs.Scales.{IsWithin, is_within}
-use Rattle.acc_inputs.specs.Words.{number_of, workers_of, with_workers}
+use Rattle.acc_inputs.specs.Words.{number_of, number_in}
 
 -- the numeral of a number within bounds tells that
 pub number_of_numeral : (least most n : ℕ) → most < 2 ^ 64 → IsWithin least most n → number_of least most (decimal n) ≡ Some n
@@ -37,15 +37,16 @@ pub number_found : (least most : ℕ) (word : List ℕ) (found : Option ℕ) →
 number_found least most word None small h = sym (no_number least most word h)
 number_found least most word (Some n) small h = sym (ap (number_of least most) h.1 ∙ number_of_numeral least most n small h.0)
 
--- the word behind three others says how many workers there are
-pub last_word : (words : List (String Global)) (word : String Global) → length words ≡ 4 → word ≡ get_or words 3 word
-    → with_workers (map string_bytes words) ≡ option_map Run (workers_of (string_bytes word))
-last_word (a ∷ b ∷ c ∷ d ∷ []) word four is = ap (λ w. option_map Run (workers_of (string_bytes w))) (sym is)
-last_word [] word four is = absurd (omega (arith, four))
-last_word (a ∷ []) word four is = absurd (omega (arith, four))
-last_word (a ∷ b ∷ []) word four is = absurd (omega (arith, four))
-last_word (a ∷ b ∷ c ∷ []) word four is = absurd (omega (arith, four))
-last_word (a ∷ b ∷ c ∷ d ∷ e ∷ more) word four is = absurd (omega (arith, four))
+-- the word behind three others tells the number, of which a command is made
+pub last_word : (of : ℕ → Command) (least most : ℕ) (words : List (String Global)) (word : String Global) → length words ≡ 4
+    → word ≡ get_or words 3 word
+    → option_map of (number_in least most (drop 3 (map string_bytes words))) ≡ option_map of (number_of least most (string_bytes word))
+last_word of least most (a ∷ b ∷ c ∷ d ∷ []) word four is = ap (λ w. option_map of (number_of least most (string_bytes w))) (sym is)
+last_word of least most [] word four is = absurd (omega (arith, four))
+last_word of least most (a ∷ []) word four is = absurd (omega (arith, four))
+last_word of least most (a ∷ b ∷ []) word four is = absurd (omega (arith, four))
+last_word of least most (a ∷ b ∷ c ∷ []) word four is = absurd (omega (arith, four))
+last_word of least most (a ∷ b ∷ c ∷ d ∷ e ∷ more) word four is = absurd (omega (arith, four))
 
 -- the numeral of a number within bounds is read as that
 pub numeral_read : {E : Type 0} (least most : ℕ) (word : List ℕ) (n : ℕ) (r : Result ℕ E) → most < 2 ^ 64 → ParsesUnsigned 64 10 word r

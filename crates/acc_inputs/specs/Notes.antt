@@ -14,6 +14,7 @@ help_lines =
     codes "acc prove DESIGN                            makes such a certificate, or tells which obligations stay open" ∷
     codes "acc advise DESIGN HELD STEP SIDE            tells which entry lets the step go where HELD is held, and forbids least" ∷
     codes "acc audit DESIGN COPY                       tells whether a clause is false after an event of a journal, whoever wrote it" ∷
+    codes "acc follow DESIGN CERT COPY SIZE            replays a journal's whole batches, read in pieces of SIZE bytes, and prints the rows" ∷
     codes "acc init DESIGN JOURNAL                     makes JOURNAL a journal of the design without events, if it isn't one already" ∷
     codes "acc sched DESIGN CERT SCRIPT ORDER JOURNAL  recovers the journal, and goes on as `rehearse`; each end is kept in it" ∷
     codes "acc run DESIGN CERT SCRIPT WORKERS JOURNAL  recovers the journal, and 1 to 64 workers run the script; each end is kept in it" ∷

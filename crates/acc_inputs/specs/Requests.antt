@@ -7,10 +7,11 @@ use Rattle.acc_inputs.specs.declared.requests.CertifiedFiles.{CertifiedFiles}
 use Rattle.acc_inputs.specs.declared.requests.ScheduleFiles.{ScheduleFiles}
 use Rattle.acc_inputs.specs.declared.requests.WorkerFiles.{WorkerFiles}
 use Rattle.acc_inputs.specs.declared.requests.AuditFiles.{AuditFiles}
+use Rattle.acc_inputs.specs.declared.requests.FollowFiles.{FollowFiles}
 use Rattle.acc_inputs.specs.declared.requests.MigrationFiles.{MigrationFiles}
 use Rattle.acc_inputs.specs.declared.requests.Request.{Request}
-use Rattle.acc_inputs.specs.declared.requests.Request.TheVariants.{Play, Rehearse, Print, Draw, Check, Prove, Advise, Audit, Init, Sched}
-use Rattle.acc_inputs.specs.declared.requests.Request.TheVariants.{Run, Recover, Dump, Replies, Verify, Migrate}
+use Rattle.acc_inputs.specs.declared.requests.Request.TheVariants.{Play, Rehearse, Print, Draw, Check, Prove, Advise, Audit, Follow, Init}
+use Rattle.acc_inputs.specs.declared.requests.Request.TheVariants.{Sched, Run, Recover, Dump, Replies, Verify, Migrate}
 use Rattle.acc_inputs.specs.declared.requests.Request.TheVariants.{TpccDesign, TpccLoad, TpccMix, BookingDesign, BookingVerify}
 use Rattle.acc_inputs.specs.declared.requests.Request.TheVariants.{Bench, Help, Version}
 
@@ -23,6 +24,7 @@ command_in (Check files) = command.Check
 command_in (Prove design) = command.Prove
 command_in (Advise files side) = command.Advise side
 command_in (Audit files) = command.Audit
+command_in (Follow files size) = command.Follow size
 command_in (Init design) = command.Init
 command_in (Sched files) = command.Sched
 command_in (Run files workers) = command.Run workers
@@ -49,6 +51,9 @@ certified_texts files = files.design.now ∷ files.certificate.now ∷ []
 abbrev pub audited_texts : AuditFiles → List (List ℕ)
 audited_texts files = files.design.now ∷ files.journal.now ∷ []
 
+abbrev pub followed_texts : FollowFiles → List (List ℕ)
+followed_texts files = files.design.now ∷ files.certificate.now ∷ files.copy.now ∷ []
+
 abbrev pub migrated_texts : MigrationFiles → List (List ℕ)
 migrated_texts files = files.design.now ∷ files.certificate.now ∷ files.old.now ∷ []
 
@@ -68,6 +73,7 @@ texts_in (Check files) = certified_texts files
 texts_in (Prove design) = design.now ∷ []
 texts_in (Advise files side) = files.design.now ∷ []
 texts_in (Audit files) = audited_texts files
+texts_in (Follow files size) = followed_texts files
 texts_in (Init design) = design.now ∷ []
 texts_in (Sched files) = scheduled_texts files
 texts_in (Run files workers) = worked_texts files
@@ -95,6 +101,7 @@ points_in (Check files) = []
 points_in (Prove design) = []
 points_in (Advise files side) = files.held.now ∷ files.step.now ∷ []
 points_in (Audit files) = []
+points_in (Follow files size) = []
 points_in (Init design) = []
 points_in (Sched files) = []
 points_in (Run files workers) = []

@@ -6,7 +6,7 @@ use Rattle.acc_inputs.specs.declared.words.Command.TheVariants as command
 use Rattle.acc_inputs.specs.declared.scales.Mix.{Mix}
 use Rattle.acc_inputs.specs.Scales.{is_scale, is_mix}
 use Rattle.acc_form.specs.Judged.{side_word}
-use Rattle.acc_inputs.specs.Words.{verb_of, file_count, point_count, IsCrew, command_of}
+use Rattle.acc_inputs.specs.Words.{verb_of, file_count, point_count, IsCrew, IsPiece, command_of}
 use Rattle.acc_inputs.specs.Notes.{help_lines}
 
 -- the numbers of a mix, in the order of the words that tell them
@@ -23,6 +23,7 @@ numbers_of command.Check = []
 numbers_of command.Prove = []
 numbers_of (command.Advise side) = []
 numbers_of command.Audit = []
+numbers_of (command.Follow size) = size ∷ []
 numbers_of command.Init = []
 numbers_of command.Sched = []
 numbers_of (command.Run workers) = workers ∷ []
@@ -50,6 +51,7 @@ HasFit command.Check = ⊤
 HasFit command.Prove = ⊤
 HasFit (command.Advise side) = ⊤
 HasFit command.Audit = ⊤
+HasFit (command.Follow size) = IsPiece size
 HasFit command.Init = ⊤
 HasFit command.Sched = ⊤
 HasFit (command.Run workers) = IsCrew workers
@@ -77,6 +79,7 @@ sides_of command.Check = []
 sides_of command.Prove = []
 sides_of (command.Advise side) = side_word side ∷ []
 sides_of command.Audit = []
+sides_of (command.Follow size) = []
 sides_of command.Init = []
 sides_of command.Sched = []
 sides_of (command.Run workers) = []

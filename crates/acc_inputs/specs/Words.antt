@@ -6,18 +6,19 @@ use Rattle.std.specs.Str.Parse.{digits_value}
 use Rattle.acc_base.specs.declared.designs.Side.{Side}
 use Rattle.acc_base.specs.declared.designs.Side.TheVariants.{Next, Undo}
 use Rattle.tpcc_gen.specs.declared.bounds.TheConstants.{MOST_WAREHOUSES, MOST_ITEMS, MOST_CUSTOMERS, MOST_TRANSACTIONS, LARGEST_START}
-use Rattle.acc_inputs.specs.declared.words.TheConstants.{MOST_WORKERS}
+use Rattle.acc_inputs.specs.declared.words.TheConstants.{MOST_WORKERS, MOST_PIECE}
 use Rattle.acc_inputs.specs.declared.scales.Scale.{Scale}
 use Rattle.acc_inputs.specs.declared.scales.Mix.{Mix}
 use Rattle.acc_inputs.specs.declared.words.Workload.{Workload}
 use Rattle.acc_inputs.specs.declared.words.Workload.TheVariants.{Design, Load, Mix as MixOf}
 use Rattle.acc_inputs.specs.Scales.{IsWithin, is_within}
 use Rattle.acc_inputs.specs.declared.words.Form.{Form}
-use Rattle.acc_inputs.specs.declared.words.Form.TheVariants.{Files, Workers, Tpcc, Booking, Bench, Advice}
+use Rattle.acc_inputs.specs.declared.words.Form.TheVariants.{Files, Workers, Pieces, Tpcc, Booking, Bench, Advice}
 use Rattle.acc_inputs.specs.declared.words.Command.{Command}
 use Rattle.acc_inputs.specs.declared.words.Command.TheVariants as command
 
--- what stands behind this verb: the names of the command's files alone; those of the files of `run` and then the number of workers;
+-- what stands behind this verb: the names of the command's files alone; those of the files of `run` and then the number of workers,
+-- or of the files of `follow` and then that of a piece's bytes;
 -- behind `tpcc` or `booking`, what is wanted of it, with its files and numbers; those of the files of `bench` and then the numbers of its
 -- mix; or those of the design and of two points of it, and then a side
 unfoldable pub form_of : List ℕ → Option Form
@@ -30,6 +31,7 @@ form_of verb =
     (if bytes_eq verb (codes "prove") then Some (Files command.Prove) else
     (if bytes_eq verb (codes "advise") then Some Advice else
     (if bytes_eq verb (codes "audit") then Some (Files command.Audit) else
+    (if bytes_eq verb (codes "follow") then Some Pieces else
     (if bytes_eq verb (codes "init") then Some (Files command.Init) else
     (if bytes_eq verb (codes "sched") then Some (Files command.Sched) else
     (if bytes_eq verb (codes "run") then Some Workers else
@@ -43,7 +45,7 @@ form_of verb =
     (if bytes_eq verb (codes "bench") then Some Bench else
     (if bytes_eq verb (codes "--help") then Some (Files command.Help) else
     (if bytes_eq verb (codes "--version") then Some (Files command.Version) else
-    None))))))))))))))))))))
+    None)))))))))))))))))))))
 
 -- what this word wants of TPC-C
 unfoldable pub workload_of : List ℕ → Option Workload
@@ -77,6 +79,7 @@ verb_of command.Check = codes "check" ∷ []
 verb_of command.Prove = codes "prove" ∷ []
 verb_of (command.Advise side) = codes "advise" ∷ []
 verb_of command.Audit = codes "audit" ∷ []
+verb_of (command.Follow size) = codes "follow" ∷ []
 verb_of command.Init = codes "init" ∷ []
 verb_of command.Sched = codes "sched" ∷ []
 verb_of (command.Run workers) = codes "run" ∷ []
@@ -104,6 +107,7 @@ file_count command.Check = 2
 file_count command.Prove = 1
 file_count (command.Advise side) = 1
 file_count command.Audit = 2
+file_count (command.Follow size) = 3
 file_count command.Init = 1
 file_count command.Sched = 4
 file_count (command.Run workers) = 3
@@ -131,6 +135,7 @@ point_count command.Check = 0
 point_count command.Prove = 0
 point_count (command.Advise side) = 2
 point_count command.Audit = 0
+point_count (command.Follow size) = 0
 point_count command.Init = 0
 point_count command.Sched = 0
 point_count (command.Run workers) = 0
@@ -169,6 +174,7 @@ is_journalled command.Check = false
 is_journalled command.Prove = false
 is_journalled (command.Advise side) = false
 is_journalled command.Audit = false
+is_journalled (command.Follow size) = false
 is_journalled command.Init = true
 is_journalled command.Sched = true
 is_journalled (command.Run workers) = true
@@ -195,23 +201,27 @@ number_of least most word =
 abbrev pub IsCrew : ℕ → Type 0
 IsCrew n = IsWithin 1 MOST_WORKERS n
 
--- how many workers a word asks for
-abbrev pub workers_of : List ℕ → Option ℕ
-workers_of word = number_of 1 MOST_WORKERS word
+-- a piece may have so many bytes
+abbrev pub IsPiece : ℕ → Type 0
+IsPiece n = IsWithin 1 MOST_PIECE n
 
 -- the command, if so many words name its files
 abbrev pub with_files : Command → List (List ℕ) → Option Command
 with_files c names = if length names == file_count c then Some c else None
 
--- how many workers the words ask for: there is one, and it asks for them
-abbrev pub workers_in : List (List ℕ) → Option ℕ
-workers_in [] = None
-workers_in (word ∷ []) = workers_of word
-workers_in (word ∷ other ∷ more) = None
+-- the number that the words tell: there is one word, and it tells that
+abbrev pub number_in : ℕ → ℕ → List (List ℕ) → Option ℕ
+number_in least most [] = None
+number_in least most (word ∷ []) = number_of least most word
+number_in least most (word ∷ other ∷ more) = None
 
 -- `run`, if three words name its files, and those behind them say how many workers there are
 abbrev pub with_workers : List (List ℕ) → Option Command
-with_workers words = option_map command.Run (workers_in (drop 3 words))
+with_workers words = option_map command.Run (number_in 1 MOST_WORKERS (drop 3 words))
+
+-- `follow`, if three words name its files, and those behind them say how many bytes a piece has
+abbrev pub with_pieces : List (List ℕ) → Option Command
+with_pieces words = option_map command.Follow (number_in 1 MOST_PIECE (drop 3 words))
 
 -- the scale of these numbers, if each of them is told
 abbrev pub scale_from : Option ℕ → Option ℕ → Option ℕ → Option Scale
@@ -302,6 +312,7 @@ abbrev pub with_form : Option Form → List (List ℕ) → Option Command
 with_form None words = None
 with_form (Some (Files c)) words = with_files c words
 with_form (Some Workers) words = with_workers words
+with_form (Some Pieces) words = with_pieces words
 with_form (Some Tpcc) words = with_tpcc words
 with_form (Some Booking) words = with_booking words
 with_form (Some Bench) words = with_bench words
@@ -330,6 +341,7 @@ abbrev pub is_journal_form : Option Form → List (List ℕ) → Bool
 is_journal_form None words = false
 is_journal_form (Some (Files c)) words = is_journalled c
 is_journal_form (Some Workers) words = true
+is_journal_form (Some Pieces) words = false
 is_journal_form (Some Tpcc) words = false
 is_journal_form (Some Booking) words = is_over_journal (wanted_of words)
 is_journal_form (Some Bench) words = false
@@ -351,6 +363,7 @@ HasVerb n c = (length (verb_of c) ≡ n) × (point_count c ≡ 0)
 abbrev pub IsOneWord : Form → Type 0
 IsOneWord (Files c) = HasVerb 1 c
 IsOneWord Workers = ⊤
+IsOneWord Pieces = ⊤
 IsOneWord Tpcc = ⊤
 IsOneWord Booking = ⊤
 IsOneWord Bench = ⊤

@@ -21,11 +21,11 @@ pub use files::{Refusal, file_names, files_in, points_in, read_all};
 pub use notes::{help_text, version_text};
 pub use numbers::number_of;
 pub use requests::{
-    AdviceFiles, AuditFiles, CertifiedFiles, MigrationFiles, PlayFiles, Request, ScheduleFiles,
-    WorkerFiles,
+    AdviceFiles, AuditFiles, CertifiedFiles, FollowFiles, MigrationFiles, PlayFiles, Request,
+    ScheduleFiles, WorkerFiles,
 };
 pub use scales::{Mix, Scale};
 pub use schemas::{FoundSchema, find_schema};
 pub use scripts::{ReadOrder, ReadScript, read_order, read_script};
 pub use tpcc_gen::{LARGEST_START, MOST_CUSTOMERS, MOST_ITEMS, MOST_TRANSACTIONS, MOST_WAREHOUSES};
-pub use words::{Command, MOST_WORKERS, asks_journal, command_of};
+pub use words::{Command, MOST_PIECE, MOST_WORKERS, asks_journal, command_of};

@@ -80,6 +80,14 @@ pub struct AuditFiles<'a> {
     pub journal: &'a [u8],
 }
 
+/// The bytes of a design, of its certificate, and of a journal that is followed.
+#[derive(Clone, Copy)]
+pub struct FollowFiles<'a> {
+    pub design: &'a [u8],
+    pub certificate: &'a [u8],
+    pub copy: &'a [u8],
+}
+
 /// The bytes of a design, of its certificate, and of a journal whose events another one is to be made of.
 #[derive(Clone, Copy)]
 pub struct MigrationFiles<'a> {
@@ -100,6 +108,8 @@ pub enum Request<'a> {
     /// With the side of the step.
     Advise(AdviceFiles<'a>, Side),
     Audit(AuditFiles<'a>),
+    /// With how many bytes a piece has.
+    Follow(FollowFiles<'a>, u64),
     Init(&'a [u8]),
     Sched(ScheduleFiles<'a>),
     /// With how many workers there are.
@@ -153,6 +163,14 @@ impl<'a> Request<'a> {
                 design: &files[0],
                 journal: &files[1],
             }),
+            Command::Follow(size) => Request::Follow(
+                FollowFiles {
+                    design: &files[0],
+                    certificate: &files[1],
+                    copy: &files[2],
+                },
+                size,
+            ),
             Command::Init => Request::Init(&files[0]),
             Command::Sched => Request::Sched(ScheduleFiles::new(files)),
             Command::Run(workers) => Request::Run(

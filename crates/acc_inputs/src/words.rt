@@ -3,7 +3,7 @@ ghost use Rattle.std.specs.Prelude.{◌≡◌, ◌+◌, ◌≤◌, map, length, 
 ghost use Rattle.acc_inputs.specs.Words.{form_of, workload_of, booking_of, side_of, verb_of, file_count, point_count, word_count};
 ghost use Rattle.acc_inputs.specs.Words.{is_journalled, HasVerb, IsOneWord};
 ghost use Rattle.acc_inputs.specs.Words.{with_files, with_workers, with_design, with_load, with_mix, with_tpcc, with_booking, with_bench};
-ghost use Rattle.acc_inputs.specs.Words.{with_advice, is_over_journal, command_of, wanted_of, asks_journal};
+ghost use Rattle.acc_inputs.specs.Words.{with_pieces, with_advice, is_over_journal, command_of, wanted_of, asks_journal};
 
 use crate::numbers::{mix_of, number_of, scale_of};
 use crate::scales::{Mix, Scale};
@@ -11,6 +11,9 @@ use acc_base::designs::Side;
 
 /// The most workers that `run` takes.
 pub const MOST_WORKERS: u64 = 64;
+
+/// The most bytes that a piece has in which `follow` reads a journal.
+pub const MOST_PIECE: u64 = 65_536;
 
 /// What the program is asked to do.
 #[derive(Clone, Copy)]
@@ -31,6 +34,8 @@ pub enum Command {
     Advise(Side),
     /// `audit DESIGN COPY`: COPY is a journal, or a copy of one
     Audit,
+    /// `follow DESIGN CERT COPY SIZE`: COPY is a journal, or a copy of one, and is fed in pieces of so many bytes: from 1 to `MOST_PIECE`
+    Follow(u64),
     /// `init DESIGN`, over a journal
     Init,
     /// `sched DESIGN CERT SCRIPT ORDER`, over a journal
@@ -72,6 +77,8 @@ enum Form {
     Files(Command),
     /// The names of the files of `run`, and the number of workers.
     Workers,
+    /// The names of the files of `follow`, and how many bytes a piece has.
+    Pieces,
     /// The word that says what is wanted of TPC-C, and the numbers of that.
     Tpcc,
     /// The word that says what is wanted of the booking design, and the names of the files of that.
@@ -107,6 +114,7 @@ fn form_of(verb: &str) -> Option<Form>
         "prove" => Some(Form::Files(Command::Prove)),
         "advise" => Some(Form::Advice),
         "audit" => Some(Form::Files(Command::Audit)),
+        "follow" => Some(Form::Pieces),
         "init" => Some(Form::Files(Command::Init)),
         "sched" => Some(Form::Files(Command::Sched)),
         "run" => Some(Form::Workers),
@@ -171,7 +179,7 @@ pub(crate) fn verb_count(command: Command) -> usize
         Command::BookingDesign | Command::BookingVerify => 2,
         Command::Play | Command::Rehearse | Command::Print | Command::Draw => 1,
         Command::Check | Command::Prove | Command::Advise(_) | Command::Audit => 1,
-        Command::Bench(_) => 1,
+        Command::Follow(_) | Command::Bench(_) => 1,
         Command::Init | Command::Sched | Command::Run(_) | Command::Recover => 1,
         Command::Dump | Command::Replies | Command::Verify | Command::Migrate => 1,
         Command::Help | Command::Version => 1,
@@ -184,7 +192,7 @@ pub(crate) fn file_count(command: Command) -> usize
     ensures { result ≡ file_count command }
 {
     match command {
-        Command::Play | Command::Run(_) | Command::Migrate => 3,
+        Command::Play | Command::Run(_) | Command::Migrate | Command::Follow(_) => 3,
         Command::Rehearse | Command::Sched => 4,
         Command::Print | Command::Draw | Command::Prove => 1,
         Command::Advise(_) | Command::Init => 1,
@@ -207,7 +215,8 @@ pub(crate) fn point_count(command: Command) -> usize
         Command::Recover | Command::Dump | Command::Replies | Command::Verify => 0,
         Command::TpccDesign | Command::TpccLoad(_) | Command::TpccMix(_) => 0,
         Command::BookingDesign | Command::BookingVerify | Command::Bench(_) => 0,
-        Command::Migrate | Command::Audit | Command::Help | Command::Version => 0,
+        Command::Migrate | Command::Audit | Command::Follow(_) => 0,
+        Command::Help | Command::Version => 0,
     }
 }
 
@@ -223,7 +232,7 @@ fn is_journalled(command: Command) -> bool
         Command::Check | Command::Prove | Command::Bench(_) | Command::Help | Command::Version =>
             false,
         Command::TpccDesign | Command::TpccLoad(_) | Command::TpccMix(_) => false,
-        Command::BookingDesign | Command::Advise(_) | Command::Audit => false,
+        Command::BookingDesign | Command::Advise(_) | Command::Audit | Command::Follow(_) => false,
     }
 }
 
@@ -248,6 +257,17 @@ fn with_workers(words: &[String]) -> Option<Command>
         return None;
     };
     Some(Command::Run(number_of(1, MOST_WORKERS, workers.as_str())?))
+}
+
+/// `follow`, if the names of its files and the number of a piece's bytes stand behind the verb.
+fn with_pieces(words: &[String]) -> Option<Command>
+    ensures command { result ≡ with_pieces (map string_bytes words.now) }
+    ensures length { IfSome result (λ command. word_count command ≤ length words.now + 1) }
+{
+    let [_design, _certificate, _copy, size] = words else {
+        return None;
+    };
+    Some(Command::Follow(number_of(1, MOST_PIECE, size.as_str())?))
 }
 
 /// `tpcc design`, if nothing stands behind it.
@@ -336,8 +356,8 @@ fn with_bench(words: &[String]) -> Option<Command>
 }
 
 /// The command that the words ask for: its verb, and behind it the names of its files, and then for `run` the number of workers, for
-/// `bench` the numbers of its mix, for `advise` two points and a side; or `tpcc` or `booking`, and behind it what is wanted of that, with
-/// its numbers or the names of its files.
+/// `follow` that of a piece's bytes, for `bench` the numbers of its mix, for `advise` two points and a side; or `tpcc` or `booking`, and
+/// behind it what is wanted of that, with its numbers or the names of its files.
 pub fn command_of(words: &[String]) -> Option<Command>
     ensures command { result ≡ command_of (map string_bytes words.now) }
     ensures length { IfSome result (λ command. word_count command ≤ length words.now) }
@@ -348,6 +368,7 @@ pub fn command_of(words: &[String]) -> Option<Command>
     match form_of(verb.as_str())? {
         Form::Files(command) => with_files(command, behind),
         Form::Workers => with_workers(behind),
+        Form::Pieces => with_pieces(behind),
         Form::Tpcc => with_tpcc(behind),
         Form::Booking => with_booking(behind),
         Form::Bench => with_bench(behind),
@@ -387,6 +408,6 @@ pub fn asks_journal(words: &[String]) -> bool
         Some(Form::Files(command)) => is_journalled(command),
         Some(Form::Workers) => true,
         Some(Form::Booking) => is_over_journal(wanted_of(behind)),
-        Some(Form::Tpcc | Form::Bench | Form::Advice) | None => false,
+        Some(Form::Pieces | Form::Tpcc | Form::Bench | Form::Advice) | None => false,
     }
 }

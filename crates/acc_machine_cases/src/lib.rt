@@ -1,11 +1,13 @@
-//! Cases of single events, steps, scripts, orders and lines over a design: what each question answers.
+//! Cases of single events, steps, scripts, orders and lines over a design, and of rows of bookings: what each question answers.
 //!
 //! `design TEXT` gives the design of the questions behind it, and `rename` gives its last type the name of its first. A number stands for a
 //! type, a point, a table or a column, from 0 on; a list has commas, and '-' is none. `long_script COUNT FIRST~PIECE~LAST` and `long_order
 //! PLACES COUNT FIRST~PIECE~LAST` ask about texts with a piece so many times. `indexed` asks what `events` does over a store that keeps the
-//! totals that the design's steps read.
+//! totals that the design's steps read. `oversold NUMBER SEATS FREE`, or `oversold -`, asks the test of the shipped booking design of the row of
+//! a flight, or of no row.
 #![tactic(auto)]
 
+mod bookings;
 mod designs;
 mod escapes;
 mod events;
@@ -50,6 +52,7 @@ fn push_answer(
         "order" => scripts::push_order(alloc, out, rest),
         "play" => scripts::push_play(alloc, out, design),
         "line" => lines::push_line_of(alloc, out, design, rest),
+        "oversold" => bookings::push_oversold(alloc, out, rest),
         _ => push_long(alloc, out, design, verb, rest),
     }
 }

@@ -31,7 +31,7 @@ fn opening(words: &[String]) -> Opening {
         Some(Command::Check | Command::Prove | Command::Audit | Command::Bench(_)) => Opening::Use,
         Some(Command::TpccDesign | Command::TpccLoad(_) | Command::TpccMix(_)) => Opening::Use,
         Some(Command::BookingDesign | Command::BookingVerify | Command::Advise(_)) => Opening::Use,
-        Some(Command::Help | Command::Version) | None => Opening::Use,
+        Some(Command::Follow(_) | Command::Help | Command::Version) | None => Opening::Use,
     }
 }
 

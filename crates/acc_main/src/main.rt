@@ -140,7 +140,7 @@ fn is_by_crew(words: &[String]) -> bool {
         Some(Command::Check | Command::Prove | Command::Audit | Command::Bench(_)) => false,
         Some(Command::TpccDesign | Command::TpccLoad(_) | Command::TpccMix(_)) => false,
         Some(Command::BookingDesign | Command::BookingVerify | Command::Advise(_)) => false,
-        Some(Command::Help | Command::Version) | None => false,
+        Some(Command::Follow(_) | Command::Help | Command::Version) | None => false,
     }
 }
 

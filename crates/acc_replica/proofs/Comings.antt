@@ -1,7 +1,7 @@
 -- Items that come one after the other.
-use Rattle.std.proofs.Common.{◌≡◌, ℕ, suc, ◌+◌, List, [], ◌∷◌, ◌++◌, length, take, All, refl, sym, ap, subst, ◌∙◌, append_assoc, arith, length-append}
+use Rattle.std.proofs.Common.{◌≡◌, ℕ, suc, List, [], ◌∷◌, ◌++◌, length, refl, sym, subst, ◌∙◌, append_assoc, arith, length-append}
 use Rattle.std.proofs.lemmas.Option.{same_Some}
-use Rattle.std.proofs.lemmas.List.{append-nil, take_at}
+use Rattle.std.proofs.lemmas.List.{take_at}
 use Rattle.std.proofs.lemmas.List.Elements.{All-nil, All-cons}
 use Rattle.acc_base.specs.declared.designs.Design.{Design}
 use Rattle.acc_base.specs.declared.machines.Event.{Event as TheEvent}
@@ -12,7 +12,6 @@ use Rattle.acc_machine.proofs.Replaying.{lead_logs}
 use Rattle.acc_wal.specs.Items.{events_of, seals_of}
 use Rattle.acc_wal.specs.declared.items.Item.{Item}
 use Rattle.acc_wal.specs.declared.items.Item.TheVariants.{Event, State}
-use Rattle.acc_wal.specs.declared.items.Seal.{Seal}
 use Rattle.acc_recover.specs.Seals.{IsTextOf, IsSealOf, AreSealsOf}
 use Rattle.acc_replica.specs.Coming.{Come}
 

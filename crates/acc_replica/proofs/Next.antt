@@ -1,6 +1,6 @@
 -- What the next item of a stream makes of a replica.
-use Rattle.std.proofs.Common.{◌≡◌, ◌≢◌, ℕ, List, [], ◌∷◌, ◌++◌, length, take, drop, Option, Some, None, inl, inr, refl, sym, ap, subst, ◌∙◌}
-use Rattle.std.specs.Prelude.{Result, Ok, Err, IfSome, IsSome, slice_get}
+use Rattle.std.proofs.Common.{◌≡◌, ◌≢◌, ℕ, List, [], ◌∷◌, ◌++◌, length, take, drop, Option, Some, None, refl, sym, ap, subst, ◌∙◌}
+use Rattle.std.specs.Prelude.{Ok, Err, IfSome, IsSome, slice_get}
 use Rattle.std.proofs.lemmas.List.{append-nil}
 use Rattle.std.proofs.lemmas.Option.{same_Some}
 use Rattle.acc_base.specs.declared.designs.Design.{Design}
@@ -11,7 +11,8 @@ use Rattle.acc_wal.specs.Items.{events_of}
 use Rattle.acc_wal.specs.declared.items.Item.{Item}
 use Rattle.acc_wal.specs.declared.items.Item.TheVariants.{Event, State}
 use Rattle.acc_stream.specs.declared.faults.Fault.{Fault}
-use Rattle.acc_stream.specs.Streams.{IsStream, AreWhole}
+use Rattle.acc_stream.specs.declared.faults.Fault.TheVariants as faults
+use Rattle.acc_stream.specs.Streams.{IsStream}
 use Rattle.acc_stream.specs.Following.{Streamed, AddsItems, Follows as StreamFollows}
 use Rattle.acc_replica.specs.declared.advancing.Step.TheVariants.{Passed, NotYet as NoneWaits, Refused, Lacks}
 use Rattle.acc_replica.specs.declared.errors.Advanced.{Advanced}
@@ -22,7 +23,7 @@ use Rattle.acc_replica.specs.declared.errors.ReplicaError.TheVariants.{Differs, 
 use Rattle.acc_replica.specs.Coming.{Come}
 use Rattle.acc_replica.specs.Ends.{HasAll, IsNextAt, Ends}
 use Rattle.acc_replica.specs.Steps.{error_for, IsDone, IsRefusedFor, IsDueBy, IsDue, DoesFirst, DoesNext}
-use Rattle.acc_replica.specs.Replicas.{Replicated, Follows, DidEvent, DidSeal, Refuses, Advances}
+use Rattle.acc_replica.specs.Replicas.{Replicated, Follows, Keeps, Advances, TellsEnd}
 use Rattle.acc_replica.proofs.Comings.{come_logs, come_event, come_state}
 use Rattle.acc_replica.proofs.OneEnd.{finished}
 
@@ -109,15 +110,42 @@ module _ (fed : List ℕ) (r : Replicated) (f : Follows fed r) where
   not_yet none open_ended = subst (λ o. HasAll r.design fed o r.world) open_ended (all_come none)
 
 -- a refusal that isn't for memory
-refuses : (fed : List ℕ) (old new : Replicated) (error : ReplicaError) → Refuses fed old new error → Advances fed old new (Err error)
-refuses fed old new NotJournal r = r
-refuses fed old new (OtherVersion version) r = r
-refuses fed old new OtherDesign r = r
-refuses fed old new (Damaged place) r = r
-refuses fed old new (Past place) r = r
-refuses fed old new (Unlawful at) r = r
-refuses fed old new (Differs place) r = r
-refuses fed old new Memory r = absurd r.1
+keeps : (old new : Replicated) (error : ReplicaError) → error ≢ Memory → Keeps old new error → Advances old new (Err error)
+keeps old new NotJournal lasts k = k
+keeps old new (OtherVersion version) lasts k = k
+keeps old new OtherDesign lasts k = k
+keeps old new (Damaged place) lasts k = k
+keeps old new (Past place) lasts k = k
+keeps old new (Unlawful at) lasts k = k
+keeps old new (Differs place) lasts k = k
+keeps old new Memory lasts k = absurd (lasts refl)
+
+tells : (d : Design) (fed : List ℕ) (here : World) (error : ReplicaError) → Ends d fed (Some error) here → TellsEnd d fed (Err error) here
+tells d fed here NotJournal e = e
+tells d fed here (OtherVersion version) e = e
+tells d fed here OtherDesign e = e
+tells d fed here (Damaged place) e = e
+tells d fed here (Past place) e = e
+tells d fed here (Unlawful at) e = e
+tells d fed here (Differs place) e = e
+tells d fed here Memory e = tt
+
+fault_lasts : (fault : Fault) → error_for fault ≢ Memory
+fault_lasts faults.NotJournal is = cc
+fault_lasts (faults.OtherVersion version) is = cc
+fault_lasts faults.OtherBase is = cc
+fault_lasts (faults.Damaged place) is = cc
+fault_lasts (faults.Past place) is = cc
+
+refused_lasts : (d : Design) (w : World) (item : Item) → IsRefusedFor d w item Memory → ⊥
+refused_lasts d w (Event event) due = due
+refused_lasts d w (State text) due = due
+
+due_lasts : (d : Design) (w : World) (first : Option Item) (ended : Option Fault) (error : ReplicaError) → IsDueBy d w first ended error →
+    error ≢ Memory
+due_lasts d w (Some item) ended error due is = refused_lasts d w item (subst (λ (e : ReplicaError). IsRefusedFor d w item e) is due)
+due_lasts d w None (Some fault) error due is = fault_lasts fault (sym due ∙ is)
+due_lasts d w None None error due is = due
 
 -- one that is due stays so, whatever is fed
 stays_by : (d : Design) (w : World) (s now : Streamed) (error : ReplicaError) (first : Option Item) (ended : Option Fault) →
@@ -148,69 +176,92 @@ running r = record { design = r.design; world = r.world }
 abbrev pub passed : Replicated → Running → Streamed → Replicated
 passed old new stream = record { design = new.design; world = new.world; stream = stream; refused = old.refused }
 
-module _ (fed : List ℕ) (old : Replicated) (new : Running) (later : Streamed) (f : Follows fed old)
-    (fresh : old.refused ≡ None) (skipped : later ≡ record old.stream { waiting = drop 1 old.stream.waiting })
-    (on : StreamFollows fed (f.done ++ take 1 old.stream.waiting) later)
+-- what an item that is done leads to
+item_come : (old new : Running) (item : Item) (told : Advanced) (done : List Item) → Come old.design start done old.world →
+    IsDone old new item told → (new.design ≡ old.design) × Come old.design start (done ++ item ∷ []) new.world
+item_come old new (Event event) AnEvent done come is = (is.0, come_event old.design done start old.world new.world event come is.1)
+item_come old new (State text) ASeal done come is = (
+  ap (λ (r : Running). r.design) is.0,
+  subst (λ (w : World). Come old.design start (done ++ State text ∷ []) w) (sym (ap (λ (r : Running). r.world) is.0))
+      (come_state old.design done start old.world text come is.1),
+)
+item_come old new (Event event) ASeal done come is = absurd is
+item_come old new (Event event) NotYet done come is = absurd is
+item_come old new (State text) AnEvent done come is = absurd is
+item_come old new (State text) NotYet done come is = absurd is
+
+module _ (old : Replicated) (new : Running) (later : Streamed) (skipped : later ≡ record old.stream { waiting = drop 1 old.stream.waiting })
   where
     waits : later.waiting ≡ drop 1 old.stream.waiting
     waits = ap (λ (s : Streamed). s.waiting) skipped
 
-    base : later.base ≡ old.stream.base
-    base = ap (λ (s : Streamed). s.base) skipped
-
-    item_come : (item : Item) (told : Advanced) → IsDone (running old) new item told → (new.design ≡ old.design) × Come old.design start (f.done ++ item ∷ []) new.world
-    item_come (Event event) AnEvent is = (is.0, come_event old.design f.done start old.world new.world event f.come is.1)
-    item_come (State text) ASeal is = (
-      ap (λ (r : Running). r.design) is.0,
-      subst (λ (w : World). Come old.design start (f.done ++ State text ∷ []) w) (sym (ap (λ (r : Running). r.world) is.0))
-          (come_state old.design f.done start old.world text f.come is.1),
-    )
-    item_come (Event event) ASeal is = absurd is
-    item_come (Event event) NotYet is = absurd is
-    item_come (State text) AnEvent is = absurd is
-    item_come (State text) NotYet is = absurd is
-
-    follows_item : (item : Item) (told : Advanced) → slice_get old.stream.waiting 0 ≡ Some item → IsDone (running old) new item told →
-        Follows fed (passed old new later)
-    follows_item item told is done =
-        let come = item_come item told done in
-        let one : take 1 old.stream.waiting ≡ item ∷ [] = ap (take 1) (first_is old.stream.waiting item is) in
-        record {
-          done = f.done ++ item ∷ [];
-          stream = subst (λ (l : List Item). StreamFollows fed (f.done ++ l) later) one on;
-          base_is = base ∙ f.base_is ∙ ap printed (sym come.0);
-          come = subst (λ (d : Design). Come d start (f.done ++ item ∷ []) new.world) (sym come.0) come.1;
-          refusal = subst (λ (o : Option ReplicaError). IfSome o (IsDue new.design new.world later)) (sym fresh) tt;
-        }
-
     tells_item : (item : Item) (told : Advanced) → slice_get old.stream.waiting 0 ≡ Some item → IsDone (running old) new item told →
-        Advances fed old (passed old new later) (Ok told)
+        Advances old (passed old new later) (Ok told)
     tells_item (Event event) AnEvent is done = record {
       event = event;
       next = first_is old.stream.waiting (Event event) is ∙ ap (λ (l : List Item). Event event ∷ l) (sym waits);
       lawful = done.1;
+      refused_is = refl;
     }
     tells_item (State text) ASeal is done = record {
       text = text;
       next = first_is old.stream.waiting (State text) is ∙ ap (λ (l : List Item). State text ∷ l) (sym waits);
       is = done.1;
       world_is = ap (λ (r : Running). r.world) done.0;
+      refused_is = refl;
     }
     tells_item (Event event) ASeal is done = absurd done
     tells_item (Event event) NotYet is done = absurd done
     tells_item (State text) AnEvent is done = absurd done
     tells_item (State text) NotYet is done = absurd done
 
-    passed_by : (first : Option Item) (ended : Option Fault) (told : Advanced) → slice_get old.stream.waiting 0 ≡ first →
-        DoesFirst (running old) new first ended (Passed told) →
-        Follows fed (passed old new later) × Advances fed old (passed old new later) (Ok told)
-    passed_by (Some item) ended told is done = (follows_item item told is done, tells_item item told is done)
-    passed_by None (Some fault) told is done = absurd (let e = done.1 in cc)
-    passed_by None None told is done = absurd (let e = done.1 in cc)
+    tells_by : (first : Option Item) (ended : Option Fault) (told : Advanced) → slice_get old.stream.waiting 0 ≡ first →
+        DoesFirst (running old) new first ended (Passed told) → Advances old (passed old new later) (Ok told)
+    tells_by (Some item) ended told is done = tells_item item told is done
+    tells_by None (Some fault) told is done = absurd (let e = done.1 in cc)
+    tells_by None None told is done = absurd (let e = done.1 in cc)
 
-    passes : (told : Advanced) → DoesNext (running old) new old.stream (Passed told) →
-        Follows fed (passed old new later) × Advances fed old (passed old new later) (Ok told)
-    passes told done = passed_by (slice_get old.stream.waiting 0) old.stream.ended told refl done
+    pub tells_passed : (told : Advanced) → DoesNext (running old) new old.stream (Passed told) →
+        Advances old (passed old new later) (Ok told)
+    tells_passed told done = tells_by (slice_get old.stream.waiting 0) old.stream.ended told refl done
+
+    module _ (fed : List ℕ) (fresh : old.refused ≡ None) (f : Follows fed old)
+        (on : StreamFollows fed (f.done ++ take 1 old.stream.waiting) later)
+      where
+        follows_item : (item : Item) (told : Advanced) → slice_get old.stream.waiting 0 ≡ Some item → IsDone (running old) new item told →
+            Follows fed (passed old new later)
+        follows_item item told is done =
+            let come = item_come (running old) new item told f.done f.come done in
+            let one : take 1 old.stream.waiting ≡ item ∷ [] = ap (take 1) (first_is old.stream.waiting item is) in
+            record {
+              done = f.done ++ item ∷ [];
+              stream = subst (λ (l : List Item). StreamFollows fed (f.done ++ l) later) one on;
+              base_is = ap (λ (s : Streamed). s.base) skipped ∙ f.base_is ∙ ap printed (sym come.0);
+              come = subst (λ (d : Design). Come d start (f.done ++ item ∷ []) new.world) (sym come.0) come.1;
+              refusal = subst (λ (o : Option ReplicaError). IfSome o (IsDue new.design new.world later)) (sym fresh) tt;
+            }
+
+        follows_by : (first : Option Item) (ended : Option Fault) (told : Advanced) → slice_get old.stream.waiting 0 ≡ first →
+            DoesFirst (running old) new first ended (Passed told) → Follows fed (passed old new later)
+        follows_by (Some item) ended told is done = follows_item item told is done
+        follows_by None (Some fault) told is done = absurd (let e = done.1 in cc)
+        follows_by None None told is done = absurd (let e = done.1 in cc)
+
+        pub follows_passed : (told : Advanced) → DoesNext (running old) new old.stream (Passed told) → Follows fed (passed old new later)
+        follows_passed told done = follows_by (slice_get old.stream.waiting 0) old.stream.ended told refl done
+
+-- what an item that is done tells of the end: nothing
+pub done_tells : (old new : Running) (s : Streamed) (d : Design) (fed : List ℕ) (here : World) (told : Advanced) →
+    DoesNext old new s (Passed told) → TellsEnd d fed (Ok told) here
+done_tells old new s d fed here told done = by (slice_get s.waiting 0) s.ended told done
+  where
+    by : (first : Option Item) (ended : Option Fault) (told : Advanced) → DoesFirst old new first ended (Passed told) → TellsEnd d fed (Ok told) here
+    by first ended AnEvent does = tt
+    by first ended ASeal does = tt
+    by (Some (Event event)) ended NotYet does = absurd does
+    by (Some (State text)) ended NotYet does = absurd does
+    by None (Some fault) NotYet does = absurd (let e = does.1 in cc)
+    by None None NotYet does = absurd (let e = does.1 in cc)
 
 -- ---- what is told where none is done
 
@@ -224,6 +275,11 @@ module _ (old new : Running) (s : Streamed) where
   refused_is : (error : ReplicaError) → DoesNext old new s (Refused error) → (new ≡ old) × IsDue old.design old.world s error
   refused_is error does = refused_by (slice_get s.waiting 0) s.ended error does
 
+  -- such a refusal isn't for memory
+  pub refusal_lasts : (error : ReplicaError) → DoesNext old new s (Refused error) → error ≢ Memory
+  refusal_lasts error does =
+      due_lasts old.design old.world (slice_get s.waiting 0) s.ended error (refused_is error does).1
+
   none_by : (first : Option Item) (ended : Option Fault) → DoesFirst old new first ended NoneWaits → (new ≡ old) × (first ≡ None) × (ended ≡ None)
   none_by (Some item) ended does = absurd does
   none_by None (Some fault) does = absurd (let e = does.1 in cc)
@@ -232,71 +288,97 @@ module _ (old new : Running) (s : Streamed) where
   none_is : DoesNext old new s NoneWaits → (new ≡ old) × (slice_get s.waiting 0 ≡ None) × (s.ended ≡ None)
   none_is does = none_by (slice_get s.waiting 0) s.ended does
 
-module _ (old new : Running) (s : Streamed) where
-  lacks_by : (first : Option Item) (ended : Option Fault) → DoesFirst old new first ended Lacks → new ≡ old
-  lacks_by (Some item) ended does = does
-  lacks_by None (Some fault) does = does.0
-  lacks_by None None does = does.0
+  lacks_by : (first : Option Item) (ended : Option Fault) → slice_get s.waiting 0 ≡ first → DoesFirst old new first ended Lacks →
+      (new ≡ old) × (s.waiting ≢ [])
+  lacks_by (Some item) ended is does = (does, λ none. let e = sym is ∙ ap (λ (l : List Item). slice_get l 0) none in cc)
+  lacks_by None (Some fault) is does = absurd (let e = does.1 in cc)
+  lacks_by None None is does = absurd (let e = does.1 in cc)
 
-  lacks_is : DoesNext old new s Lacks → new ≡ old
-  lacks_is does = lacks_by (slice_get s.waiting 0) s.ended does
+  lacks_is : DoesNext old new s Lacks → (new ≡ old) × (s.waiting ≢ [])
+  lacks_is does = lacks_by (slice_get s.waiting 0) s.ended refl does
 
 -- ---- a refusal that is kept
 
-follows_refused : (fed : List ℕ) (r : Replicated) (error : ReplicaError) → Follows fed r → IsDue r.design r.world r.stream error →
-    Follows fed (record r { refused = Some error })
-follows_refused fed r error f due = record {
-  done = f.done;
-  stream = f.stream;
-  base_is = f.base_is;
-  come = f.come;
-  refusal = due;
-}
+pub refused_again : (r : Replicated) (error : ReplicaError) → r.refused ≢ Some Memory → r.refused ≡ Some error → Advances r r (Err error)
+refused_again r error lasts is =
+    keeps r r error (λ same. lasts (is ∙ ap (λ (e : ReplicaError). Some e) same)) (ap (λ (o : Option ReplicaError). record r { refused = o }) is)
 
-pub refused_again : (fed : List ℕ) (r : Replicated) (error : ReplicaError) → r.refused ≡ Some error → Follows fed r →
-    Advances fed r r (Err error)
-refused_again fed r error is f =
-    refuses fed r r error (
-      ap (λ (o : Option ReplicaError). record r { refused = o }) is,
-      due_ends fed r f error (subst (λ (o : Option ReplicaError). IfSome o (IsDue r.design r.world r.stream)) is f.refusal),
-    )
+pub refused_end : (fed : List ℕ) (r : Replicated) (error : ReplicaError) → r.refused ≡ Some error → Follows fed r →
+    TellsEnd r.design fed (Err error) r.world
+refused_end fed r error is f =
+    tells r.design fed r.world error
+    (due_ends fed r f error (subst (λ (o : Option ReplicaError). IfSome o (IsDue r.design r.world r.stream)) is f.refusal))
 
 -- ---- the same of a replica that is shown as another
 
-abbrev pub Keeps : List ℕ → Replicated → Replicated → Result Advanced ReplicaError → Type 0
-Keeps fed old new result = Follows fed new × Advances fed old new result
+module _ (old now : Replicated) (new : Running) (is : old ≡ now) where
+  pub did_passed : (later : Streamed) (told : Advanced) → later ≡ record old.stream { waiting = drop 1 old.stream.waiting } →
+      DoesNext (running old) new old.stream (Passed told) → Advances now (passed old new later) (Ok told)
+  did_passed later told skipped done =
+      subst (λ (r : Replicated). Advances r (passed old new later) (Ok told)) is (tells_passed old new later skipped told done)
 
-module _ (fed : List ℕ) (old now : Replicated) (new : Running) (is : old ≡ now) (f : Follows fed now) where
-  follows : Follows fed old
-  follows = subst (λ (r : Replicated). Follows fed r) (sym is) f
-
-  pub keeps_passed : (later : Streamed) (told : Advanced) → old.refused ≡ None →
-      later ≡ record old.stream { waiting = drop 1 old.stream.waiting } →
-      ((taken : List Item) → StreamFollows fed taken old.stream → StreamFollows fed (taken ++ take 1 old.stream.waiting) later) →
-      DoesNext (running old) new old.stream (Passed told) → Keeps fed now (passed old new later) (Ok told)
-  keeps_passed later told fresh skipped on done =
-      subst (λ (r : Replicated). Keeps fed r (passed old new later) (Ok told)) is
-      (passes fed old new later follows fresh skipped (on follows.done follows.stream) told done)
-
-  pub keeps_none : DoesNext (running old) new old.stream NoneWaits → Keeps fed now (passed old new old.stream) (Ok NotYet)
-  keeps_none does =
+  pub did_none : DoesNext (running old) new old.stream NoneWaits → Advances now (passed old new old.stream) (Ok NotYet)
+  did_none does =
       let none = none_is (running old) new old.stream does in
-      subst (λ (x : Running). Keeps fed now (passed old x old.stream) (Ok NotYet)) (sym none.0)
-      (subst (λ (r : Replicated). Keeps fed r old (Ok NotYet)) is (follows, (refl, not_yet fed old follows none.1 none.2)))
+      subst (λ (x : Running). Advances now (passed old x old.stream) (Ok NotYet)) (sym none.0)
+      (subst (λ (r : Replicated). Advances r old (Ok NotYet)) is (refl, none_first old.stream.waiting none.1))
 
-  pub keeps_lacks : DoesNext (running old) new old.stream Lacks → Keeps fed now (passed old new old.stream) (Err Memory)
-  keeps_lacks does =
-      subst (λ (x : Running). Keeps fed now (passed old x old.stream) (Err Memory)) (sym (lacks_is (running old) new old.stream does))
-      (subst (λ (r : Replicated). Keeps fed r old (Err Memory)) is (follows, refl))
+  pub did_lack : DoesNext (running old) new old.stream Lacks → Advances now (passed old new old.stream) (Err Memory)
+  did_lack does =
+      let lacks = lacks_is (running old) new old.stream does in
+      subst (λ (x : Running). Advances now (passed old x old.stream) (Err Memory)) (sym lacks.0)
+      (subst (λ (r : Replicated). Advances r old (Err Memory)) is (refl, lacks.1))
 
-  pub keeps_refused : (error : ReplicaError) → DoesNext (running old) new old.stream (Refused error) →
-      Keeps fed now (record (passed old new old.stream) { refused = Some error }) (Err error)
-  keeps_refused error does =
+  pub did_refuse : (error : ReplicaError) → DoesNext (running old) new old.stream (Refused error) →
+      Advances now (record (passed old new old.stream) { refused = Some error }) (Err error)
+  did_refuse error does =
       let due = refused_is (running old) new old.stream error does in
-      let kept = record old { refused = Some error } in
-      subst (λ (x : Running). Keeps fed now (record (passed old x old.stream) { refused = Some error }) (Err error)) (sym due.0)
-      (subst (λ (r : Replicated). Keeps fed r kept (Err error)) is
-      (follows_refused fed old error follows due.1, refuses fed old kept error (refl, due_ends fed old follows error due.1)))
+      subst (λ (x : Running). Advances now (record (passed old x old.stream) { refused = Some error }) (Err error)) (sym due.0)
+      (subst (λ (r : Replicated). Advances r (record old { refused = Some error }) (Err error)) is
+      (keeps old (record old { refused = Some error }) error (refusal_lasts (running old) new old.stream error does) refl))
+
+  module _ (fed : List ℕ) (f : Follows fed now) where
+    follows : Follows fed old
+    follows = subst (λ (r : Replicated). Follows fed r) (sym is) f
+
+    pub still_passed : (later : Streamed) (told : Advanced) → old.refused ≡ None →
+        later ≡ record old.stream { waiting = drop 1 old.stream.waiting } →
+        ((taken : List Item) → StreamFollows fed taken old.stream → StreamFollows fed (taken ++ take 1 old.stream.waiting) later) →
+        DoesNext (running old) new old.stream (Passed told) → Follows fed (passed old new later)
+    still_passed later told fresh skipped on done =
+        follows_passed old new later skipped fed fresh follows (on follows.done follows.stream) told done
+
+    pub still_none : DoesNext (running old) new old.stream NoneWaits → Follows fed (passed old new old.stream)
+    still_none does =
+        subst (λ (x : Running). Follows fed (passed old x old.stream)) (sym (none_is (running old) new old.stream does).0) follows
+
+    pub still_lacking : DoesNext (running old) new old.stream Lacks → Follows fed (passed old new old.stream)
+    still_lacking does =
+        subst (λ (x : Running). Follows fed (passed old x old.stream)) (sym (lacks_is (running old) new old.stream does).0) follows
+
+    pub still_refused : (error : ReplicaError) → DoesNext (running old) new old.stream (Refused error) →
+        Follows fed (record (passed old new old.stream) { refused = Some error })
+    still_refused error does =
+        let due = refused_is (running old) new old.stream error does in
+        subst (λ (x : Running). Follows fed (record (passed old x old.stream) { refused = Some error })) (sym due.0) (record {
+          done = follows.done;
+          stream = follows.stream;
+          base_is = follows.base_is;
+          come = follows.come;
+          refusal = due.1;
+        })
+
+    pub ends_none : DoesNext (running old) new old.stream NoneWaits → TellsEnd now.design fed (Ok NotYet) now.world
+    ends_none does =
+        let none = none_is (running old) new old.stream does in
+        subst (λ (r : Replicated). TellsEnd r.design fed (Ok NotYet) r.world) is (not_yet fed old follows none.1 none.2)
+
+    pub ends_refused : (error : ReplicaError) → DoesNext (running old) new old.stream (Refused error) →
+        TellsEnd now.design fed (Err error) now.world
+    ends_refused error does =
+        let due = refused_is (running old) new old.stream error does in
+        subst (λ (r : Replicated). TellsEnd r.design fed (Err error) r.world) is
+        (tells old.design fed old.world error (due_ends fed old follows error due.1))
 
 -- ---- a piece that is fed
 

@@ -1,5 +1,5 @@
 -- What a replica shows, how that follows from what was fed, and what its calls do.
-use Rattle.std.specs.Prelude.{◌≡◌, ℕ, List, [], ◌∷◌, Option, Some, None, Result, Ok, Err, IfSome}
+use Rattle.std.specs.Prelude.{◌≡◌, ◌≢◌, ⊤, ℕ, List, [], ◌∷◌, Option, Some, None, Result, Ok, Err, IfSome}
 use Rattle.acc_base.specs.declared.designs.Design.{Design}
 use Rattle.acc_base.specs.declared.machines.Event.{Event as TheEvent}
 use Rattle.acc_base.specs.Machine.{World, start}
@@ -42,33 +42,54 @@ pub record Follows (fed : List ℕ) (r : Replicated) : Type 0 where
 
 -- ---- what a call did
 
--- the next event is done
+-- the next event was done
 pub record DidEvent (old new : Replicated) : Type 0 where
   pub event : TheEvent
   pub next : old.stream.waiting ≡ Event event ∷ new.stream.waiting
   pub lawful : IsLawful old.design old.world event new.world
+  pub refused_is : new.refused ≡ old.refused
 
--- the next state is compared, and is the text of the rows
+-- the next state was compared, and is the text of the rows
 pub record DidSeal (old new : Replicated) : Type 0 where
   pub text : List ℕ
   pub next : old.stream.waiting ≡ State text ∷ new.stream.waiting
   pub is : IsTextOf old.world text
   pub world_is : new.world ≡ old.world
+  pub refused_is : new.refused ≡ old.refused
 
--- the refusal is that of the bytes, and is kept
-abbrev pub Refuses : List ℕ → Replicated → Replicated → ReplicaError → Type 0
-Refuses fed old new error = (new ≡ record old { refused = Some error }) × Ends old.design fed (Some error) old.world
+-- that refusal is kept, and nothing else has changed
+abbrev pub Keeps : Replicated → Replicated → ReplicaError → Type 0
+Keeps old new error = new ≡ record old { refused = Some error }
 
--- which of these, where the bytes were fed; where memory ran out, nothing has changed
-abbrev pub Advances : List ℕ → Replicated → Replicated → Result Advanced ReplicaError → Type 0
-Advances fed old new (Ok AnEvent) = DidEvent old new
-Advances fed old new (Ok ASeal) = DidSeal old new
-Advances fed old new (Ok NotYet) = (new ≡ old) × Ends old.design fed None old.world
-Advances fed old new (Err Memory) = new ≡ old
-Advances fed old new (Err NotJournal) = Refuses fed old new NotJournal
-Advances fed old new (Err (OtherVersion version)) = Refuses fed old new (OtherVersion version)
-Advances fed old new (Err OtherDesign) = Refuses fed old new OtherDesign
-Advances fed old new (Err (Damaged place)) = Refuses fed old new (Damaged place)
-Advances fed old new (Err (Past place)) = Refuses fed old new (Past place)
-Advances fed old new (Err (Unlawful at)) = Refuses fed old new (Unlawful at)
-Advances fed old new (Err (Differs place)) = Refuses fed old new (Differs place)
+-- which of these; memory may run out only where an item waits, and then nothing has changed
+abbrev pub Advances : Replicated → Replicated → Result Advanced ReplicaError → Type 0
+Advances old new (Ok AnEvent) = DidEvent old new
+Advances old new (Ok ASeal) = DidSeal old new
+Advances old new (Ok NotYet) = (new ≡ old) × (old.stream.waiting ≡ [])
+Advances old new (Err Memory) = (new ≡ old) × (old.stream.waiting ≢ [])
+Advances old new (Err NotJournal) = Keeps old new NotJournal
+Advances old new (Err (OtherVersion version)) = Keeps old new (OtherVersion version)
+Advances old new (Err OtherDesign) = Keeps old new OtherDesign
+Advances old new (Err (Damaged place)) = Keeps old new (Damaged place)
+Advances old new (Err (Past place)) = Keeps old new (Past place)
+Advances old new (Err (Unlawful at)) = Keeps old new (Unlawful at)
+Advances old new (Err (Differs place)) = Keeps old new (Differs place)
+
+-- where it goes no further, these bytes lead to this state, and then comes the refusal, or all that came whole is done
+abbrev pub TellsEnd : Design → List ℕ → Result Advanced ReplicaError → World → Type 0
+TellsEnd d fed (Ok AnEvent) here = ⊤
+TellsEnd d fed (Ok ASeal) here = ⊤
+TellsEnd d fed (Ok NotYet) here = Ends d fed None here
+TellsEnd d fed (Err Memory) here = ⊤
+TellsEnd d fed (Err NotJournal) here = Ends d fed (Some NotJournal) here
+TellsEnd d fed (Err (OtherVersion version)) here = Ends d fed (Some (OtherVersion version)) here
+TellsEnd d fed (Err OtherDesign) here = Ends d fed (Some OtherDesign) here
+TellsEnd d fed (Err (Damaged place)) here = Ends d fed (Some (Damaged place)) here
+TellsEnd d fed (Err (Past place)) here = Ends d fed (Some (Past place)) here
+TellsEnd d fed (Err (Unlawful at)) here = Ends d fed (Some (Unlawful at)) here
+TellsEnd d fed (Err (Differs place)) here = Ends d fed (Some (Differs place)) here
+
+-- what all calls of advance up to the end tell: NotYet, or the refusal
+abbrev pub told_last : Result (Unit {0}) ReplicaError → Result Advanced ReplicaError
+told_last (Ok done) = Ok NotYet
+told_last (Err error) = Err error

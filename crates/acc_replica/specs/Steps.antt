@@ -1,7 +1,6 @@
 -- What comes of the next item of a stream.
-use Rattle.std.specs.Prelude.{◌≡◌, ℕ, List, [], length, Option, Some, None, slice_get}
+use Rattle.std.specs.Prelude.{◌≡◌, length, Option, Some, None, slice_get}
 use Rattle.acc_base.specs.declared.designs.Design.{Design}
-use Rattle.acc_base.specs.declared.machines.Event.{Event as TheEvent}
 use Rattle.acc_base.specs.Machine.{World}
 use Rattle.acc_base.specs.Lawful.{IsLawful}
 use Rattle.acc_machine.specs.Running.{Running}
@@ -18,7 +17,7 @@ use Rattle.acc_replica.specs.declared.errors.Advanced.{Advanced}
 use Rattle.acc_replica.specs.declared.errors.Advanced.TheVariants.{Event as AnEvent, Seal as ASeal, NotYet}
 use Rattle.acc_replica.specs.declared.errors.ReplicaError.{ReplicaError}
 use Rattle.acc_replica.specs.declared.errors.ReplicaError.TheVariants.{NotJournal, OtherVersion, OtherDesign, Damaged, Past, Unlawful}
-use Rattle.acc_replica.specs.declared.errors.ReplicaError.TheVariants.{Differs, Memory}
+use Rattle.acc_replica.specs.declared.errors.ReplicaError.TheVariants.{Differs}
 
 -- a stream's fault, in a replica's words
 abbrev pub error_for : Fault → ReplicaError

@@ -11,7 +11,7 @@ ghost use Rattle.acc_wal.specs.declared.items.Item.{Item};
 ghost use Rattle.acc_stream.specs.Streams.{AreWhole};
 ghost use Rattle.acc_replica.specs.declared.errors.ReplicaError.{ReplicaError as TheError};
 ghost use Rattle.acc_replica.specs.declared.errors.ReplicaError.TheVariants.{Memory};
-ghost use Rattle.acc_replica.specs.Replicas.{Follows, Advances, IsFresh};
+ghost use Rattle.acc_replica.specs.Replicas.{Follows, Advances, TellsEnd, told_last, IsFresh};
 
 use crate::advancing::{Step, do_next};
 use crate::errors::{Advanced, ReplicaError};
@@ -38,11 +38,15 @@ pub struct Replica<'a, S: Store> {
 }
 
 impl<'a, S: Store> Model for Replica<'a, S> {
+    ghost use Rattle.std.specs.Prelude.{◌≢◌, Some};
+    ghost use Rattle.acc_replica.specs.declared.errors.ReplicaError.TheVariants.{Memory};
     ghost use Rattle.acc_replica.specs.Replicas.{Replicated};
 
     ghost Value = { Replicated };
 
     ghost view = { λ r. record { design = r.state.design; world = r.state.world; stream = r.stream; refused = r.refused } };
+
+    ghost invariant = { λ r. r.refused ≢ Some Memory };
 }
 
 impl<'a, S: Store> Replica<'a, S> {
@@ -92,7 +96,8 @@ impl<'a, S: Store> Replica<'a, S> {
     /// Behind such a refusal it answers the same for ever, whatever is fed. Behind `Memory` it may be called again.
     pub fn advance(&mut self) -> Result<Advanced, ReplicaError>
         ensures follows { (fed : List ℕ) → Follows fed self.old → Follows fed self.new }
-        ensures told { (fed : List ℕ) → Follows fed self.old → Advances fed self.old self.new result }
+        ensures told { Advances self.old self.new result }
+        ensures ends { (fed : List ℕ) → Follows fed self.old → TellsEnd self.old.design fed result self.old.world }
         ensures refused { (error : TheError) → self.old.refused ≡ Some error → (result ≡ Err error) × (self.new ≡ self.old) }
         ensures design { self.new.design ≡ self.old.design }
     {
@@ -110,6 +115,21 @@ impl<'a, S: Store> Replica<'a, S> {
                 Err(error)
             }
             Step::Lacks => Err(ReplicaError::Memory),
+        }
+    }
+
+    /// Advances until nothing more comes, or until it is refused.
+    pub fn advance_all(&mut self) -> Result<(), ReplicaError>
+        ensures follows { (fed : List ℕ) → Follows fed self.old → Follows fed self.new }
+        ensures ends { (fed : List ℕ) → Follows fed self.old → TellsEnd self.old.design fed (told_last result) self.new.world }
+        ensures refused { (error : TheError) → self.old.refused ≡ Some error → (result ≡ Err error) × (self.new ≡ self.old) }
+        ensures design { self.new.design ≡ self.old.design }
+    {
+        loop {
+            match self.advance()? {
+                Advanced::Event | Advanced::Seal => {}
+                Advanced::NotYet => return Ok(()),
+            }
         }
     }
 }

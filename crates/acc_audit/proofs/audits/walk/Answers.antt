@@ -2,7 +2,7 @@ use Rattle.std.proofs.Common.{◌≡◌, ◌+◌, ◌≤◌, length, arith, ap, 
 use Rattle.std.specs.Prelude.{Ok, Err}
 use Rattle.acc_base.specs.Machine.{World}
 use Rattle.acc_audit.specs.Events.{TellsEvent}
-use Rattle.acc_audit.proofs.Telling.{nothing_walked, walked_on, some_tells, error_tells, handed_on}
+use Rattle.acc_audit.proofs.Telling.{nothing_walked, walked_on, some_tells, error_tells, handed_on, clear_now}
 use Rattle.acc_audit.proofs.audits.walk.Goals as goal
 
 pub loop-place-init : goal.loop-place-init
@@ -50,3 +50,7 @@ returns-in_err-found g c =
     handed_on d c.args.events.now _ _ c.from_residual.ensures.1
     (error_tells d c.args.events.now i e e c.loop-place-test.true c.index-events-place.is w c.loop-place.invariant.walked after
     _ c.in_err-found.ensures.told)
+
+pub take_event-requires-clause-clear : goal.take_event-requires-clause-clear
+take_event-requires-clause-clear g c =
+    clear_now c.args.d.now c.args.events.now c.loop-place.place c.loop-place.machine.world c.loop-place.invariant.walked

@@ -3,6 +3,6 @@ use Rattle.acc_trial.specs.Trials.{CanTry}
 use Rattle.acc_audit.proofs.Formed.{always_asked}
 use Rattle.acc_audit.proofs.frames.always_complaint.Goals as goal
 
-pub first_complaint-requires-clause-can : goal.first_complaint-requires-clause-can
-first_complaint-requires-clause-can g c =
+pub clauses_complaint-requires-clause-can : goal.clauses_complaint-requires-clause-can
+clauses_complaint-requires-clause-can g c =
     subst (All CanTry) (sym c.as_slice.ensures) (always_asked c.args.d.now c.requires.formed).can

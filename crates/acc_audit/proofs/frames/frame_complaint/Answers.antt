@@ -4,17 +4,17 @@ use Rattle.acc_complaints.specs.Complaints.{IsShort}
 use Rattle.acc_audit.proofs.Formed.{frame_asked}
 use Rattle.acc_audit.proofs.frames.frame_complaint.Goals as goal
 
-pub first_complaint-requires-clause-can : goal.first_complaint-requires-clause-can
-first_complaint-requires-clause-can g c =
+pub clauses_complaint-requires-clause-can : goal.clauses_complaint-requires-clause-can
+clauses_complaint-requires-clause-can g c =
     subst (All CanTry) (sym c.clauses_at.ensures) (frame_asked c.args.d.now c.requires.formed c.args.frame.now c.requires.small).can
 
-pub first_complaint-requires-clause-short : goal.first_complaint-requires-clause-short
-first_complaint-requires-clause-short g c =
+pub clauses_complaint-requires-clause-short : goal.clauses_complaint-requires-clause-short
+clauses_complaint-requires-clause-short g c =
     subst (λ env. All (IsShort env) c.clauses_at.result.now) (sym (c.deref.ensures.value ∙ c.in_ok-values.ensures))
     (subst (All (IsShort _)) (sym c.clauses_at.ensures)
     (frame_asked c.args.d.now c.requires.formed c.args.frame.now c.requires.small).short)
 
-pub first_complaint-requires-clause-few : goal.first_complaint-requires-clause-few
-first_complaint-requires-clause-few g c =
+pub clauses_complaint-requires-clause-few : goal.clauses_complaint-requires-clause-few
+clauses_complaint-requires-clause-few g c =
     subst (λ cs. length cs < 2 ^ 32) (sym c.clauses_at.ensures)
     (frame_asked c.args.d.now c.requires.formed c.args.frame.now c.requires.small).few

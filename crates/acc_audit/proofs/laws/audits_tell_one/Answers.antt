@@ -1,4 +1,3 @@
-use Rattle.std.proofs.Common.{inl, inr}
 use Rattle.acc_audit.proofs.OneTelling.{one_telling}
 use Rattle.acc_audit.proofs.laws.audits_tell_one.Goals as goal
 

@@ -1,5 +1,6 @@
 use Rattle.std.proofs.Common.{inl, inr, ⊎_elim, sym, ◌∙◌}
 use Rattle.acc_cli.proofs.AuditLemmas.{tells_audit}
+use Rattle.acc_cli.proofs.FollowLemmas.{tells_following}
 use Rattle.acc_cli.proofs.CauseLemmas.{causes_of}
 use Rattle.acc_cli.proofs.PromiseLemmas.{promise_kept}
 use Rattle.acc_cli.proofs.BenchLemmas.{tells_bench, bench_promise}
@@ -85,6 +86,10 @@ returns-clause-benched g c mix is =
 
 pub returns-clause-audited : goal.returns-clause-audited
 returns-clause-audited g c is = rw c.code.ensures (tells_audit _ _ _ _ _ _ _ _ _ _ _ _ is c.answer_line-closed.ensures.answered)
+
+pub returns-clause-followed : goal.returns-clause-followed
+returns-clause-followed g c size is =
+    rw c.code.ensures (tells_following _ _ size _ _ _ _ _ _ _ _ _ _ is c.answer_line-closed.ensures.answered)
 
 pub returns-clause-bench_promise : goal.returns-clause-bench_promise
 returns-clause-bench_promise g c mix is =

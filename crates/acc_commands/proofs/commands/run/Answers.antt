@@ -1,7 +1,7 @@
 use Rattle.std.proofs.Common.{[], ◌∷◌, refl}
 use Rattle.std.proofs.lemmas.Result.{IfErr-weaker}
 use Rattle.acc_journal_commands.specs.Command.TheVariants as command
-use Rattle.acc_journal_commands.specs.Requests.{played_texts, certified_texts, audited_texts, scheduled_texts}
+use Rattle.acc_journal_commands.specs.Requests.{played_texts, certified_texts, audited_texts, followed_texts, scheduled_texts}
 use Rattle.acc_commands.specs.Means.{MeansOfFiles, MeansOverDisk, LeavesOf}
 use Rattle.acc_commands.proofs.InMemory.{ends_alone, ends_run, lacks_run, lacks_none}
 use Rattle.acc_commands.proofs.commands.run.Goals as goal
@@ -128,6 +128,18 @@ returns-in-Audit-clause-ends g c =
 pub returns-in-Audit-clause-lacking : goal.returns-in-Audit-clause-lacking
 returns-in-Audit-clause-lacking g c without =
     lacks_none c.unrun-in-Audit.result.answer _ _ c.unrun-in-Audit.ensures.none.0 c.unrun-in-Audit.ensures.none.1
+
+pub returns-in-Follow-clause-ends : goal.returns-in-Follow-clause-ends
+unfolding MeansOfFiles
+returns-in-Follow-clause-ends g c =
+    rw c.in-Follow.is
+    (ends_alone g.D.Disk.clock g.D.Disk.left_since g.D.Disk.told g.D.Disk.may_leave g.D.Disk.faults (command.Follow c.in-Follow.size) []
+    (followed_texts c.in-Follow.files) refl c.args.disk _ c.unrun-in-Follow.ensures.disk c.follow_files.result _
+    c.unrun-in-Follow.ensures.answer _ _ c.unrun-in-Follow.ensures.none.0 c.unrun-in-Follow.ensures.none.1 c.follow_files.ensures)
+
+pub returns-in-Follow-clause-lacking : goal.returns-in-Follow-clause-lacking
+returns-in-Follow-clause-lacking g c without =
+    lacks_none c.unrun-in-Follow.result.answer _ _ c.unrun-in-Follow.ensures.none.0 c.unrun-in-Follow.ensures.none.1
 
 pub returns-in-Init-clause-ends : goal.returns-in-Init-clause-ends
 unfolding MeansOverDisk LeavesOf

@@ -1,4 +1,3 @@
-use Rattle.std.proofs.Common.{◌≡◌}
 use Rattle.acc_replica.specs.Replicas.{Replicated}
 use Rattle.acc_replica.proofs.Next.{follows_fed}
 use Rattle.acc_replica.proofs.replicas.Replica.feed.Goals as goal

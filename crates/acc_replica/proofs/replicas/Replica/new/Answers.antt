@@ -1,4 +1,4 @@
-use Rattle.std.proofs.Common.{◌≡◌, ap, ◌∙◌}
+use Rattle.std.proofs.Common.{ap, ◌∙◌}
 use Rattle.acc_print.specs.Designs.{printed}
 use Rattle.acc_replica.proofs.Next.{follows_new}
 use Rattle.acc_replica.proofs.replicas.Replica.new.Goals as goal

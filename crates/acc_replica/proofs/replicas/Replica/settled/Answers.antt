@@ -1,4 +1,4 @@
-use Rattle.std.proofs.Common.{◌≡◌, length, ap, arith}
+use Rattle.std.proofs.Common.{length, ap, arith}
 use Rattle.acc_wal.specs.Items.{events_of}
 use Rattle.acc_replica.specs.Replicas.{Replicated}
 use Rattle.acc_replica.proofs.Counted.{count_all}
