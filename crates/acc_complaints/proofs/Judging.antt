@@ -1,6 +1,6 @@
 -- What a complaint about a clause tells of its truth, and what none tells.
-use Rattle.std.proofs.Common.{◌≡◌, ℕ, zero, suc, ◌+◌, ◌<◌, ◌≤◌, Bool, true, false, ◌||◌, List, [], ◌∷◌, ◌++◌, length, map, drop, get_or}
-use Rattle.std.proofs.Common.{Option, Some, None, All, refl, sym, ap, ◌∙◌, ℤ, subst, arith, slice_get, if◌then◌else◌, ◌^◌, ◌<ℤ◌}
+use Rattle.std.proofs.Common.{◌≡◌, ℕ, suc, ◌+◌, Bool, true, false, ◌||◌, List, [], ◌∷◌, ◌++◌, length, map, drop}
+use Rattle.std.proofs.Common.{Option, Some, None, refl, sym, ap, ◌∙◌, ℤ, subst, arith, slice_get, if◌then◌else◌, ◌^◌, ◌<ℤ◌}
 use Rattle.std.specs.Prelude.{nat_le}
 use Rattle.std.specs.List.{flat_map, list_any, AllByRecursion}
 use Rattle.std.specs.Ordering.{int_cmp, is_eq, MatchOrdering}
@@ -11,7 +11,7 @@ use Rattle.std.proofs.lemmas.Bool.{false≢true}
 use Rattle.std.proofs.lemmas.Option.{none-some, same_Some}
 use Rattle.acc_base.specs.declared.tables.Row.{Row}
 use Rattle.acc_base.specs.declared.forms.Clause.{Clause}
-use Rattle.acc_ranges.specs.Ranges.{same, IsRange, is_in_range}
+use Rattle.acc_ranges.specs.Ranges.{same, is_in_range}
 use Rattle.acc_trial.specs.declared.trials.Trial.{Trial}
 use Rattle.acc_trial.specs.declared.trials.Trial.TheVariants as trial
 use Rattle.acc_trial.specs.Trials.{trial_of, FailsAt, HoldsAt, TellsTruth}
@@ -19,7 +19,7 @@ use Rattle.acc_trial.proofs.Truths.{trial_tells}
 use Rattle.acc_complaints.specs.declared.searches.Complaint.{Complaint}
 use Rattle.acc_complaints.specs.declared.searches.Complaint.TheVariants.{False, Large}
 use Rattle.acc_complaints.specs.Tuples.{tuples}
-use Rattle.acc_complaints.specs.Complaints.{after_trial, first_bad, AreRanges, judged, Judges}
+use Rattle.acc_complaints.specs.Complaints.{after_trial, first_bad, Judges}
 use Rattle.acc_complaints.proofs.Counting.{cons_all}
 
 -- ---- what all tuples have

@@ -1,5 +1,5 @@
 -- One thing is wrong with a clause, or nothing; and of some clauses one is the first with which something is wrong.
-use Rattle.std.proofs.Common.{◌≡◌, ℕ, zero, suc, ◌+◌, ◌<◌, List, [], ◌∷◌, ◌++◌, length, Option, Some, None, All, refl, sym, ap, ◌∙◌, ℤ}
+use Rattle.std.proofs.Common.{◌≡◌, ℕ, zero, suc, ◌+◌, List, [], ◌∷◌, length, Option, Some, None, All, refl, sym, ap, ◌∙◌, ℤ}
 use Rattle.std.proofs.Common.{subst, arith, slice_get}
 use Rattle.std.specs.List.{AllByRecursion}
 use Rattle.std.proofs.lemmas.List.Elements.{recursion_from_All}
@@ -8,7 +8,7 @@ use Rattle.acc_base.specs.declared.tables.Row.{Row}
 use Rattle.acc_base.specs.declared.forms.Clause.{Clause}
 use Rattle.acc_ranges.proofs.OneRange.{one_range}
 use Rattle.acc_complaints.specs.declared.searches.Complaint.{Complaint}
-use Rattle.acc_complaints.specs.Complaints.{AreRanges, judged, Judges, IsFirst, IsFirstAt}
+use Rattle.acc_complaints.specs.Complaints.{judged, Judges, IsFirst, IsFirstAt}
 use Rattle.acc_complaints.proofs.OneFirst.{none_of_all, one_first}
 
 -- lists with the same items

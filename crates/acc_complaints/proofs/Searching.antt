@@ -1,6 +1,6 @@
 -- The search over tuples, range by range.
 use Rattle.std.proofs.Common.{◌≡◌, ℕ, ◌+◌, ◌≤◌, ◌<◌, List, [], ◌∷◌, ◌++◌, length, map, drop, get_or, Option, Some, None, refl, sym, ap, ◌∙◌, ℤ}
-use Rattle.std.proofs.Common.{append_assoc, subst, take, ◌-◌, arith, length-append, Bool, true, false, is_some}
+use Rattle.std.proofs.Common.{append_assoc, take, ◌-◌, arith, length-append, true, false, is_some}
 use Rattle.std.proofs.lemmas.Bool.{false≢true}
 use Rattle.std.specs.List.{flat_map}
 use Rattle.std.proofs.lemmas.List.{drop_all, map-append}
@@ -11,7 +11,6 @@ use Rattle.acc_trial.specs.declared.trials.Trial.TheVariants as trial
 use Rattle.acc_trial.specs.Trials.{trial_of}
 use Rattle.acc_trial.proofs.Loops.{one_more}
 use Rattle.acc_complaints.specs.declared.searches.Complaint.{Complaint}
-use Rattle.acc_complaints.specs.declared.searches.Complaint.TheVariants.{False, Large}
 use Rattle.acc_complaints.specs.Tuples.{tuples}
 use Rattle.acc_complaints.specs.Complaints.{after_trial, first_bad}
 use Rattle.acc_complaints.proofs.Counting.{cons_all}

@@ -1,5 +1,5 @@
 -- A clause with which nothing was wrong before some writes, and that reads no table that they change, stays so.
-use Rattle.std.proofs.Common.{◌≡◌, ℕ, ◌+◌, ◌==◌, Bool, true, false, ◌&&◌, ◌||◌, List, [], ◌∷◌, ◌++◌, length, map, drop, refl, sym, ap, ◌∙◌, Option, Some, None, ℤ}
+use Rattle.std.proofs.Common.{◌≡◌, ℕ, ◌+◌, ◌==◌, Bool, false, ◌&&◌, ◌||◌, List, [], ◌∷◌, ◌++◌, length, map, drop, refl, sym, ap, ◌∙◌, Option, Some, None, ℤ}
 use Rattle.std.proofs.Common.{slice_get, if◌then◌else◌, subst}
 use Rattle.std.specs.Prelude.{nat_le}
 use Rattle.std.specs.List.{list_any, AllByRecursion}
@@ -15,16 +15,15 @@ use Rattle.acc_formed.specs.Widths.{is_variable}
 use Rattle.acc_store.specs.declared.writes.Write.{Write}
 use Rattle.acc_store.specs.Rows.{written}
 use Rattle.acc_index_store.specs.Indexes.{place_written}
-use Rattle.acc_ranges.specs.Ranges.{same, is_part, parts_have, key_gives, table_gives, term_gives, rel_gives, clause_gives, is_in_range, IsRange}
-use Rattle.acc_trial.specs.declared.trials.Trial.{Trial}
-use Rattle.acc_trial.specs.Trials.{trial_of}
+use Rattle.acc_ranges.specs.Ranges.{same, is_part, parts_have, key_gives, table_gives, term_gives, rel_gives, clause_gives, IsRange}
 use Rattle.acc_complaints.specs.declared.counts.TheConstants.{MOST_TUPLES}
 use Rattle.acc_complaints.specs.declared.searches.Complaint.{Complaint}
-use Rattle.acc_complaints.specs.declared.searches.Complaint.TheVariants.{False, Large}
+use Rattle.acc_complaints.specs.declared.searches.Complaint.TheVariants.{Large}
 use Rattle.acc_complaints.specs.Tuples.{tuples}
-use Rattle.acc_complaints.specs.Complaints.{after_trial, first_bad, AreRanges, judged, Judges}
+use Rattle.acc_complaints.specs.Complaints.{after_trial, first_bad, judged, Judges}
 use Rattle.acc_complaints.specs.Since.{is_written, term_reads, rel_reads, clause_reads, WasClear}
-use Rattle.acc_complaints.proofs.Unwritten.{none_weaker, same_any, trial_same, clause_unread}
+use Rattle.acc_ranges.proofs.Unnamed.{none_weaker, same_any}
+use Rattle.acc_complaints.proofs.Unwritten.{trial_same, clause_unread}
 
 module _ (ws : List Write) (before : List Row) where
   abbrev now : List Row

@@ -1,12 +1,16 @@
 -- The places of a store give what its rows have.
 use Rattle.std.proofs.Common.{◌≡◌, ℕ, ◌+◌, ◌<◌, ◌≤◌, ◌==◌, Bool, true, false, ◌&&◌, ◌||◌, List, [], ◌∷◌, ◌++◌, length, take, get_or, All, refl, sym, ap}
-use Rattle.std.proofs.Common.{◌∙◌, ℤ, subst}
+use Rattle.std.proofs.Common.{◌∙◌, ℤ, subst, Some, cond, map, arith, zero, suc}
 use Rattle.std.specs.Prelude.{slice_get, Result, Ok, Err, OnOk, OnErr}
 use Rattle.std.specs.List.{list_any, AllByRecursion}
-use Rattle.std.specs.Ordering.{is_eq, ordering_then}
+use Rattle.std.specs.Ordering.{int_cmp, is_eq, ordering_then}
 use Rattle.std.specs.declared.cmp.Ordering.{Ordering}
 use Rattle.std.specs.declared.cmp.Ordering.TheVariants.{Less, Equal, Greater}
-use Rattle.std.specs.BTreeMap.{is_at as is_at_key}
+use Rattle.std.specs.BTreeMap.{get, is_at as is_at_key}
+use Rattle.std.specs.Map.{lookup}
+use Rattle.std.specs.Prelude.{nat_le, count_by}
+use Rattle.std.proofs.lemmas.List.Sums.{sum_by-cons}
+use Rattle.std.proofs.lemmas.Bool.Decides.{nat_tests}
 use Rattle.std.specs.BTreeSet.{BTreeSet, contains, Updates}
 use Rattle.std.proofs.lemmas.List.{take_more, take_all}
 use Rattle.std.proofs.lemmas.Bool.{false≢true, and_parts}
@@ -19,8 +23,15 @@ use Rattle.acc_base.proofs.RowChanges.{put_all, drop_all}
 use Rattle.acc_store.specs.declared.writes.Write.{Write}
 use Rattle.acc_store.specs.declared.writes.Write.TheVariants.{Row as Puts, Gone}
 use Rattle.acc_store.specs.Rows.{write, written}
-use Rattle.acc_ranges.specs.Ranges.{is_part, has_part, parts_have}
-use Rattle.acc_ranges.specs.Keyed.{Covers, Grows, IsNoted, gives}
+use Rattle.acc_index_store.specs.Indexes.{place_written, names, are_naming}
+use Rattle.acc_index_store.proofs.Naming.{place_is, place_flip}
+use Rattle.std.proofs.lemmas.List.Folds.{list_any_more}
+use Rattle.acc_ranges.specs.Ranges.{same, is_part, has_part, parts_have}
+use Rattle.acc_ranges.specs.declared.noted.Noted.{Noted}
+use Rattle.acc_ranges.specs.Parts.{Values, counted, number, number_at, has_at}
+use Rattle.acc_ranges.specs.Keyed.{Covers, Grows, IsNoted, IsAllBut, AreWithin, Stands, IsExact, shows, still}
+use Rattle.acc_ranges.proofs.Tallying.{same_is}
+use Rattle.acc_ranges.proofs.Unnamed.{same_any}
 
 -- ---- tests of lists
 
@@ -78,46 +89,97 @@ at_has db t j q k part = any_weaker (is_at t k) (has_part t j q) db one
         and_true (r.table == t) (is_part q (slice_get r.key.parts j)) (eqb_self r.table t (sym (ap (λ p. p.0) same)))
         (ap (λ p. is_part q (slice_get p.1 j)) (sym same) ∙ part)
 
+-- one of some keys that passes a test
+any_there : (f : Place → Bool) (Q : Type 0) (ks : List Place) → ((p : Place) → f p ≡ true → list_any (λ k. is_eq (place_cmp p k)) ks ≡ true → Q) →
+    list_any f ks ≡ true → Q
+any_there f Q [] found h = absurd (false≢true h)
+any_there f Q (x ∷ xs) found h =
+    by (f x) refl h
+    (any_there f Q xs (λ p e at. found p e (or_right (is_eq (place_cmp p x)) (list_any (λ k. is_eq (place_cmp p k)) xs) at)))
+  where
+    by : (b : Bool) → f x ≡ b → (b || list_any f xs) ≡ true → (list_any f xs ≡ true → Q) → Q
+    by true e g ih = found x e (ap (λ b. b || list_any (λ k. is_eq (place_cmp x k)) xs) (place_self x))
+    by false e g ih = ih g
+
 module _ (db : List Row) (t j : ℕ) (q : ℤ) where
-  given : (p : Place) → gives db t j q p ≡ true → parts_have db t j q ≡ true
-  given p g =
-      let a = and_parts ((p.0 == t) && list_any (is_at t p.1) db) (is_part q (slice_get p.1 j)) g in
-      let b = and_parts (p.0 == t) (list_any (is_at t p.1) db) a.0 in
-      at_has db t j q p.1 a.1 b.1
+  given : (p : Place) → has_at t j q p ≡ true → list_any (is_at p.0 p.1) db ≡ true → parts_have db t j q ≡ true
+  given p h there =
+      let a = and_parts (p.0 == t) (is_part q (slice_get p.1 j)) h in
+      let table : p.0 ≡ t = (Decides-eqb p.0 t).0 a.0 in
+      at_has db t j q p.1 a.1 (subst (λ n. list_any (is_at n p.1) db ≡ true) table there)
 
-  -- the place of a row gives what the row has
-  of_row : (r : Row) (p : Place) → list_any (is_at r.table r.key.parts) db ≡ true → has_part t j q r ≡ true →
-      is_eq (place_cmp (place_of r) p) ≡ true → gives db t j q p ≡ true
-  of_row r p there has at =
-      let same : place_of r ≡ p = one_place (place_of r) p (is_equal (place_cmp (place_of r) p) at) in
-      let a = and_parts (r.table == t) (is_part q (slice_get r.key.parts j)) has in
-      let table : r.table ≡ t = (Decides-eqb r.table t).0 a.0 in
-      subst (λ x. gives db t j q x ≡ true) same
-      (and_true ((r.table == t) && list_any (is_at t r.key.parts) db) (is_part q (slice_get r.key.parts j))
-      (and_true (r.table == t) (list_any (is_at t r.key.parts) db) a.0
-      (subst (λ u. list_any (is_at u r.key.parts) db ≡ true) table there)) a.1)
+  -- the place of a row has what the row has
+  of_row : (r : Row) (p : Place) → has_part t j q r ≡ true → is_eq (place_cmp (place_of r) p) ≡ true → has_at t j q p ≡ true
+  of_row r p has at = ap (has_at t j q) (sym (one_place (place_of r) p (is_equal (place_cmp (place_of r) p) at))) ∙ has
 
-  kept : (places : BTreeSet Place) (sub : List Row) → Covers places sub →
-      ((p : Place) → list_any (is_at p.0 p.1) sub ≡ true → list_any (is_at p.0 p.1) db ≡ true) →
-      parts_have sub t j q ≡ true → list_any (gives db t j q) places.keys ≡ true
-  kept places [] covers inside h = absurd (false≢true h)
-  kept places (r ∷ rest) covers inside h =
-      by (has_part t j q r) refl h
-      (kept places rest covers.1 (λ p g. inside p (or_right (is_at p.0 p.1 r) (list_any (is_at p.0 p.1) rest) g)))
+  kept : (places : BTreeSet Place) (rows : List Row) → Covers places rows → parts_have rows t j q ≡ true →
+      list_any (has_at t j q) places.keys ≡ true
+  kept places [] covers h = absurd (false≢true h)
+  kept places (r ∷ rest) covers h = by (has_part t j q r) refl h (kept places rest covers.1)
     where
       by : (b : Bool) → has_part t j q r ≡ b → (b || parts_have rest t j q) ≡ true →
-          (parts_have rest t j q ≡ true → list_any (gives db t j q) places.keys ≡ true) →
-          list_any (gives db t j q) places.keys ≡ true
+          (parts_have rest t j q ≡ true → list_any (has_at t j q) places.keys ≡ true) →
+          list_any (has_at t j q) places.keys ≡ true
       by false e h ih = ih h
       by true e h ih =
-          let there = inside (place_of r) (ap (λ b. b || list_any (is_at r.table r.key.parts) rest) (place_self (place_of r))) in
-          any_weaker (λ p. is_eq (place_cmp (place_of r) p)) (gives db t j q) places.keys (λ p at. of_row r p there e at) covers.0
+          any_weaker (λ p. is_eq (place_cmp (place_of r) p)) (has_at t j q) places.keys (λ p at. of_row r p e at) covers.0
 
-  pub gives_all : (places : BTreeSet Place) → Covers places db → list_any (gives db t j q) places.keys ≡ parts_have db t j q
-  gives_all places covers =
-      both_ways (list_any (gives db t j q) places.keys) (parts_have db t j q)
-      (any_elim (gives db t j q) (parts_have db t j q ≡ true) places.keys given)
-      (kept places db covers (λ p h. h))
+  pub there_all : (places : BTreeSet Place) → Covers places db → ((p : Place) → Stands places db p) →
+      list_any (has_at t j q) places.keys ≡ parts_have db t j q
+  there_all places covers stand =
+      both_ways (list_any (has_at t j q) places.keys) (parts_have db t j q)
+      (any_there (has_at t j q) (parts_have db t j q ≡ true) places.keys (λ p h there. given p h (stand p there)))
+      (kept places db covers)
+
+-- some are counted exactly where one is there
+some_counted : (f : Place → Bool) (ks : List Place) → nat_le 1 (count_by f ks) ≡ list_any f ks
+some_counted f [] = refl
+some_counted f (x ∷ xs) = ap (nat_le 1) (sum_by-cons (λ y. cond (f y) 1 0) x xs) ∙ by (f x) (some_counted f xs)
+  where
+    by : (b : Bool) → nat_le 1 (count_by f xs) ≡ list_any f xs → nat_le 1 (cond b 1 0 + count_by f xs) ≡ (b || list_any f xs)
+    by true ih = grind (arith, nat_tests)
+    by false ih = ap (nat_le 1) (by_zero (count_by f xs)) ∙ ih
+      where
+        by_zero : (n : ℕ) → 0 + n ≡ n
+        by_zero n = omega arith
+
+-- what is told of a place of a table's keys
+pub told_all : (noted : Noted) (db : List Row) (t j : ℕ) (q : ℤ) → Covers noted.places db → IsExact noted db →
+    nat_le 1 (number_at noted.parts t j q) ≡ parts_have db t j q
+told_all noted db t j q covers exact =
+    ap (nat_le 1) (exact.counted t j q) ∙ some_counted (has_at t j q) noted.places.keys ∙ there_all db t j q noted.places covers exact.stand
+
+-- ---- the values that are counted
+
+same_flip : (x y : ℤ) → same x y ≡ true → same y x ≡ true
+same_flip x y h = let e = same_is x y h in subst (λ z. same z x ≡ true) e (subst (λ z. same x z ≡ true) (sym e) h)
+
+module _ (values : Values) (q : ℤ) where
+  shown : (es : List (ℤ × ℕ)) → AllByRecursion (λ e. get int_cmp values e.0 ≡ Some e.1) es → list_any (shows q) es ≡ true →
+      nat_le 1 (number values q) ≡ true
+  shown [] found h = absurd (false≢true h)
+  shown (e ∷ es) found h = by (shows q e) refl h (shown es found.1)
+    where
+      by : (b : Bool) → shows q e ≡ b → (b || list_any (shows q) es) ≡ true → (list_any (shows q) es ≡ true → nat_le 1 (number values q) ≡ true)
+          → nat_le 1 (number values q) ≡ true
+      by false s g ih = ih g
+      by true s g ih =
+          let parts = and_parts (nat_le 1 e.1) (same e.0 q) s in
+          ap (λ o. nat_le 1 (counted o)) (ap (get int_cmp values) (sym (same_is e.0 q parts.1)) ∙ found.0) ∙ parts.0
+
+  listed : (es : List (ℤ × ℕ)) → nat_le 1 (counted (lookup (λ k. is_eq (int_cmp q k)) es)) ≡ true → list_any (shows q) es ≡ true
+  listed [] h = absurd (false≢true h)
+  listed (e ∷ es) h = by (is_eq (int_cmp q e.0)) refl h (listed es)
+    where
+      by : (b : Bool) → is_eq (int_cmp q e.0) ≡ b → nat_le 1 (counted (cond b (Some e.1) (lookup (λ k. is_eq (int_cmp q k)) es))) ≡ true →
+          (nat_le 1 (counted (lookup (λ k. is_eq (int_cmp q k)) es)) ≡ true → list_any (shows q) es ≡ true) → list_any (shows q) (e ∷ es) ≡ true
+      by true s g ih = ap (λ b. b || list_any (shows q) es) (and_true (nat_le 1 e.1) (same e.0 q) g (same_flip q e.0 s))
+      by false s g ih = or_right (shows q e) (list_any (shows q) es) (ih g)
+
+  pub shown_all : All (λ e. get int_cmp values e.0 ≡ Some e.1) values.entries → list_any (shows q) values.entries ≡ nat_le 1 (number values q)
+  shown_all found =
+      both_ways (list_any (shows q) values.entries) (nat_le 1 (number values q))
+      (shown values.entries (recursion_from_All (λ e. get int_cmp values e.0 ≡ Some e.1) values.entries found)) (listed values.entries)
 
 -- ---- writes
 
@@ -166,6 +228,60 @@ noted_all a ws i past all = All-from_recursion (IsNoted a) ws (subst (AllByRecur
 pub grows_by : (old new : BTreeSet Place) (key : Place) → Updates place_cmp old new key true → Grows old new
 grows_by old new key u p h = u.0 p ∙ cond_true (is_at_key (place_cmp key) p) (contains place_cmp old p) h
 
+pub only_by : (old new : BTreeSet Place) (key : Place) → Updates place_cmp old new key true → IsAllBut key old new
+only_by old new key u p h = by (is_eq (place_cmp key p)) refl (sym (u.0 p) ∙ h)
+  where
+    by : (b : Bool) → is_eq (place_cmp key p) ≡ b → cond b true (contains place_cmp old p) ≡ true →
+        (contains place_cmp old p || is_eq (place_cmp p key)) ≡ true
+    by true e g = or_right (contains place_cmp old p) (is_eq (place_cmp p key)) (place_flip p key ∙ e)
+    by false e g = ap (λ b. b || is_eq (place_cmp p key)) g
+
+pub none_came : (places : BTreeSet Place) → AreWithin [] places places
+none_came places p h = ap (λ b. b || false) h
+
+either_of : (a b c : Bool) → ((a || b) || c) ≡ (a || (b || c))
+either_of true b c = refl
+either_of false b c = refl
+
+pub only_step : (old mid new : BTreeSet Place) (ws : List Write) (i : ℕ) (w : Write) → i < length ws → w ≡ get_or ws i w →
+    AreWithin (take i ws) old mid → IsAllBut (place_written w) mid new → AreWithin (take (i + 1) ws) old new
+only_step old mid new ws i w within here all one p h = by (contains place_cmp mid p) refl (one p h)
+  where
+    naming : are_naming (take (i + 1) ws) p ≡ (are_naming (take i ws) p || names p w)
+    naming = list_any_more (names p) ws i w within ∙ ap (λ x. are_naming (take i ws) p || names p x) (sym here)
+
+    whole : ((contains place_cmp old p || are_naming (take i ws) p) || names p w) ≡ (contains place_cmp old p || are_naming (take (i + 1) ws) p)
+    whole =
+        either_of (contains place_cmp old p) (are_naming (take i ws) p) (names p w) ∙ ap (λ b. contains place_cmp old p || b) (sym naming)
+
+    by : (b : Bool) → contains place_cmp mid p ≡ b → (b || names p w) ≡ true →
+        (contains place_cmp old p || are_naming (take (i + 1) ws) p) ≡ true
+    by true e g = sym whole ∙ ap (λ b. b || names p w) (all p e)
+    by false e g = sym whole ∙ or_right (contains place_cmp old p || are_naming (take i ws) p) (names p w) g
+
+any_past : (test : Write → Bool) (n : ℕ) (ws : List Write) → list_any test (take n ws) ≡ true → list_any test ws ≡ true
+any_past test zero ws h = absurd (false≢true h)
+any_past test (suc n) [] h = h
+any_past test (suc n) (w ∷ ws) h = by (test w) h (any_past test n ws)
+  where
+    by : (b : Bool) → (b || list_any test (take n ws)) ≡ true → (list_any test (take n ws) ≡ true → list_any test ws ≡ true) →
+        (b || list_any test ws) ≡ true
+    by true g ih = refl
+    by false g ih = ih g
+
+pub only_past : (old new : BTreeSet Place) (ws : List Write) (n : ℕ) → AreWithin (take n ws) old new → AreWithin ws old new
+only_past old new ws n within p h = by (contains place_cmp old p) (within p h)
+  where
+    by : (b : Bool) → (b || are_naming (take n ws) p) ≡ true → (b || are_naming ws p) ≡ true
+    by true g = refl
+    by false g = any_past (names p) n ws g
+
+-- ---- answers that may fail
+
+pub on_ok : {A E : Type 0} (P Q : Type 0) → (P → Q) → (r : Result A E) → OnOk r P → OnOk r Q
+on_ok P Q f (Ok x) h = f h
+on_ok P Q f (Err e) h = tt
+
 -- ---- places that are forgotten
 
 or_first : (a b : Bool) → (a || b) ≡ false → a ≡ false
@@ -184,3 +300,50 @@ covers_without a b p (r ∷ db) none u covers = (
   u.2 (place_of r) (or_first (is_at p.0 p.1 r) (list_any (is_at p.0 p.1) db) none) ∙ covers.0,
   covers_without a b p db (or_rest (is_at p.0 p.1 r) (list_any (is_at p.0 p.1) db) none) u covers.1,
 )
+
+-- ---- where no row but one that is noted stands
+
+or_one : (a b : Bool) → (a || b) ≡ true → b ≡ false → a ≡ true
+or_one true b h e = refl
+or_one false b h e = absurd (false≢true (sym e ∙ h))
+
+stands_named : (places : BTreeSet Place) (db : List Row) (ws : List Write) (p : Place) →
+    AllByRecursion (Stands places db) (map place_written ws) → are_naming ws p ≡ true → Stands places db p
+stands_named places db [] p all h = absurd (false≢true h)
+stands_named places db (w ∷ ws) p all h = by (names p w) refl h (stands_named places db ws p all.1)
+  where
+    by : (b : Bool) → names p w ≡ b → (b || are_naming ws p) ≡ true → (are_naming ws p ≡ true → Stands places db p) → Stands places db p
+    by false e g ih = ih g
+    by true e g ih = subst (Stands places db) (sym (place_is p (place_written w) e)) all.0
+
+-- a row stands at each place behind the writes
+pub stands_all : (ws : List Write) (db new : List Row) (old mid last : BTreeSet Place) → ((p : Place) → Stands old db p) →
+    AreWithin ws old mid → Grows last mid → All (Stands last new) (map place_written ws) → new ≡ written ws db → (p : Place) → Stands last new p
+stands_all ws db new old mid last stand within grows named is p there = by (are_naming ws p) refl
+  where
+    by : (b : Bool) → are_naming ws p ≡ b → list_any (is_at p.0 p.1) new ≡ true
+    by true e = stands_named last new ws p (recursion_from_All (Stands last new) (map place_written ws) named) e there
+    by false e =
+        ap (list_any (is_at p.0 p.1)) is ∙ same_any ws db (λ k. is_eq (place_cmp p k)) e
+        ∙ stand p (or_one (contains place_cmp old p) (are_naming ws p) (within p (grows p there)) e)
+
+stands_more : (a b : BTreeSet Place) (db : List Row) (p : Place) → Grows b a → (ps : List Place) → AllByRecursion (Stands a db) ps →
+    Stands b db p → AllByRecursion (Stands b db) (ps ++ p ∷ [])
+stands_more a b db p grows [] all one = (one, tt)
+stands_more a b db p grows (x ∷ ps) all one = (λ h. all.0 (grows x h), stands_more a b db p grows ps all.1 one)
+
+pub stands_step : (a b : BTreeSet Place) (db : List Row) (ps : List Place) (i : ℕ) (p : Place) → i < length ps → p ≡ get_or ps i p →
+    Grows b a → AllByRecursion (Stands a db) (take i ps) → Stands b db p → AllByRecursion (Stands b db) (take (i + 1) ps)
+stands_step a b db ps i p within here grows all one =
+    subst (AllByRecursion (Stands b db)) (sym (take_more ps i p within ∙ ap (λ x. take i ps ++ x ∷ []) (sym here)))
+    (stands_more a b db p grows (take i ps) all one)
+
+pub stands_past : (a : BTreeSet Place) (db : List Row) (ps : List Place) (i : ℕ) → length ps ≤ i → AllByRecursion (Stands a db) (take i ps) →
+    All (Stands a db) ps
+stands_past a db ps i past all = All-from_recursion (Stands a db) ps (subst (AllByRecursion (Stands a db)) (take_all i ps past) all)
+
+-- what is known where nothing failed
+pub settled : {A E : Type 0} (P Q : Type 0) (whole : Bool) (r : Result A E) → OnOk r P → OnOk r Q → still whole r ≡ true →
+    (whole ≡ true) × P × Q
+settled P Q whole (Ok x) p q h = (h, p, q)
+settled P Q whole (Err e) p q h = absurd (false≢true h)

@@ -1,4 +1,6 @@
 pub mod Adding
+pub mod Unnamed
+pub mod Tallying
 pub mod Giving
 pub mod KeyParts
 pub mod OneRange

@@ -1,119 +1,65 @@
 //! A store that knows the keys of its rows.
-ghost use Rattle.std.specs.Prelude.{◌≡◌, [], All, OnOk};
-ghost use Rattle.acc_ranges.specs.Keyed.{Covers, Grows, IsNoted, gives};
+ghost use Rattle.std.specs.Prelude.{◌≡◌, [], OnOk, nat_le};
 ghost use Rattle.acc_ranges.specs.Ranges.{Adds, parts_have};
+ghost use Rattle.acc_ranges.specs.Keyed.{shows, still};
+ghost use Rattle.acc_ranges.specs.Parts.{number};
 
-use crate::values::add_part;
-use acc_base::sequences::{Seq, copied};
+use crate::noted::{Noted, forget_all, note_all, nothing, places_named};
+use crate::parts::Values;
+use crate::values::add;
 use acc_base::tables::Plain;
 use acc_store::{Store, StoreError, Write};
 use std::alloc::{AllocError, Global};
 use std::collections::BTreeSet;
 use std::marker::Model;
 
-/// The table and the key of a row.
-type Place = (u32, Seq<i64>);
-
-/// Rows in a store, and the places where they stand. What the components of a table's keys are can be asked of it, in time that grows with
-/// the number of these places.
+/// Rows in a store, and the places where they stand, with how many of these have which value. What the components of a table's keys are
+/// can be asked of it, in time that grows with how many different ones there are.
 #[derive(Drop)]
 pub struct KeyedStore<S: Store> {
     alloc: Global,
     rows: S,
-    places: BTreeSet<Place>,
+    noted: Noted,
+    /// Whether what is noted is where rows stand; where memory ran out it may be more.
+    whole: bool,
 }
 
 impl<S: Store> Model for KeyedStore<S> {
-    ghost use Rattle.std.specs.Prelude.{List};
+    ghost use Rattle.std.specs.Prelude.{List, ◌≡◌, true};
     ghost use Rattle.acc_base.specs.declared.tables.Row.{Row};
-    ghost use Rattle.acc_ranges.specs.Keyed.{Covers};
+    ghost use Rattle.acc_ranges.specs.Keyed.{Covers, IsExact};
 
     ghost Value = { List Row };
 
     ghost view = { λ s. S.rows s.rows };
 
-    ghost invariant = { λ s. Covers s.places (S.rows s.rows) };
+    ghost invariant = { λ s. Covers s.noted.places (S.rows s.rows) × (s.whole ≡ true → IsExact s.noted (S.rows s.rows)) };
 }
 
-/// Notes where a write puts a row.
-fn note(places: &mut BTreeSet<Place>, write: &Write) -> Result<(), AllocError>
-    ensures grows { Grows places.old places.new }
-    ensures noted { OnOk result (IsNoted places.new write.now) }
+/// Adds a value that some keys have.
+fn add_counted(values: &mut BTreeSet<i64>, x: i64, n: u64) -> Result<(), AllocError>
+    ensures { OnOk result (Adds (λ q. shows q (x, n)) values.old values.new) }
 {
-    match write {
-        Write::Row(row) => {
-            let key = copied(&row.key.parts)?;
-            places.insert((row.table, key))?;
-            Ok(())
-        }
-        Write::Gone(_, _) => Ok(()),
-    }
+    if n > 0 { add(values, x) } else { Ok(()) }
 }
 
-/// Notes where writes put rows.
-fn note_all(places: &mut BTreeSet<Place>, writes: &[Write]) -> Result<(), AllocError>
-    ensures grows { Grows places.old places.new }
-    ensures noted { OnOk result (All (IsNoted places.new) writes.now) }
+/// Adds the values that keys have.
+fn add_values(values: &mut BTreeSet<i64>, counted: &Values) -> Result<(), AllocError>
+    ensures { OnOk result (Adds (λ q. nat_le 1 (number counted.now q)) values.old values.new) }
 {
-    for write in writes {
-        note(places, write)?;
+    for (x, n) in counted.iter() {
+        add_counted(values, *x, *n)?;
     }
     Ok(())
 }
 
-/// Adds the place of the row that a write drops, if it drops one.
-fn add_dropped(dropped: &mut Vec<Place>, write: &Write) -> Result<(), AllocError> {
-    match write {
-        Write::Gone(table, key) => {
-            let key = copied(&key.parts)?;
-            dropped.push((*table, key))?;
-            Ok(())
-        }
-        Write::Row(_) => Ok(()),
-    }
-}
-
-/// The places of the rows that writes drop.
-fn dropped_by(alloc: Global, writes: &[Write]) -> Result<Vec<Place>, AllocError> {
-    let mut dropped = Vec::new(alloc);
-    for write in writes {
-        add_dropped(&mut dropped, write)?;
-    }
-    Ok(dropped)
-}
-
-/// Forgets a place where no row stands.
-fn forget<S: Store>(places: &mut BTreeSet<Place>, rows: &S, place: &Place)
-    ensures { Covers places.old (S.rows rows.now) → Covers places.new (S.rows rows.now) }
+/// Whether what is noted was right, and what was forgotten of it didn't fail.
+fn still(whole: bool, settled: Result<(), AllocError>) -> bool
+    ensures { result ≡ still whole settled }
 {
-    if !rows.has(place.0, place.1.as_slice()) {
-        places.remove(place);
-    }
-}
-
-/// Forgets those of some places where no row stands.
-fn forget_all<S: Store>(places: &mut BTreeSet<Place>, rows: &S, dropped: &[Place])
-    ensures { Covers places.old (S.rows rows.now) → Covers places.new (S.rows rows.now) }
-{
-    for place in dropped {
-        forget(places, rows, place);
-    }
-}
-
-/// Adds the component at a place of a key, if there is a row of the table with that key.
-fn add_part_at<S: Store>(
-    rows: &S,
-    key: &Place,
-    table: u32,
-    place: usize,
-    values: &mut BTreeSet<i64>,
-) -> Result<(), AllocError>
-    ensures { OnOk result (Adds (λ q. gives (S.rows rows.now) table place q key.now) values.old values.new) }
-{
-    if key.0 == table && rows.has(table, key.1.as_slice()) {
-        add_part(values, key.1.as_slice(), place)
-    } else {
-        Ok(())
+    match settled {
+        Ok(()) => whole,
+        Err(_) => false,
     }
 }
 
@@ -126,11 +72,14 @@ impl<S: Store> KeyedStore<S> {
         KeyedStore {
             alloc,
             rows,
-            places: BTreeSet::new(alloc),
+            noted: nothing(alloc),
+            whole: true,
         }
     }
 
     /// Adds the component at a place, from 0, of each key of a table's rows.
+    ///
+    /// It fails for want of memory, and where memory ran out as rows were written.
     pub fn add_parts(
         &self,
         table: u32,
@@ -139,10 +88,13 @@ impl<S: Store> KeyedStore<S> {
     ) -> Result<(), AllocError>
         ensures { OnOk result (Adds (parts_have self.now table place) values.old values.new) }
     {
-        for key in &self.places {
-            add_part_at(&self.rows, key, table, place, values)?;
+        if !self.whole {
+            return Err(AllocError);
         }
-        Ok(())
+        match self.noted.parts.get(&(table, place)) {
+            Some(counted) => add_values(values, counted),
+            None => Ok(()),
+        }
     }
 }
 
@@ -178,10 +130,13 @@ impl<S: Store> Store for KeyedStore<S> {
     }
 
     fn apply(&mut self, writes: &[Write]) -> Result<(), StoreError> {
-        let dropped = dropped_by(self.alloc, writes)?;
-        note_all(&mut self.places, writes)?;
+        let places = places_named(self.alloc, writes)?;
+        let whole = self.whole;
+        self.whole = false;
+        note_all(&mut self.noted, self.alloc, writes)?;
         self.rows.apply(writes)?;
-        forget_all(&mut self.places, &self.rows, &dropped);
+        let settled = forget_all(&mut self.noted, self.alloc, &self.rows, &places);
+        self.whole = still(whole, settled);
         Ok(())
     }
 

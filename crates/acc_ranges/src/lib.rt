@@ -2,6 +2,8 @@
 #![tactic(auto)]
 
 pub mod keyed;
+mod noted;
+mod parts;
 pub mod ranges;
 mod values;
 

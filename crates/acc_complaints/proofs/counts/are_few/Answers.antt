@@ -1,6 +1,4 @@
-use Rattle.std.proofs.Common.{◌≡◌, ◌∙◌, ◌*◌, ◌^◌, ◌≤◌, ap, sym, length, arith, drop}
-use Rattle.std.specs.Prelude.{nat_le}
-use Rattle.acc_complaints.specs.Tuples.{tuples, capped}
+use Rattle.std.proofs.Common.{◌∙◌, ◌≤◌, length, arith}
 use Rattle.acc_complaints.proofs.Counting.{counted_more, few_counted}
 use Rattle.acc_complaints.proofs.counts.are_few.Goals as goal
 

@@ -1,24 +1,32 @@
-use Rattle.std.proofs.Common.{ap, ◌∙◌, ◌||◌}
-use Rattle.std.specs.Ordering.{int_cmp}
-use Rattle.std.specs.BTreeSet.{contains}
-use Rattle.acc_ranges.specs.Ranges.{parts_have}
-use Rattle.acc_ranges.specs.Keyed.{gives}
-use Rattle.acc_ranges.proofs.Adding.{walk_more, walk_end}
-use Rattle.acc_ranges.proofs.Giving.{gives_all}
+use Rattle.std.proofs.Common.{◌≡◌, ℤ, sym, ap, ◌∙◌}
+use Rattle.std.specs.Prelude.{nat_le, option_copied}
+use Rattle.acc_ranges.specs.Ranges.{Adds, parts_have}
+use Rattle.acc_ranges.specs.Parts.{number, number_in}
+use Rattle.acc_ranges.proofs.Adding.{adds_none, adds_like}
+use Rattle.acc_ranges.proofs.Giving.{on_ok, told_all}
 use Rattle.acc_ranges.proofs.keyed.KeyedStore.add_parts.Goals as goal
 
-pub loop-key-preserved : goal.loop-key-preserved
-loop-key-preserved g c = λ q.
-    walk_more (gives (g.S.Store.rows c.self.inside.rows) c.args.table c.args.place q) (contains int_cmp c.loop-key.values q)
-    (contains int_cmp c.add_part_at.new.values q) _ c.next.new.self c.loop-key.key-iterator (c.in_ok-add_part_at.ensures q)
-    c.in-Some.ensures.steps
-    ∙ c.loop-key.invariant q
-
-pub returns : goal.returns
-returns g c = λ q.
+pub returns-in-Some : goal.returns-in-Some
+returns-in-Some g c =
     let db = g.S.Store.rows c.self.inside.rows in
-    walk_end (gives db c.args.table c.args.place q) (contains int_cmp c.loop-key.values q) _ c.loop-key.key-iterator
-    c.in-None.ensures.steps.0 (c.loop-key.invariant q)
-    ∙ ap (λ b. contains int_cmp c.args.values.now q || b)
-    (gives_all db c.args.table c.args.place q c.self.inside.places c.self.invariant
-    ∙ ap (λ rows. parts_have rows c.args.table c.args.place q) c.self.view_is)
+    let t = c.args.table in
+    let j = c.args.place in
+    let counted = c.in-Some.counted.now in
+    let have : (q : ℤ) → nat_le 1 (number counted q) ≡ parts_have c.args.self.now t j q = λ q.
+    ap (λ o. nat_le 1 (number_in o q)) (sym (sym c.get.ensures.value ∙ ap option_copied c.in-Some.is))
+    ∙ told_all c.self.inside.noted db t j q c.self.invariant.0 (c.self.invariant.1 c.if-not-self.false)
+    ∙ ap (λ rows. parts_have rows t j q) c.self.view_is in
+    on_ok (Adds (λ q. nat_le 1 (number counted q)) c.args.values.now c.add_values.new.values) (Adds (parts_have c.args.self.now t j) c.args.values.now c.add_values.new.values)
+    (adds_like (λ q. nat_le 1 (number counted q)) (parts_have c.args.self.now t j) c.args.values.now c.add_values.new.values have)
+    c.add_values.result c.add_values.ensures
+
+pub returns-in-None : goal.returns-in-None
+returns-in-None g c =
+    let db = g.S.Store.rows c.self.inside.rows in
+    let t = c.args.table in
+    let j = c.args.place in
+    adds_none (parts_have c.args.self.now t j) c.args.values.now
+    (λ q.
+    sym (ap (λ o. nat_le 1 (number_in o q)) (ap option_copied (sym c.in-None.is) ∙ c.get.ensures.value)
+    ∙ told_all c.self.inside.noted db t j q c.self.invariant.0 (c.self.invariant.1 c.if-not-self.false)
+    ∙ ap (λ rows. parts_have rows t j q) c.self.view_is))
