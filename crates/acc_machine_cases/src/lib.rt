@@ -3,8 +3,8 @@
 //! `design TEXT` gives the design of the questions behind it, and `rename` gives its last type the name of its first. A number stands for a
 //! type, a point, a table or a column, from 0 on; a list has commas, and '-' is none. `long_script COUNT FIRST~PIECE~LAST` and `long_order
 //! PLACES COUNT FIRST~PIECE~LAST` ask about texts with a piece so many times. `indexed` asks what `events` does over a store that keeps the
-//! totals that the design's steps read. `oversold NUMBER SEATS FREE`, or `oversold -`, asks the test of the shipped booking design of the row of
-//! a flight, or of no row.
+//! totals that the design's steps read. `oversold NUMBER SEATS FREE`, or `oversold -`, asks the test of the shipped booking design of the
+//! row of a flight, or of no row.
 #![tactic(auto)]
 
 mod bookings;
