@@ -7,7 +7,7 @@ use Rattle.acc_base.specs.declared.rules.FormRule.{FormRule}
 use Rattle.acc_base.specs.declared.sequents.Sequent.{Sequent}
 use Rattle.acc_formed.specs.WellFormed.{IsWellFormed}
 use Rattle.acc_oblig.specs.Laws.{drafts_of, sequents_of}
-use Rattle.acc_path_rules.specs.Causes.{first_wide}
+use Rattle.acc_oblig_paths.specs.Causes.{first_wide}
 use Rattle.acc_axioms.specs.declared.nodes.Proof.{Proof}
 use Rattle.acc_axioms.specs.declared.nodes.Cert.{Cert}
 use Rattle.acc_proof.specs.Proofs.{Verdict, Proved, NotProved as IsNoProof, WideAt, verdict}

@@ -9,7 +9,7 @@ use Rattle.acc_form.specs.Faults.{form_faults, is_before}
 use Rattle.acc_formed.specs.WellFormed.{IsWellFormed}
 use Rattle.acc_form.proofs.Placed.{faulty_of_least}
 use Rattle.acc_oblig.specs.Laws.{drafts_of, sequents_of}
-use Rattle.acc_path_rules.specs.Causes.{first_wide}
+use Rattle.acc_oblig_paths.specs.Causes.{first_wide}
 use Rattle.acc_axioms.specs.declared.nodes.Cert.{Cert}
 use Rattle.acc_accept.specs.declared.refusals.Refusal.{Refusal}
 use Rattle.acc_accept.specs.declared.refusals.Refusal.TheVariants.{Form, ObligWide, Missing, ProofWide, NotProved, Memory}

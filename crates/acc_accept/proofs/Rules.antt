@@ -9,10 +9,10 @@ use Rattle.acc_oblig.specs.PathPromises.{promise_drafts, always_drafts, there_dr
 use Rattle.acc_oblig.specs.Spares.{all_spare_drafts}
 use Rattle.acc_oblig.specs.PointRules.{begin_drafts, variant_drafts, clear_drafts}
 use Rattle.acc_oblig.specs.Ranges.{range_drafts}
-use Rattle.acc_path_rules.specs.ObligError.{ObligError}
-use Rattle.acc_path_rules.specs.ObligError.TheVariants.{Wide, Memory}
-use Rattle.acc_path_rules.specs.Causes.{Adds}
-use Rattle.acc_path_rules.proofs.Going.{Going, going_all, going_on, going_off}
+use Rattle.acc_oblig_paths.specs.ObligError.{ObligError}
+use Rattle.acc_oblig_paths.specs.ObligError.TheVariants.{Wide, Memory}
+use Rattle.acc_oblig_paths.specs.Causes.{Adds}
+use Rattle.acc_oblig_paths.proofs.Going.{Going, going_all, going_on, going_off}
 
 -- the obligations of the rules from one on
 abbrev pub from_clears : Design → List Draft

@@ -8,9 +8,9 @@ use Rattle.acc_form.specs.Faults.{IsFirstFault}
 use Rattle.acc_form.specs.Judged.{IsFaultInPrint}
 use Rattle.acc_formed.specs.WellFormed.{IsWellFormed}
 use Rattle.acc_oblig.specs.Laws.{drafts_of, sequents_of}
-use Rattle.acc_path_rules.specs.Causes.{first_wide}
-use Rattle.acc_path_rules.specs.ObligError.{ObligError}
-use Rattle.acc_path_rules.specs.ObligError.TheVariants as oblig_error
+use Rattle.acc_oblig_paths.specs.Causes.{first_wide}
+use Rattle.acc_oblig_paths.specs.ObligError.{ObligError}
+use Rattle.acc_oblig_paths.specs.ObligError.TheVariants as oblig_error
 use Rattle.acc_axioms.specs.declared.nodes.Proof.{Proof}
 use Rattle.acc_axioms.specs.declared.nodes.Cert.{Cert}
 use Rattle.acc_proof.specs.Proofs.{Verdict, Proved, NotProved as IsNoProof, WideAt, verdict}

@@ -1,4 +1,4 @@
-pub use Rattle.acc_path_rules.specs.Causes
+pub use Rattle.acc_oblig_paths.specs.Causes
 pub mod Obligations
 pub mod Accepting
 pub mod Laws

@@ -3,9 +3,9 @@ use Rattle.std.specs.Prelude.{◌≡◌, List, Some, None, Result, Ok, Err, ⊤}
 use Rattle.acc_base.specs.declared.designs.Design.{Design}
 use Rattle.acc_base.specs.declared.sequents.Sequent.{Sequent}
 use Rattle.acc_oblig.specs.Laws.{drafts_of, sequents_of}
-use Rattle.acc_path_rules.specs.Causes.{first_wide}
-use Rattle.acc_path_rules.specs.ObligError.{ObligError}
-use Rattle.acc_path_rules.specs.ObligError.TheVariants.{Wide, Memory}
+use Rattle.acc_oblig_paths.specs.Causes.{first_wide}
+use Rattle.acc_oblig_paths.specs.ObligError.{ObligError}
+use Rattle.acc_oblig_paths.specs.ObligError.TheVariants.{Wide, Memory}
 
 -- these are all, and no number of one is too large; or the first with such a number comes from there; want of memory says nothing
 abbrev pub AreObligations : Design → Result (List Sequent) ObligError → Type 0

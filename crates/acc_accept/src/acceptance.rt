@@ -52,7 +52,7 @@ fn prove_all(
 }
 
 /// Whether the obligations of a well-formed design are proved.
-#[tactic(auto, using(acc_places::proofs::ManyEntries::formed_but_entries))]
+#[tactic(auto, using(acc_oblig_places::proofs::ManyEntries::formed_but_entries))]
 fn judge_proofs(alloc: Global, d: &Design, certificate: &Cert) -> Result<(), Refusal>
     requires { IsWellFormed d.now }
     ensures { Judges d.now certificate.now result }

@@ -6,7 +6,7 @@ pub mod laws;
 mod listing;
 mod refusals;
 
-pub use acc_path_rules::ObligError;
+pub use acc_oblig_paths::ObligError;
 pub use acceptance::accept;
 pub use laws::{none_is_both, refused_for_one_reason};
 pub use listing::obligations;

@@ -1,22 +1,22 @@
 //! The obligations of a design.
-ghost use Rattle.acc_places.specs.ManyEntries.{IsFormedButEntries};
+ghost use Rattle.acc_oblig_places.specs.ManyEntries.{IsFormedButEntries};
 ghost use Rattle.acc_oblig.specs.Laws.{drafts_of};
-ghost use Rattle.acc_path_rules.specs.Causes.{Adds};
+ghost use Rattle.acc_oblig_paths.specs.Causes.{Adds};
 ghost use Rattle.acc_accept.specs.Obligations.{AreObligations};
 
 use acc_base::designs::Design;
 use acc_base::sequences::Seq;
 use acc_base::sequents::Sequent;
-use acc_path_rules::ObligError;
-use acc_path_rules::always::add_always;
-use acc_path_rules::promises::add_promises;
-use acc_path_rules::spares::add_spares;
-use acc_path_rules::there::add_there;
-use acc_point_rules::begins::add_begins;
-use acc_point_rules::clears::add_clears;
-use acc_point_rules::empty::add_empty;
-use acc_point_rules::variants::add_variants;
-use acc_range_rules::ranges::add_ranges;
+use acc_oblig_paths::ObligError;
+use acc_oblig_paths::always::add_always;
+use acc_oblig_paths::promises::add_promises;
+use acc_oblig_paths::spares::add_spares;
+use acc_oblig_paths::there::add_there;
+use acc_oblig_points::begins::add_begins;
+use acc_oblig_points::clears::add_clears;
+use acc_oblig_points::empty::add_empty;
+use acc_oblig_points::variants::add_variants;
+use acc_oblig_ranges::ranges::add_ranges;
 use std::alloc::Global;
 
 /// Adds the obligations of a design, rule by rule.

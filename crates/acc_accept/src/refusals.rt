@@ -5,7 +5,7 @@ ghost use Rattle.acc_accept.specs.Accepting.{refusal_of};
 
 use acc_base::rules::FormRule;
 use acc_base::sequents::Origin;
-use acc_path_rules::ObligError;
+use acc_oblig_paths::ObligError;
 use std::alloc::AllocError;
 
 /// Why a design isn't accepted with a certificate.

@@ -17,12 +17,12 @@ use Rattle.acc_formed.specs.Entries.{same_point, same_side}
 use Rattle.acc_oblig.specs.Drafts.{Draft, each, of_some, path_origin, setting_of}
 use Rattle.acc_oblig.specs.PathPromises.{clause_names}
 use Rattle.acc_oblig.specs.Spares.{is_for, entry_for, by_entry}
-use Rattle.acc_places.specs.ManyEntries.{with_entries}
-use Rattle.acc_places.specs.Rooms.{IsSmallDesign, IsSmallPoint, IsSmallPointPlace, IsSmallStep, IsSmallType}
-use Rattle.acc_places.specs.SeenPlaces.{point_place}
-use Rattle.acc_places.specs.DesignPlaces.{PointPlace}
-use Rattle.acc_places.proofs.ManyEntries.{formed_but_entries}
-use Rattle.acc_places.proofs.Small.{design_small}
+use Rattle.acc_oblig_places.specs.ManyEntries.{with_entries}
+use Rattle.acc_oblig_places.specs.Rooms.{IsSmallDesign, IsSmallPoint, IsSmallPointPlace, IsSmallStep, IsSmallType}
+use Rattle.acc_oblig_places.specs.SeenPlaces.{point_place}
+use Rattle.acc_oblig_places.specs.DesignPlaces.{PointPlace}
+use Rattle.acc_oblig_places.proofs.ManyEntries.{formed_but_entries}
+use Rattle.acc_oblig_places.proofs.Small.{design_small}
 use Rattle.acc_advise.specs.declared.advice.Question.{Question}
 use Rattle.acc_advise.specs.declared.spares.Case.{Case}
 use Rattle.acc_advise.specs.TriedDesigns.{put_entry, keyed, point_in, point_place_at, spares_of, spares_in, free_drafts}

@@ -10,10 +10,10 @@ use Rattle.acc_base.specs.declared.designs.Entry.{Entry}
 use Rattle.acc_base.specs.declared.sequents.Origin.{Origin}
 use Rattle.acc_base.specs.declared.sequents.Sequent.{Sequent}
 use Rattle.acc_axioms.specs.declared.nodes.Proof.{Proof}
-use Rattle.acc_goals.specs.Causes.{sequents, first_wide}
+use Rattle.acc_oblig_goals.specs.Causes.{sequents, first_wide}
 use Rattle.acc_preconditions.proofs.Alls.{all-append}
-use Rattle.acc_places.specs.ManyEntries.{with_entries}
-use Rattle.acc_places.specs.Rooms.{HasFewLocals, IsSmallEntry}
+use Rattle.acc_oblig_places.specs.ManyEntries.{with_entries}
+use Rattle.acc_oblig_places.specs.Rooms.{HasFewLocals, IsSmallEntry}
 use Rattle.acc_advise.specs.declared.advice.AdviseError.{AdviseError}
 use Rattle.acc_advise.specs.declared.advice.AdviseError.TheVariants.{Wide}
 use Rattle.acc_advise.specs.declared.advice.Beyond.{Beyond}

@@ -23,7 +23,7 @@ use Rattle.acc_oblig.specs.PointRules.{begin_drafts}
 use Rattle.acc_oblig.specs.Spares.{is_for, entry_for, by_entry, spare_at, held_drafts, all_spare_drafts}
 use Rattle.acc_oblig.specs.Laws.{drafts_of}
 use Rattle.acc_oblig.proofs.Listed.{all_front, all_back, each_at, path_at}
-use Rattle.acc_places.specs.ManyEntries.{with_entries}
+use Rattle.acc_oblig_places.specs.ManyEntries.{with_entries}
 use Rattle.acc_advise.specs.declared.advice.Question.{Question}
 use Rattle.acc_advise.specs.TriedDesigns.{keyed, put_entry}
 use Rattle.acc_advise.specs.Laws.{IsAsked, LeavesOthers}

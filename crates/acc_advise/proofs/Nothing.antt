@@ -14,11 +14,11 @@ use Rattle.acc_axioms.specs.declared.nodes.Proof.{Proof}
 use Rattle.acc_oblig.specs.Drafts.{Draft, each_from, of_some, path_origin, setting_of}
 use Rattle.acc_oblig.specs.PathPromises.{clause_names}
 use Rattle.acc_oblig.specs.Spares.{by_entry}
-use Rattle.acc_goals.specs.Causes.{sequents, first_wide}
-use Rattle.acc_places.specs.declared.places.PointPlace.{PointPlace as HeldPoint}
-use Rattle.acc_places.specs.ManyEntries.{with_entries}
-use Rattle.acc_places.specs.SeenPlaces.{point_place}
-use Rattle.acc_places.specs.DesignPlaces.{PointPlace}
+use Rattle.acc_oblig_goals.specs.Causes.{sequents, first_wide}
+use Rattle.acc_oblig_places.specs.declared.places.PointPlace.{PointPlace as HeldPoint}
+use Rattle.acc_oblig_places.specs.ManyEntries.{with_entries}
+use Rattle.acc_oblig_places.specs.SeenPlaces.{point_place}
+use Rattle.acc_oblig_places.specs.DesignPlaces.{PointPlace}
 use Rattle.acc_advise.specs.declared.advice.Advice.TheVariants.{Free, Keyed}
 use Rattle.acc_advise.specs.declared.advice.AdviseError.{AdviseError}
 use Rattle.acc_advise.specs.declared.advice.Beyond.{Beyond}

@@ -27,7 +27,7 @@ use Rattle.acc_oblig.specs.Drafts.{Draft, Place, is_clause_wide, goals_of, each_
 use Rattle.acc_oblig.specs.PathPromises.{clause_names}
 use Rattle.acc_oblig.specs.Spares.{entry_for, held_names, ordered_drafts, spare_drafts, by_entry, pairs_differ, spare_at, held_drafts, all_spare_drafts}
 use Rattle.acc_oblig.proofs.Listed.{each_at, path_at}
-use Rattle.acc_places.specs.DesignPlaces.{PointPlace}
+use Rattle.acc_oblig_places.specs.DesignPlaces.{PointPlace}
 use Rattle.acc_advise.specs.declared.advice.Question.{Question}
 use Rattle.acc_advise.specs.TriedDesigns.{point_in, point_place_at, clause_spares, spares_of, spares_in}
 use Rattle.acc_advise.specs.Laws.{IsAsked}

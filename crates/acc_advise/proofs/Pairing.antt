@@ -10,9 +10,9 @@ use Rattle.acc_base.specs.declared.designs.TxType.{TxType}
 use Rattle.acc_formed.specs.Entries.{pair_stays}
 use Rattle.acc_preconditions.proofs.Alls.{all-append}
 use Rattle.acc_oblig.specs.Drafts.{each_from, each, of_some}
-use Rattle.acc_places.specs.Rooms.{HasFewLocals}
-use Rattle.acc_places.specs.SeenPlaces.{point_place}
-use Rattle.acc_places.specs.DesignPlaces.{PointPlace}
+use Rattle.acc_oblig_places.specs.Rooms.{HasFewLocals}
+use Rattle.acc_oblig_places.specs.SeenPlaces.{point_place}
+use Rattle.acc_oblig_places.specs.DesignPlaces.{PointPlace}
 use Rattle.acc_advise.specs.declared.advice.Question.{Question}
 use Rattle.acc_advise.specs.declared.spares.Case.{Case}
 use Rattle.acc_advise.specs.TriedDesigns.{keyed, point_place_at}

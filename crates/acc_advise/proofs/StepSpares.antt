@@ -7,7 +7,7 @@ use Rattle.acc_base.specs.declared.designs.Side.{Side}
 use Rattle.acc_base.specs.declared.designs.Design.{Design}
 use Rattle.acc_oblig.specs.Drafts.{Draft}
 use Rattle.acc_oblig.specs.Spares.{spare_at}
-use Rattle.acc_places.specs.DesignPlaces.{PointPlace}
+use Rattle.acc_oblig_places.specs.DesignPlaces.{PointPlace}
 
 abbrev pub path_spares : Design → Side → PointPlace → PointPlace → Step → ℕ → Clause → ℕ → Path → List Draft
 path_spares d side h s step k c j path =

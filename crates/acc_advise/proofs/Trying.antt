@@ -15,12 +15,12 @@ use Rattle.acc_prover.specs.declared.found.Found.{Found}
 use Rattle.acc_prover.specs.declared.found.Found.TheVariants.{Proved, Unproved}
 use Rattle.acc_prover.specs.declared.found.SearchError.{SearchError}
 use Rattle.acc_prover.specs.declared.found.SearchError.TheVariants.{Crowded, Wide, Many, Memory}
-use Rattle.acc_prove.specs.declared.findings.Finding.{Finding}
-use Rattle.acc_prove.specs.Lines.{searched}
-use Rattle.acc_prove.specs.Founds.{found_proofs}
-use Rattle.acc_prove.specs.Findings.{AreFindings, HasEnded, finding_proofs}
+use Rattle.acc_cert_prove.specs.declared.findings.Finding.{Finding}
+use Rattle.acc_cert_prove.specs.Lines.{searched}
+use Rattle.acc_cert_prove.specs.Founds.{found_proofs}
+use Rattle.acc_cert_prove.specs.Findings.{AreFindings, HasEnded, finding_proofs}
 use Rattle.acc_oblig.specs.Drafts.{Draft}
-use Rattle.acc_goals.specs.Causes.{sequents, first_wide}
+use Rattle.acc_oblig_goals.specs.Causes.{sequents, first_wide}
 use Rattle.acc_advise.specs.declared.advice.Beyond.{Beyond}
 use Rattle.acc_advise.specs.declared.advice.Question.{Question}
 use Rattle.acc_advise.specs.declared.advice.Why.{Why}

@@ -21,7 +21,7 @@ use Rattle.acc_oblig.specs.Settings.{Setting, step_vars, frame_bounds, step_boun
 use Rattle.acc_oblig.specs.Drafts.{Draft, is_clause_wide, each_from, goals_of, path_origin, setting_of}
 use Rattle.acc_oblig.specs.PathPromises.{clause_names}
 use Rattle.acc_oblig.specs.Spares.{ordered_drafts, held_names, spare_drafts, pairs_differ, by_entry}
-use Rattle.acc_goals.specs.Causes.{first_wide}
+use Rattle.acc_oblig_goals.specs.Causes.{first_wide}
 use Rattle.acc_advise.specs.declared.advice.Question.{Question}
 use Rattle.acc_advise.specs.TriedDesigns.{keyed, free_drafts, keyed_drafts}
 use Rattle.acc_advise.proofs.Entering.{all_points, spares_by, finds_own, keyed_is, free_is}

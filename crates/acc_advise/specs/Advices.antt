@@ -3,7 +3,7 @@ use Rattle.std.specs.Prelude.{◌≡◌, ◌⊎◌, ◌<◌, ℕ, zero, suc, Lis
 use Rattle.acc_base.specs.declared.designs.At.{At}
 use Rattle.acc_base.specs.declared.designs.Side.{Side}
 use Rattle.acc_base.specs.declared.designs.Design.{Design}
-use Rattle.acc_goals.specs.Causes.{sequents, first_wide}
+use Rattle.acc_oblig_goals.specs.Causes.{sequents, first_wide}
 use Rattle.acc_advise.specs.declared.advice.Advice.{Advice}
 use Rattle.acc_advise.specs.declared.advice.Advice.TheVariants.{Free, Keyed}
 use Rattle.acc_advise.specs.declared.advice.AdviseError.{AdviseError}

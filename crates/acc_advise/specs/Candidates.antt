@@ -5,7 +5,7 @@ use Rattle.acc_base.specs.declared.designs.TxType.{TxType}
 use Rattle.acc_base.specs.declared.designs.Design.{Design}
 use Rattle.acc_formed.specs.Entries.{pair_stays}
 use Rattle.acc_oblig.specs.Drafts.{each, of_some}
-use Rattle.acc_places.specs.DesignPlaces.{PointPlace}
+use Rattle.acc_oblig_places.specs.DesignPlaces.{PointPlace}
 use Rattle.acc_advise.specs.declared.advice.Question.{Question}
 use Rattle.acc_advise.specs.TriedDesigns.{keyed, point_place_at}
 

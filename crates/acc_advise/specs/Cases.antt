@@ -4,8 +4,8 @@ use Rattle.acc_base.specs.declared.sequents.Sequent.{Sequent}
 use Rattle.acc_base.specs.Effects.{step_at}
 use Rattle.acc_formed.specs.WellFormed.{IsWellFormed}
 use Rattle.acc_oblig.specs.Drafts.{Draft}
-use Rattle.acc_goals.specs.Causes.{sequents, first_wide}
-use Rattle.acc_places.specs.SeenPlaces.{point_place}
+use Rattle.acc_oblig_goals.specs.Causes.{sequents, first_wide}
+use Rattle.acc_oblig_places.specs.SeenPlaces.{point_place}
 use Rattle.acc_advise.specs.declared.advice.AdviseError.{AdviseError}
 use Rattle.acc_advise.specs.declared.advice.AdviseError.TheVariants.{Wide, Memory}
 use Rattle.acc_advise.specs.declared.spares.Case.{Case}

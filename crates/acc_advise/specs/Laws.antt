@@ -5,7 +5,7 @@ use Rattle.acc_base.specs.declared.designs.Design.{Design}
 use Rattle.acc_base.specs.declared.sequents.Origin.{Origin}
 use Rattle.acc_base.specs.declared.sequents.Rule.TheVariants.{Spares}
 use Rattle.acc_oblig.specs.Laws.{drafts_of}
-use Rattle.acc_goals.specs.Causes.{first_wide}
+use Rattle.acc_oblig_goals.specs.Causes.{first_wide}
 use Rattle.acc_advise.specs.declared.advice.Beyond.{Beyond}
 use Rattle.acc_advise.specs.declared.advice.Question.{Question}
 use Rattle.acc_advise.specs.Advices.{IsBeyond, IsEnough}

@@ -1,7 +1,7 @@
 -- What one try does to a set of pairs, and what the passes lead to.
 use Rattle.std.specs.Prelude.{◌≡◌, ◌⊎◌, ◌≤◌, ℕ, List, [], ◌∷◌, ◌++◌, length, map, take}
 use Rattle.std.specs.List.{AllByRecursion}
-use Rattle.acc_goals.specs.Causes.{sequents}
+use Rattle.acc_oblig_goals.specs.Causes.{sequents}
 use Rattle.acc_advise.specs.declared.advice.Beyond.{Beyond}
 use Rattle.acc_advise.specs.declared.passes.Grown.{Grown}
 use Rattle.acc_advise.specs.declared.passes.Tried.{Tried}

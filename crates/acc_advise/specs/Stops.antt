@@ -14,9 +14,9 @@ use Rattle.acc_prover.specs.declared.found.Found.{Found}
 use Rattle.acc_prover.specs.declared.found.Found.TheVariants.{Proved, Unproved}
 use Rattle.acc_prover.specs.declared.found.SearchError.{SearchError}
 use Rattle.acc_prover.specs.declared.found.SearchError.TheVariants as error
-use Rattle.acc_prove.specs.Lines.{searched}
-use Rattle.acc_prove.specs.declared.findings.Finding.{Finding}
-use Rattle.acc_prove.specs.Findings.{HasEnded, finding_proofs}
+use Rattle.acc_cert_prove.specs.Lines.{searched}
+use Rattle.acc_cert_prove.specs.declared.findings.Finding.{Finding}
+use Rattle.acc_cert_prove.specs.Findings.{HasEnded, finding_proofs}
 use Rattle.acc_advise.specs.declared.advice.Why.{Why}
 use Rattle.acc_advise.specs.declared.advice.Why.TheVariants.{Open, Crowded, Wide, Many}
 use Rattle.acc_advise.specs.declared.trials.Trial.{Trial}

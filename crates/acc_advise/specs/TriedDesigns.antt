@@ -11,8 +11,8 @@ use Rattle.acc_base.specs.declared.designs.Design.{Design}
 use Rattle.acc_base.specs.Effects.{step_at}
 use Rattle.acc_oblig.specs.Drafts.{Draft, each, of_some, step_paths}
 use Rattle.acc_oblig.specs.Spares.{is_for, spare_at}
-use Rattle.acc_places.specs.ManyEntries.{with_entries}
-use Rattle.acc_places.specs.DesignPlaces.{PointPlace}
+use Rattle.acc_oblig_places.specs.ManyEntries.{with_entries}
+use Rattle.acc_oblig_places.specs.DesignPlaces.{PointPlace}
 use Rattle.acc_advise.specs.declared.advice.Question.{Question}
 
 -- ---- designs

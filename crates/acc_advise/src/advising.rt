@@ -1,8 +1,8 @@
 //! Which entry is advised.
 ghost use Rattle.std.specs.Prelude.{◌≡◌, Some, None};
 ghost use Rattle.acc_formed.specs.WellFormed.{IsWellFormed};
-ghost use Rattle.acc_goals.specs.Causes.{first_wide, sequents};
-ghost use Rattle.acc_places.specs.SeenPlaces.{point_place};
+ghost use Rattle.acc_oblig_goals.specs.Causes.{first_wide, sequents};
+ghost use Rattle.acc_oblig_places.specs.SeenPlaces.{point_place};
 ghost use Rattle.acc_advise.specs.TriedDesigns.{free_drafts, point_place_at};
 ghost use Rattle.acc_advise.specs.Advices.{Advises, asked};
 ghost use Rattle.acc_advise.specs.Cases.{IsCase, TriesAll};
@@ -15,8 +15,8 @@ use crate::spares::{Case, Taken, place_at};
 use crate::trials::{Trial, tried};
 use acc_base::designs::{At, Design, Side};
 use acc_base::sequences::Seq;
-use acc_places::places::PointPlace;
-use acc_prove::Searchers;
+use acc_cert_prove::Searchers;
+use acc_oblig_places::places::PointPlace;
 use std::alloc::Global;
 
 /// The entry whose pairs can't be made more, where the step needs one.

@@ -5,7 +5,7 @@ ghost use Rattle.std.specs.Str.{bytes_eq};
 ghost use Rattle.acc_base.specs.declared.bounds.TheConstants.{MOST_LOCALS};
 ghost use Rattle.acc_formed.specs.Entries.{undos_keep};
 ghost use Rattle.acc_oblig.specs.Drafts.{each};
-ghost use Rattle.acc_places.specs.Rooms.{HasFewLocals};
+ghost use Rattle.acc_oblig_places.specs.Rooms.{HasFewLocals};
 ghost use Rattle.acc_advise.specs.Candidates.{candidates, pair_of, pairs_in};
 ghost use Rattle.acc_advise.specs.Cases.{IsCase};
 

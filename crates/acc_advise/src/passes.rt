@@ -1,8 +1,8 @@
 //! Passes over pairs, each of which adds those with which all is proved.
 ghost use Rattle.std.specs.Prelude.{◌≡◌, ◌++◌, ◌∷◌, [], None, IfOk, OnOk};
 ghost use Rattle.std.specs.List.{AllByRecursion};
-ghost use Rattle.acc_goals.specs.Causes.{first_wide};
-ghost use Rattle.acc_places.specs.Rooms.{HasFewLocals};
+ghost use Rattle.acc_oblig_goals.specs.Causes.{first_wide};
+ghost use Rattle.acc_oblig_places.specs.Rooms.{HasFewLocals};
 ghost use Rattle.acc_advise.specs.TriedDesigns.{free_drafts, keyed};
 ghost use Rattle.acc_advise.specs.Cases.{IsCase};
 ghost use Rattle.acc_advise.specs.Steps.{HasPassed, IsKnown, IsSettled, Steps, Tells, reasons, tried_pairs};
@@ -13,7 +13,7 @@ use crate::trials::{Trial, tried};
 use acc_axioms::nodes::Proof;
 use acc_base::designs::Entry;
 use acc_base::sequences::{Seq, copied};
-use acc_prove::Searchers;
+use acc_cert_prove::Searchers;
 use std::alloc::{AllocError, Global};
 
 /// A set of pairs with which all is proved, and the proofs.

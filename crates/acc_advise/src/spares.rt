@@ -1,9 +1,9 @@
 //! The obligations that a step spares what is asserted at a held point.
 ghost use Rattle.std.specs.Prelude.{◌≡◌, ◌+◌, ◌<◌, ◌^◌, [], All, option_map};
-ghost use Rattle.acc_goals.specs.Causes.{Adds};
-ghost use Rattle.acc_places.specs.ManyEntries.{with_entries};
-ghost use Rattle.acc_places.specs.Rooms.{HasFewVars, IsSmallDesign, IsSmallEntry, IsSmallPointPlace, IsSmallStep};
-ghost use Rattle.acc_places.specs.SeenPlaces.{point_place};
+ghost use Rattle.acc_oblig_goals.specs.Causes.{Adds};
+ghost use Rattle.acc_oblig_places.specs.ManyEntries.{with_entries};
+ghost use Rattle.acc_oblig_places.specs.Rooms.{HasFewVars, IsSmallDesign, IsSmallEntry, IsSmallPointPlace, IsSmallStep};
+ghost use Rattle.acc_oblig_places.specs.SeenPlaces.{point_place};
 ghost use Rattle.acc_advise.specs.TriedDesigns.{clause_spares, point_in, point_place_at, spares_in, spares_of};
 ghost use Rattle.acc_advise.specs.Cases.{IsCase, Makes};
 
@@ -13,8 +13,8 @@ use acc_base::forms::Clause;
 use acc_base::sequences::Seq;
 use acc_base::sequents::Sequent;
 use acc_base::steps::Step;
-use acc_path_rules::{ObligError, add_spare_among};
-use acc_places::places::{PathPlace, PointPlace};
+use acc_oblig_paths::{ObligError, add_spare_among};
+use acc_oblig_places::places::{PathPlace, PointPlace};
 use std::alloc::Global;
 
 /// A step that is taken, and where.

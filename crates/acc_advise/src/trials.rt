@@ -2,10 +2,10 @@
 ghost use Rattle.std.specs.Prelude.{◌≡◌, ◌++◌, All, IfErr, IfOk, OnOk};
 ghost use Rattle.std.specs.List.{AllByRecursion};
 ghost use Rattle.acc_formed.specs.WellFormed.{IsWellFormed};
-ghost use Rattle.acc_places.specs.ManyEntries.{with_entries};
-ghost use Rattle.acc_places.specs.Rooms.{IsSmallEntry};
-ghost use Rattle.acc_prove.specs.Findings.{HasEnded, finding_proofs};
-ghost use Rattle.acc_prove.specs.Founds.{found_proofs};
+ghost use Rattle.acc_oblig_places.specs.ManyEntries.{with_entries};
+ghost use Rattle.acc_oblig_places.specs.Rooms.{IsSmallEntry};
+ghost use Rattle.acc_cert_prove.specs.Findings.{HasEnded, finding_proofs};
+ghost use Rattle.acc_cert_prove.specs.Founds.{found_proofs};
 ghost use Rattle.acc_advise.specs.TriedDesigns.{spares_in};
 ghost use Rattle.acc_advise.specs.Stops.{first_stop, later_stop, stop_of, Ends, Tries};
 ghost use Rattle.acc_advise.specs.Cases.{IsCase, IsMemory, TriesAll};
@@ -16,7 +16,7 @@ use acc_axioms::nodes::Proof;
 use acc_base::designs::{Design, Entry};
 use acc_base::sequences::Seq;
 use acc_base::sequents::{Origin, Sequent};
-use acc_prove::{Finding, Found, SearchError, Searchers};
+use acc_cert_prove::{Finding, Found, SearchError, Searchers};
 use std::alloc::{AllocError, Global};
 
 /// What comes of obligations that are to be proved.

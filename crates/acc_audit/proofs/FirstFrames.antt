@@ -7,9 +7,9 @@ use Rattle.acc_base.specs.declared.designs.Design.{Design}
 use Rattle.acc_base.specs.declared.machines.Event.{Event}
 use Rattle.acc_base.specs.declared.machines.Frame.{Frame}
 use Rattle.acc_base.specs.Machine.{World, unfinished, after_event}
-use Rattle.acc_complaints.specs.declared.searches.Complaint.{Complaint}
-use Rattle.acc_complaints.specs.declared.searches.Complaint.TheVariants.{False, Large}
-use Rattle.acc_complaints.proofs.Firsts.{around}
+use Rattle.acc_audit_complaints.specs.declared.searches.Complaint.{Complaint}
+use Rattle.acc_audit_complaints.specs.declared.searches.Complaint.TheVariants.{False, Large}
+use Rattle.acc_audit_complaints.proofs.Firsts.{around}
 use Rattle.acc_audit.specs.Audits.{Found, IsFirstOf, IsFirstFrame, IsFirstIn}
 use Rattle.acc_audit.specs.Events.{told, TellsEvent}
 

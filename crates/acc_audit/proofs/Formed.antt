@@ -32,8 +32,8 @@ use Rattle.acc_formed.proofs.InRange.{design_range, TypeInRange, PointInRange}
 use Rattle.acc_formed.proofs.Runs.{IsTableSmall, table_is_small}
 use Rattle.acc_formed.proofs.Uses.{key_width, prefix_width}
 use Rattle.acc_lift.proofs.FormRules.{numbered_at}
-use Rattle.acc_trial.specs.Trials.{CanWeigh, CanMeet, CanTry}
-use Rattle.acc_complaints.specs.Complaints.{IsShort}
+use Rattle.acc_audit_trial.specs.Trials.{CanWeigh, CanMeet, CanTry}
+use Rattle.acc_audit_complaints.specs.Complaints.{IsShort}
 
 no_items : {X : Type 0} (xs : List X) → length xs ≡ 0 → xs ≡ []
 no_items [] h = refl

@@ -15,7 +15,7 @@ use Rattle.acc_base.specs.Numbers.{IsSmall}
 use Rattle.acc_base.specs.Machine.{World, start, after_event, after_events, world}
 use Rattle.acc_base.proofs.EffectParts.{GoesBy, parts}
 use Rattle.acc_lift.proofs.Kept.{rows_keyed}
-use Rattle.acc_trial.specs.Trials.{AreKeyed}
+use Rattle.acc_audit_trial.specs.Trials.{AreKeyed}
 use Rattle.acc_audit.proofs.EventRows.{EffectHas, begin_has, step_has, abort_has, undo_has}
 
 goes : (d : Design) (db : List Row) → AreKeyed db → (f : Frame) (side : Side) → EffectHas d db AreKeyed f side

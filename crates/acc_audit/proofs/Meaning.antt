@@ -15,11 +15,11 @@ use Rattle.acc_base.specs.Linear.{variables}
 use Rattle.acc_base.specs.Machine.{World, unfinished, world, start, after_events, after_event}
 use Rattle.acc_base.specs.Truth.{ClauseTrue}
 use Rattle.acc_base.proofs.Items.{at_slice_get}
-use Rattle.acc_trial.specs.Trials.{FailsAt, HoldsAt}
-use Rattle.acc_complaints.specs.declared.searches.Complaint.{Complaint}
-use Rattle.acc_complaints.specs.declared.searches.Complaint.TheVariants.{False, Large}
-use Rattle.acc_complaints.specs.Complaints.{Judges, IsFirst, IsFirstAt}
-use Rattle.acc_complaints.proofs.Judging.{Fails, false_shown, none_false}
+use Rattle.acc_audit_trial.specs.Trials.{FailsAt, HoldsAt}
+use Rattle.acc_audit_complaints.specs.declared.searches.Complaint.{Complaint}
+use Rattle.acc_audit_complaints.specs.declared.searches.Complaint.TheVariants.{False, Large}
+use Rattle.acc_audit_complaints.specs.Complaints.{Judges, IsFirst, IsFirstAt}
+use Rattle.acc_audit_complaints.proofs.Judging.{Fails, false_shown, none_false}
 use Rattle.acc_audit.specs.Audits.{Found, IsFirstOf, IsFirstFrame, IsClear, IsFirstAlways, IsFirstBehind, Complains, IsClearAt, IsClearTo}
 use Rattle.acc_audit.specs.Audits.{IsFoundAt, IsNoRunAt, IsAsserted, ShowsFalse, AreInRanges, NeverFalse}
 use Rattle.acc_audit.specs.Audits.IsAsserted.{always, of_frame}

@@ -14,11 +14,11 @@ use Rattle.acc_base.specs.Assertions.{clauses_of}
 use Rattle.acc_base.specs.Effects.{point_of}
 use Rattle.acc_base.specs.Linear.{variables}
 use Rattle.acc_base.specs.Machine.{World, unfinished, world}
-use Rattle.acc_complaints.specs.declared.searches.Complaint.{Complaint}
-use Rattle.acc_complaints.specs.declared.searches.Complaint.TheVariants as complaint
-use Rattle.acc_complaints.specs.Complaints.{IsFirst}
-use Rattle.acc_complaints.proofs.OneFirst.{none_of_all, one_first}
-use Rattle.acc_complaints.proofs.OneComplaint.{one_first_of}
+use Rattle.acc_audit_complaints.specs.declared.searches.Complaint.{Complaint}
+use Rattle.acc_audit_complaints.specs.declared.searches.Complaint.TheVariants as complaint
+use Rattle.acc_audit_complaints.specs.Complaints.{IsFirst}
+use Rattle.acc_audit_complaints.proofs.OneFirst.{none_of_all, one_first}
+use Rattle.acc_audit_complaints.proofs.OneComplaint.{one_first_of}
 use Rattle.acc_audit.specs.declared.steps.Finding.{Finding}
 use Rattle.acc_audit.specs.declared.steps.Finding.TheVariants as finding
 use Rattle.acc_audit.specs.declared.steps.AuditError.{AuditError}

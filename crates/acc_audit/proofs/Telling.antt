@@ -9,7 +9,7 @@ use Rattle.acc_base.specs.declared.designs.Design.{Design}
 use Rattle.acc_base.specs.declared.machines.Event.{Event}
 use Rattle.acc_base.specs.Machine.{World, unfinished, start, world, after_event}
 use Rattle.acc_plain.proofs.Runs.{after_events-one}
-use Rattle.acc_complaints.specs.declared.searches.Complaint.TheVariants as complaint
+use Rattle.acc_audit_complaints.specs.declared.searches.Complaint.TheVariants as complaint
 use Rattle.acc_audit.specs.declared.steps.Finding.{Finding}
 use Rattle.acc_audit.specs.declared.steps.Finding.TheVariants as finding
 use Rattle.acc_audit.specs.declared.steps.AuditError.{AuditError}

@@ -13,11 +13,11 @@ use Rattle.acc_base.specs.Linear.{variables}
 use Rattle.acc_base.specs.Machine.{World, unfinished, world}
 use Rattle.acc_base.specs.Soundness.{IsSound}
 use Rattle.acc_base.specs.Truth.{ClauseTrue}
-use Rattle.acc_ranges.specs.Ranges.{is_in_range}
-use Rattle.acc_trial.specs.Trials.{HoldsAt, FailsAt}
-use Rattle.acc_complaints.specs.declared.searches.Complaint.{Complaint}
-use Rattle.acc_complaints.specs.declared.searches.Complaint.TheVariants as complaint
-use Rattle.acc_complaints.specs.Complaints.{Judges, IsFirst, IsFirstAt}
+use Rattle.acc_audit_ranges.specs.Ranges.{is_in_range}
+use Rattle.acc_audit_trial.specs.Trials.{HoldsAt, FailsAt}
+use Rattle.acc_audit_complaints.specs.declared.searches.Complaint.{Complaint}
+use Rattle.acc_audit_complaints.specs.declared.searches.Complaint.TheVariants as complaint
+use Rattle.acc_audit_complaints.specs.Complaints.{Judges, IsFirst, IsFirstAt}
 use Rattle.acc_audit.specs.declared.steps.Finding.{Finding}
 use Rattle.acc_audit.specs.declared.steps.Finding.TheVariants as finding
 use Rattle.acc_audit.specs.declared.steps.AuditError.{AuditError}

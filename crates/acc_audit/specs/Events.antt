@@ -3,8 +3,8 @@ use Rattle.std.specs.Prelude.{◌≡◌, ⊤, ℕ, ◌+◌, Option, Some, None, 
 use Rattle.acc_base.specs.declared.designs.Design.{Design}
 use Rattle.acc_base.specs.declared.machines.Event.{Event}
 use Rattle.acc_base.specs.Machine.{World, unfinished, after_event}
-use Rattle.acc_complaints.specs.declared.searches.Complaint.{Complaint}
-use Rattle.acc_complaints.specs.declared.searches.Complaint.TheVariants as complaint
+use Rattle.acc_audit_complaints.specs.declared.searches.Complaint.{Complaint}
+use Rattle.acc_audit_complaints.specs.declared.searches.Complaint.TheVariants as complaint
 use Rattle.acc_audit.specs.declared.steps.Finding.{Finding}
 use Rattle.acc_audit.specs.declared.steps.Finding.TheVariants as finding
 use Rattle.acc_audit.specs.declared.steps.AuditError.{AuditError}

@@ -11,7 +11,7 @@ use Rattle.acc_base.specs.declared.machines.Event.TheVariants.{Begin, Step, Abor
 use Rattle.acc_base.specs.Effects.{Goes, effect_of}
 use Rattle.acc_base.specs.Machine.{World, unfinished, after_event}
 use Rattle.acc_base.specs.Reads.{Reading}
-use Rattle.acc_complaints.specs.Complaints.{IsFirst}
+use Rattle.acc_audit_complaints.specs.Complaints.{IsFirst}
 use Rattle.acc_store.specs.declared.writes.Write.{Write}
 use Rattle.acc_store.specs.Rows.{written}
 use Rattle.acc_audit.specs.declared.frames.Known.{Known}

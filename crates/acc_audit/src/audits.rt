@@ -5,11 +5,11 @@ ghost use Rattle.acc_formed.specs.WellFormed.{IsWellFormed};
 ghost use Rattle.acc_audit.specs.Audits.{Tells, TellsMeaning, IsKindToSound};
 
 use crate::steps::{AuditError, Finding, take_event};
+use acc_audit_ranges::KeyedStore;
 use acc_base::designs::Design;
 use acc_base::machines::Event;
 use acc_plain::Machine;
 use acc_progress::Progress;
-use acc_ranges::KeyedStore;
 use acc_store::{MapStore, Store};
 use std::alloc::Global;
 

@@ -5,17 +5,17 @@ ghost use Rattle.acc_base.specs.Effects.{point_of};
 ghost use Rattle.acc_base.specs.Linear.{variables};
 ghost use Rattle.acc_base.specs.Runnable.{IsSmallFrame};
 ghost use Rattle.acc_formed.specs.WellFormed.{IsWellFormed};
-ghost use Rattle.acc_trial.specs.Trials.{AreKeyed, CanTry};
-ghost use Rattle.acc_complaints.specs.Complaints.{IsFirst, IsShort};
-ghost use Rattle.acc_complaints.specs.Since.{WasClear};
+ghost use Rattle.acc_audit_trial.specs.Trials.{AreKeyed, CanTry};
+ghost use Rattle.acc_audit_complaints.specs.Complaints.{IsFirst, IsShort};
+ghost use Rattle.acc_audit_complaints.specs.Since.{WasClear};
 ghost use Rattle.acc_audit.specs.Audits.{IsFirstAmong, IsFirstIn};
 ghost use Rattle.acc_audit.specs.Since.{IsKnown, writes_in, writes_for};
 
+use acc_audit_complaints::{Complaint, first_complaint, first_complaint_since};
+use acc_audit_ranges::KeyedStore;
 use acc_base::designs::Design;
 use acc_base::forms::Clause;
 use acc_base::machines::Frame;
-use acc_complaints::{Complaint, first_complaint, first_complaint_since};
-use acc_ranges::KeyedStore;
 use acc_store::{Store, Write};
 use std::alloc::{AllocError, Global};
 

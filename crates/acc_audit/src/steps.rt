@@ -9,12 +9,12 @@ ghost use Rattle.acc_base.specs.Machine.{unfinished};
 
 use crate::frames::{Known, state_complaint};
 use crate::writes::{moved_by, writes_of};
+use acc_audit_complaints::Complaint;
+use acc_audit_ranges::KeyedStore;
 use acc_base::designs::Design;
 use acc_base::machines::{Event, Frame};
 use acc_base::sequences::Seq;
-use acc_complaints::Complaint;
 use acc_plain::{Machine, PlainError};
-use acc_ranges::KeyedStore;
 use acc_store::{Store, Write};
 use std::alloc::{AllocError, Global};
 

@@ -1,14 +1,14 @@
 //! The cases by their verbs.
 use crate::kinds::{self, Kinds};
-use acc_case_answers::answers::{answer_at_once, answer_into};
-use acc_case_answers::designs::show;
-use acc_case_answers::faults::{shelf, sink};
-use acc_case_answers::folders::hold_files;
-use acc_case_answers::journals;
-use acc_case_answers::runs::{play_texts, sched_last, sched_texts};
-use acc_case_commands::texts::{self, first_word};
-use acc_case_commands::{memory, proofs};
-use acc_case_documents::documents;
+use acc_cases_answers::answers::{answer_at_once, answer_into};
+use acc_cases_answers::designs::show;
+use acc_cases_answers::faults::{shelf, sink};
+use acc_cases_answers::folders::hold_files;
+use acc_cases_answers::journals;
+use acc_cases_answers::runs::{play_texts, sched_last, sched_texts};
+use acc_cases_commands::texts::{self, first_word};
+use acc_cases_commands::{memory, proofs};
+use acc_cases_documents::documents;
 use acc_cli::{InTurn, acc};
 use acc_crew::Alone;
 use acc_io::{FolderShelf, StdSink};
@@ -175,7 +175,7 @@ fn answer_plain<R: Files<File = File> + Print + AllocGlobal>(
     match verb {
         "" | "#" => Ok(()),
         "document" => documents::tell(rt, rest),
-        "explain" => acc_case_explanations::tell(rt, base, rest),
+        "explain" => acc_cases_explanations::tell(rt, base, rest),
         _ => answer_words(rt, verb, rest),
     }
 }
@@ -198,7 +198,7 @@ fn answer_in_threads<R: Files<File = File> + Print + AllocGlobal, T: Threads + W
     line: &str,
 ) -> io::Result<()> {
     rt.println(line)?;
-    acc_thread_cases::tell(rt, threads, line)
+    acc_cases_threads::tell(rt, threads, line)
 }
 
 /// Prints a case, and what it answers.

@@ -1,10 +1,10 @@
 //! The kinds of cases of which no command line tells: the first word of a line is its kind, and a crate answers what stands behind it.
 use acc_base::designs::Design;
-use acc_case_commands::texts::first_word;
-use acc_disk_cases::Devices;
+use acc_cases_commands::texts::first_word;
+use acc_cases_disk::Devices;
+use acc_cases_searches::Told;
+use acc_cases_wal::Held;
 use acc_lift::Accepted;
-use acc_search_cases::Told;
-use acc_wal_cases::Held;
 use std::alloc::AllocError;
 use std::fs::File;
 use std::io;
@@ -55,10 +55,10 @@ fn answered<R: Files<File = File> + Print + AllocGlobal>(
 ) -> Result<String, AllocError> {
     let (kind, rest) = first_word(line);
     match kind {
-        "device" => acc_disk_cases::answer(rt, &mut kinds.devices, rest),
-        "journal" => acc_wal_cases::answer(rt, &mut kinds.held, rest),
-        "workload" => tpcc_gen_cases::answer(rt.alloc(), rest),
-        _ => acc_rel_cases::answer(rt.alloc(), rest),
+        "device" => acc_cases_disk::answer(rt, &mut kinds.devices, rest),
+        "journal" => acc_cases_wal::answer(rt, &mut kinds.held, rest),
+        "workload" => acc_cases_tpcc::answer(rt.alloc(), rest),
+        _ => acc_cases_relations::answer(rt.alloc(), rest),
     }
 }
 
@@ -70,9 +70,9 @@ fn answered_or_taken<R: AllocGlobal>(
 ) -> Result<Option<String>, AllocError> {
     let (kind, rest) = first_word(line);
     match kind {
-        "machine" => acc_machine_cases::answer(rt.alloc(), &mut kinds.design, rest),
-        "text" => acc_text_cases::answer(rt.alloc(), &mut kinds.base, rest),
-        _ => acc_search_cases::answer(rt.alloc(), &mut kinds.told, rest),
+        "machine" => acc_cases_machine::answer(rt.alloc(), &mut kinds.design, rest),
+        "text" => acc_cases_texts::answer(rt.alloc(), &mut kinds.base, rest),
+        _ => acc_cases_searches::answer(rt.alloc(), &mut kinds.told, rest),
     }
 }
 
@@ -84,9 +84,9 @@ fn answered_over<R: AllocGlobal>(
 ) -> Result<String, AllocError> {
     let (kind, rest) = first_word(line);
     match kind {
-        "state" => acc_state_cases::answer(rt.alloc(), accepted, rest),
-        "replica" => acc_replica_cases::answer(rt.alloc(), accepted, rest),
-        _ => acc_engine_cases::answer(rt.alloc(), accepted, rest),
+        "state" => acc_cases_states::answer(rt.alloc(), accepted, rest),
+        "replica" => acc_cases_replica::answer(rt.alloc(), accepted, rest),
+        _ => acc_cases_engine::answer(rt.alloc(), accepted, rest),
     }
 }
 
@@ -96,7 +96,7 @@ fn answered_or_accepted<R: Files<File = File> + AllocGlobal>(
     accepted: &mut Option<Accepted>,
     line: &str,
 ) -> io::Result<Option<String>> {
-    if acc_case_designs::take(rt, accepted, first_word(line).1)? {
+    if acc_cases_accepted::take(rt, accepted, first_word(line).1)? {
         return Ok(None);
     }
     match accepted {
@@ -140,6 +140,6 @@ pub fn tell_lines<R: Files<File = File> + Print + AllocGlobal>(
     rt: &R,
     line: &str,
 ) -> io::Result<()> {
-    let said = acc_design_cases::answer(rt, first_word(line).1)?;
+    let said = acc_cases_designs::answer(rt, first_word(line).1)?;
     print!(rt; "{line}\n{said}")
 }

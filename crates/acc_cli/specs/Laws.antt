@@ -4,7 +4,7 @@ use Rattle.acc_base.specs.declared.designs.Design.{Design}
 use Rattle.acc_base.specs.Lines.{line}
 use Rattle.acc_formed.specs.WellFormed.{IsWellFormed}
 use Rattle.acc_oblig.specs.Laws.{drafts_of, sequents_of}
-use Rattle.acc_goals.specs.Causes.{first_wide}
+use Rattle.acc_oblig_goals.specs.Causes.{first_wide}
 use Rattle.acc_commands.specs.Texts.{IsDesignText}
 use Rattle.acc_commands.specs.Admissions.{IsAcceptedWith}
 use Rattle.acc_commands.specs.Provings.{AllClose, IsCertified}

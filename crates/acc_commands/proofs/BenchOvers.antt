@@ -7,7 +7,7 @@ use Rattle.acc_base.specs.declared.designs.Design.{Design}
 use Rattle.acc_base.specs.declared.machines.Call.{Call}
 use Rattle.acc_base.specs.declared.machines.Event.{Event}
 use Rattle.acc_base.specs.Machine.{World}
-use Rattle.acc_file_commands.specs.BenchFiles.{order_of, SaysOfMix, SaysOfLoad, SaysOfTables, BenchesCertified, BenchesFiles}
+use Rattle.acc_commands_files.specs.BenchFiles.{order_of, SaysOfMix, SaysOfLoad, SaysOfTables, BenchesCertified, BenchesFiles}
 use Rattle.acc_bench.specs.Answers.{ending_by, bench_ending}
 use Rattle.acc_bench.specs.Benches.{ComesTo, Benches}
 use Rattle.acc_bench.specs.Conditions.{IsLowest, IsLowestFalse}
@@ -15,18 +15,18 @@ use Rattle.acc_bench.specs.declared.results.Benched.{Benched}
 use Rattle.acc_bench.specs.declared.results.FalseCondition.{FalseCondition}
 use Rattle.acc_bench.specs.declared.results.Loaded.{Loaded}
 use Rattle.acc_bench.specs.declared.results.Mixed.{Mixed}
-use Rattle.acc_file_commands.specs.Mix.{Mix}
-use Rattle.acc_file_commands.specs.Schedules.{TellsBegun}
-use Rattle.acc_file_commands.specs.Workloads.{load_said}
-use Rattle.acc_file_commands.proofs.OneBench.{not_consistent}
+use Rattle.acc_commands_files.specs.Mix.{Mix}
+use Rattle.acc_commands_files.specs.Schedules.{TellsBegun}
+use Rattle.acc_commands_files.specs.Workloads.{load_said}
+use Rattle.acc_commands_files.proofs.OneBench.{not_consistent}
 use Rattle.acc_journalled.specs.Conditions.{AreConsistent}
 use Rattle.acc_journalled.specs.declared.answers.Ending.{Ending}
 use Rattle.acc_journalled.specs.declared.answers.Ending.TheVariants.{Done, DesignRefused, ScriptRefused, Unbegun, ConditionFalse}
 use Rattle.acc_journalled.specs.Tellings.{Telling}
-use Rattle.acc_journal_commands.specs.Command.{Command}
-use Rattle.acc_journal_commands.specs.Command.TheVariants as command
-use Rattle.acc_journal_commands.specs.Text.{Said, said_in}
-use Rattle.acc_journal_commands.proofs.JournalEndings.{refusal_ends}
+use Rattle.acc_commands_journals.specs.Command.{Command}
+use Rattle.acc_commands_journals.specs.Command.TheVariants as command
+use Rattle.acc_commands_journals.specs.Text.{Said, said_in}
+use Rattle.acc_commands_journals.proofs.JournalEndings.{refusal_ends}
 use Rattle.acc_script.specs.CallLines.{IsScript}
 use Rattle.tpcc_tables.specs.Schema.{IsSchemaOf}
 use Rattle.tpcc_tables.specs.declared.tables.TableSet.{TableSet}

@@ -3,17 +3,17 @@ use Rattle.std.proofs.Common.{◌≡◌, ℕ, List, [], inl, inr, sym, subst, �
 use Rattle.std.proofs.lemmas.List.{append-nil}
 use Rattle.acc_base.specs.declared.designs.Design.{Design}
 use Rattle.acc_bench.specs.Benches.{Benches}
-use Rattle.acc_file_commands.specs.BenchFiles.{order_of, BenchesFiles}
-use Rattle.acc_file_commands.specs.Law.{KeepsConditions}
-use Rattle.acc_file_commands.specs.Mix.{Mix}
-use Rattle.acc_file_commands.specs.ShippedText.{shipped_design}
-use Rattle.acc_file_commands.proofs.Reading.{has_shipped}
-use Rattle.acc_file_commands.proofs.Theorem.{keeps}
+use Rattle.acc_commands_files.specs.BenchFiles.{order_of, BenchesFiles}
+use Rattle.acc_commands_files.specs.Law.{KeepsConditions}
+use Rattle.acc_commands_files.specs.Mix.{Mix}
+use Rattle.acc_commands_files.specs.ShippedText.{shipped_design}
+use Rattle.acc_commands_files.proofs.Reading.{has_shipped}
+use Rattle.acc_commands_files.proofs.Theorem.{keeps}
 use Rattle.acc_journalled.specs.declared.answers.Ending.TheVariants.{DesignRefused, ConditionFalse}
-use Rattle.acc_journal_commands.specs.Text.{Said}
-use Rattle.acc_journal_commands.specs.Texts.{IsDesignText}
-use Rattle.acc_journal_commands.proofs.JournalEndings.{refusal_ends}
-use Rattle.acc_journal_commands.proofs.OneDesign.{one_design}
+use Rattle.acc_commands_journals.specs.Text.{Said}
+use Rattle.acc_commands_journals.specs.Texts.{IsDesignText}
+use Rattle.acc_commands_journals.proofs.JournalEndings.{refusal_ends}
+use Rattle.acc_commands_journals.proofs.OneDesign.{one_design}
 use Rattle.tpcc_tables.specs.Conditions.{IsTrueOf}
 use Rattle.tpcc_tables.specs.declared.kinds.TheConstants.{CONDITIONS}
 use Rattle.acc_commands.specs.Laws.{ShippedBenchesTrue}

@@ -10,15 +10,15 @@ use Rattle.acc_journalled.specs.declared.answers.Ending.TheVariants.{Done, Desig
 use Rattle.acc_journalled.specs.Recovering.{Recovers, done_with}
 use Rattle.acc_journalled.specs.Tellings.{Telling}
 use Rattle.acc_journalled.proofs.Numbered.{recovered_steady}
-use Rattle.acc_journal_commands.specs.Admissions.{IsAcceptedWith}
-use Rattle.acc_journal_commands.specs.BookingFiles.{seats_text, say_seats, BooksSchema, BooksCertified, BooksFiles}
-use Rattle.acc_journal_commands.specs.Bookings.{IsBooking}
-use Rattle.acc_journal_commands.specs.Disks.{Seen}
-use Rattle.acc_journal_commands.specs.RecoverFiles.{RecoversSeen}
-use Rattle.acc_journal_commands.specs.Text.{said_in}
-use Rattle.acc_journal_commands.specs.Texts.{IsDesignText}
-use Rattle.acc_journal_commands.proofs.Booked.{shipped_by_text, shipped_never_oversells}
-use Rattle.acc_journal_commands.proofs.JournalEndings.{other_end, refusal_ends, untold_done}
+use Rattle.acc_commands_journals.specs.Admissions.{IsAcceptedWith}
+use Rattle.acc_commands_journals.specs.BookingFiles.{seats_text, say_seats, BooksSchema, BooksCertified, BooksFiles}
+use Rattle.acc_commands_journals.specs.Bookings.{IsBooking}
+use Rattle.acc_commands_journals.specs.Disks.{Seen}
+use Rattle.acc_commands_journals.specs.RecoverFiles.{RecoversSeen}
+use Rattle.acc_commands_journals.specs.Text.{said_in}
+use Rattle.acc_commands_journals.specs.Texts.{IsDesignText}
+use Rattle.acc_commands_journals.proofs.Booked.{shipped_by_text, shipped_never_oversells}
+use Rattle.acc_commands_journals.proofs.JournalEndings.{other_end, refusal_ends, untold_done}
 
 module _ (design certificate : List ℕ) (old new : Seen) (t : Telling) (done : t.ending ≡ Done) where
   -- the shipped design's journal is recovered, and nothing of it is oversold

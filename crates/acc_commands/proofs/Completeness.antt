@@ -3,20 +3,20 @@ use Rattle.std.proofs.Common.{◌≡◌, ℕ, true, List, [], None, Some, inl, i
 use Rattle.std.specs.Prelude.{codes}
 use Rattle.acc_base.specs.declared.designs.Design.{Design}
 use Rattle.acc_base.specs.Lines.{line}
-use Rattle.acc_journal_commands.proofs.Admitting.{accepted_reports}
-use Rattle.acc_journal_commands.proofs.OneReported.{reports_once}
-use Rattle.acc_journal_commands.specs.Admissions.{IsAcceptedWith}
+use Rattle.acc_commands_journals.proofs.Admitting.{accepted_reports}
+use Rattle.acc_commands_journals.proofs.OneReported.{reports_once}
+use Rattle.acc_commands_journals.specs.Admissions.{IsAcceptedWith}
 use Rattle.acc_formed.specs.WellFormed.{IsWellFormed}
 use Rattle.acc_oblig.specs.Laws.{drafts_of, sequents_of}
-use Rattle.acc_goals.specs.Causes.{first_wide}
-use Rattle.acc_journal_commands.specs.Texts.{IsDesignText}
-use Rattle.acc_file_commands.specs.Provings.{AllClose, IsCertified}
+use Rattle.acc_oblig_goals.specs.Causes.{first_wide}
+use Rattle.acc_commands_journals.specs.Texts.{IsDesignText}
+use Rattle.acc_commands_files.specs.Provings.{AllClose, IsCertified}
 use Rattle.acc_journalled.specs.declared.answers.Ending.{Ending}
 use Rattle.acc_journalled.specs.declared.answers.Ending.TheVariants.{Done}
-use Rattle.acc_journal_commands.specs.Text.{Said, Says}
-use Rattle.acc_file_commands.specs.CheckFiles.{ChecksDesign, ChecksFiles, ending_by}
-use Rattle.acc_file_commands.specs.ProveFiles.{EndsProving, ProvesFile}
-use Rattle.acc_journal_commands.proofs.OneDesign.{one_design, formed_or_refused}
+use Rattle.acc_commands_journals.specs.Text.{Said, Says}
+use Rattle.acc_commands_files.specs.CheckFiles.{ChecksDesign, ChecksFiles, ending_by}
+use Rattle.acc_commands_files.specs.ProveFiles.{EndsProving, ProvesFile}
+use Rattle.acc_commands_journals.proofs.OneDesign.{one_design, formed_or_refused}
 
 module _ (design certificate : List ℕ) (d : Design) (said : Said) (is_text : IsDesignText design d) (with_bytes : IsAcceptedWith d certificate)
   where

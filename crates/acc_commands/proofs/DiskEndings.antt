@@ -1,17 +1,17 @@
 -- How a command over a journal ends.
 use Rattle.std.proofs.Common.{◌≡◌, ◌⊎◌, ℕ, List, [], ◌∷◌, inl, inr, refl, ⊎_elim}
 use Rattle.acc_io.specs.Causes.{Rose}
-use Rattle.acc_journal_commands.specs.Command.{Command}
-use Rattle.acc_journal_commands.specs.Command.TheVariants as command
+use Rattle.acc_commands_journals.specs.Command.{Command}
+use Rattle.acc_commands_journals.specs.Command.TheVariants as command
 use Rattle.acc_journalled.specs.declared.answers.Ending.TheVariants.{ConditionFalse}
 use Rattle.acc_journalled.specs.declared.answers.Wanted.TheVariants.{Counts, Rows, Replies}
 use Rattle.acc_journalled.specs.Recovering.{text_of}
 use Rattle.acc_journalled.specs.Tellings.{Telling}
-use Rattle.acc_journal_commands.specs.Disks.{Seen}
+use Rattle.acc_commands_journals.specs.Disks.{Seen}
 use Rattle.acc_commands.specs.Means.{MeansOverDisk}
 use Rattle.acc_commands.specs.Overs.{FindsFalse}
 use Rattle.acc_commands.proofs.VerifyOvers.{verify_false}
-use Rattle.acc_journal_commands.proofs.JournalEndings.{EndsOverDisk, init_ends, recover_ends, book_ends, migrate_ends, run_ends, work_ends, verify_ends}
+use Rattle.acc_commands_journals.proofs.JournalEndings.{EndsOverDisk, init_ends, recover_ends, book_ends, migrate_ends, run_ends, work_ends, verify_ends}
 
 -- as others do, or it is `verify`, and a condition is false
 abbrev pub EndsAnyhow : Command → Seen → Seen → Telling → Type 0

@@ -13,17 +13,17 @@ use Rattle.acc_journalled.specs.declared.answers.Wanted.TheVariants.{Counts, Row
 use Rattle.acc_journalled.specs.Recovering.{EndsUntold, text_of}
 use Rattle.acc_journalled.specs.Sealing.{SealsGrowth}
 use Rattle.acc_journalled.specs.Tellings.{Telling}
-use Rattle.acc_journal_commands.specs.BookingFiles.{say_seats}
-use Rattle.acc_journal_commands.specs.Command.{Command}
-use Rattle.acc_journal_commands.specs.Command.TheVariants as command
-use Rattle.acc_journal_commands.specs.Disks.{Seen}
-use Rattle.acc_journal_commands.specs.RecoverFiles.{Saying, RecoversSeen, RecoversCertified, RecoversFiles}
-use Rattle.acc_journal_commands.specs.RunFiles.{RunsOfOrder, WorksSeen, RunsOfScript, RunsCertified, RunsTexts}
-use Rattle.acc_journal_commands.specs.Running.{RunsFrom, IsOpening, WorkersLeave}
-use Rattle.acc_journal_commands.specs.Text.{said_in}
-use Rattle.acc_journal_commands.specs.Texts.{IsDesignText}
-use Rattle.acc_journal_commands.specs.VerifyFiles.{VerifiesSeen, VerifiesSchema, VerifiesCertified, VerifiesFiles}
-use Rattle.acc_journal_commands.proofs.JournalEndings.{EndsOver, refusal_ends, untold_ends, untold_done, refused_or_recovered}
+use Rattle.acc_commands_journals.specs.BookingFiles.{say_seats}
+use Rattle.acc_commands_journals.specs.Command.{Command}
+use Rattle.acc_commands_journals.specs.Command.TheVariants as command
+use Rattle.acc_commands_journals.specs.Disks.{Seen}
+use Rattle.acc_commands_journals.specs.RecoverFiles.{Saying, RecoversSeen, RecoversCertified, RecoversFiles}
+use Rattle.acc_commands_journals.specs.RunFiles.{RunsOfOrder, WorksSeen, RunsOfScript, RunsCertified, RunsTexts}
+use Rattle.acc_commands_journals.specs.Running.{RunsFrom, IsOpening, WorkersLeave}
+use Rattle.acc_commands_journals.specs.Text.{said_in}
+use Rattle.acc_commands_journals.specs.Texts.{IsDesignText}
+use Rattle.acc_commands_journals.specs.VerifyFiles.{VerifiesSeen, VerifiesSchema, VerifiesCertified, VerifiesFiles}
+use Rattle.acc_commands_journals.proofs.JournalEndings.{EndsOver, refusal_ends, untold_ends, untold_done, refused_or_recovered}
 use Rattle.tpcc_tables.specs.declared.tables.TableSet.{TableSet}
 use Rattle.acc_commands.specs.Means.{MeansOverDisk}
 use Rattle.acc_commands.specs.Overs.{IsRecovering}

@@ -5,15 +5,15 @@ use Rattle.std.specs.declared.alloc.AllocError.{AllocError}
 use Rattle.std.proofs.lemmas.Result.{IfOk-weaker}
 use Rattle.acc_base.specs.declared.machines.Event.{Event}
 use Rattle.acc_disk.specs.Crashes.{IsCalm}
-use Rattle.acc_journal_commands.specs.Command.{Command}
-use Rattle.acc_journal_commands.specs.Command.TheVariants as command
-use Rattle.acc_journal_commands.specs.Answers.{said_of, said_alone}
-use Rattle.acc_journal_commands.specs.Words.{is_journalled}
+use Rattle.acc_commands_journals.specs.Command.{Command}
+use Rattle.acc_commands_journals.specs.Command.TheVariants as command
+use Rattle.acc_commands_journals.specs.Answers.{said_of, said_alone}
+use Rattle.acc_commands_journals.specs.Words.{is_journalled}
 use Rattle.acc_journalled.specs.declared.answers.Answer.{Answer}
 use Rattle.acc_journalled.specs.Tellings.{telling_of}
-use Rattle.acc_file_commands.specs.declared.memory_runs.Run.{Run}
-use Rattle.acc_file_commands.specs.Runs.{told_by}
-use Rattle.acc_journal_commands.specs.Disks.{Ends, seen}
+use Rattle.acc_commands_files.specs.declared.memory_runs.Run.{Run}
+use Rattle.acc_commands_files.specs.Runs.{told_by}
+use Rattle.acc_commands_journals.specs.Disks.{Ends, seen}
 use Rattle.acc_commands.specs.Means.{MeansOfFiles, Means, LeavesOf, TellsInMemory}
 use Rattle.acc_commands.proofs.Tables.{means_without}
 

@@ -3,12 +3,12 @@ use Rattle.std.proofs.Common.{◌≡◌, ℕ, List, [], ◌∷◌, Option, inl, 
 use Rattle.acc_base.specs.declared.designs.Design.{Design}
 use Rattle.acc_base.specs.declared.machines.Call.{Call}
 use Rattle.acc_base.specs.declared.machines.Event.{Event}
-use Rattle.acc_journal_commands.specs.Command.{Command}
-use Rattle.acc_journal_commands.specs.Command.TheVariants as command
-use Rattle.acc_journal_commands.specs.Crashes.{LeavesRun, WorksOver}
-use Rattle.acc_journal_commands.specs.Disks.{OrUntouched, LeavesSo}
-use Rattle.acc_journal_commands.specs.RunFiles.{RunLeaves, FilesRun, OrderRuns}
-use Rattle.acc_journal_commands.proofs.Disks.{leaves_weaker, leaves_nothing}
+use Rattle.acc_commands_journals.specs.Command.{Command}
+use Rattle.acc_commands_journals.specs.Command.TheVariants as command
+use Rattle.acc_commands_journals.specs.Crashes.{LeavesRun, WorksOver}
+use Rattle.acc_commands_journals.specs.Disks.{OrUntouched, LeavesSo}
+use Rattle.acc_commands_journals.specs.RunFiles.{RunLeaves, FilesRun, OrderRuns}
+use Rattle.acc_commands_journals.proofs.Disks.{leaves_weaker, leaves_nothing}
 use Rattle.acc_commands.specs.Means.{LeavesOfFile, LeavesDisk, LeavesOf}
 
 module _ {D : Type 0} (clock : D → ℕ) (left_since : D → ℕ → List ℕ → Type 0) (told : D → Option (List ℕ)) (may_leave : D → List ℕ → Type 0)

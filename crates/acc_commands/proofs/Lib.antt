@@ -1,10 +1,10 @@
-pub use Rattle.acc_file_commands.proofs.Auditing
-pub use Rattle.acc_file_commands.proofs.Following
-pub use Rattle.acc_file_commands.proofs.Judged
-pub use Rattle.acc_journal_commands.proofs.Again
-pub use Rattle.acc_journal_commands.proofs.Disks
-pub use Rattle.acc_journal_commands.proofs.JournalEndings
-pub use Rattle.acc_journal_commands.proofs.Tails
+pub use Rattle.acc_commands_files.proofs.Auditing
+pub use Rattle.acc_commands_files.proofs.Following
+pub use Rattle.acc_commands_files.proofs.Judged
+pub use Rattle.acc_commands_journals.proofs.Again
+pub use Rattle.acc_commands_journals.proofs.Disks
+pub use Rattle.acc_commands_journals.proofs.JournalEndings
+pub use Rattle.acc_commands_journals.proofs.Tails
 pub mod Bookings
 pub mod OneRun
 pub mod OneBenching

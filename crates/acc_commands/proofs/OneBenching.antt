@@ -2,13 +2,13 @@
 use Rattle.std.proofs.Common.{◌≡◌, ℕ, List, inl, inr, sym, subst}
 use Rattle.acc_base.specs.declared.designs.Design.{Design}
 use Rattle.acc_base.specs.declared.machines.Call.{Call}
-use Rattle.acc_file_commands.specs.BenchFiles.{SaysBench, SaysOfCalls, SaysOfMix, SaysOfLoad, SaysOfTables, BenchesCertified, BenchesFiles}
-use Rattle.acc_file_commands.specs.Mix.{Mix}
-use Rattle.acc_file_commands.specs.Workloads.{load_said, mix_said}
-use Rattle.acc_file_commands.proofs.OneBench.{one_bench}
-use Rattle.acc_journal_commands.specs.Text.{Said}
-use Rattle.acc_journal_commands.proofs.OneDesign.{one_design, one_refusal, formed_or_refused}
-use Rattle.acc_journal_commands.proofs.OneSchema.{one_schema, one_schema_refusal, found_or_refused}
+use Rattle.acc_commands_files.specs.BenchFiles.{SaysBench, SaysOfCalls, SaysOfMix, SaysOfLoad, SaysOfTables, BenchesCertified, BenchesFiles}
+use Rattle.acc_commands_files.specs.Mix.{Mix}
+use Rattle.acc_commands_files.specs.Workloads.{load_said, mix_said}
+use Rattle.acc_commands_files.proofs.OneBench.{one_bench}
+use Rattle.acc_commands_journals.specs.Text.{Said}
+use Rattle.acc_commands_journals.proofs.OneDesign.{one_design, one_refusal, formed_or_refused}
+use Rattle.acc_commands_journals.proofs.OneSchema.{one_schema, one_schema_refusal, found_or_refused}
 use Rattle.tpcc_tables.specs.declared.tables.TableSet.{TableSet}
 use Rattle.acc_commands.proofs.OneRun.{one_script_refusal, one_calls, one_certificate_refusal, accepted_or_refused}
 

@@ -1,10 +1,10 @@
 -- One thing is said of `follow`.
 use Rattle.std.proofs.Common.{◌≡◌, ℕ, List, inl, inr, subst}
 use Rattle.acc_base.specs.declared.designs.Design.{Design}
-use Rattle.acc_file_commands.specs.Following.{FollowsCertified, FollowsFiles}
-use Rattle.acc_file_commands.proofs.OneFollow.{one_follow}
-use Rattle.acc_journal_commands.specs.Text.{Said}
-use Rattle.acc_journal_commands.proofs.OneDesign.{one_design, one_refusal, formed_or_refused}
+use Rattle.acc_commands_files.specs.Following.{FollowsCertified, FollowsFiles}
+use Rattle.acc_commands_files.proofs.OneFollow.{one_follow}
+use Rattle.acc_commands_journals.specs.Text.{Said}
+use Rattle.acc_commands_journals.proofs.OneDesign.{one_design, one_refusal, formed_or_refused}
 use Rattle.acc_commands.proofs.OneRun.{one_certificate_refusal, accepted_or_refused}
 
 one_by_certificate : (d : Design) (certificate copy : List ℕ) (a b : Said) → FollowsCertified d certificate copy a

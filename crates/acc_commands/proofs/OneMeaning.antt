@@ -7,11 +7,11 @@ use Rattle.acc_base.specs.declared.designs.Side.{Side}
 use Rattle.acc_base.specs.declared.machines.Call.{Call}
 use Rattle.acc_base.specs.Lines.{line}
 use Rattle.acc_print.specs.Designs.{printed}
-use Rattle.acc_file_commands.specs.Pictures.{drawn}
-use Rattle.acc_journal_commands.proofs.OneReported.{reports_once}
-use Rattle.acc_journal_commands.specs.Reports.{Reports}
-use Rattle.acc_journal_commands.specs.Command.{Command}
-use Rattle.acc_journal_commands.specs.Command.TheVariants as command
+use Rattle.acc_commands_files.specs.Pictures.{drawn}
+use Rattle.acc_commands_journals.proofs.OneReported.{reports_once}
+use Rattle.acc_commands_journals.specs.Reports.{Reports}
+use Rattle.acc_commands_journals.specs.Command.{Command}
+use Rattle.acc_commands_journals.specs.Command.TheVariants as command
 use Rattle.acc_io.specs.Causes.{Rose}
 use Rattle.acc_journalled.specs.declared.answers.Ending.TheVariants.{Done, DesignRefused}
 use Rattle.acc_journalled.specs.declared.answers.Wanted.TheVariants.{Counts, Rows, Replies}
@@ -21,37 +21,37 @@ use Rattle.acc_journalled.specs.Recovering.{RecoversJournal, text_of}
 use Rattle.acc_journalled.specs.Tellings.{Telling}
 use Rattle.acc_journalled.proofs.Once.{making_once, recovering_once}
 use Rattle.acc_journalled.proofs.OneMigration.{migrating_once}
-use Rattle.acc_journal_commands.specs.Text.{Said, said_in}
-use Rattle.acc_journal_commands.specs.Disks.{Seen, TellsAll}
-use Rattle.acc_journal_commands.specs.Notes.{help_text, version_text}
-use Rattle.acc_journal_commands.specs.Scripts.{SaysOfScript}
-use Rattle.acc_file_commands.specs.PlayFiles.{SaysPlay, PlaysFiles}
-use Rattle.acc_file_commands.specs.ShippedText.{shipped_design}
-use Rattle.acc_file_commands.specs.BookingText.{booking_design}
-use Rattle.acc_file_commands.specs.Workloads.{load_said, mix_said}
-use Rattle.acc_file_commands.specs.ScheduleFiles.{SaysOfCertificate, SchedulesFiles}
-use Rattle.acc_file_commands.specs.PrintFiles.{PrintsFile, DrawsFile}
-use Rattle.acc_file_commands.specs.CheckFiles.{ChecksFiles, ending_by}
-use Rattle.acc_journal_commands.specs.BookingFiles.{say_seats, BooksSchema, BooksCertified, BooksFiles}
-use Rattle.acc_journal_commands.specs.InitFiles.{InitsJournal, InitsFile}
-use Rattle.acc_journal_commands.specs.MigrateFiles.{MigratesSeen, MigratesCertified, MigratesFiles}
-use Rattle.acc_journal_commands.specs.RecoverFiles.{Saying, RecoversSeen, RecoversCertified, RecoversFiles}
+use Rattle.acc_commands_journals.specs.Text.{Said, said_in}
+use Rattle.acc_commands_journals.specs.Disks.{Seen, TellsAll}
+use Rattle.acc_commands_journals.specs.Notes.{help_text, version_text}
+use Rattle.acc_commands_journals.specs.Scripts.{SaysOfScript}
+use Rattle.acc_commands_files.specs.PlayFiles.{SaysPlay, PlaysFiles}
+use Rattle.acc_commands_files.specs.ShippedText.{shipped_design}
+use Rattle.acc_commands_files.specs.BookingText.{booking_design}
+use Rattle.acc_commands_files.specs.Workloads.{load_said, mix_said}
+use Rattle.acc_commands_files.specs.ScheduleFiles.{SaysOfCertificate, SchedulesFiles}
+use Rattle.acc_commands_files.specs.PrintFiles.{PrintsFile, DrawsFile}
+use Rattle.acc_commands_files.specs.CheckFiles.{ChecksFiles, ending_by}
+use Rattle.acc_commands_journals.specs.BookingFiles.{say_seats, BooksSchema, BooksCertified, BooksFiles}
+use Rattle.acc_commands_journals.specs.InitFiles.{InitsJournal, InitsFile}
+use Rattle.acc_commands_journals.specs.MigrateFiles.{MigratesSeen, MigratesCertified, MigratesFiles}
+use Rattle.acc_commands_journals.specs.RecoverFiles.{Saying, RecoversSeen, RecoversCertified, RecoversFiles}
 use Rattle.acc_commands.specs.Alike.{IsWhole, AreByWorkers, AreAlike}
-use Rattle.acc_journal_commands.specs.Words.{is_journalled}
+use Rattle.acc_commands_journals.specs.Words.{is_journalled}
 use Rattle.acc_commands.specs.Means.{AdvisesGiven, MeansOfFiles, MeansOverDisk, MeansBy, Means}
-use Rattle.acc_journal_commands.proofs.OneDesign.{said_same, one_design, one_refusal, formed_or_refused}
-use Rattle.acc_file_commands.proofs.OneAdvice.{one_advice}
-use Rattle.acc_file_commands.proofs.OneAudit.{one_audit}
+use Rattle.acc_commands_journals.proofs.OneDesign.{said_same, one_design, one_refusal, formed_or_refused}
+use Rattle.acc_commands_files.proofs.OneAdvice.{one_advice}
+use Rattle.acc_commands_files.proofs.OneAudit.{one_audit}
 use Rattle.acc_commands.proofs.OneProving.{SaidAlike, one_prove}
 use Rattle.acc_commands.proofs.OneFollowing.{one_follow_of}
 use Rattle.acc_commands.proofs.OneVerifying.{telling_same, one_verify}
 use Rattle.acc_commands.proofs.OneBenching.{one_bench_of}
 use Rattle.acc_commands.proofs.OneRun.{one_of_script, one_play, one_certificate_refusal, accepted_or_refused, one_certified}
 use Rattle.acc_commands.proofs.OneRun.{one_order_refusal, one_numbers, one_script_refusal, one_calls}
-use Rattle.acc_journal_commands.specs.RunFiles.{RunsSeen, RunsOfOrder, WorksSeen, RunsOfScript, RunsCertified, RunsTexts}
-use Rattle.acc_journal_commands.specs.Engines.{ending_at}
-use Rattle.acc_journal_commands.specs.Running.{RunsJournal, WorksJournal, WorkersLeave}
-use Rattle.acc_journal_commands.proofs.OneRun.{running_once, running_or}
+use Rattle.acc_commands_journals.specs.RunFiles.{RunsSeen, RunsOfOrder, WorksSeen, RunsOfScript, RunsCertified, RunsTexts}
+use Rattle.acc_commands_journals.specs.Engines.{ending_at}
+use Rattle.acc_commands_journals.specs.Running.{RunsJournal, WorksJournal, WorkersLeave}
+use Rattle.acc_commands_journals.proofs.OneRun.{running_once, running_or}
 
 -- ---- plays
 

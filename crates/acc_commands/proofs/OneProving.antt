@@ -4,14 +4,14 @@ use Rattle.std.specs.Prelude.{◌⊎◌, ◌++◌, codes}
 use Rattle.acc_base.specs.declared.designs.Design.{Design}
 use Rattle.acc_base.specs.declared.sequents.Origin.{Origin}
 use Rattle.acc_base.specs.Lines.{line}
-use Rattle.acc_origins.specs.Origins.{origin_text}
-use Rattle.acc_file_commands.specs.Provings.{IsWide}
+use Rattle.acc_oblig_origins.specs.Origins.{origin_text}
+use Rattle.acc_commands_files.specs.Provings.{IsWide}
 use Rattle.acc_journalled.specs.declared.answers.Ending.TheVariants.{Done}
-use Rattle.acc_journal_commands.specs.Command.{Command}
-use Rattle.acc_journal_commands.specs.Command.TheVariants as command
-use Rattle.acc_journal_commands.specs.Text.{Said}
-use Rattle.acc_file_commands.specs.ProveFiles.{EndsProving, ProvesFile}
-use Rattle.acc_journal_commands.proofs.OneDesign.{one_design, one_refusal, formed_or_refused}
+use Rattle.acc_commands_journals.specs.Command.{Command}
+use Rattle.acc_commands_journals.specs.Command.TheVariants as command
+use Rattle.acc_commands_journals.specs.Text.{Said}
+use Rattle.acc_commands_files.specs.ProveFiles.{EndsProving, ProvesFile}
+use Rattle.acc_commands_journals.proofs.OneDesign.{one_design, one_refusal, formed_or_refused}
 
 -- the same; or both are certificates of `prove`
 abbrev pub SaidAlike : Command → Said → Said → Type 0

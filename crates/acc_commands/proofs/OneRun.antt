@@ -5,23 +5,23 @@ use Rattle.std.specs.Fmt.{decimal}
 use Rattle.acc_base.specs.declared.designs.Design.{Design}
 use Rattle.acc_base.specs.declared.machines.Call.{Call}
 use Rattle.acc_base.specs.Lines.{line}
-use Rattle.acc_journal_commands.proofs.Admitting.{accepted_reports}
-use Rattle.acc_journal_commands.proofs.OneReported.{reports_once}
-use Rattle.acc_journal_commands.specs.Admissions.{IsAcceptedWith}
+use Rattle.acc_commands_journals.proofs.Admitting.{accepted_reports}
+use Rattle.acc_commands_journals.proofs.OneReported.{reports_once}
+use Rattle.acc_commands_journals.specs.Admissions.{IsAcceptedWith}
 use Rattle.acc_script.specs.CallLines.{SaysCall, IsScript, most_calls}
 use Rattle.acc_script.specs.OrderLines.{SaysPlaces, IsOrder, most_numbers}
 use Rattle.acc_script.proofs.LineSteps.{one_said_by, one_refused_line}
 use Rattle.acc_script.proofs.CallSteps.{says_one as says_one_call}
 use Rattle.acc_script.proofs.OrderSteps.{says_one as says_one_line}
-use Rattle.acc_file_commands.proofs.OneTold.{tells_once}
-use Rattle.acc_file_commands.proofs.OneSchedule.{schedules_once}
+use Rattle.acc_commands_files.proofs.OneTold.{tells_once}
+use Rattle.acc_commands_files.proofs.OneSchedule.{schedules_once}
 use Rattle.acc_journalled.specs.declared.answers.Ending.TheVariants.{ScriptRefused}
-use Rattle.acc_journal_commands.specs.Text.{Said}
-use Rattle.acc_journal_commands.specs.Scripts.{RefusesOrder, SaysOfOrder, RefusesScript, SaysOfScript}
-use Rattle.acc_file_commands.specs.PlayFiles.{SaysPlay}
-use Rattle.acc_file_commands.specs.ScheduleFiles.{SaysSchedule, SaysOfCertificate, ending_at}
-use Rattle.acc_journal_commands.specs.Refusals.{RefusesCertificate}
-use Rattle.acc_journal_commands.proofs.OneDesign.{said_same}
+use Rattle.acc_commands_journals.specs.Text.{Said}
+use Rattle.acc_commands_journals.specs.Scripts.{RefusesOrder, SaysOfOrder, RefusesScript, SaysOfScript}
+use Rattle.acc_commands_files.specs.PlayFiles.{SaysPlay}
+use Rattle.acc_commands_files.specs.ScheduleFiles.{SaysSchedule, SaysOfCertificate, ending_at}
+use Rattle.acc_commands_journals.specs.Refusals.{RefusesCertificate}
+use Rattle.acc_commands_journals.proofs.OneDesign.{said_same}
 
 -- ---- scripts and orders
 

@@ -14,17 +14,17 @@ use Rattle.acc_journalled.specs.Tellings.{Telling}
 use Rattle.acc_journalled.specs.Verifying.{VerifiesJournal}
 use Rattle.acc_journalled.proofs.Numbered.{recovered_steady}
 use Rattle.acc_journalled.proofs.Once.{verifying_once}
-use Rattle.acc_journal_commands.specs.Disks.{Seen, TellsAll}
-use Rattle.acc_journal_commands.specs.Text.{said_in}
-use Rattle.acc_journal_commands.specs.Texts.{IsDesignText}
-use Rattle.acc_journal_commands.specs.VerifyFiles.{VerifiesSeen, VerifiesSchema, VerifiesCertified, VerifiesDesign, VerifiesFiles}
-use Rattle.acc_journal_commands.proofs.JournalEndings.{other_end, refusal_ends, untold_ends, over_true}
-use Rattle.acc_journal_commands.proofs.OneDesign.{one_design, one_refusal, formed_or_refused}
-use Rattle.acc_journal_commands.proofs.OneSchema.{one_schema, one_schema_refusal, found_or_refused}
-use Rattle.acc_file_commands.specs.Law.{KeepsConditions}
-use Rattle.acc_file_commands.specs.ShippedText.{shipped_design}
-use Rattle.acc_file_commands.proofs.Reading.{has_shipped}
-use Rattle.acc_file_commands.proofs.Theorem.{keeps}
+use Rattle.acc_commands_journals.specs.Disks.{Seen, TellsAll}
+use Rattle.acc_commands_journals.specs.Text.{said_in}
+use Rattle.acc_commands_journals.specs.Texts.{IsDesignText}
+use Rattle.acc_commands_journals.specs.VerifyFiles.{VerifiesSeen, VerifiesSchema, VerifiesCertified, VerifiesDesign, VerifiesFiles}
+use Rattle.acc_commands_journals.proofs.JournalEndings.{other_end, refusal_ends, untold_ends, over_true}
+use Rattle.acc_commands_journals.proofs.OneDesign.{one_design, one_refusal, formed_or_refused}
+use Rattle.acc_commands_journals.proofs.OneSchema.{one_schema, one_schema_refusal, found_or_refused}
+use Rattle.acc_commands_files.specs.Law.{KeepsConditions}
+use Rattle.acc_commands_files.specs.ShippedText.{shipped_design}
+use Rattle.acc_commands_files.proofs.Reading.{has_shipped}
+use Rattle.acc_commands_files.proofs.Theorem.{keeps}
 use Rattle.tpcc_tables.specs.Conditions.{IsTrueOf}
 use Rattle.tpcc_tables.specs.Schema.{IsSchemaOf}
 use Rattle.tpcc_tables.specs.declared.kinds.TheConstants.{CONDITIONS}

@@ -3,13 +3,13 @@ use Rattle.std.proofs.Common.{◌≡◌, ℕ, List, inl, inr, sym, ◌∙◌}
 use Rattle.std.specs.Prelude.{codes}
 use Rattle.acc_base.specs.declared.designs.Design.{Design}
 use Rattle.acc_base.specs.Lines.{line}
-use Rattle.acc_journal_commands.specs.Admissions.{IsAcceptedWith}
-use Rattle.acc_file_commands.specs.Provings.{IsCertified}
+use Rattle.acc_commands_journals.specs.Admissions.{IsAcceptedWith}
+use Rattle.acc_commands_files.specs.Provings.{IsCertified}
 use Rattle.acc_journalled.specs.declared.answers.Ending.TheVariants.{Done, DesignRefused, Open}
-use Rattle.acc_journal_commands.specs.Text.{Said, Says}
-use Rattle.acc_file_commands.specs.CheckFiles.{ChecksFiles}
-use Rattle.acc_file_commands.specs.ProveFiles.{EndsProving, ProvesFile}
-use Rattle.acc_journal_commands.proofs.JournalEndings.{refusal_ends}
+use Rattle.acc_commands_journals.specs.Text.{Said, Says}
+use Rattle.acc_commands_files.specs.CheckFiles.{ChecksFiles}
+use Rattle.acc_commands_files.specs.ProveFiles.{EndsProving, ProvesFile}
+use Rattle.acc_commands_journals.proofs.JournalEndings.{refusal_ends}
 use Rattle.acc_commands.proofs.Completeness.{accepted_is_told}
 
 accepted_with : (d : Design) (text : List ℕ) → IsCertified d text → IsAcceptedWith d text

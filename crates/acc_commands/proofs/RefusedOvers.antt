@@ -13,24 +13,24 @@ use Rattle.acc_journalled.specs.Making.{FindsOne}
 use Rattle.acc_journalled.specs.Recovering.{RefusesSo, text_of}
 use Rattle.acc_journalled.specs.Tellings.{Telling}
 use Rattle.acc_journalled.proofs.Endings.{was_of_bytes}
-use Rattle.acc_journal_commands.specs.Admissions.{IsAcceptedWith}
-use Rattle.acc_journal_commands.specs.Command.{Command}
-use Rattle.acc_journal_commands.specs.Command.TheVariants as command
-use Rattle.acc_journal_commands.specs.Text.{said_in}
-use Rattle.acc_journal_commands.specs.Disks.{Seen}
-use Rattle.acc_journal_commands.specs.BookingFiles.{say_seats, BooksFiles}
-use Rattle.acc_journal_commands.specs.InitFiles.{InitsJournal, InitsFile}
-use Rattle.acc_journal_commands.specs.MigrateFiles.{MigratesSeen, MigratesCertified, MigratesFiles}
-use Rattle.acc_journal_commands.specs.Engines.{ending_at}
-use Rattle.acc_file_commands.specs.Schedules.{TellsScheduleFrom}
-use Rattle.acc_journal_commands.specs.Running.{RunsFrom, IsOpening, WorkersLeave}
-use Rattle.acc_journal_commands.specs.RunFiles.{RunsOfOrder, WorksSeen, RunsOfScript, RunsCertified, RunsTexts}
-use Rattle.acc_journal_commands.specs.RecoverFiles.{Saying, RecoversSeen, RecoversCertified, RecoversFiles}
+use Rattle.acc_commands_journals.specs.Admissions.{IsAcceptedWith}
+use Rattle.acc_commands_journals.specs.Command.{Command}
+use Rattle.acc_commands_journals.specs.Command.TheVariants as command
+use Rattle.acc_commands_journals.specs.Text.{said_in}
+use Rattle.acc_commands_journals.specs.Disks.{Seen}
+use Rattle.acc_commands_journals.specs.BookingFiles.{say_seats, BooksFiles}
+use Rattle.acc_commands_journals.specs.InitFiles.{InitsJournal, InitsFile}
+use Rattle.acc_commands_journals.specs.MigrateFiles.{MigratesSeen, MigratesCertified, MigratesFiles}
+use Rattle.acc_commands_journals.specs.Engines.{ending_at}
+use Rattle.acc_commands_files.specs.Schedules.{TellsScheduleFrom}
+use Rattle.acc_commands_journals.specs.Running.{RunsFrom, IsOpening, WorkersLeave}
+use Rattle.acc_commands_journals.specs.RunFiles.{RunsOfOrder, WorksSeen, RunsOfScript, RunsCertified, RunsTexts}
+use Rattle.acc_commands_journals.specs.RecoverFiles.{Saying, RecoversSeen, RecoversCertified, RecoversFiles}
 use Rattle.acc_commands.specs.Means.{MeansOverDisk}
 use Rattle.acc_commands.specs.Overs.{IsRecovering, IsMaking, RefusesSource, LeavesOver, LeavesBy}
 use Rattle.acc_commands.proofs.VerifyOvers.{verify_refused, verify_unbegun}
-use Rattle.acc_journal_commands.proofs.JournalEndings.{other_end, refusal_ends, making_ends, recovering_ends, migrating_ends}
-use Rattle.acc_journal_commands.proofs.JournalEndings.{unrecovered_ends, untold_refused, over_unbegun, refused_or_recovered}
+use Rattle.acc_commands_journals.proofs.JournalEndings.{other_end, refusal_ends, making_ends, recovering_ends, migrating_ends}
+use Rattle.acc_commands_journals.proofs.JournalEndings.{unrecovered_ends, untold_refused, over_unbegun, refused_or_recovered}
 
 -- ---- which journal is refused
 

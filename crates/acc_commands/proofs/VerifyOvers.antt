@@ -9,10 +9,10 @@ use Rattle.acc_journalled.specs.Conditions.{EndsByRows}
 use Rattle.acc_journalled.specs.Recovering.{RefusesSo}
 use Rattle.acc_journalled.specs.Tellings.{Telling}
 use Rattle.acc_journalled.specs.Verifying.{Verifies, VerifiesJournal}
-use Rattle.acc_journal_commands.specs.Text.{said_in}
-use Rattle.acc_journal_commands.specs.Disks.{Seen}
-use Rattle.acc_journal_commands.specs.VerifyFiles.{VerifiesTables, VerifiesSchema, VerifiesCertified, VerifiesFiles}
-use Rattle.acc_journal_commands.proofs.JournalEndings.{other_end, refusal_ends, untold_ends, untold_refused, over_unbegun, over_true}
+use Rattle.acc_commands_journals.specs.Text.{said_in}
+use Rattle.acc_commands_journals.specs.Disks.{Seen}
+use Rattle.acc_commands_journals.specs.VerifyFiles.{VerifiesTables, VerifiesSchema, VerifiesCertified, VerifiesFiles}
+use Rattle.acc_commands_journals.proofs.JournalEndings.{other_end, refusal_ends, untold_ends, untold_refused, over_unbegun, over_true}
 use Rattle.tpcc_tables.specs.Schema.{IsSchemaOf}
 use Rattle.tpcc_tables.specs.declared.tables.TableSet.{TableSet}
 use Rattle.acc_commands.specs.Overs.{FindsFalse}

@@ -6,43 +6,43 @@ use Rattle.acc_base.specs.declared.designs.At.{At}
 use Rattle.acc_base.specs.declared.designs.Design.{Design}
 use Rattle.acc_base.specs.declared.designs.Side.{Side}
 use Rattle.acc_base.specs.declared.machines.Call.{Call}
-use Rattle.acc_journal_commands.specs.ParseError.{ParseError}
-use Rattle.acc_journal_commands.specs.ParseError.TheVariants as errors
-use Rattle.acc_file_commands.specs.Schedules.{TellsSchedule}
-use Rattle.acc_journal_commands.specs.Command.{Command}
-use Rattle.acc_journal_commands.specs.Command.TheVariants as command
+use Rattle.acc_commands_journals.specs.ParseError.{ParseError}
+use Rattle.acc_commands_journals.specs.ParseError.TheVariants as errors
+use Rattle.acc_commands_files.specs.Schedules.{TellsSchedule}
+use Rattle.acc_commands_journals.specs.Command.{Command}
+use Rattle.acc_commands_journals.specs.Command.TheVariants as command
 use Rattle.acc_journalled.specs.declared.answers.Ending.{Ending}
 use Rattle.acc_journalled.specs.declared.answers.Ending.TheVariants.{Done, DesignRefused, ScriptRefused, JournalRefused, DiskFailed}
 use Rattle.acc_journalled.specs.declared.answers.Ending.TheVariants.{Unbegun, Open, ConditionFalse}
 use Rattle.acc_journalled.specs.Tellings.{Telling}
-use Rattle.acc_file_commands.specs.Judgement.{Judgement}
-use Rattle.acc_file_commands.specs.Judgement.TheVariants.{Clean, False, Large}
-use Rattle.acc_file_commands.specs.JudgeError.{JudgeError}
-use Rattle.acc_journal_commands.specs.Text.{Said, said_in}
-use Rattle.acc_journal_commands.specs.Disks.{Seen}
-use Rattle.acc_journal_commands.specs.Refusals.{SaysError, RefusesDesign}
+use Rattle.acc_commands_files.specs.Judgement.{Judgement}
+use Rattle.acc_commands_files.specs.Judgement.TheVariants.{Clean, False, Large}
+use Rattle.acc_commands_files.specs.JudgeError.{JudgeError}
+use Rattle.acc_commands_journals.specs.Text.{Said, said_in}
+use Rattle.acc_commands_journals.specs.Disks.{Seen}
+use Rattle.acc_commands_journals.specs.Refusals.{SaysError, RefusesDesign}
 use Rattle.acc_formed.specs.WellFormed.{IsWellFormed}
-use Rattle.acc_journal_commands.specs.Texts.{IsDesignText}
-use Rattle.acc_journal_commands.specs.Scripts.{SaysOfOrder, SaysOfScript}
-use Rattle.acc_file_commands.specs.Advising.{held_at, step_at, SaysOfPoints, AdvisesFile}
-use Rattle.acc_file_commands.specs.Auditing.{SaysJudged, AuditsFiles}
-use Rattle.acc_file_commands.proofs.Auditing.{refused_ending}
-use Rattle.acc_file_commands.specs.Ends.{Ends}
-use Rattle.acc_file_commands.specs.Following.{SaysEnd, FollowsCertified, FollowsFiles}
-use Rattle.acc_file_commands.specs.ReplicaError.{ReplicaError}
-use Rattle.acc_file_commands.proofs.Following.{unfollowed_ending}
-use Rattle.acc_file_commands.proofs.OneAudit.{says_no_lack}
-use Rattle.acc_file_commands.specs.PlayFiles.{SaysPlay, PlaysFiles}
-use Rattle.acc_file_commands.specs.ScheduleFiles.{SaysSchedule, SaysOfCertificate, SchedulesFiles, ending_at}
-use Rattle.acc_file_commands.specs.PrintFiles.{PrintsFile, DrawsFile}
-use Rattle.acc_file_commands.specs.CheckFiles.{ChecksFiles, ending_by}
-use Rattle.acc_file_commands.specs.ProveFiles.{EndsProving, StaysOpen, ProvesFile}
-use Rattle.acc_journal_commands.specs.Words.{is_journalled}
+use Rattle.acc_commands_journals.specs.Texts.{IsDesignText}
+use Rattle.acc_commands_journals.specs.Scripts.{SaysOfOrder, SaysOfScript}
+use Rattle.acc_commands_files.specs.Advising.{held_at, step_at, SaysOfPoints, AdvisesFile}
+use Rattle.acc_commands_files.specs.Auditing.{SaysJudged, AuditsFiles}
+use Rattle.acc_commands_files.proofs.Auditing.{refused_ending}
+use Rattle.acc_commands_files.specs.Ends.{Ends}
+use Rattle.acc_commands_files.specs.Following.{SaysEnd, FollowsCertified, FollowsFiles}
+use Rattle.acc_commands_files.specs.ReplicaError.{ReplicaError}
+use Rattle.acc_commands_files.proofs.Following.{unfollowed_ending}
+use Rattle.acc_commands_files.proofs.OneAudit.{says_no_lack}
+use Rattle.acc_commands_files.specs.PlayFiles.{SaysPlay, PlaysFiles}
+use Rattle.acc_commands_files.specs.ScheduleFiles.{SaysSchedule, SaysOfCertificate, SchedulesFiles, ending_at}
+use Rattle.acc_commands_files.specs.PrintFiles.{PrintsFile, DrawsFile}
+use Rattle.acc_commands_files.specs.CheckFiles.{ChecksFiles, ending_by}
+use Rattle.acc_commands_files.specs.ProveFiles.{EndsProving, StaysOpen, ProvesFile}
+use Rattle.acc_commands_journals.specs.Words.{is_journalled}
 use Rattle.acc_commands.specs.Means.{AdvisesGiven, MeansOfFiles, MeansBy, Means}
 use Rattle.acc_commands.specs.Overs.{LeavesBy, FindsFalse, RunsBench, LeavesBench, BenchFindsFalse, IsAuditOf, RefusesCopy, AuditFinds}
 use Rattle.acc_commands.specs.Overs.{RefusesFollowing}
 use Rattle.acc_commands.proofs.BenchOvers.{runs_bench, never_bench, leaves_bench, bench_finds_false}
-use Rattle.acc_journal_commands.proofs.JournalEndings.{failed_by, never_false, never_open, other_end}
+use Rattle.acc_commands_journals.proofs.JournalEndings.{failed_by, never_false, never_open, other_end}
 use Rattle.acc_commands.proofs.DiskEndings.{ends_over_disk}
 use Rattle.acc_commands.proofs.RefusedOvers.{RefusesOver, refused_over, unbegun_over}
 

@@ -2,8 +2,8 @@
 use Rattle.std.specs.Prelude.{◌≡◌, ◌⊎◌, ℕ}
 use Rattle.acc_journalled.specs.declared.answers.Ending.TheVariants.{Done, Unbegun}
 use Rattle.acc_journalled.specs.Tellings.{Telling}
-use Rattle.acc_journal_commands.specs.Command.{Command}
-use Rattle.acc_journal_commands.specs.Command.TheVariants as command
+use Rattle.acc_commands_journals.specs.Command.{Command}
+use Rattle.acc_commands_journals.specs.Command.TheVariants as command
 
 -- both are certificates that `prove` may make of a design
 pub record AreCertificates (c : Command) (a b : Telling) : Type 0 where

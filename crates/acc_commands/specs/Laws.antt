@@ -4,22 +4,22 @@ use Rattle.acc_base.specs.declared.designs.Design.{Design}
 use Rattle.acc_base.specs.Lines.{line}
 use Rattle.acc_formed.specs.WellFormed.{IsWellFormed}
 use Rattle.acc_oblig.specs.Laws.{drafts_of, sequents_of}
-use Rattle.acc_goals.specs.Causes.{first_wide}
-use Rattle.acc_journal_commands.specs.Texts.{IsDesignText}
-use Rattle.acc_journal_commands.specs.Admissions.{IsAcceptedWith}
-use Rattle.acc_file_commands.specs.Provings.{AllClose, IsCertified}
+use Rattle.acc_oblig_goals.specs.Causes.{first_wide}
+use Rattle.acc_commands_journals.specs.Texts.{IsDesignText}
+use Rattle.acc_commands_journals.specs.Admissions.{IsAcceptedWith}
+use Rattle.acc_commands_files.specs.Provings.{AllClose, IsCertified}
 use Rattle.acc_journalled.specs.declared.answers.Ending.TheVariants.{Done, ConditionFalse}
 use Rattle.acc_journalled.specs.Tellings.{Telling}
-use Rattle.acc_journal_commands.specs.Command.{Command}
-use Rattle.acc_journal_commands.specs.Text.{Said, Says}
-use Rattle.acc_journal_commands.specs.Disks.{Seen, TellsAll}
-use Rattle.acc_file_commands.specs.BenchFiles.{BenchesFiles}
-use Rattle.acc_file_commands.specs.CheckFiles.{ChecksFiles}
-use Rattle.acc_file_commands.specs.Mix.{Mix}
-use Rattle.acc_file_commands.specs.ProveFiles.{ProvesFile}
-use Rattle.acc_file_commands.specs.ShippedText.{shipped_design}
-use Rattle.acc_journal_commands.specs.VerifyFiles.{VerifiesFiles}
-use Rattle.acc_journal_commands.specs.Words.{is_journalled}
+use Rattle.acc_commands_journals.specs.Command.{Command}
+use Rattle.acc_commands_journals.specs.Text.{Said, Says}
+use Rattle.acc_commands_journals.specs.Disks.{Seen, TellsAll}
+use Rattle.acc_commands_files.specs.BenchFiles.{BenchesFiles}
+use Rattle.acc_commands_files.specs.CheckFiles.{ChecksFiles}
+use Rattle.acc_commands_files.specs.Mix.{Mix}
+use Rattle.acc_commands_files.specs.ProveFiles.{ProvesFile}
+use Rattle.acc_commands_files.specs.ShippedText.{shipped_design}
+use Rattle.acc_commands_journals.specs.VerifyFiles.{VerifiesFiles}
+use Rattle.acc_commands_journals.specs.Words.{is_journalled}
 use Rattle.acc_commands.specs.Means.{Means}
 use Rattle.acc_commands.specs.Alike.{AreAlike}
 

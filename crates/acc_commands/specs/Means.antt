@@ -3,35 +3,35 @@ use Rattle.std.specs.Prelude.{◌≡◌, ℕ, Bool, true, false, List, [], ◌�
 use Rattle.std.specs.declared.alloc.AllocError.{AllocError}
 use Rattle.acc_base.specs.declared.designs.Side.{Side}
 use Rattle.acc_base.specs.declared.machines.Event.{Event}
-use Rattle.acc_journal_commands.specs.Command.{Command}
-use Rattle.acc_journal_commands.specs.Command.TheVariants as command
-use Rattle.acc_journal_commands.specs.Words.{is_journalled}
-use Rattle.acc_file_commands.specs.declared.memory_runs.Run.{Run}
+use Rattle.acc_commands_journals.specs.Command.{Command}
+use Rattle.acc_commands_journals.specs.Command.TheVariants as command
+use Rattle.acc_commands_journals.specs.Words.{is_journalled}
+use Rattle.acc_commands_files.specs.declared.memory_runs.Run.{Run}
 use Rattle.acc_journalled.specs.declared.answers.Answer.{Answer}
 use Rattle.acc_journalled.specs.declared.answers.Ending.TheVariants.{Done}
 use Rattle.acc_journalled.specs.declared.answers.Wanted.TheVariants.{Counts, Rows, Replies}
 use Rattle.acc_journalled.specs.Recovering.{text_of}
 use Rattle.acc_journalled.specs.Tellings.{Telling}
-use Rattle.acc_journal_commands.specs.Text.{Said, Says}
-use Rattle.acc_journal_commands.specs.Crashes.{WorksOver}
-use Rattle.acc_journal_commands.specs.Disks.{Seen, WithoutDisk}
-use Rattle.acc_journal_commands.specs.Notes.{help_text, version_text}
-use Rattle.acc_file_commands.specs.Advising.{AdvisesFile}
-use Rattle.acc_file_commands.specs.Auditing.{AuditsFiles}
-use Rattle.acc_file_commands.specs.Following.{FollowsFiles}
-use Rattle.acc_file_commands.specs.PlayFiles.{PlaysFiles}
-use Rattle.acc_file_commands.specs.ScheduleFiles.{SchedulesFiles}
-use Rattle.acc_file_commands.specs.PrintFiles.{PrintsFile, DrawsFile}
-use Rattle.acc_file_commands.specs.CheckFiles.{ChecksFiles}
-use Rattle.acc_file_commands.specs.ProveFiles.{ProvesFile}
-use Rattle.acc_file_commands.specs.Workloads.{PrintsShipped, PrintsBooking, PrintsLoad, PrintsMix}
-use Rattle.acc_file_commands.specs.BenchFiles.{BenchesFiles}
-use Rattle.acc_journal_commands.specs.BookingFiles.{say_seats, BooksFiles}
-use Rattle.acc_journal_commands.specs.InitFiles.{InitsFile, InitLeaves, InitLeft}
-use Rattle.acc_journal_commands.specs.MigrateFiles.{MigratesFiles, MigrateLeaves, MigrateLeft}
-use Rattle.acc_journal_commands.specs.RecoverFiles.{RecoversFiles, RecoverLeaves, RecoverLeft}
-use Rattle.acc_journal_commands.specs.VerifyFiles.{VerifiesFiles, VerifyLeft}
-use Rattle.acc_journal_commands.specs.RunFiles.{RunsFiles, WorksFiles, RunLeaves, OrderRuns, RunLeft}
+use Rattle.acc_commands_journals.specs.Text.{Said, Says}
+use Rattle.acc_commands_journals.specs.Crashes.{WorksOver}
+use Rattle.acc_commands_journals.specs.Disks.{Seen, WithoutDisk}
+use Rattle.acc_commands_journals.specs.Notes.{help_text, version_text}
+use Rattle.acc_commands_files.specs.Advising.{AdvisesFile}
+use Rattle.acc_commands_files.specs.Auditing.{AuditsFiles}
+use Rattle.acc_commands_files.specs.Following.{FollowsFiles}
+use Rattle.acc_commands_files.specs.PlayFiles.{PlaysFiles}
+use Rattle.acc_commands_files.specs.ScheduleFiles.{SchedulesFiles}
+use Rattle.acc_commands_files.specs.PrintFiles.{PrintsFile, DrawsFile}
+use Rattle.acc_commands_files.specs.CheckFiles.{ChecksFiles}
+use Rattle.acc_commands_files.specs.ProveFiles.{ProvesFile}
+use Rattle.acc_commands_files.specs.Workloads.{PrintsShipped, PrintsBooking, PrintsLoad, PrintsMix}
+use Rattle.acc_commands_files.specs.BenchFiles.{BenchesFiles}
+use Rattle.acc_commands_journals.specs.BookingFiles.{say_seats, BooksFiles}
+use Rattle.acc_commands_journals.specs.InitFiles.{InitsFile, InitLeaves, InitLeft}
+use Rattle.acc_commands_journals.specs.MigrateFiles.{MigratesFiles, MigrateLeaves, MigrateLeft}
+use Rattle.acc_commands_journals.specs.RecoverFiles.{RecoversFiles, RecoverLeaves, RecoverLeft}
+use Rattle.acc_commands_journals.specs.VerifyFiles.{VerifiesFiles, VerifyLeft}
+use Rattle.acc_commands_journals.specs.RunFiles.{RunsFiles, WorksFiles, RunLeaves, OrderRuns, RunLeft}
 
 -- what `advise` makes of the words that name two points, and of its design
 abbrev pub AdvisesGiven : Side → List (List ℕ) → List (List ℕ) → Said → Type 0

@@ -6,33 +6,33 @@ use Rattle.acc_base.specs.declared.designs.Design.{Design}
 use Rattle.acc_base.specs.declared.machines.Call.{Call}
 use Rattle.acc_base.specs.Machine.{World}
 use Rattle.acc_base.specs.Plays.{Play}
-use Rattle.acc_file_commands.specs.Auditing.{ending_of}
-use Rattle.acc_file_commands.specs.Ends.{Ends}
-use Rattle.acc_file_commands.specs.ReplicaError.{ReplicaError}
-use Rattle.acc_file_commands.specs.BenchFiles.{SaysBench}
+use Rattle.acc_commands_files.specs.Auditing.{ending_of}
+use Rattle.acc_commands_files.specs.Ends.{Ends}
+use Rattle.acc_commands_files.specs.ReplicaError.{ReplicaError}
+use Rattle.acc_commands_files.specs.BenchFiles.{SaysBench}
 use Rattle.acc_bench.specs.Conditions.{IsLowestFalse}
 use Rattle.acc_bench.specs.declared.results.FalseCondition.{FalseCondition}
-use Rattle.acc_file_commands.specs.Mix.{Mix}
-use Rattle.acc_file_commands.specs.Schedules.{TellsScheduleFrom}
-use Rattle.acc_file_commands.specs.Workloads.{load_said, mix_said}
-use Rattle.acc_journal_commands.specs.Running.{IsOpening, WorkersLeave}
-use Rattle.acc_journal_commands.specs.Command.{Command}
-use Rattle.acc_journal_commands.specs.Command.TheVariants as command
+use Rattle.acc_commands_files.specs.Mix.{Mix}
+use Rattle.acc_commands_files.specs.Schedules.{TellsScheduleFrom}
+use Rattle.acc_commands_files.specs.Workloads.{load_said, mix_said}
+use Rattle.acc_commands_journals.specs.Running.{IsOpening, WorkersLeave}
+use Rattle.acc_commands_journals.specs.Command.{Command}
+use Rattle.acc_commands_journals.specs.Command.TheVariants as command
 use Rattle.acc_formed.specs.WellFormed.{IsWellFormed}
-use Rattle.acc_journal_commands.specs.Admissions.{IsAcceptedWith}
-use Rattle.acc_journal_commands.specs.Texts.{IsDesignText}
+use Rattle.acc_commands_journals.specs.Admissions.{IsAcceptedWith}
+use Rattle.acc_commands_journals.specs.Texts.{IsDesignText}
 use Rattle.acc_journalled.specs.declared.answers.Ending.TheVariants.{ConditionFalse}
 use Rattle.acc_journalled.specs.RecoverError.{RecoverError}
 use Rattle.acc_journalled.specs.Refusals.{RefusesRecovery, IsOfBytes}
-use Rattle.acc_file_commands.specs.Judging.{Judges}
-use Rattle.acc_file_commands.specs.Judgement.{Judgement}
-use Rattle.acc_file_commands.specs.JudgeError.{JudgeError}
-use Rattle.acc_file_commands.specs.JudgeError.TheVariants.{Memory}
+use Rattle.acc_commands_files.specs.Judging.{Judges}
+use Rattle.acc_commands_files.specs.Judgement.{Judgement}
+use Rattle.acc_commands_files.specs.JudgeError.{JudgeError}
+use Rattle.acc_commands_files.specs.JudgeError.TheVariants.{Memory}
 use Rattle.acc_journalled.specs.Conditions.{AreConsistent}
 use Rattle.acc_journalled.specs.Verifying.{Verifies}
 use Rattle.acc_journalled.specs.Tellings.{Telling}
-use Rattle.acc_journal_commands.specs.Disks.{Seen}
-use Rattle.acc_journal_commands.specs.Text.{Said, said_in}
+use Rattle.acc_commands_journals.specs.Disks.{Seen}
+use Rattle.acc_commands_journals.specs.Text.{Said, said_in}
 use Rattle.acc_script.specs.CallLines.{IsScript}
 use Rattle.tpcc_tables.specs.Schema.{IsSchemaOf}
 use Rattle.tpcc_tables.specs.declared.tables.TableSet.{TableSet}

@@ -4,8 +4,8 @@
 mod commands;
 pub mod laws;
 
-pub use acc_file_commands::{InTurn, Searchers};
-pub use acc_journal_commands::{
+pub use acc_commands_files::{InTurn, Searchers};
+pub use acc_commands_journals::{
     Alone, Command, Crew, Engine, Request, asks_journal, command_of, files_in, help_text,
     points_in, read_all,
 };

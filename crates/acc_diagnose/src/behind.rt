@@ -1,5 +1,5 @@
 //! What stands behind the design in a command's files, and what a command asks for in it.
-use acc_inputs::Command;
+use acc_commands_inputs::Command;
 
 /// What a command asks for in its design.
 #[derive(Clone, Copy)]

@@ -14,16 +14,16 @@ use crate::usage::push_usage;
 use crate::workloads::{push_other, push_verified};
 use acc_base::designs::Design;
 use acc_base::sequences::Seq;
-use acc_explain::{
+use acc_commands_inputs::{Command, command_of, file_names};
+use acc_diagnose_faults::{Diagnosed, Judged, diagnose, judge};
+use acc_diagnose_spot::{order_spot, script_spot};
+use acc_diagnose_words::{
     absent_text, begin_note, end_note, failed_text, line_at, memory_text, push_long, push_note,
     push_report, sink_text,
 };
-use acc_faults::{Diagnosed, Judged, diagnose, judge};
-use acc_inputs::{Command, command_of, file_names};
 use acc_io::{LONGEST, Shelf, ShelfError};
 use acc_page::Page;
 use acc_script::{ScriptError, calls, order};
-use acc_spot::{order_spot, script_spot};
 use std::alloc::{AllocError, Global};
 
 /// Says why a file isn't given.

@@ -1,8 +1,8 @@
 //! What is told of a journal that is refused, and of a disk that failed.
 use crate::damage::between_quotes;
 use acc_base::bounds::MOST_EVENTS;
-use acc_explain::{begin_note, end_note, push_note, push_with};
-use acc_inputs::{Command, command_of, file_names};
+use acc_commands_inputs::{Command, command_of, file_names};
+use acc_diagnose_words::{begin_note, end_note, push_note, push_with};
 use acc_page::Page;
 use std::alloc::{AllocError, Global};
 

@@ -4,13 +4,13 @@ ghost use Rattle.acc_formed.specs.WellFormed.{IsWellFormed};
 use acc_accept::{Refusal, obligations};
 use acc_base::designs::Design;
 use acc_base::sequents::{Origin, Rule};
-use acc_cert_spot::{
+use acc_diagnose_cert::{
     Marked, asserted_mark, obligation_hint, off_mark, path_mark, proof_mark, proofs_in,
 };
-use acc_explain::{begin_note, end_note, push_note, push_report};
-use acc_faults::{CertFault, tokens_of};
-use acc_goals::ObligError;
-use acc_openings::push_number;
+use acc_diagnose_faults::{CertFault, tokens_of};
+use acc_diagnose_openings::push_number;
+use acc_diagnose_words::{begin_note, end_note, push_note, push_report};
+use acc_oblig_goals::ObligError;
 use acc_page::Page;
 use std::alloc::{AllocError, Global};
 
@@ -34,7 +34,7 @@ fn push_mark(out: &mut Page, file: File, mark: &Marked) {
 }
 
 /// The place of the obligation that comes from here.
-#[tactic(auto, using(acc_places::proofs::ManyEntries::formed_but_entries))]
+#[tactic(auto, using(acc_oblig_places::proofs::ManyEntries::formed_but_entries))]
 fn place_of(alloc: Global, d: &Design, origin: &Origin) -> Result<Option<Place>, AllocError>
     requires { IsWellFormed d.now }
 {

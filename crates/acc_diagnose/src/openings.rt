@@ -6,14 +6,14 @@ use acc_accept::obligations;
 use acc_base::bounds::{MOST_INSTANCES, MOST_SPLITS};
 use acc_base::designs::{At, Design, Side};
 use acc_base::sequents::{Origin, Rule, Sequent};
-use acc_cert_spot::obligation_hint;
-use acc_explain::{begin_note, end_note, push_with};
-use acc_goals::ObligError;
-use acc_openings::{push_cure, push_unspoken, push_values};
-use acc_origins::origins::push_origin;
+use acc_cert_prove::{Found, SearchError, searched};
+use acc_diagnose_cert::obligation_hint;
+use acc_diagnose_openings::{push_cure, push_unspoken, push_values};
+use acc_diagnose_words::{begin_note, end_note, push_with};
+use acc_elim_systems::MOST_RELATIONS;
+use acc_oblig_goals::ObligError;
+use acc_oblig_origins::origins::push_origin;
 use acc_page::{Page, push_at};
-use acc_prove::{Found, SearchError, searched};
-use acc_systems::MOST_RELATIONS;
 use std::alloc::{AllocError, Global};
 
 /// `open O`, the words with which the line of an open obligation begins.
@@ -228,7 +228,7 @@ fn push_columns(alloc: Global, out: &mut Page, d: &Design, design: File) {
 
 /// Says which obligations of a design stay open, by the lines that were printed of them, and which columns no assertion speaks of; or which
 /// obligation has a number that is too large. The search is made anew for those that have a line.
-#[tactic(auto, using(acc_places::proofs::ManyEntries::formed_but_entries))]
+#[tactic(auto, using(acc_oblig_places::proofs::ManyEntries::formed_but_entries))]
 pub fn push_unproved(
     alloc: Global,
     out: &mut Page,

@@ -3,9 +3,9 @@ ghost use Rattle.acc_formed.specs.WellFormed.{IsWellFormed};
 
 use crate::obligations::File;
 use acc_base::designs::{At, Design};
-use acc_explain::{begin_note, end_note, push_quoted};
+use acc_diagnose_words::{begin_note, end_note, push_quoted};
+use acc_oblig_places::points_of;
 use acc_page::{Page, push_at};
-use acc_places::points_of;
 use std::alloc::{AllocError, Global};
 use strsim::generic_levenshtein;
 
@@ -40,7 +40,7 @@ fn add_near(
 }
 
 /// The names of a design's points, those nearest to a word first.
-#[tactic(auto, using(acc_places::proofs::ManyEntries::formed_but_entries))]
+#[tactic(auto, using(acc_oblig_places::proofs::ManyEntries::formed_but_entries))]
 fn names_near(alloc: Global, d: &Design, word: &[u8]) -> Result<Vec<Near>, AllocError>
     requires { IsWellFormed d.now }
 {

@@ -1,11 +1,11 @@
 //! What is told where the words of a command line are no command.
-use acc_explain::{push_grouped, push_quoted, push_with};
-use acc_inputs::{
+use acc_commands_inputs::{
     LARGEST_START, MOST_CUSTOMERS, MOST_ITEMS, MOST_PIECE, MOST_TRANSACTIONS, MOST_WAREHOUSES,
     MOST_WORKERS, number_of,
 };
+use acc_diagnose_spot::is_one_of;
+use acc_diagnose_words::{push_grouped, push_quoted, push_with};
 use acc_page::Page;
-use acc_spot::is_one_of;
 
 /// Words by which other programs are asked for their commands.
 const ASKING: [&[u8]; 3] = [b"help", b"-h", b"-?"];

@@ -1,7 +1,7 @@
 //! What is told of a design that lacks a table of TPC-C, or a call of its workload, and of conditions that are false.
 use crate::obligations::File;
 use acc_base::designs::Design;
-use acc_explain::{begin_note, end_note, push_note, push_quoted};
+use acc_diagnose_words::{begin_note, end_note, push_note, push_quoted};
 use acc_page::Page;
 use std::alloc::{AllocError, Global};
 use tpcc_tables::kinds::{CONDITIONS, Condition};

@@ -8,14 +8,14 @@ use Rattle.acc_base.specs.declared.forms.Unknown.{Unknown}
 use Rattle.acc_base.specs.declared.forms.Rel.{Rel}
 use Rattle.acc_rows.specs.declared.rows.Row.{Row}
 use Rattle.acc_base.specs.Computing.{steps}
-use Rattle.acc_readings.specs.Readings.{Read, with_rel, row_of, read_next}
-use Rattle.acc_known.specs.declared.known.Known.{Known}
-use Rattle.acc_known.specs.Ends.{IsKnown, IsCarriedOn}
-use Rattle.acc_stages.proofs.Carried.{before, ok_same}
-use Rattle.acc_decisions.specs.declared.reading.Reading.{Reading}
-use Rattle.acc_decisions.specs.Readings.{unread, read_of, AreRead}
+use Rattle.acc_elim_readings.specs.Readings.{Read, with_rel, row_of, read_next}
+use Rattle.acc_elim_known.specs.declared.known.Known.{Known}
+use Rattle.acc_elim_known.specs.Ends.{IsKnown, IsCarriedOn}
+use Rattle.acc_elim_stages.proofs.Carried.{before, ok_same}
+use Rattle.acc_elim_decisions.specs.declared.reading.Reading.{Reading}
+use Rattle.acc_elim_decisions.specs.Readings.{unread, read_of, AreRead}
 use Rattle.acc_elim.specs.Keepings.{IsKept, IsCarriedTo}
-use Rattle.acc_decisions.proofs.ReadOn.{names_grown, read_rest}
+use Rattle.acc_elim_decisions.proofs.ReadOn.{names_grown, read_rest}
 
 -- one more relation's unknowns come behind the others
 pub names_longer : (us : List Unknown) (r : Rel) → length us ≤ length (with_rel us r)

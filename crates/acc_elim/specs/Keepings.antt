@@ -1,11 +1,11 @@
 -- What is kept of relations that were read.
 use Rattle.std.specs.Prelude.{◌≤◌, ℕ, length, take, List, IfSome}
 use Rattle.acc_base.specs.declared.forms.Rel.{Rel}
-use Rattle.acc_known.specs.declared.known.Known.{Known}
-use Rattle.acc_known.specs.Ends.{IsKnown}
-use Rattle.acc_decisions.specs.declared.reading.Reading.{Reading}
+use Rattle.acc_elim_known.specs.declared.known.Known.{Known}
+use Rattle.acc_elim_known.specs.Ends.{IsKnown}
+use Rattle.acc_elim_decisions.specs.declared.reading.Reading.{Reading}
 use Rattle.acc_elim.specs.declared.keeping.Kept.{Kept}
-use Rattle.acc_decisions.specs.Readings.{AreRead}
+use Rattle.acc_elim_decisions.specs.Readings.{AreRead}
 
 -- this is kept of the elimination of what was read
 abbrev pub IsKept : Reading → Known → Type 0

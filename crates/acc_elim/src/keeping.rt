@@ -2,20 +2,20 @@
 ghost use Rattle.std.specs.Prelude.{◌≡◌, ◌≤◌, ◌∷◌, ◌++◌, [], ℕ, None, length, IfOk, IfSome};
 ghost use Rattle.acc_base.specs.Computing.{Answers, Leaves, steps};
 ghost use Rattle.acc_rows.specs.Answers.{tells};
-ghost use Rattle.acc_readings.specs.Readings.{read_next};
-ghost use Rattle.acc_points.specs.Searches.{searched};
-ghost use Rattle.acc_known.specs.Ends.{IsKnown, IsKnownWithin};
-ghost use Rattle.acc_decisions.specs.Readings.{unread, read_of, found_in, AreRead};
+ghost use Rattle.acc_elim_readings.specs.Readings.{read_next};
+ghost use Rattle.acc_elim_points.specs.Searches.{searched};
+ghost use Rattle.acc_elim_known.specs.Ends.{IsKnown, IsKnownWithin};
+ghost use Rattle.acc_elim_decisions.specs.Readings.{unread, read_of, found_in, AreRead};
 ghost use Rattle.acc_elim.specs.Keepings.{IsKept, IsCarriedTo, AreKept};
 
 use acc_base::forms::Rel;
 use acc_base::sequences::Seq;
-use acc_decisions::reading::{Reading, small_length};
-use acc_known::known::{Known, carried_on, found, found_with, known_of};
-use acc_readings::readings::read_next;
+use acc_elim_decisions::reading::{Reading, small_length};
+use acc_elim_known::known::{Known, carried_on, found, found_with, known_of};
+use acc_elim_readings::readings::read_next;
+use acc_elim_stages::copies::copied_rows;
 use acc_rows::rows::Row;
 use acc_rows::stops::Stop;
-use acc_stages::copies::copied_rows;
 use std::alloc::{AllocError, Global};
 
 /// What was read, and what is kept of its elimination, once it was asked about.

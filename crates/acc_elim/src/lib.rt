@@ -4,5 +4,5 @@
 mod keeping;
 pub mod solver;
 
-pub use acc_decisions::verdicts::{ElimError, Verdict};
+pub use acc_elim_decisions::verdicts::{ElimError, Verdict};
 pub use solver::Solver;

@@ -1,16 +1,16 @@
 //! Relations that are asked again and again whether they hold at some point.
 ghost use Rattle.std.specs.Prelude.{◌≡◌, ◌∷◌, ◌++◌, [], Ok, IfOk, IfErr, OnOk};
 ghost use Rattle.acc_base.specs.Computing.{StopsBy};
-ghost use Rattle.acc_readings.specs.Readings.{unknowns_of};
-ghost use Rattle.acc_decisions.specs.Causes.{tells};
-ghost use Rattle.acc_decisions.specs.Decisions.{ended, decision};
+ghost use Rattle.acc_elim_readings.specs.Readings.{unknowns_of};
+ghost use Rattle.acc_elim_decisions.specs.Causes.{tells};
+ghost use Rattle.acc_elim_decisions.specs.Decisions.{ended, decision};
 
 use crate::keeping::{Kept, searched, searched_with};
 use acc_base::forms::{Rel, Unknown};
 use acc_base::sequences::Seq;
-use acc_decisions::deciding::ended;
-use acc_decisions::reading::unknowns;
-use acc_decisions::verdicts::{ElimError, Verdict};
+use acc_elim_decisions::deciding::ended;
+use acc_elim_decisions::reading::unknowns;
+use acc_elim_decisions::verdicts::{ElimError, Verdict};
 use acc_rows::stops::Stop;
 use std::alloc::{AllocError, Global};
 use std::marker::Model;

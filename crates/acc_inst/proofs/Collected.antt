@@ -9,15 +9,15 @@ use Rattle.acc_base.specs.declared.bounds.TheConstants.{MOST_INSTANCES}
 use Rattle.acc_base.specs.declared.forms.Lin.{Lin}
 use Rattle.acc_base.specs.declared.forms.Clause.{Clause}
 use Rattle.acc_base.specs.Computing.{chain, steps}
-use Rattle.acc_choices.specs.declared.targets.Target.{Target}
-use Rattle.acc_choices.specs.declared.listing.InstError.TheVariants.{Crowded}
-use Rattle.acc_choices.specs.Parts.{Listing, with_firsts, unless_crowded}
-use Rattle.acc_choices.specs.Targets.{same_lins}
-use Rattle.acc_choices.specs.Choices.{values_of}
-use Rattle.acc_choices.specs.Walks.{with_few}
-use Rattle.acc_choices.proofs.Firsts.{grows}
-use Rattle.acc_choices.proofs.Crowds.{few, many, few_on, steps_few, steps_flat}
-use Rattle.acc_choices.proofs.Levels.{same_decides, chain_ok}
+use Rattle.acc_prover_choices.specs.declared.targets.Target.{Target}
+use Rattle.acc_prover_choices.specs.declared.listing.InstError.TheVariants.{Crowded}
+use Rattle.acc_prover_choices.specs.Parts.{Listing, with_firsts, unless_crowded}
+use Rattle.acc_prover_choices.specs.Targets.{same_lins}
+use Rattle.acc_prover_choices.specs.Choices.{values_of}
+use Rattle.acc_prover_choices.specs.Walks.{with_few}
+use Rattle.acc_prover_choices.proofs.Firsts.{grows}
+use Rattle.acc_prover_choices.proofs.Crowds.{few, many, few_on, steps_few, steps_flat}
+use Rattle.acc_prover_choices.proofs.Levels.{same_decides, chain_ok}
 use Rattle.acc_inst.specs.Making.{Chosen}
 use Rattle.acc_inst.specs.Instances.{Text, patterns_of, hinted, values_for, all_chosen}
 use Rattle.acc_inst.specs.Walks.{with_hint, with_hints, found_for, with_choice, with_choices, with_hypothesis, instances_by}

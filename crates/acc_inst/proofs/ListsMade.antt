@@ -7,8 +7,8 @@ use Rattle.acc_base.specs.declared.forms.Lin.{Lin}
 use Rattle.acc_base.specs.declared.forms.Form.{Form}
 use Rattle.acc_base.specs.declared.sequents.Sequent.{Sequent}
 use Rattle.acc_inst.specs.declared.listing.Listed.{Listed}
-use Rattle.acc_choices.specs.declared.listing.InstError.{InstError}
-use Rattle.acc_choices.specs.declared.listing.InstError.TheVariants.{Crowded, Wide}
+use Rattle.acc_prover_choices.specs.declared.listing.InstError.{InstError}
+use Rattle.acc_prover_choices.specs.declared.listing.InstError.TheVariants.{Crowded, Wide}
 use Rattle.acc_inst.specs.declared.lists.Made.{Made}
 use Rattle.acc_inst.specs.Making.{Chosen, instance_of, is_instance_wide, IsOf}
 use Rattle.acc_inst.specs.Instances.{instances_of}

@@ -7,12 +7,12 @@ use Rattle.acc_base.specs.declared.bounds.TheConstants.{MOST_INSTANCES}
 use Rattle.acc_base.specs.declared.forms.Lin.{Lin}
 use Rattle.acc_base.specs.declared.forms.Clause.{Clause}
 use Rattle.acc_base.specs.declared.sequents.Sequent.{Sequent}
-use Rattle.acc_choices.specs.declared.targets.Target.{Target}
-use Rattle.acc_choices.specs.declared.listing.InstError.TheVariants.{Crowded}
-use Rattle.acc_choices.specs.Parts.{unless_crowded}
-use Rattle.acc_choices.specs.Targets.{same_lins, targets_of}
-use Rattle.acc_choices.specs.Choices.{values_of}
-use Rattle.acc_choices.proofs.Lengths.{Long, all_firsts, all_long}
+use Rattle.acc_prover_choices.specs.declared.targets.Target.{Target}
+use Rattle.acc_prover_choices.specs.declared.listing.InstError.TheVariants.{Crowded}
+use Rattle.acc_prover_choices.specs.Parts.{unless_crowded}
+use Rattle.acc_prover_choices.specs.Targets.{same_lins, targets_of}
+use Rattle.acc_prover_choices.specs.Choices.{values_of}
+use Rattle.acc_prover_choices.proofs.Lengths.{Long, all_firsts, all_long}
 use Rattle.acc_inst.specs.Making.{Chosen, IsOf}
 use Rattle.acc_inst.specs.Instances.{Text, patterns_of, hinted, values_for, all_chosen, instances_of}
 

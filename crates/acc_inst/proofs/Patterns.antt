@@ -5,11 +5,11 @@ use Rattle.std.proofs.lemmas.List.Concat.{flat_map-append}
 use Rattle.acc_base.specs.declared.forms.Rel.{Rel}
 use Rattle.acc_base.specs.Atoms.{table_of, key_of}
 use Rattle.acc_base.specs.Sums.{Term}
-use Rattle.acc_choices.specs.declared.targets.Target.{Target}
-use Rattle.acc_choices.specs.declared.patterns.Pattern.{Pattern}
-use Rattle.acc_choices.specs.Targets.{targets_in, rel_targets}
-use Rattle.acc_choices.specs.Choices.{places_of, pattern_of}
-use Rattle.acc_choices.proofs.TableAtoms.{target_at, targets_cons}
+use Rattle.acc_prover_choices.specs.declared.targets.Target.{Target}
+use Rattle.acc_prover_choices.specs.declared.patterns.Pattern.{Pattern}
+use Rattle.acc_prover_choices.specs.Targets.{targets_in, rel_targets}
+use Rattle.acc_prover_choices.specs.Choices.{places_of, pattern_of}
+use Rattle.acc_prover_choices.proofs.TableAtoms.{target_at, targets_cons}
 
 module _ (first n : ℕ) (old : List Pattern) where
   pub no_pattern : (t : Term) → table_of t.0.atom ≡ None → old ++ map (pattern_of first n) (targets_in (t ∷ [])) ≡ old

@@ -3,11 +3,11 @@ use Rattle.std.specs.Prelude.{◌+◌, ℕ, List, [], ◌∷◌, ◌++◌, lengt
 use Rattle.acc_base.specs.declared.forms.Lin.{Lin}
 use Rattle.acc_base.specs.declared.forms.Clause.{Clause}
 use Rattle.acc_base.specs.declared.sequents.Sequent.{Sequent}
-use Rattle.acc_choices.specs.declared.targets.Target.{Target}
-use Rattle.acc_choices.specs.declared.patterns.Pattern.{Pattern}
-use Rattle.acc_choices.specs.Parts.{Listing, with_firsts, unless_crowded}
-use Rattle.acc_choices.specs.Targets.{same_lins, rel_targets, targets_of}
-use Rattle.acc_choices.specs.Choices.{pattern_of, values_of}
+use Rattle.acc_prover_choices.specs.declared.targets.Target.{Target}
+use Rattle.acc_prover_choices.specs.declared.patterns.Pattern.{Pattern}
+use Rattle.acc_prover_choices.specs.Parts.{Listing, with_firsts, unless_crowded}
+use Rattle.acc_prover_choices.specs.Targets.{same_lins, rel_targets, targets_of}
+use Rattle.acc_prover_choices.specs.Choices.{pattern_of, values_of}
 use Rattle.acc_inst.specs.Making.{Chosen}
 
 abbrev pub Text : Type 0

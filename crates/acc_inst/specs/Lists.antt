@@ -11,11 +11,11 @@ use Rattle.acc_base.specs.declared.sequents.Sequent.{Sequent}
 use Rattle.acc_base.specs.Sums.{Term, form_sum, is_sum_wide}
 use Rattle.acc_axioms.specs.Axioms.{lin_form}
 use Rattle.acc_inst.specs.declared.listing.Listed.{Listed}
-use Rattle.acc_choices.specs.declared.listing.InstError.TheVariants.{Crowded, Wide}
+use Rattle.acc_prover_choices.specs.declared.listing.InstError.TheVariants.{Crowded, Wide}
 use Rattle.acc_inst.specs.declared.making.Instance.{Instance}
 use Rattle.acc_inst.specs.Making.{Chosen, instance_of, is_instance_wide}
 use Rattle.acc_base.specs.Computing.{chain}
-use Rattle.acc_choices.specs.Parts.{Listing, with_first}
+use Rattle.acc_prover_choices.specs.Parts.{Listing, with_first}
 use Rattle.acc_inst.specs.Instances.{instances_of}
 
 -- ---- forms to split by

@@ -4,12 +4,12 @@ use Rattle.acc_base.specs.declared.bounds.TheConstants.{MOST_INSTANCES}
 use Rattle.acc_base.specs.declared.forms.Lin.{Lin}
 use Rattle.acc_base.specs.declared.forms.Clause.{Clause}
 use Rattle.acc_base.specs.Computing.{chain, steps}
-use Rattle.acc_choices.specs.declared.targets.Target.{Target}
-use Rattle.acc_choices.specs.declared.listing.InstError.TheVariants.{Crowded}
-use Rattle.acc_choices.specs.Parts.{Listing}
-use Rattle.acc_choices.specs.Targets.{same_lins}
-use Rattle.acc_choices.specs.Choices.{by_patterns}
-use Rattle.acc_choices.specs.Walks.{with_few}
+use Rattle.acc_prover_choices.specs.declared.targets.Target.{Target}
+use Rattle.acc_prover_choices.specs.declared.listing.InstError.TheVariants.{Crowded}
+use Rattle.acc_prover_choices.specs.Parts.{Listing}
+use Rattle.acc_prover_choices.specs.Targets.{same_lins}
+use Rattle.acc_prover_choices.specs.Choices.{by_patterns}
+use Rattle.acc_prover_choices.specs.Walks.{with_few}
 use Rattle.acc_inst.specs.Making.{Chosen}
 use Rattle.acc_inst.specs.Instances.{Text, patterns_of}
 

@@ -1,7 +1,7 @@
 //! What the lists of a sequent are.
 use acc_base::forms::{Form, Lin};
 use acc_base::sequences::Seq;
-pub use acc_choices::listing::InstError;
+pub use acc_prover_choices::listing::InstError;
 
 /// Instances, each a hypothesis's number with values for its own variables, and forms to split by.
 #[derive(Drop)]

@@ -2,7 +2,7 @@
 ghost use Rattle.std.specs.Prelude.{◌≡◌, Ok, map, IsFalse, All, IfOk, IfErr};
 ghost use Rattle.std.specs.List.{list_any};
 ghost use Rattle.acc_base.specs.Computing.{StopsBy};
-ghost use Rattle.acc_choices.specs.Parts.{tells, AnswersListing};
+ghost use Rattle.acc_prover_choices.specs.Parts.{tells, AnswersListing};
 ghost use Rattle.acc_inst.specs.Making.{instance_of, is_instance_wide, IsOf};
 ghost use Rattle.acc_inst.specs.Lists.{few, listed, lists_of};
 

@@ -8,8 +8,8 @@ use acc_base::forms::{Clause, Form, Lin, Rel};
 use acc_base::sequences::Seq;
 use acc_base::sequents::Sequent;
 use acc_base::sums::FormSum;
-use acc_choices::targets::copied_lins;
 use acc_instances::instances::relation_at;
+use acc_prover_choices::targets::copied_lins;
 use std::alloc::{AllocError, Global};
 
 /// A hypothesis, by its number, at linear values for its own variables: its guards and its relation there.

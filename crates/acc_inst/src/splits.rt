@@ -1,7 +1,7 @@
 //! The forms by which a search splits.
 ghost use Rattle.std.specs.Prelude.{◌≡◌, [], negsuc, pos, IfOk, OnOk};
 ghost use Rattle.std.specs.List.{fold, list_any};
-ghost use Rattle.acc_choices.specs.Parts.{with_first};
+ghost use Rattle.acc_prover_choices.specs.Parts.{with_first};
 ghost use Rattle.acc_inst.specs.Lists.{no_terms, is_nothing, cancels, same_split, with_split, with_lin, with_lins, with_unders, with_form};
 ghost use Rattle.acc_inst.specs.Lists.{with_rel, with_instance, with_guard, with_guards, splits_of};
 

@@ -9,8 +9,8 @@ use Rattle.acc_base.specs.declared.designs.Design.{Design}
 use Rattle.acc_base.specs.declared.machines.Frame.{Frame}
 use Rattle.acc_base.specs.Entries.{at_of}
 use Rattle.acc_table.specs.Closures.{is_set}
-use Rattle.acc_holders.specs.Keys.{Key}
-use Rattle.acc_holders.specs.Entries.{Entries}
+use Rattle.acc_lock_holders.specs.Keys.{Key}
+use Rattle.acc_lock_holders.specs.Entries.{Entries}
 use Rattle.acc_lock_index.specs.Roles.{standing_key, coming_key, undoing_key, held_values, step_values, may_stand, may_undo, one_if}
 use Rattle.acc_lock_index.specs.Roles.{keys_from}
 use Rattle.acc_lock_index.specs.Asks.{Asked, is_of, asks, first_from, TellsFirst}

@@ -3,8 +3,8 @@ use Rattle.std.proofs.Common.{◌≡◌, ◌≢◌, ℕ, zero, suc, ◌<◌, ◌
 use Rattle.std.proofs.Common.{arith, Some}
 use Rattle.std.specs.Prelude.{slice_get, slice_index_or, remove}
 use Rattle.std.proofs.lemmas.Option.{same_Some, none-some}
-use Rattle.acc_holders.specs.Numbers.{with_number, without_number}
-use Rattle.acc_holders.specs.Entries.{Entries, ChangesAll, IsSame}
+use Rattle.acc_lock_holders.specs.Numbers.{with_number, without_number}
+use Rattle.acc_lock_holders.specs.Entries.{Entries, ChangesAll, IsSame}
 use Rattle.acc_lift.proofs.Transactions.{got_set, set_got, set_other, got_push, push_old}
 use Rattle.acc_lock_index.specs.Indexed.{Standing, IsIn, AreUnder, AreApart}
 use Rattle.acc_lock_index.proofs.Keeping.{AreUnderBy, same_by, leave_by, enter_by, alike_by}

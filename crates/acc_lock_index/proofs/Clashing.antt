@@ -19,9 +19,9 @@ use Rattle.acc_base.specs.Locks.{Clashes, ClashesEither}
 use Rattle.acc_table.specs.Closures.{is_set}
 use Rattle.acc_table.specs.Entries.{pair_agrees, pairs_agree, entry_clashes, either_clashes, entry_may_clash}
 use Rattle.acc_table.proofs.Telling.{Passing, forbids_to, forbids_from, either_to, either_from}
-use Rattle.acc_holders.specs.declared.keys.Role.{Role}
-use Rattle.acc_holders.specs.declared.keys.Role.TheVariants.{Standing, Coming, Undoing}
-use Rattle.acc_holders.specs.Keys.{Key}
+use Rattle.acc_lock_holders.specs.declared.keys.Role.{Role}
+use Rattle.acc_lock_holders.specs.declared.keys.Role.TheVariants.{Standing, Coming, Undoing}
+use Rattle.acc_lock_holders.specs.Keys.{Key}
 use Rattle.acc_lock_index.specs.Roles.{standing_key, coming_key, undoing_key, held_values, step_values, stands, may_stand, may_undo}
 use Rattle.acc_lock_index.specs.Roles.{names_undo, one_if, keys_at, keys_from}
 use Rattle.acc_lock_index.specs.Asks.{is_of}

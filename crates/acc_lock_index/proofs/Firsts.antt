@@ -5,10 +5,10 @@ use Rattle.std.specs.Prelude.{slice_get, nat_lt}
 use Rattle.std.proofs.lemmas.Option.{same_Some, none-some}
 use Rattle.std.proofs.lemmas.Bool.Decides.{nat_tests}
 use Rattle.acc_base.specs.declared.designs.Entry.{Entry}
-use Rattle.acc_holders.specs.Keys.{Key}
-use Rattle.acc_holders.specs.Numbers.{least_but, TellsLeast, IsOther}
-use Rattle.acc_holders.specs.Entries.{Entries, under}
-use Rattle.acc_holders.proofs.Lowest.{contains_cases, contains_head, contains_tail, none_in, tells_alike, tells_from}
+use Rattle.acc_lock_holders.specs.Keys.{Key}
+use Rattle.acc_lock_holders.specs.Numbers.{least_but, TellsLeast, IsOther}
+use Rattle.acc_lock_holders.specs.Entries.{Entries, under}
+use Rattle.acc_lock_holders.proofs.Lowest.{contains_cases, contains_head, contains_tail, none_in, tells_alike, tells_from}
 use Rattle.acc_lock_index.specs.Asks.{Asked, asks, lowest_under, nearer, first_from, TellsFirst}
 
 module _ (es : Entries) (t : ℕ) where

@@ -2,7 +2,7 @@
 use Rattle.std.proofs.Common.{◌≡◌, ℕ, zero, suc, Bool, true, false, List, sym, subst, refl, ◌∙◌, Option, Some, None, Contains}
 use Rattle.std.specs.Prelude.{◌↔◌, MatchOption, is_some, replicate}
 use Rattle.std.proofs.lemmas.Option.{same_Some, none-some}
-use Rattle.acc_holders.specs.Entries.{Entries, IsSame, HaveRoom}
+use Rattle.acc_lock_holders.specs.Entries.{Entries, IsSame, HaveRoom}
 use Rattle.acc_table.specs.Closures.{is_set}
 use Rattle.acc_lock_index.specs.Indexed.{Standing, AreUnder, AreApart, IsReady, HasNumber, IsPlaceOf, IsKept, TakesOut, PutsIn}
 use Rattle.acc_lock_index.proofs.Lists.{apart_remove, apart_set}

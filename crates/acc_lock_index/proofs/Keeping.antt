@@ -5,11 +5,11 @@ use Rattle.std.specs.Prelude.{◌==◌, ◌↔◌, not}
 use Rattle.std.proofs.lemmas.Bool.Decides.{nat_tests}
 use Rattle.std.proofs.Common.{arith}
 use Rattle.std.proofs.lemmas.List.Elements.{Contains-append_left, Contains-append_right, Contains-append_cases}
-use Rattle.acc_holders.specs.Keys.{Key, key_eq}
-use Rattle.acc_holders.specs.Numbers.{is_among, with_number, without_number}
-use Rattle.acc_holders.specs.Entries.{Entries, under, changed, changed_all, ChangesAll, IsSame}
-use Rattle.acc_holders.proofs.Finding.{key_decides}
-use Rattle.acc_holders.proofs.Lowest.{contains_cases, contains_head, contains_tail, none_in}
+use Rattle.acc_lock_holders.specs.Keys.{Key, key_eq}
+use Rattle.acc_lock_holders.specs.Numbers.{is_among, with_number, without_number}
+use Rattle.acc_lock_holders.specs.Entries.{Entries, under, changed, changed_all, ChangesAll, IsSame}
+use Rattle.acc_lock_holders.proofs.Finding.{key_decides}
+use Rattle.acc_lock_holders.proofs.Lowest.{contains_cases, contains_head, contains_tail, none_in}
 use Rattle.acc_lock_index.specs.Indexed.{Standing}
 
 -- ---- numbers that are left out and added

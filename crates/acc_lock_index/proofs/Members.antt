@@ -6,8 +6,8 @@ use Rattle.std.proofs.lemmas.Option.{same_Some, none-some}
 use Rattle.std.proofs.lemmas.List.Elements.{Contains-append_left, Contains-append_right, Contains-append_cases}
 use Rattle.acc_base.specs.declared.designs.At.{At}
 use Rattle.acc_base.specs.declared.designs.Entry.{Entry}
-use Rattle.acc_holders.specs.Keys.{Key}
-use Rattle.acc_holders.proofs.Lowest.{contains_cases, contains_head, none_in}
+use Rattle.acc_lock_holders.specs.Keys.{Key}
+use Rattle.acc_lock_holders.proofs.Lowest.{contains_cases, contains_head, none_in}
 use Rattle.acc_lock_index.specs.Roles.{standing_key, coming_key, undoing_key, held_values, step_values, stands, may_stand, may_undo}
 use Rattle.acc_lock_index.specs.Roles.{one_if, keys_at, keys_from}
 

@@ -9,8 +9,8 @@ use Rattle.acc_base.specs.Entries.{at_of, Forbids}
 use Rattle.acc_base.specs.Locks.{ClashesEither}
 use Rattle.acc_table.specs.Closures.{is_set, IsClosure}
 use Rattle.acc_table.specs.Entries.{IsPointOf}
-use Rattle.acc_holders.specs.Keys.{Key}
-use Rattle.acc_holders.specs.Entries.{Entries, under, HaveRoom}
+use Rattle.acc_lock_holders.specs.Keys.{Key}
+use Rattle.acc_lock_holders.specs.Entries.{Entries, under, HaveRoom}
 use Rattle.acc_lock_index.specs.Roles.{keys_from, names_undo}
 use Rattle.acc_lock_index.specs.Asks.{Asked}
 

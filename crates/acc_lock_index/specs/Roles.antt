@@ -6,9 +6,9 @@ use Rattle.acc_base.specs.declared.designs.Entry.{Entry}
 use Rattle.acc_base.specs.Linear.{var}
 use Rattle.acc_base.specs.PointEquality.{at_eq, side_eq}
 use Rattle.acc_table.specs.Closures.{is_set}
-use Rattle.acc_holders.specs.declared.keys.Role.{Role}
-use Rattle.acc_holders.specs.declared.keys.Role.TheVariants.{Standing, Coming, Undoing}
-use Rattle.acc_holders.specs.Keys.{Key}
+use Rattle.acc_lock_holders.specs.declared.keys.Role.{Role}
+use Rattle.acc_lock_holders.specs.declared.keys.Role.TheVariants.{Standing, Coming, Undoing}
+use Rattle.acc_lock_holders.specs.Keys.{Key}
 
 abbrev pub key : Role → ℕ → List ℤ → Key
 key role n values = record { role = role; entry = n; values = values }

@@ -7,8 +7,8 @@ ghost use Rattle.acc_lock_index.specs.Asks.{is_of, asks, lowest_under, nearer, f
 use crate::roles::{held_values, may_stand, may_undo, step_values};
 use acc_base::bounds::{MOST_ENTRIES, MOST_POINTS};
 use acc_base::designs::{At, Entry, Side};
-use acc_holders::keys::{Key, Role};
-use acc_holders::maps::{Holders, lowest_under};
+use acc_lock_holders::keys::{Key, Role};
+use acc_lock_holders::maps::{Holders, lowest_under};
 use std::alloc::{AllocError, Global};
 use std::marker::Model;
 

@@ -14,7 +14,7 @@ use crate::roles::{keys_of, reached_from};
 use crate::standings::{Standing, add_one, place_of, put_one, take_one_out};
 use acc_base::bounds::MOST_POINTS;
 use acc_base::designs::{At, Design};
-use acc_holders::maps::{Holders, forget_all, make_room_for};
+use acc_lock_holders::maps::{Holders, forget_all, make_room_for};
 use indexmap::IndexMap;
 use std::alloc::{AllocError, Global};
 use std::marker::Model;

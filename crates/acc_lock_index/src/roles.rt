@@ -11,7 +11,7 @@ ghost use Rattle.acc_lock_index.specs.Indexed.{AreKeysOf, IsReached};
 
 use acc_base::bounds::{MOST_ENTRIES, MOST_POINTS};
 use acc_base::designs::{At, Design, Entry, Side};
-use acc_holders::keys::{Key, Role};
+use acc_lock_holders::keys::{Key, Role};
 use acc_table::undo_points;
 use std::alloc::{AllocError, Global};
 

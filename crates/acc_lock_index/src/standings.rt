@@ -1,10 +1,10 @@
 //! Transactions with their keys, and their numbers under these.
 ghost use Rattle.std.specs.Prelude.{◌≡◌, ◌<◌, ◌++◌, ◌∷◌, [], MatchOption, vec_len, vec_capacity};
-ghost use Rattle.acc_holders.specs.Entries.{HaveRoom};
+ghost use Rattle.acc_lock_holders.specs.Entries.{HaveRoom};
 ghost use Rattle.acc_lock_index.specs.Indexed.{AreUnder, AreApart, HasNumber, IsPlaceOf, TakesOut, PutsIn};
 
-use acc_holders::keys::Key;
-use acc_holders::maps::{Holders, add_to_all, forget_all, take_out_of_all};
+use acc_lock_holders::keys::Key;
+use acc_lock_holders::maps::{Holders, add_to_all, forget_all, take_out_of_all};
 use std::marker::Model;
 
 /// A transaction's number, and its keys.

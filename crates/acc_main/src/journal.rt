@@ -1,10 +1,10 @@
 //! The journal's file: its name among the words, how it is opened, and why it can't be used.
 ghost use Rattle.std.specs.Prelude.{◌≡◌, ◌++◌, ◌<◌, ◌↔◌, true, map, length, string_bytes, IsSome, option_to_list};
-ghost use Rattle.acc_inputs.specs.Words.{asks_journal};
+ghost use Rattle.acc_commands_inputs.specs.Words.{asks_journal};
 
 use acc_cli::asks_journal;
+use acc_commands_inputs::{Command, command_of};
 use acc_disk::{FileDisk, Opening, Trouble};
-use acc_inputs::{Command, command_of};
 use acc_wal::FIRST_BYTES;
 use std::alloc::{AllocError, Global};
 

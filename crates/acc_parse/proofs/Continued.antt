@@ -12,9 +12,9 @@ use Rattle.acc_lex.proofs.WholeTexts.{one_reading, can_spell}
 use Rattle.acc_lex.proofs.StatementWords.{InStatements, in_behind, lexed_in}
 use Rattle.acc_lex.proofs.WrittenWords.{written}
 use Rattle.acc_lex.proofs.LineFronts.{IsFed, fed_both, fed_parted}
-use Rattle.acc_syntax.specs.declared.trees.DesignTree.{DesignTree}
-use Rattle.acc_designs.specs.Texts.{IsSpelling, Begins as Opens, StopsAt}
-use Rattle.acc_designs.proofs.SpelledStatements.{spelled_in}
+use Rattle.acc_parse_syntax.specs.declared.trees.DesignTree.{DesignTree}
+use Rattle.acc_parse_designs.specs.Texts.{IsSpelling, Begins as Opens, StopsAt}
+use Rattle.acc_parse_designs.proofs.SpelledStatements.{spelled_in}
 use Rattle.acc_parse.specs.declared.errors.ParseError.{ParseError}
 use Rattle.acc_parse.specs.Texts.{IsGrammatical}
 use Rattle.acc_parse.specs.Syntax.{Begins}

@@ -2,9 +2,9 @@
 use Rattle.std.proofs.Common.{◌≡◌, ℕ, List, [], Contains, Ok, Err, IfOk, refl, sym, ap, subst, ◌∙◌, arith}
 use Rattle.std.specs.Prelude.{Result, IfErr, MatchResult}
 use Rattle.acc_base.specs.declared.designs.Design.{Design}
-use Rattle.acc_syntax.specs.declared.trees.DesignTree.{DesignTree}
-use Rattle.acc_names.specs.Faults.{first_fault_of}
-use Rattle.acc_meaning.specs.Designs.{design_of}
+use Rattle.acc_parse_syntax.specs.declared.trees.DesignTree.{DesignTree}
+use Rattle.acc_parse_names.specs.Faults.{first_fault_of}
+use Rattle.acc_parse_meaning.specs.Designs.{design_of}
 use Rattle.acc_parse.specs.declared.errors.ParseError.{ParseError}
 use Rattle.acc_parse.specs.declared.errors.ParseError.TheVariants as errors
 use Rattle.acc_parse.specs.Texts.{IsGrammatical, IsAllowed, IsDesignText, past_limits}

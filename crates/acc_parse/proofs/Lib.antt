@@ -1,5 +1,5 @@
-pub use Rattle.acc_designs.proofs.OwnWords
-pub use Rattle.acc_designs.proofs.WholeLaws
+pub use Rattle.acc_parse_designs.proofs.OwnWords
+pub use Rattle.acc_parse_designs.proofs.WholeLaws
 pub mod Continued
 pub mod WrongLines
 pub mod LoneLimit

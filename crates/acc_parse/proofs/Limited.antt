@@ -4,16 +4,16 @@ use Rattle.std.proofs.Common.{false}
 use Rattle.std.proofs.Common.{cond, zero, suc, nat_le, nat_lt, min, refl, sym, ap, subst, ◌∙◌, inl, inr, arith}
 use Rattle.std.proofs.lemmas.Bool.{cases_lt}
 use Rattle.std.proofs.lemmas.Bool.Decides.{nat_tests}
-use Rattle.acc_syntax.specs.declared.trees.DesignTree.{DesignTree}
-use Rattle.acc_statements.specs.Lines.{IsLineOf}
-use Rattle.acc_statements.proofs.OneLine.{no_earlier}
+use Rattle.acc_parse_syntax.specs.declared.trees.DesignTree.{DesignTree}
+use Rattle.acc_parse_statements.specs.Lines.{IsLineOf}
+use Rattle.acc_parse_statements.proofs.OneLine.{no_earlier}
 use Rattle.acc_base.specs.declared.limits.Limit.{Limit}
 use Rattle.acc_base.specs.declared.limits.Limit.TheVariants as limit
 use Rattle.acc_base.specs.Numbering.{limit_number}
-use Rattle.acc_limits.specs.Numbers.{is_lower, is_before}
-use Rattle.acc_limits.specs.Faults.{limits_on, limit_faults}
+use Rattle.acc_parse_limits.specs.Numbers.{is_lower, is_before}
+use Rattle.acc_parse_limits.specs.Faults.{limits_on, limit_faults}
 use Rattle.acc_base.specs.Leasts.{IsLeast}
-use Rattle.acc_meaning.specs.Sizes.{size_faults}
+use Rattle.acc_parse_meaning.specs.Sizes.{size_faults}
 use Rattle.acc_parse.proofs.LoneLimit.{sizes_alone}
 use Rattle.acc_parse.specs.Texts.{past_limits}
 use Rattle.acc_parse.specs.Faults.{IsFirstIn, PassesAt}

@@ -5,45 +5,45 @@ use Rattle.std.proofs.lemmas.List.Elements.{All-nil, All-cons, All-append, All-h
 use Rattle.acc_base.specs.Numbers.{is_small}
 use Rattle.acc_base.specs.declared.forms.Unknown.{Unknown}
 use Rattle.acc_terms.specs.declared.collecting.Terms.{Terms}
-use Rattle.acc_syntax.specs.declared.trees.Sum.{Sum}
-use Rattle.acc_syntax.specs.declared.trees.Sums.{Sums}
-use Rattle.acc_syntax.specs.declared.trees.Place.{Place}
-use Rattle.acc_syntax.specs.declared.trees.Names.{Names}
-use Rattle.acc_syntax.specs.declared.trees.LinRels.{LinRels}
-use Rattle.acc_syntax.specs.declared.trees.Operand.{Operand}
-use Rattle.acc_syntax.specs.declared.trees.Operand.TheVariants as operands
-use Rattle.acc_syntax.specs.declared.trees.FormTerm.{FormTerm}
-use Rattle.acc_syntax.specs.declared.trees.FormTerm.TheVariants as form_terms
-use Rattle.acc_syntax.specs.declared.trees.FormTree.{FormTree}
-use Rattle.acc_syntax.specs.declared.trees.FormRelTree.{FormRelTree}
-use Rattle.acc_syntax.specs.declared.trees.ClauseTree.{ClauseTree}
-use Rattle.acc_syntax.specs.declared.trees.TableTree.{TableTree}
-use Rattle.acc_syntax.specs.declared.trees.ReadTree.{ReadTree}
-use Rattle.acc_syntax.specs.declared.trees.ReadTree.TheVariants as read
-use Rattle.acc_syntax.specs.declared.trees.ActionTree.{ActionTree}
-use Rattle.acc_syntax.specs.declared.trees.ActionTree.TheVariants as action
-use Rattle.acc_syntax.specs.declared.trees.PathTree.{PathTree}
-use Rattle.acc_syntax.specs.declared.trees.StepTree.{StepTree}
-use Rattle.acc_syntax.specs.declared.trees.PointTree.{PointTree}
-use Rattle.acc_syntax.specs.declared.trees.TypeTree.{TypeTree}
-use Rattle.acc_syntax.specs.declared.trees.DesignTree.{DesignTree}
+use Rattle.acc_parse_syntax.specs.declared.trees.Sum.{Sum}
+use Rattle.acc_parse_syntax.specs.declared.trees.Sums.{Sums}
+use Rattle.acc_parse_syntax.specs.declared.trees.Place.{Place}
+use Rattle.acc_parse_syntax.specs.declared.trees.Names.{Names}
+use Rattle.acc_parse_syntax.specs.declared.trees.LinRels.{LinRels}
+use Rattle.acc_parse_syntax.specs.declared.trees.Operand.{Operand}
+use Rattle.acc_parse_syntax.specs.declared.trees.Operand.TheVariants as operands
+use Rattle.acc_parse_syntax.specs.declared.trees.FormTerm.{FormTerm}
+use Rattle.acc_parse_syntax.specs.declared.trees.FormTerm.TheVariants as form_terms
+use Rattle.acc_parse_syntax.specs.declared.trees.FormTree.{FormTree}
+use Rattle.acc_parse_syntax.specs.declared.trees.FormRelTree.{FormRelTree}
+use Rattle.acc_parse_syntax.specs.declared.trees.ClauseTree.{ClauseTree}
+use Rattle.acc_parse_syntax.specs.declared.trees.TableTree.{TableTree}
+use Rattle.acc_parse_syntax.specs.declared.trees.ReadTree.{ReadTree}
+use Rattle.acc_parse_syntax.specs.declared.trees.ReadTree.TheVariants as read
+use Rattle.acc_parse_syntax.specs.declared.trees.ActionTree.{ActionTree}
+use Rattle.acc_parse_syntax.specs.declared.trees.ActionTree.TheVariants as action
+use Rattle.acc_parse_syntax.specs.declared.trees.PathTree.{PathTree}
+use Rattle.acc_parse_syntax.specs.declared.trees.StepTree.{StepTree}
+use Rattle.acc_parse_syntax.specs.declared.trees.PointTree.{PointTree}
+use Rattle.acc_parse_syntax.specs.declared.trees.TypeTree.{TypeTree}
+use Rattle.acc_parse_syntax.specs.declared.trees.DesignTree.{DesignTree}
 use Rattle.acc_base.specs.declared.limits.Limit.{Limit}
 use Rattle.acc_base.specs.declared.limits.Limit.TheVariants as limit
-use Rattle.acc_limits.specs.Marks.{Mark, Past, End, ending, past}
-use Rattle.acc_limits.specs.Faults.{placed}
-use Rattle.acc_meaning.specs.Scopes.{Variables, Scope}
-use Rattle.acc_meaning.specs.Values.{terms_of, lin_rel_terms, all_sums, all_rels}
-use Rattle.acc_meaning.specs.Forms.{rel_terms, all_form_rels, clause_scope}
-use Rattle.acc_meaning.specs.Steps.{all_paths}
-use Rattle.acc_meaning.specs.Types.{type_scope}
-use Rattle.acc_meaning.specs.Designs.{outside, variables_at}
-use Rattle.acc_meaning.specs.ClausesSizes.{size_mark, term_sizes, terms_sizes, sum_sizes, sums_sizes, values_sizes, lin_rel_sizes, guard_sizes}
-use Rattle.acc_meaning.specs.ClausesSizes.{place_sizes, operand_sizes, form_term_sizes, signed_form_term_sizes, form_sizes, rel_sizes}
-use Rattle.acc_meaning.specs.ClausesSizes.{clause_sizes, clause_statement_sizes}
-use Rattle.acc_meaning.specs.Sizes.{read_words_sizes, read_sizes, action_words_sizes, action_sizes}
-use Rattle.acc_meaning.specs.Sizes.{path_sizes, step_sizes, variant_sizes, point_sizes, names_sizes, type_sizes, table_sizes, entry_sizes}
-use Rattle.acc_meaning.specs.Sizes.{hint_sizes, design_sizes, size_faults}
-use Rattle.acc_names.specs.Scopes.{points_in}
+use Rattle.acc_parse_limits.specs.Marks.{Mark, Past, End, ending, past}
+use Rattle.acc_parse_limits.specs.Faults.{placed}
+use Rattle.acc_parse_meaning.specs.Scopes.{Variables, Scope}
+use Rattle.acc_parse_meaning.specs.Values.{terms_of, lin_rel_terms, all_sums, all_rels}
+use Rattle.acc_parse_meaning.specs.Forms.{rel_terms, all_form_rels, clause_scope}
+use Rattle.acc_parse_meaning.specs.Steps.{all_paths}
+use Rattle.acc_parse_meaning.specs.Types.{type_scope}
+use Rattle.acc_parse_meaning.specs.Designs.{outside, variables_at}
+use Rattle.acc_parse_meaning.specs.ClausesSizes.{size_mark, term_sizes, terms_sizes, sum_sizes, sums_sizes, values_sizes, lin_rel_sizes, guard_sizes}
+use Rattle.acc_parse_meaning.specs.ClausesSizes.{place_sizes, operand_sizes, form_term_sizes, signed_form_term_sizes, form_sizes, rel_sizes}
+use Rattle.acc_parse_meaning.specs.ClausesSizes.{clause_sizes, clause_statement_sizes}
+use Rattle.acc_parse_meaning.specs.Sizes.{read_words_sizes, read_sizes, action_words_sizes, action_sizes}
+use Rattle.acc_parse_meaning.specs.Sizes.{path_sizes, step_sizes, variant_sizes, point_sizes, names_sizes, type_sizes, table_sizes, entry_sizes}
+use Rattle.acc_parse_meaning.specs.Sizes.{hint_sizes, design_sizes, size_faults}
+use Rattle.acc_parse_names.specs.Scopes.{points_in}
 
 -- a mark of no limit but that of numbers
 abbrev IsSize : Mark → Type 0

@@ -1,16 +1,16 @@
 -- The statements of a text are those of the tree that it spells.
 use Rattle.std.proofs.Common.{◌≡◌, ℕ, ◌<◌, ◌^◌, List, ap, ◌∙◌, arith}
 use Rattle.std.proofs.lemmas.List.Elements.{All-append, All-contains}
-use Rattle.acc_syntax.specs.declared.trees.DesignTree.{DesignTree}
-use Rattle.acc_statements.specs.Ends.{ends}
-use Rattle.acc_statements.specs.Counts.{statements_of}
-use Rattle.acc_statements.specs.Lines.{HasStatement}
-use Rattle.acc_statements.proofs.Counted.{spelled_ends}
+use Rattle.acc_parse_syntax.specs.declared.trees.DesignTree.{DesignTree}
+use Rattle.acc_parse_statements.specs.Ends.{ends}
+use Rattle.acc_parse_statements.specs.Counts.{statements_of}
+use Rattle.acc_parse_statements.specs.Lines.{HasStatement}
+use Rattle.acc_parse_statements.proofs.Counted.{spelled_ends}
 use Rattle.acc_base.specs.declared.limits.Limit.{Limit}
-use Rattle.acc_limits.specs.Faults.{limit_faults}
-use Rattle.acc_limits.proofs.Ended.{faults_within as written_within}
-use Rattle.acc_meaning.specs.Sizes.{size_faults}
-use Rattle.acc_meaning.proofs.Ended.{faults_within as collected_within}
+use Rattle.acc_parse_limits.specs.Faults.{limit_faults}
+use Rattle.acc_parse_limits.proofs.Ended.{faults_within as written_within}
+use Rattle.acc_parse_meaning.specs.Sizes.{size_faults}
+use Rattle.acc_parse_meaning.proofs.Ended.{faults_within as collected_within}
 use Rattle.acc_parse.specs.Texts.{IsGrammatical, past_limits}
 use Rattle.acc_parse.specs.Faults.{IsFirstIn}
 

@@ -6,9 +6,9 @@ use Rattle.acc_lex.specs.declared.words.Word.{Word}
 use Rattle.acc_lex.specs.Texts.{IsLexed, IsBadAt, Begins as Lexes}
 use Rattle.acc_lex.proofs.LineFronts.{IsFed, nothing_lexed, fed_line, with_feed, without_feed, fed_both, fed_parted}
 use Rattle.acc_lex.proofs.WholeTexts.{one_reading}
-use Rattle.acc_statements.specs.Lines.{feeds, first_lines}
-use Rattle.acc_statements.proofs.FirstLines.{feeds_taken, behind_lines, later_lines, lines_fed, lines_within, lines_past}
-use Rattle.acc_statements.proofs.Fronts.{Comes, longer, longer_whole, longer_feeds, first_are, feeds_front}
+use Rattle.acc_parse_statements.specs.Lines.{feeds, first_lines}
+use Rattle.acc_parse_statements.proofs.FirstLines.{feeds_taken, behind_lines, later_lines, lines_fed, lines_within, lines_past}
+use Rattle.acc_parse_statements.proofs.Fronts.{Comes, longer, longer_whole, longer_feeds, first_are, feeds_front}
 use Rattle.acc_parse.specs.Texts.{IsGrammatical}
 use Rattle.acc_parse.specs.Syntax.{Begins, IsWrongAt}
 use Rattle.acc_parse.specs.GoodWords.{AreGood, GoesOn, Judges}

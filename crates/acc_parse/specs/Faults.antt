@@ -1,8 +1,8 @@
 -- On which line a text of the grammar has its first fault of names, or passes a limit first.
 use Rattle.std.specs.Prelude.{◌≡◌, ◌⊎◌, ℕ, ◌<◌, ◌≤◌, List, Some, None, Contains, All}
-use Rattle.acc_syntax.specs.declared.trees.DesignTree.{DesignTree}
-use Rattle.acc_statements.specs.Lines.{IsLineOf}
-use Rattle.acc_names.specs.Faults.{first_fault_of}
+use Rattle.acc_parse_syntax.specs.declared.trees.DesignTree.{DesignTree}
+use Rattle.acc_parse_statements.specs.Lines.{IsLineOf}
+use Rattle.acc_parse_names.specs.Faults.{first_fault_of}
 use Rattle.acc_base.specs.declared.limits.Limit.{Limit}
 use Rattle.acc_base.specs.Numbering.{limit_number}
 use Rattle.acc_parse.specs.Texts.{IsGrammatical, past_limits}

@@ -2,8 +2,8 @@
 use Rattle.std.specs.Prelude.{ℕ, ◌+◌, ◌<◌, ◌≤◌, List, length, take}
 use Rattle.acc_lex.specs.declared.words.Word.{Word}
 use Rattle.acc_lex.specs.Texts.{IsLexed}
-use Rattle.acc_designs.specs.Texts.{Begins}
-use Rattle.acc_statements.specs.Lines.{feeds, first_lines}
+use Rattle.acc_parse_designs.specs.Texts.{Begins}
+use Rattle.acc_parse_statements.specs.Lines.{feeds, first_lines}
 
 -- so many of the words can be continued to a design's, and with one more they can't
 pub record AreGood (words : List Word) (good : ℕ) : Type 0 where

@@ -1,6 +1,6 @@
 -- On which line a text that isn't of the grammar goes wrong.
 use Rattle.std.specs.Prelude.{ℕ, ◌+◌, ◌-◌, ◌≤◌, List, ◌++◌}
-use Rattle.acc_statements.specs.Lines.{feeds, first_lines}
+use Rattle.acc_parse_statements.specs.Lines.{feeds, first_lines}
 use Rattle.acc_parse.specs.Texts.{IsGrammatical}
 
 -- some text of the grammar begins with these bytes

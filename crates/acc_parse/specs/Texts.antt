@@ -3,13 +3,13 @@ use Rattle.std.specs.Prelude.{◌≡◌, ℕ, List, [], ◌++◌, None}
 use Rattle.acc_base.specs.declared.designs.Design.{Design}
 use Rattle.acc_lex.specs.declared.words.Word.{Word}
 use Rattle.acc_lex.specs.Texts.{IsLexed}
-use Rattle.acc_syntax.specs.declared.trees.DesignTree.{DesignTree}
-use Rattle.acc_designs.specs.Texts.{IsSpelling}
-use Rattle.acc_names.specs.Faults.{first_fault_of}
+use Rattle.acc_parse_syntax.specs.declared.trees.DesignTree.{DesignTree}
+use Rattle.acc_parse_designs.specs.Texts.{IsSpelling}
+use Rattle.acc_parse_names.specs.Faults.{first_fault_of}
 use Rattle.acc_base.specs.declared.limits.Limit.{Limit}
-use Rattle.acc_limits.specs.Faults.{limit_faults}
-use Rattle.acc_meaning.specs.Sizes.{size_faults}
-use Rattle.acc_meaning.specs.Designs.{design_of}
+use Rattle.acc_parse_limits.specs.Faults.{limit_faults}
+use Rattle.acc_parse_meaning.specs.Sizes.{size_faults}
+use Rattle.acc_parse_meaning.specs.Designs.{design_of}
 
 -- the text is of the grammar: it is words that spell a tree
 pub record IsGrammatical (text : List ℕ) : Type 0 where

@@ -2,7 +2,7 @@
 ghost use Rattle.std.specs.Prelude.{◌≡◌};
 ghost use Rattle.acc_parse.specs.declared.errors.ParseError.TheVariants as parse_error;
 
-use acc_limits::Limit;
+use acc_parse_limits::Limit;
 use std::alloc::AllocError;
 
 /// Why a text is no design. Lines are counted from 1.

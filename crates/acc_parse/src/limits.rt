@@ -1,15 +1,15 @@
 //! The first line that passes a limit, and the lowest limit that is passed there.
 ghost use Rattle.std.specs.Prelude.{◌≡◌, ◌<◌, ◌^◌, [], IfOk, IfNone, IfSome};
-ghost use Rattle.acc_statements.specs.Counts.{statements_of};
-ghost use Rattle.acc_limits.specs.Numbers.{is_before};
+ghost use Rattle.acc_parse_statements.specs.Counts.{statements_of};
+ghost use Rattle.acc_parse_limits.specs.Numbers.{is_before};
 ghost use Rattle.acc_base.specs.Leasts.{IsLeast};
-ghost use Rattle.acc_meaning.specs.Sizes.{size_faults};
+ghost use Rattle.acc_parse_meaning.specs.Sizes.{size_faults};
 ghost use Rattle.acc_parse.specs.Texts.{IsGrammatical, past_limits};
 ghost use Rattle.acc_parse.specs.Faults.{IsFirstIn, PassesAt};
 
-use acc_limits::{Limit, first_fault, lowest_on};
-use acc_statements::line_of;
-use acc_syntax::trees::DesignTree;
+use acc_parse_limits::{Limit, first_fault, lowest_on};
+use acc_parse_statements::line_of;
+use acc_parse_syntax::trees::DesignTree;
 use std::alloc::{AllocError, Global};
 
 /// The first statement that passes a limit; `collected` is the first that does by the numbers that are collected.

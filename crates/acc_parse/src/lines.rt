@@ -6,10 +6,10 @@ ghost use Rattle.acc_parse.specs.Texts.{IsGrammatical};
 ghost use Rattle.acc_parse.specs.Syntax.{IsWrongAt};
 ghost use Rattle.acc_parse.specs.GoodWords.{AreGood, Judges};
 
-use acc_designs::designs::{SyntaxError, syntax};
 use acc_lex::lexers::LexError;
 use acc_lex::texts::words;
-use acc_statements::lines::split_line;
+use acc_parse_designs::designs::{SyntaxError, syntax};
+use acc_parse_statements::lines::split_line;
 use std::alloc::{AllocError, Global};
 
 /// How many words a line has, if it is words.

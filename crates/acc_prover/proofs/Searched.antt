@@ -8,12 +8,12 @@ use Rattle.acc_base.specs.TrueSequents.{SequentTrue}
 use Rattle.acc_axioms.specs.declared.nodes.Node.{Node}
 use Rattle.acc_cert_bounds.specs.InBounds.{nodes_near}
 use Rattle.acc_proof.proofs.Implied.{proofs_imply}
-use Rattle.acc_searched.specs.BranchCourses.{Course, AnswersCourse}
-use Rattle.acc_searched.specs.Searches.{course}
-use Rattle.acc_searched.specs.Courses.{IsProof}
-use Rattle.acc_searched.specs.OpenLeaves.{IsOpenLeaf}
-use Rattle.acc_searched.proofs.Ends.{ended_proof, leaf_open}
-use Rattle.acc_searched.proofs.NearNodes.{nodes_near_at_end}
+use Rattle.acc_prover_searched.specs.BranchCourses.{Course, AnswersCourse}
+use Rattle.acc_prover_searched.specs.Searches.{course}
+use Rattle.acc_prover_searched.specs.Courses.{IsProof}
+use Rattle.acc_prover_searched.specs.OpenLeaves.{IsOpenLeaf}
+use Rattle.acc_prover_searched.proofs.Ends.{ended_proof, leaf_open}
+use Rattle.acc_prover_searched.proofs.NearNodes.{nodes_near_at_end}
 use Rattle.acc_prover.specs.declared.found.Found.{Found}
 use Rattle.acc_prover.specs.declared.found.Found.TheVariants.{Proved, Unproved}
 use Rattle.acc_prover.specs.declared.found.SearchError.{SearchError}

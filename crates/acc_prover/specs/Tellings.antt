@@ -3,11 +3,11 @@ use Rattle.std.specs.Prelude.{◌≡◌, List, Result, Ok, Err}
 use Rattle.acc_base.specs.declared.designs.Design.{Design}
 use Rattle.acc_base.specs.declared.forms.Rel.{Rel}
 use Rattle.acc_base.specs.declared.sequents.Sequent.{Sequent}
-use Rattle.acc_points.specs.Points.{Point}
+use Rattle.acc_elim_points.specs.Points.{Point}
 use Rattle.acc_axioms.specs.declared.nodes.Node.{Node}
-use Rattle.acc_searched.specs.Halt.TheVariants as halt
-use Rattle.acc_searched.specs.BranchCourses.{Course}
-use Rattle.acc_searched.specs.Courses.{IsProof}
+use Rattle.acc_prover_searched.specs.Halt.TheVariants as halt
+use Rattle.acc_prover_searched.specs.BranchCourses.{Course}
+use Rattle.acc_prover_searched.specs.Courses.{IsProof}
 use Rattle.acc_prover.specs.declared.found.Found.{Found}
 use Rattle.acc_prover.specs.declared.found.Found.TheVariants.{Proved, Unproved}
 use Rattle.acc_prover.specs.declared.found.SearchError.{SearchError}

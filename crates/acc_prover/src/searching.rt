@@ -2,9 +2,9 @@
 ghost use Rattle.std.specs.Prelude.{◌≡◌, IsTrue, IfOk};
 ghost use Rattle.acc_base.specs.TrueSequents.{SequentTrue};
 ghost use Rattle.acc_cert_bounds.specs.InBounds.{nodes as are_in_bounds, nodes_near as are_near};
-ghost use Rattle.acc_searched.specs.Searches.{course};
-ghost use Rattle.acc_searched.specs.Courses.{IsProof};
-ghost use Rattle.acc_searched.specs.OpenLeaves.{IsOpenLeaf};
+ghost use Rattle.acc_prover_searched.specs.Searches.{course};
+ghost use Rattle.acc_prover_searched.specs.Courses.{IsProof};
+ghost use Rattle.acc_prover_searched.specs.OpenLeaves.{IsOpenLeaf};
 ghost use Rattle.acc_prover.specs.Tellings.{Tells, IfProved, IfUnproved, KeepsProof};
 
 use crate::found::{Found, SearchError};
@@ -16,8 +16,8 @@ use acc_base::sequents::Sequent;
 use acc_cert_bounds::bounded::Bounded;
 use acc_proof::checks::proves;
 use acc_proof::errors::ProofError;
-use acc_pruning::pruning::pruned;
-use acc_searched::{Halt, course};
+use acc_prover_pruning::pruning::pruned;
+use acc_prover_searched::{Halt, course};
 use std::alloc::{AllocError, Global};
 
 /// The proof that has these nodes; a certificate's file can hold its numbers.

@@ -31,8 +31,8 @@ pub record IsFresh (r : Replicated) : Type 0 where
   pub world_is : r.world ≡ start
   pub refused_is : r.refused ≡ None
 
--- These bytes were fed. The stream, of the design's printed text, follows them; the items that were taken from it have come, and led to this
--- state; and the refusal, if there was one, is due.
+-- These bytes were fed. The stream, of the design's printed text, follows them; the items that were taken from it have come, and led to
+-- this state; and the refusal, if there was one, is due.
 pub record Follows (fed : List ℕ) (r : Replicated) : Type 0 where
   pub done : List Item
   pub stream : StreamFollows fed done r.stream

@@ -15,7 +15,8 @@ ghost use Rattle.acc_replica.specs.Coming.{Come};
 ghost use Rattle.acc_replica.specs.Ends.{Ends};
 ghost use Rattle.acc_replica.specs.declared.errors.ReplicaError.{ReplicaError};
 
-/// Bytes lead to one state, and there comes one refusal, or none: so both depend on the bytes alone, and not on the pieces in which they came.
+/// Bytes lead to one state, and there comes one refusal, or none: so both depend on the bytes alone, and not on the pieces in which they
+/// came.
 pub fn one_end()
     ensures { (d : Design) (fed : List ℕ) (x y : Option ReplicaError) (a b : World)
         → Ends d fed x a → Ends d fed y b → (x ≡ y) × (a ≡ b) }
@@ -27,8 +28,8 @@ pub fn counted_as_whole()
         → CountsAll fed (printed d) version events seals → AreWhole (printed d) fed items → AreItems 0 items events seals }
 {}
 
-/// What has come is what recovery takes: the events are lawful and lead to the state, and each state among them is the text of the rows at its
-/// place, where nothing is unfinished.
+/// What has come is what recovery takes: the events are lawful and lead to the state, and each state among them is the text of the rows at
+/// its place, where nothing is unfinished.
 pub fn come_as_recovered()
     ensures { (d : Design) (items : List Item) (here : World) → Come d start items here
         → LeadLawfully d start (events_of items) here × AreSealsOf d (events_of items) (seals_of 0 items) }

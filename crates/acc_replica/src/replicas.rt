@@ -27,8 +27,8 @@ use std::marker::Model;
 /// A replica of an accepted design: it is fed the bytes of a journal, and does the events of the batches that came whole, one a call.
 ///
 /// Contracts speak of all the bytes that were fed, and see the design, the state after the events that are done, the stream with the items
-/// that wait, and the refusal, if there was one. For whatever bytes, pieces and order of calls: the events that are done are the first of the
-/// whole batches' events, and the rows are those after them.
+/// that wait, and the refusal, if there was one. For whatever bytes, pieces and order of calls: the events that are done are the first of
+/// the whole batches' events, and the rows are those after them.
 #[derive(Drop)]
 pub struct Replica<'a, S: Store> {
     alloc: Global,
@@ -89,11 +89,11 @@ impl<'a, S: Store> Replica<'a, S> {
         Ok(())
     }
 
-    /// Does the next item of the whole batches: an event, or the comparison of a state. `NotYet` comes exactly where all of them are done and
-    /// nothing is refused.
+    /// Does the next item of the whole batches: an event, or the comparison of a state. `NotYet` comes exactly where all of them are done
+    /// and nothing is refused.
     ///
-    /// It refuses with what is first in the stream: `NotJournal`, `OtherVersion`, `OtherDesign`, `Damaged`, `Past`, `Unlawful` or `Differs`.
-    /// Behind such a refusal it answers the same for ever, whatever is fed. Behind `Memory` it may be called again.
+    /// It refuses with what is first in the stream: `NotJournal`, `OtherVersion`, `OtherDesign`, `Damaged`, `Past`, `Unlawful` or
+    /// `Differs`. Behind such a refusal it answers the same for ever, whatever is fed. Behind `Memory` it may be called again.
     pub fn advance(&mut self) -> Result<Advanced, ReplicaError>
         ensures follows { (fed : List ℕ) → Follows fed self.old → Follows fed self.new }
         ensures told { Advances self.old self.new result }
@@ -156,8 +156,8 @@ impl<'a, S: Store> Replica<'a, S> {
         self.state.events().len() as u64
     }
 
-    /// How many transactions have begun and haven't ended. Where there are none, the rows are idle: what is asserted for all times is true of
-    /// them, and none of them is private. It takes no memory.
+    /// How many transactions have begun and haven't ended. Where there are none, the rows are idle: what is asserted for all times is true
+    /// of them, and none of them is private. It takes no memory.
     pub fn unfinished(&self) -> u64
         ensures unfinished { result ≡ length (unfinished self.now.world) }
         ensures idle { unfinished self.now.world ≡ [] → IsIdle self.now.design self.now.world.rows }

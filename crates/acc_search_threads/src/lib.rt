@@ -3,5 +3,5 @@
 
 mod searches;
 
-pub use acc_prove::{InTurn, Searchers, Searching};
+pub use acc_cert_prove::{InTurn, Searchers, Searching};
 pub use searches::{at_once, search_in_threads};

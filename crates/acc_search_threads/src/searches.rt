@@ -1,12 +1,12 @@
 //! Searches for the proofs of obligations, each in a thread of its own.
 ghost use Rattle.std.specs.Prelude.{◌≡◌, ◌<◌, ℕ, length, slice_index_or, vec_len, IfOk};
 ghost use Rattle.acc_formed.specs.WellFormed.{IsWellFormed};
-ghost use Rattle.acc_prove.specs.Findings.{IsFinding, AreFindings};
+ghost use Rattle.acc_cert_prove.specs.Findings.{IsFinding, AreFindings};
 
 use acc_base::designs::Design;
 use acc_base::sequences::Seq;
 use acc_base::sequents::Sequent;
-use acc_prove::{Finding, finding_of};
+use acc_cert_prove::{Finding, finding_of};
 use std::alloc::{AllocError, Global};
 use std::thread;
 use std::thread::Threads;

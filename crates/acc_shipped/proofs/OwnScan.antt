@@ -6,10 +6,10 @@ use Rattle.std.proofs.lemmas.List.{append-nil}
 use Rattle.acc_lex.specs.declared.words.Sign.TheVariants as sign
 use Rattle.acc_lex.specs.declared.words.Word.{Word}
 use Rattle.acc_lex.specs.declared.words.Word.TheVariants as word
-use Rattle.acc_syntax.specs.WordReaders.{comes}
-use Rattle.acc_syntax.proofs.WordLaws.{same_refl}
-use Rattle.acc_designs.specs.OwnWords.{EndsInTypes, OwnInTypes}
-use Rattle.acc_designs.proofs.OwnWords.{has, has_push, own_push, ends_in, nothing_own}
+use Rattle.acc_parse_syntax.specs.WordReaders.{comes}
+use Rattle.acc_parse_syntax.proofs.WordLaws.{same_refl}
+use Rattle.acc_parse_designs.specs.OwnWords.{EndsInTypes, OwnInTypes}
+use Rattle.acc_parse_designs.proofs.OwnWords.{has, has_push, own_push, ends_in, nothing_own}
 
 abbrev pub scan : Bool → Bool → Bool → List Word → Bool
 scan began entry hint [] = true

@@ -1,15 +1,15 @@
 -- Which text is a design's: one that is read to its end, into a tree without a fault.
 use Rattle.std.proofs.Common.{◌≡◌, ℕ, List, [], ◌∷◌, true, false, refl, Ok, None, ◌∙◌}
 use Rattle.std.proofs.lemmas.List.{append-nil}
-use Rattle.acc_designs.specs.DesignReaders.{design_at}
-use Rattle.acc_designs.proofs.OwnWords.{nothing_own}
-use Rattle.acc_designs.proofs.TypeLaws.{design_exact}
+use Rattle.acc_parse_designs.specs.DesignReaders.{design_at}
+use Rattle.acc_parse_designs.proofs.OwnWords.{nothing_own}
+use Rattle.acc_parse_designs.proofs.TypeLaws.{design_exact}
 use Rattle.acc_lex.proofs.WholeTexts.{read_lines}
 use Rattle.acc_lex.specs.Readings.{lines_at}
 use Rattle.acc_lex.specs.Texts.{IsLexed}
-use Rattle.acc_names.specs.Faults.{first_fault_of}
+use Rattle.acc_parse_names.specs.Faults.{first_fault_of}
 use Rattle.acc_parse.specs.Texts.{IsDesignText, past_limits}
-use Rattle.acc_syntax.specs.Spelling.{spelled_design}
+use Rattle.acc_parse_syntax.specs.Spelling.{spelled_design}
 use Rattle.acc_shipped.specs.Texts.{lines_in, words_in, tree_in, design_in}
 use Rattle.acc_shipped.proofs.OwnScan.{scan, own_scan}
 

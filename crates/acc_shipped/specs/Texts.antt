@@ -2,14 +2,14 @@
 -- definitions say nothing of use.
 use Rattle.std.specs.Prelude.{ℕ, List, [], ◌∷◌, Ok, Err}
 use Rattle.acc_base.specs.declared.designs.Design.{Design}
-use Rattle.acc_designs.specs.DesignReaders.{design_at}
+use Rattle.acc_parse_designs.specs.DesignReaders.{design_at}
 use Rattle.acc_grammar.specs.Readers.{OutcomeOf}
 use Rattle.acc_lex.specs.declared.words.Word.{Word}
 use Rattle.acc_lex.specs.LineWords.{lines_words}
 use Rattle.acc_lex.specs.Readings.{lines_at}
 use Rattle.acc_lex.specs.Spellings.{Line, Comment}
-use Rattle.acc_meaning.specs.Designs.{design_of}
-use Rattle.acc_syntax.specs.declared.trees.DesignTree.{DesignTree}
+use Rattle.acc_parse_meaning.specs.Designs.{design_of}
+use Rattle.acc_parse_syntax.specs.declared.trees.DesignTree.{DesignTree}
 
 abbrev pub lines_or_none : OutcomeOf ℕ (Line × List Line) → Line × List Line
 lines_or_none (Ok x) = x.0

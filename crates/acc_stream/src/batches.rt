@@ -44,8 +44,8 @@ fn past_at(bytes: &[u8], place: u64) -> Option<Fault>
     }
 }
 
-/// Reads the whole batches that the bytes begin with, up to the first that isn't spelled. The first byte is a gate, and stands at that place
-/// of the stream. It takes time and memory with the length of what is whole.
+/// Reads the whole batches that the bytes begin with, up to the first that isn't spelled. The first byte is a gate, and stands at that
+/// place of the stream. It takes time and memory with the length of what is whole.
 pub fn batches_of(
     alloc: Global,
     bytes: &[u8],

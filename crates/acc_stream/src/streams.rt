@@ -16,8 +16,8 @@ use std::marker::Model;
 /// A stream of the bytes of a journal with a base text, as far as they were fed, of whatever pieces. Contracts speak of all the bytes that
 /// were fed and of the items that were taken; it keeps the bytes behind the last whole batch, and the items that wait to be taken.
 ///
-/// A batch is whole once its gate is open, all its bytes came, and one byte behind them. The items that wait are those of the whole batches,
-/// up to the first that isn't spelled, without those that were taken.
+/// A batch is whole once its gate is open, all its bytes came, and one byte behind them. The items that wait are those of the whole
+/// batches, up to the first that isn't spelled, without those that were taken.
 #[derive(Drop)]
 pub struct Stream {
     alloc: Global,

@@ -3,7 +3,7 @@ use Rattle.acc_oblig.specs.PathPromises.{promise_drafts, always_drafts, there_dr
 use Rattle.acc_oblig.specs.Spares.{all_spare_drafts}
 use Rattle.acc_oblig.specs.PointRules.{begin_drafts, variant_drafts, clear_drafts}
 use Rattle.acc_oblig.specs.Ranges.{range_drafts}
-use Rattle.acc_path_rules.proofs.Going.{going_all}
+use Rattle.acc_oblig_paths.proofs.Going.{going_all}
 use Rattle.acc_accept.proofs.Rules.{from_promises, from_always, from_spares, from_there, from_ranges, from_variants, from_clears}
 use Rattle.acc_accept.proofs.Rules.{begun, promised, held, spared, found, ranged, fallen, cleared, whole, stopped}
 use Rattle.acc_accept.proofs.listing.add_rules.Goals as goal

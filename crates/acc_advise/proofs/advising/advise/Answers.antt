@@ -1,6 +1,6 @@
 use Rattle.std.proofs.Common.{ap, sym, ◌∙◌}
 use Rattle.std.specs.Prelude.{option_map}
-use Rattle.acc_places.specs.SeenPlaces.{point_place}
+use Rattle.acc_oblig_places.specs.SeenPlaces.{point_place}
 use Rattle.acc_advise.specs.Advices.{asked}
 use Rattle.acc_advise.proofs.Nothing.{free_without_held}
 use Rattle.acc_advise.proofs.advising.advise.Goals as goal

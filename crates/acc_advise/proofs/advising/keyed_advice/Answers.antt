@@ -1,6 +1,6 @@
 use Rattle.std.proofs.Common.{◌∙◌, subst, sym}
 use Rattle.std.specs.List.{AllByRecursion}
-use Rattle.acc_places.specs.Rooms.{HasFewLocals}
+use Rattle.acc_oblig_places.specs.Rooms.{HasFewLocals}
 use Rattle.acc_advise.proofs.Pairing.{candidates_small}
 use Rattle.acc_advise.proofs.Nothing.{keyed_is_advised}
 use Rattle.acc_advise.proofs.advising.keyed_advice.Goals as goal

@@ -2,7 +2,7 @@ use Rattle.std.proofs.Common.{◌∙◌, subst, sym, [], List}
 use Rattle.std.specs.Prelude.{All}
 use Rattle.std.proofs.lemmas.List.Elements.{All-from_recursion}
 use Rattle.acc_base.specs.declared.designs.Entry.{Entry}
-use Rattle.acc_places.specs.Rooms.{IsSmallEntry}
+use Rattle.acc_oblig_places.specs.Rooms.{IsSmallEntry}
 use Rattle.acc_advise.proofs.Nothing.{tried_free}
 use Rattle.acc_advise.proofs.advising.tried_free.Goals as goal
 

@@ -1,7 +1,7 @@
 -- A pass was made over the candidates so far.
 use Rattle.std.proofs.Common.{take}
 use Rattle.std.specs.List.{AllByRecursion}
-use Rattle.acc_places.specs.Rooms.{HasFewLocals}
+use Rattle.acc_oblig_places.specs.Rooms.{HasFewLocals}
 use Rattle.acc_advise.specs.Steps.{HasPassed}
 use Rattle.acc_advise.proofs.passes.first_pass.Given as goal
 

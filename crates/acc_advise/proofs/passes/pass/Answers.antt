@@ -1,7 +1,7 @@
 use Rattle.std.proofs.Common.{rules, length}
 use Rattle.std.proofs.lemmas.Iterator.Adapters.{YieldsList-from_vec}
 use Rattle.std.proofs.lemmas.Iterator.Consumers.{YieldsList-turn}
-use Rattle.acc_places.specs.Rooms.{HasFewLocals}
+use Rattle.acc_oblig_places.specs.Rooms.{HasFewLocals}
 use Rattle.acc_advise.specs.declared.passes.Tried.{Tried}
 use Rattle.acc_advise.specs.Steps.{IsKnown, tried_pairs}
 use Rattle.acc_advise.proofs.Growing.{few_tried, item_has, known_within, stepped_small, tries_on}

@@ -1,6 +1,6 @@
 -- A pass was made over the pairs so far.
 use Rattle.std.specs.List.{AllByRecursion}
-use Rattle.acc_places.specs.Rooms.{HasFewLocals}
+use Rattle.acc_oblig_places.specs.Rooms.{HasFewLocals}
 use Rattle.acc_advise.specs.Steps.{HasPassed, tried_pairs}
 use Rattle.acc_advise.proofs.passes.pass.Given as goal
 

@@ -1,6 +1,6 @@
 -- A pass was made over so many pairs, and what settles from there settles from nothing.
 use Rattle.std.specs.List.{AllByRecursion}
-use Rattle.acc_places.specs.Rooms.{HasFewLocals}
+use Rattle.acc_oblig_places.specs.Rooms.{HasFewLocals}
 use Rattle.acc_advise.specs.Steps.{IsBacked, IsKnown, reasons, tried_pairs}
 use Rattle.acc_advise.proofs.Growing.{Leads}
 use Rattle.acc_advise.proofs.passes.settled.Given as goal

@@ -1,6 +1,6 @@
 use Rattle.std.proofs.Common.{List, subst}
 use Rattle.acc_oblig.specs.Drafts.{Draft}
-use Rattle.acc_goals.specs.Causes.{Adds}
+use Rattle.acc_oblig_goals.specs.Causes.{Adds}
 use Rattle.acc_advise.proofs.Entering.{case_design, case_held, case_place, case_step, case_spares}
 use Rattle.acc_advise.proofs.spares.add_case_spares.Goals as goal
 

@@ -2,9 +2,9 @@ use Rattle.std.proofs.Common.{length, ap, arith, sym, subst}
 use Rattle.std.specs.Prelude.{List}
 use Rattle.acc_base.specs.declared.steps.Path.{Path}
 use Rattle.acc_oblig.specs.Drafts.{each_from}
-use Rattle.acc_places.specs.ManyEntries.{with_entries}
-use Rattle.acc_places.specs.SeenPlaces.{point_place}
-use Rattle.acc_obligations.proofs.Going.{Going, going_all, going_on, going_off, going_past, each_next, each_past}
+use Rattle.acc_oblig_places.specs.ManyEntries.{with_entries}
+use Rattle.acc_oblig_places.specs.SeenPlaces.{point_place}
+use Rattle.acc_oblig_clauses.proofs.Going.{Going, going_all, going_on, going_off, going_past, each_next, each_past}
 use Rattle.acc_advise.specs.TriedDesigns.{clause_spares}
 use Rattle.acc_advise.proofs.StepSpares.{path_spares}
 use Rattle.acc_advise.proofs.spares.add_clause_spares.Goals as goal

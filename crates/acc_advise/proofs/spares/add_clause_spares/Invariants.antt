@@ -1,8 +1,8 @@
 use Rattle.std.proofs.Common.{drop}
 use Rattle.acc_oblig.specs.Drafts.{each_from}
-use Rattle.acc_places.specs.ManyEntries.{with_entries}
-use Rattle.acc_places.specs.SeenPlaces.{point_place}
-use Rattle.acc_obligations.proofs.Going.{Going}
+use Rattle.acc_oblig_places.specs.ManyEntries.{with_entries}
+use Rattle.acc_oblig_places.specs.SeenPlaces.{point_place}
+use Rattle.acc_oblig_clauses.proofs.Going.{Going}
 use Rattle.acc_advise.specs.TriedDesigns.{clause_spares}
 use Rattle.acc_advise.proofs.StepSpares.{path_spares}
 use Rattle.acc_advise.proofs.spares.add_clause_spares.Given as goal

@@ -1,4 +1,4 @@
-use Rattle.acc_prove.proofs.Adding.{next_proofs, next_ended}
+use Rattle.acc_cert_prove.proofs.Adding.{next_proofs, next_ended}
 use Rattle.acc_advise.proofs.Trying.{next_stop}
 use Rattle.acc_advise.proofs.trials.add_all.Goals as goal
 

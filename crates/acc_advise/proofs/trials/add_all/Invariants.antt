@@ -1,7 +1,7 @@
 -- The proofs of the findings so far are added, and the first reason why one isn't found is kept.
 use Rattle.std.proofs.Common.{◌≡◌, ◌++◌}
 use Rattle.std.specs.List.{AllByRecursion}
-use Rattle.acc_prove.specs.Findings.{HasEnded, finding_proofs}
+use Rattle.acc_cert_prove.specs.Findings.{HasEnded, finding_proofs}
 use Rattle.acc_advise.specs.Stops.{first_stop}
 use Rattle.acc_advise.proofs.trials.add_all.Given as goal
 

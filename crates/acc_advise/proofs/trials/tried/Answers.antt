@@ -1,5 +1,5 @@
 use Rattle.std.proofs.Common.{◌∙◌}
-use Rattle.acc_places.specs.ManyEntries.{with_entries}
+use Rattle.acc_oblig_places.specs.ManyEntries.{with_entries}
 use Rattle.acc_advise.specs.TriedDesigns.{spares_in}
 use Rattle.acc_advise.proofs.Trying.{tries_all}
 use Rattle.acc_advise.proofs.trials.tried.Goals as goal

@@ -1,5 +1,5 @@
 use Rattle.std.proofs.Common.{All, subst, sym}
-use Rattle.acc_trial.specs.Trials.{CanTry}
+use Rattle.acc_audit_trial.specs.Trials.{CanTry}
 use Rattle.acc_audit.proofs.Formed.{always_asked}
 use Rattle.acc_audit.proofs.frames.always_complaint.Goals as goal
 

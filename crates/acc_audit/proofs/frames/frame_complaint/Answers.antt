@@ -1,6 +1,6 @@
 use Rattle.std.proofs.Common.{All, subst, sym, ◌∙◌, ◌<◌, ◌^◌, length}
-use Rattle.acc_trial.specs.Trials.{CanTry}
-use Rattle.acc_complaints.specs.Complaints.{IsShort}
+use Rattle.acc_audit_trial.specs.Trials.{CanTry}
+use Rattle.acc_audit_complaints.specs.Complaints.{IsShort}
 use Rattle.acc_audit.proofs.Formed.{frame_asked}
 use Rattle.acc_audit.proofs.frames.frame_complaint.Goals as goal
 

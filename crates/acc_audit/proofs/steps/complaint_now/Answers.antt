@@ -1,6 +1,6 @@
 use Rattle.std.proofs.Common.{All, subst, sym}
 use Rattle.acc_base.specs.Runnable.{IsSmallFrame}
-use Rattle.acc_trial.specs.Trials.{AreKeyed}
+use Rattle.acc_audit_trial.specs.Trials.{AreKeyed}
 use Rattle.acc_audit.proofs.Keys.{run_keyed}
 use Rattle.acc_audit.proofs.SmallFrames.{frames_small}
 use Rattle.acc_audit.proofs.steps.complaint_now.Goals as goal

@@ -1,7 +1,7 @@
 use Rattle.std.proofs.Common.{[], ◌∷◌, refl}
 use Rattle.std.proofs.lemmas.Result.{IfErr-weaker}
-use Rattle.acc_journal_commands.specs.Command.TheVariants as command
-use Rattle.acc_journal_commands.specs.Requests.{played_texts, certified_texts, audited_texts, followed_texts, scheduled_texts}
+use Rattle.acc_commands_journals.specs.Command.TheVariants as command
+use Rattle.acc_commands_journals.specs.Requests.{played_texts, certified_texts, audited_texts, followed_texts, scheduled_texts}
 use Rattle.acc_commands.specs.Means.{MeansOfFiles, MeansOverDisk, LeavesOf}
 use Rattle.acc_commands.proofs.InMemory.{ends_alone, ends_run, lacks_run, lacks_none}
 use Rattle.acc_commands.proofs.commands.run.Goals as goal

@@ -1,5 +1,5 @@
 use Rattle.std.proofs.Common.{◌-◌, ◌∙◌, ap, length, take, drop}
-use Rattle.acc_decisions.proofs.ReadOn.{rest_is}
+use Rattle.acc_elim_decisions.proofs.ReadOn.{rest_is}
 use Rattle.acc_elim.proofs.Keepings.{carried_rest}
 use Rattle.acc_elim.proofs.keeping.carried.Goals as goal
 

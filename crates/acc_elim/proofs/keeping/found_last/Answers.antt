@@ -1,5 +1,5 @@
 use Rattle.std.proofs.Common.{sym, subst}
-use Rattle.acc_known.specs.Ends.{IsKnown}
+use Rattle.acc_elim_known.specs.Ends.{IsKnown}
 use Rattle.acc_elim.proofs.keeping.found_last.Goals as goal
 
 pub returns-clause-kept : goal.returns-clause-kept

@@ -1,8 +1,8 @@
 use Rattle.std.proofs.Common.{length}
 use Rattle.acc_rows.proofs.Chains.{answers_handed, answers_along}
-use Rattle.acc_known.proofs.Knowns.{has_point}
-use Rattle.acc_decisions.specs.Readings.{read_of}
-use Rattle.acc_decisions.proofs.ReadOn.{searched_read, searched_stopped}
+use Rattle.acc_elim_known.proofs.Knowns.{has_point}
+use Rattle.acc_elim_decisions.specs.Readings.{read_of}
+use Rattle.acc_elim_decisions.proofs.ReadOn.{searched_read, searched_stopped}
 use Rattle.acc_elim.proofs.keeping.searched.Goals as goal
 
 pub found-end-requires : goal.found-end-requires

@@ -1,7 +1,7 @@
 use Rattle.std.proofs.Common.{◌≡◌, ◌++◌, ◌∷◌, [], length, take, Ok, ap, sym, ◌∙◌, arith}
 use Rattle.acc_rows.proofs.Chains.{answers_handed, answers_along}
-use Rattle.acc_decisions.specs.Readings.{read_of, found_in}
-use Rattle.acc_decisions.proofs.ReadOn.{first_stopped, last_stopped, last_found, names_kept}
+use Rattle.acc_elim_decisions.specs.Readings.{read_of, found_in}
+use Rattle.acc_elim_decisions.proofs.ReadOn.{first_stopped, last_stopped, last_found, names_kept}
 use Rattle.acc_elim.proofs.Keepings.{names_longer, came_back}
 use Rattle.acc_elim.proofs.keeping.searched_with.Goals as goal
 

@@ -1,6 +1,6 @@
 use Rattle.std.proofs.Common.{subst}
-use Rattle.acc_choices.specs.Parts.{AnswersListing}
-use Rattle.acc_choices.specs.Targets.{targets_of}
+use Rattle.acc_prover_choices.specs.Parts.{AnswersListing}
+use Rattle.acc_prover_choices.specs.Targets.{targets_of}
 use Rattle.acc_inst.proofs.Collected.{instances_are}
 use Rattle.acc_inst.proofs.instances.instances_of.Goals as goal
 

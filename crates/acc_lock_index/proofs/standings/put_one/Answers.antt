@@ -1,7 +1,7 @@
 use Rattle.std.proofs.Common.{◌≡◌, ◌∙◌, ap, sym, subst, List}
-use Rattle.acc_holders.specs.Keys.{Key}
-use Rattle.acc_holders.specs.Numbers.{with_number, without_number}
-use Rattle.acc_holders.specs.Entries.{ChangesAll}
+use Rattle.acc_lock_holders.specs.Keys.{Key}
+use Rattle.acc_lock_holders.specs.Numbers.{with_number, without_number}
+use Rattle.acc_lock_holders.specs.Entries.{ChangesAll}
 use Rattle.acc_lock_index.specs.Indexed.{Standing, IsPlaceOf}
 use Rattle.acc_lock_index.proofs.Changing.{put_in, gone_is}
 use Rattle.acc_lock_index.proofs.standings.put_one.Goals as goal

@@ -1,9 +1,9 @@
 use Rattle.std.proofs.Common.{◌≡◌, ℕ, List, [], ◌++◌, ap, ◌∙◌, append-nil}
 use Rattle.acc_base.specs.declared.limits.Limit.{Limit}
-use Rattle.acc_limits.specs.Numbers.{is_before}
-use Rattle.acc_limits.specs.Faults.{limit_faults}
+use Rattle.acc_parse_limits.specs.Numbers.{is_before}
+use Rattle.acc_parse_limits.specs.Faults.{limit_faults}
 use Rattle.acc_base.specs.Leasts.{IsLeast}
-use Rattle.acc_meaning.specs.Sizes.{size_faults}
+use Rattle.acc_parse_meaning.specs.Sizes.{size_faults}
 use Rattle.acc_parse.specs.Texts.{past_limits}
 use Rattle.acc_parse.proofs.Limited.{first_both, first_alone}
 use Rattle.acc_parse.proofs.limits.first_passed.Goals as goal

@@ -1,5 +1,5 @@
 use Rattle.std.proofs.Common.{sym, ap, subst, ◌∙◌, length}
-use Rattle.acc_designs.specs.Texts.{IsSpelling, StopsAt}
+use Rattle.acc_parse_designs.specs.Texts.{IsSpelling, StopsAt}
 use Rattle.acc_parse.specs.GoodWords.{AreGood}
 use Rattle.acc_parse.proofs.Continued.{good_all, good_front}
 use Rattle.acc_parse.proofs.lines.good_words.Goals as goal

@@ -1,6 +1,6 @@
 use Rattle.std.proofs.Common.{◌≡◌, ◌+◌, ◌-◌, rules, length, arith, sym, ap, subst}
 use Rattle.acc_lex.proofs.WholeTexts.{one_reading}
-use Rattle.acc_statements.specs.Lines.{feeds}
+use Rattle.acc_parse_statements.specs.Lines.{feeds}
 use Rattle.acc_parse.proofs.WrongLines.{IsAt, at_start, at_next, wrong_here, wrong_at_end}
 use Rattle.acc_parse.proofs.lines.wrong_line.Goals as goal
 

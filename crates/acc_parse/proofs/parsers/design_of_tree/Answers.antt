@@ -1,5 +1,5 @@
 use Rattle.std.proofs.Common.{◌∙◌, sym, ap}
-use Rattle.acc_names.specs.Faults.{first_fault_of}
+use Rattle.acc_parse_names.specs.Faults.{first_fault_of}
 use Rattle.acc_parse.proofs.parsers.design_of_tree.Goals as goal
 
 -- the first statement with a fault of names

@@ -1,6 +1,6 @@
 use Rattle.std.proofs.Common.{◌∙◌, sym, ap, subst}
-use Rattle.acc_syntax.specs.declared.trees.DesignTree.{DesignTree}
-use Rattle.acc_names.specs.Faults.{first_fault_of}
+use Rattle.acc_parse_syntax.specs.declared.trees.DesignTree.{DesignTree}
+use Rattle.acc_parse_names.specs.Faults.{first_fault_of}
 use Rattle.acc_parse.specs.Faults.{PassesAt}
 use Rattle.acc_parse.proofs.parsers.limit_error.Goals as goal
 

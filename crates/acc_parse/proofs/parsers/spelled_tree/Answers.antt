@@ -1,8 +1,8 @@
 use Rattle.std.proofs.Common.{◌≡◌, ◌∙◌, ap, arith}
-use Rattle.acc_statements.specs.Ends.{ends}
-use Rattle.acc_statements.specs.Counts.{statements_of}
-use Rattle.acc_statements.proofs.Counted.{spelled_ends}
-use Rattle.acc_statements.proofs.Within.{ends_within}
+use Rattle.acc_parse_statements.specs.Ends.{ends}
+use Rattle.acc_parse_statements.specs.Counts.{statements_of}
+use Rattle.acc_parse_statements.proofs.Counted.{spelled_ends}
+use Rattle.acc_parse_statements.proofs.Within.{ends_within}
 use Rattle.acc_parse.proofs.Continued.{good_front, no_tree}
 use Rattle.acc_parse.proofs.WrongLines.{judged}
 use Rattle.acc_parse.proofs.parsers.spelled_tree.Goals as goal

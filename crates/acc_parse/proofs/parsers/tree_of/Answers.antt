@@ -1,7 +1,7 @@
 use Rattle.std.proofs.Common.{List, ℕ, sym, subst, ◌∙◌}
 use Rattle.acc_lex.specs.declared.words.Word.{Word}
 use Rattle.acc_lex.specs.Texts.{IsLexed}
-use Rattle.acc_designs.specs.Texts.{IsSpelling}
+use Rattle.acc_parse_designs.specs.Texts.{IsSpelling}
 use Rattle.acc_parse.proofs.Continued.{spelled_text}
 use Rattle.acc_parse.proofs.WrongLines.{front_lexed, judged_front}
 use Rattle.acc_parse.proofs.parsers.tree_of.Goals as goal

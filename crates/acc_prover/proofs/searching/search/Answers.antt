@@ -1,4 +1,4 @@
-use Rattle.acc_searched.specs.Searches.{course}
+use Rattle.acc_prover_searched.specs.Searches.{course}
 use Rattle.acc_prover.proofs.Searched.{kind_told, near_told, proof_told, truth_told, leaf_told}
 use Rattle.acc_prover.proofs.searching.search.Goals as goal
 

@@ -1,6 +1,6 @@
 use Rattle.std.proofs.Common.{sym, ◌∙◌, subst, List}
-use Rattle.acc_prove.specs.declared.findings.Finding.{Finding}
-use Rattle.acc_prove.specs.Findings.{IsFinding, AreFindings}
+use Rattle.acc_cert_prove.specs.declared.findings.Finding.{Finding}
+use Rattle.acc_cert_prove.specs.Findings.{IsFinding, AreFindings}
 use Rattle.acc_search_threads.proofs.Numbered.{zipped}
 use Rattle.acc_search_threads.proofs.searches.search_in_threads.Goals as goal
 

@@ -1,5 +1,5 @@
 use Rattle.std.proofs.Common.{◌≡◌, ◌∙◌, ap, sym, subst, None}
-use Rattle.acc_holders.specs.Entries.{HaveRoom}
+use Rattle.acc_lock_holders.specs.Entries.{HaveRoom}
 use Rattle.acc_lock_index.specs.Indexed.{Indexed, HasNumber}
 use Rattle.acc_lock_index.proofs.Keepers.{same_under, kept_none, kept_some}
 use Rattle.acc_lock_index.proofs.indexes.LockIndex.prepare.Goals as goal

@@ -1,3 +1,0 @@
-pub use Rattle.acc_places.proofs.EachPath
-pub mod Counted
-pub mod GuardEnds

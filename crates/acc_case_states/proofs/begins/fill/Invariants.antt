@@ -1,5 +1,0 @@
-use Rattle.std.proofs.Common.{◌≡◌}
-use Rattle.acc_case_states.proofs.begins.fill.Given as goal
-
-abbrev pub invariant-loop : goal.invariant-loop
-invariant-loop l = l.state.design ≡ l.fn.state.design

@@ -1,5 +1,0 @@
-use Rattle.acc_check.proofs.OneReported.{reports_once}
-use Rattle.acc_check.proofs.laws.one_report.Goals as goal
-
-pub returns : goal.returns
-returns c = reports_once

@@ -1,6 +1,0 @@
-use Rattle.std.proofs.Common.{◌≡◌, []}
-use Rattle.acc_choices.specs.Choices.{values_in}
-use Rattle.acc_choices.proofs.values.nothings.Given as goal
-
-abbrev pub invariant-loop : goal.invariant-loop
-invariant-loop l = l.values ≡ values_in l.counter []

@@ -1,0 +1,15 @@
+pub use Rattle.acc_audit_journal.proofs.Judged
+pub use Rattle.acc_play.proofs.OneTold
+pub use Rattle.acc_schedule.proofs.OneSchedule
+pub use Rattle.tpcc_steps.proofs.Reading
+pub use Rattle.tpcc_steps.proofs.Theorem
+pub mod Auditing
+pub mod OneAdvice
+pub mod OneAudit
+pub mod Following
+pub mod OneFollow
+pub mod Named
+pub mod Scales
+pub mod MixLines
+pub mod MixCalls
+pub mod OneBench

@@ -1,0 +1,11 @@
+pub use Rattle.acc_cert_check.proofs.Admitting
+pub use Rattle.acc_cert_check.proofs.OneReported
+pub use Rattle.acc_parse_readback.proofs.ReadBack
+pub use Rattle.acc_parse_readback.proofs.ShortDesigns
+pub mod Workers
+pub mod FileNames
+pub mod FilesLemmas
+pub mod SaidLemmas
+pub mod OneDesign
+pub mod OneSchema
+pub mod VerbLemmas

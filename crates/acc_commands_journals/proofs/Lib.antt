@@ -1,0 +1,10 @@
+pub use Rattle.acc_running.proofs.Tails
+pub use Rattle.acc_commands_inputs.proofs.Admitting
+pub use Rattle.acc_commands_inputs.proofs.OneDesign
+pub use Rattle.acc_commands_inputs.proofs.OneReported
+pub use Rattle.acc_commands_inputs.proofs.OneSchema
+pub use Rattle.acc_running.proofs.Again
+pub use Rattle.acc_running.proofs.OneRun
+pub mod Booked
+pub mod Disks
+pub mod JournalEndings

@@ -1,6 +1,0 @@
-pub use Rattle.acc_branch.specs.AxiomPasses
-pub use Rattle.acc_branch.specs.Courses
-pub use Rattle.acc_branch.specs.Known
-pub use Rattle.acc_branch.specs.declared.halts.Halt
-pub mod Passes
-pub mod Searches

@@ -1,0 +1,5 @@
+use Rattle.std.proofs.Common.{length}
+use Rattle.acc_diagnose_spot.proofs.scopes.member_named.Given as goal
+
+abbrev pub decreases-loop-statement : goal.decreases-loop-statement
+decreases-loop-statement l = length l.rest

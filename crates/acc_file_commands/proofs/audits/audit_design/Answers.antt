@@ -1,5 +1,0 @@
-use Rattle.acc_file_commands.proofs.Auditing.{is_refusal}
-use Rattle.acc_file_commands.proofs.audits.audit_design.Goals as goal
-
-pub not_judged-requires : goal.not_judged-requires
-not_judged-requires g c = is_refusal c.args.d.now c.args.journal.now c.in-Err.error c.in-Err.ensures.exact

@@ -1,5 +1,0 @@
-use Rattle.acc_judged.proofs.OneJudgement.{one_judgement}
-use Rattle.acc_judged.proofs.laws.journals_are_judged_once.Goals as goal
-
-pub returns : goal.returns
-returns c = one_judgement

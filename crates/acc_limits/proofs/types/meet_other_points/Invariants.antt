@@ -1,9 +1,0 @@
-use Rattle.std.proofs.Common.{◌≡◌, take}
-use Rattle.acc_base.specs.declared.limits.Limit.TheVariants as limit
-use Rattle.acc_limits.specs.Marks.{limited}
-use Rattle.acc_limits.specs.Statements.{point_marks}
-use Rattle.acc_limits.specs.Walks.{after}
-use Rattle.acc_limits.proofs.types.meet_other_points.Given as goal
-
-abbrev pub invariant-loop-i : goal.invariant-loop-i
-invariant-loop-i l = l.walk ≡ after l.initial.walk (limited limit.Points 31 point_marks (take l.i l.points))

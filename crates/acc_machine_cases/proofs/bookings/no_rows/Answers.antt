@@ -1,7 +1,0 @@
-use Rattle.std.proofs.Common.{[], sym, subst}
-use Rattle.acc_base.specs.Tables.{IsInOrder}
-use Rattle.acc_base.proofs.RowOrder.{order_to}
-use Rattle.acc_machine_cases.proofs.bookings.no_rows.Goals as goal
-
-pub returns-clause-order : goal.returns-clause-order
-returns-clause-order c = subst IsInOrder (sym c.new.ensures) (order_to [] tt)

@@ -1,0 +1,3 @@
+pub use Rattle.acc_oblig_places.proofs.EachPath
+pub mod Counted
+pub mod GuardEnds

@@ -1,5 +1,0 @@
-pub use Rattle.acc_assumptions.proofs.Counted
-pub mod ClauseAdded
-pub mod Going
-pub mod PathAdded
-pub mod Items

@@ -1,0 +1,11 @@
+use Rattle.std.proofs.Common.{◌≡◌, length}
+use Rattle.acc_grammar.specs.Readers.{many}
+use Rattle.acc_grammar.proofs.Many.{with_front}
+use Rattle.acc_parse_steps.specs.ReadReaders.{starts_read, read_at}
+use Rattle.acc_parse_steps.proofs.reads.reads.Given as goal
+
+abbrev pub invariant-loop-parser : goal.invariant-loop-parser
+invariant-loop-parser l = with_front l.reads (many starts_read read_at l.parser.words.now) ≡ many starts_read read_at l.fn.parser.words.now
+
+abbrev pub decreases-loop-parser : goal.decreases-loop-parser
+decreases-loop-parser l = length l.parser.words.now

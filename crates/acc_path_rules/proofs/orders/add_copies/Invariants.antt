@@ -1,6 +1,0 @@
-use Rattle.std.proofs.Common.{◌≡◌, ◌++◌, take}
-use Rattle.acc_path_rules.proofs.orders.add_copies.Given as goal
-
-abbrev pub invariant-loop-r : goal.invariant-loop-r
-invariant-loop-r l =
-    l.out ≡ l.fn.out ++ take l.r-index l.rels

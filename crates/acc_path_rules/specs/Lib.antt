@@ -1,6 +1,0 @@
-pub use Rattle.acc_goals.specs.Causes
-pub use Rattle.acc_goals.specs.declared.errors.ObligError
-pub mod Rows
-pub mod Openings
-pub mod Orders
-pub mod Helds

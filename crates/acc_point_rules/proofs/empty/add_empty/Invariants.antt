@@ -1,8 +1,0 @@
-use Rattle.std.proofs.Common.{drop}
-use Rattle.acc_oblig.specs.Drafts.{each, each_from}
-use Rattle.acc_point_rules.specs.OneClause.{empty_clause_drafts}
-use Rattle.acc_obligations.proofs.Going.{Going}
-use Rattle.acc_point_rules.proofs.empty.add_empty.Given as goal
-
-abbrev pub invariant-loop-k : goal.invariant-loop-k
-invariant-loop-k l = Going l.fn.out l.out (each_from l.k empty_clause_drafts (drop l.k l.clauses)) (each empty_clause_drafts l.d.always)

@@ -1,5 +1,0 @@
-use Rattle.acc_points.proofs.Refuting.{refutes}
-use Rattle.acc_points.proofs.laws.a_false_constant_refutes.Goals as goal
-
-pub returns : goal.returns
-returns c = refutes

@@ -1,5 +1,0 @@
-use Rattle.acc_readback.proofs.RuleLines.{statement_line}
-use Rattle.acc_readback.proofs.laws.statements_are_lines.Goals as goal
-
-pub returns : goal.returns
-returns c = statement_line

@@ -1,5 +1,0 @@
-use Rattle.acc_readback.proofs.ReadBack.{reads_back}
-use Rattle.acc_readback.proofs.laws.what_is_said_is_read_back.Goals as goal
-
-pub returns : goal.returns
-returns c = reads_back

@@ -1,5 +1,0 @@
-use Rattle.std.proofs.Common.{length}
-use Rattle.acc_replica_cases.proofs.followers.push_items.Given as goal
-
-abbrev pub decreases-loop-out : goal.decreases-loop-out
-decreases-loop-out g l = length l.replica.stream.waiting

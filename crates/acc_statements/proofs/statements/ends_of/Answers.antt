@@ -1,6 +1,0 @@
-use Rattle.std.proofs.Common.{ap, ◌∙◌}
-use Rattle.acc_statements.specs.Ends.{ends}
-use Rattle.acc_statements.proofs.statements.ends_of.Goals as goal
-
-pub returns-in-Ok : goal.returns-in-Ok
-returns-in-Ok c words lexed = c.ends.ensures ∙ ap ends (c.as_slice.ensures ∙ c.in-Ok.ensures.only words lexed)

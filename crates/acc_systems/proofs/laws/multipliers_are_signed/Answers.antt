@@ -1,5 +1,0 @@
-use Rattle.acc_systems.proofs.FalseConstants.{signed}
-use Rattle.acc_systems.proofs.laws.multipliers_are_signed.Goals as goal
-
-pub returns : goal.returns
-returns c = signed

@@ -1,5 +1,0 @@
-use Rattle.acc_systems.proofs.FalseConstants.{rising}
-use Rattle.acc_systems.proofs.laws.multipliers_rise.Goals as goal
-
-pub returns : goal.returns
-returns c = rising
