@@ -24,7 +24,7 @@ use Rattle.acc_oblig_places.specs.DesignPlaces.{PointPlace}
 use Rattle.acc_oblig_places.proofs.ManyEntries.{formed_but_entries}
 use Rattle.acc_oblig_places.proofs.Small.{design_small}
 use Rattle.acc_advise.specs.declared.advice.Question.{Question}
-use Rattle.acc_advise.specs.declared.spares.Case.{Case}
+use Rattle.acc_advise.specs.declared.spares.Inquiry.{Inquiry}
 use Rattle.acc_advise.specs.TriedDesigns.{put_entry, keyed, point_in, point_place_at, spares_of, spares_in, free_drafts}
 use Rattle.acc_advise.specs.TriedDesigns.{keyed_drafts}
 use Rattle.acc_advise.specs.Cases.{IsCase}
@@ -171,7 +171,7 @@ step_small : (side : Side) (p : Point) → IsSmallPoint p → IsSmallStep (step_
 step_small Next p h = h.next
 step_small Undo p h = h.undo
 
-module _ (c : Case) (h : IsCase c) where
+module _ (c : Inquiry) (h : IsCase c) where
   pub case_design : IsSmallDesign c.d.now
   case_design = design_small c.d.now (formed_but_entries c.d.now h.formed)
 

@@ -20,10 +20,10 @@ use Rattle.acc_advise.specs.declared.advice.Beyond.{Beyond}
 use Rattle.acc_advise.specs.declared.advice.Question.{Question}
 use Rattle.acc_advise.specs.declared.passes.Grown.{Grown}
 use Rattle.acc_advise.specs.declared.passes.Tried.{Tried}
-use Rattle.acc_advise.specs.declared.spares.Case.{Case}
-use Rattle.acc_advise.specs.declared.trials.Trial.{Trial}
-use Rattle.acc_advise.specs.declared.trials.Trial.TheVariants as trial
-use Rattle.acc_advise.specs.declared.advice.Why.{Why}
+use Rattle.acc_advise.specs.declared.spares.Inquiry.{Inquiry}
+use Rattle.acc_advise.specs.declared.trials.SpareTrial.{SpareTrial}
+use Rattle.acc_advise.specs.declared.trials.SpareTrial.TheVariants as trial
+use Rattle.acc_advise.specs.declared.advice.Obstacle.{Obstacle}
 use Rattle.acc_advise.specs.TriedDesigns.{keyed, spares_in, free_drafts, keyed_drafts}
 use Rattle.acc_advise.specs.Stops.{AreProofs, Tries}
 use Rattle.acc_advise.specs.Cases.{TellsWide}
@@ -114,7 +114,7 @@ module _ (d : Design) (q : Question) where
 -- ---- tries
 
 pub told_keyed :
-    (c : Case) (pairs : List (ℕ × ℕ)) (es : List Entry) (t : Trial) → es ≡ keyed c.question pairs ∷ []
+    (c : Inquiry) (pairs : List (ℕ × ℕ)) (es : List Entry) (t : SpareTrial) → es ≡ keyed c.question pairs ∷ []
     → Tries c.d.now (sequents (spares_in (with_entries c.d.now es) c.question)) t → Tells c pairs t
 told_keyed c pairs es t e h =
     let d = c.d.now in
@@ -127,7 +127,7 @@ one_more (y ∷ xs) x e = cc
 
 -- no number of an obligation is too large with one pair more, where none is without an entry
 pub never_wide :
-    (c : Case) (pairs : List (ℕ × ℕ)) (x : ℕ × ℕ) (es : List Entry) (why : AdviseError) (o : Origin)
+    (c : Inquiry) (pairs : List (ℕ × ℕ)) (x : ℕ × ℕ) (es : List Entry) (why : AdviseError) (o : Origin)
     → first_wide (free_drafts c.d.now c.question) ≡ None → es ≡ keyed c.question (pairs ++ x ∷ []) ∷ [] → why ≡ Wide o
     → TellsWide (spares_in (with_entries c.d.now es) c.question) why → ⊥
 never_wide c pairs x es why o none e is told =
@@ -142,7 +142,7 @@ never_wide c pairs x es why o none e is told =
 
 -- ---- what is known
 
-module _ (c : Case) where
+module _ (c : Inquiry) where
   -- a set grows at its end, so what is known stays known
   still_known : (pairs more : List (ℕ × ℕ)) (t : Tried) → IsKnown c pairs t → IsKnown c (pairs ++ more) t
   still_known pairs more t h = (
@@ -182,7 +182,7 @@ module _ (c : Case) where
 
 -- ---- a pass, pair by pair
 
-module _ (c : Case) (first : Grown) where
+module _ (c : Inquiry) (first : Grown) where
   pub start_on : (ts : List Tried) → ts ≡ [] → HasPassed c first [] first ts
   start_on ts e =
       record {
@@ -254,7 +254,7 @@ module _ (c : Case) (first : Grown) where
       subst (λ (xs : List (ℕ × ℕ)). IsKnown c xs t) (sym e) (still_known c first.pairs more t known)
 
 pub stepped_small :
-    (c : Case) (now new : Grown) (ts all : List Tried) (pair : ℕ × ℕ) → Steps c pair now new ts all
+    (c : Inquiry) (now new : Grown) (ts all : List Tried) (pair : ℕ × ℕ) → Steps c pair now new ts all
     → AllByRecursion HasFewLocals now.pairs → HasFewLocals pair → AllByRecursion HasFewLocals new.pairs
 stepped_small c now new ts all pair (inl h) s k = subst (AllByRecursion HasFewLocals) (sym h.1) (few_more now.pairs pair s k)
 stepped_small c now new ts all pair (inr (t, count, beyond, e, added)) s k =
@@ -263,13 +263,13 @@ stepped_small c now new ts all pair (inr (t, count, beyond, e, added)) s k =
 -- ---- passes, one after the other
 
 -- a pass was made from a set over so many pairs, and what settles from there settles from nothing
-abbrev pub Leads : Case → List (ℕ × ℕ) → ℕ → Grown → List Beyond → Type 0
+abbrev pub Leads : Inquiry → List (ℕ × ℕ) → ℕ → Grown → List Beyond → Type 0
 Leads c candidates n now bs =
     (before : List (ℕ × ℕ)) × (outside : List (ℕ × ℕ)) × (n ≡ length outside) × Passes c.d.now c.question before outside now.pairs bs
     × ((m : ℕ) (grown : List (ℕ × ℕ)) (more : List Beyond) → Settles c.d.now c.question m before outside grown more
     → (k : ℕ) × Settles c.d.now c.question k [] candidates grown more)
 
-module _ (c : Case) (candidates : List (ℕ × ℕ)) where
+module _ (c : Inquiry) (candidates : List (ℕ × ℕ)) where
   pub leads_first :
       (start : List (ℕ × ℕ)) (now : Grown) (n : ℕ) (bs : List Beyond) → start ≡ [] → n ≡ length candidates
       → Passes c.d.now c.question start candidates now.pairs bs → Leads c candidates n now bs
@@ -302,7 +302,7 @@ module _ (c : Case) (candidates : List (ℕ × ℕ)) where
 
 -- ---- one try
 
-module _ {E : Type 0} (c : Case) (pair : ℕ × ℕ) (old new : Grown) where
+module _ {E : Type 0} (c : Inquiry) (pair : ℕ × ℕ) (old new : Grown) where
   pub added_if :
       (r : Result (Unit {0}) E) (proofs : List Proof) (ts : List Tried) → Tells c (old.pairs ++ pair ∷ []) (trial.Proved proofs)
       → OnOk r (new.pairs ≡ old.pairs ++ pair ∷ []) → OnOk r (new.proofs ≡ proofs) → OnOk r (Steps c pair old new ts ts)
@@ -314,7 +314,7 @@ module _ {E : Type 0} (c : Case) (pair : ℕ × ℕ) (old new : Grown) where
   added_if (Err x) proofs ts h e f = tt
 
 pub stopped_if :
-    {E : Type 0} (c : Case) (pair : ℕ × ℕ) (old : Grown) (r : Result (Unit {0}) E) (ts all : List Tried) (o : Origin) (w : Why) (n : ℕ)
+    {E : Type 0} (c : Inquiry) (pair : ℕ × ℕ) (old : Grown) (r : Result (Unit {0}) E) (ts all : List Tried) (o : Origin) (w : Obstacle) (n : ℕ)
     → Tells c (old.pairs ++ pair ∷ []) (trial.Stopped o w) → n ≡ length old.pairs
     → OnOk r (all ≡ ts ++ record { beyond = record { pair = pair; origin = o; why = w }; among = n } ∷ [])
     → OnOk r (Steps c pair old old ts all)

@@ -22,12 +22,12 @@ use Rattle.acc_oblig_places.specs.DesignPlaces.{PointPlace}
 use Rattle.acc_advise.specs.declared.advice.Advice.TheVariants.{Free, Keyed}
 use Rattle.acc_advise.specs.declared.advice.AdviseError.{AdviseError}
 use Rattle.acc_advise.specs.declared.advice.Beyond.{Beyond}
-use Rattle.acc_advise.specs.declared.advice.Why.{Why}
-use Rattle.acc_advise.specs.declared.trials.Trial.{Trial}
-use Rattle.acc_advise.specs.declared.trials.Trial.TheVariants as trial
+use Rattle.acc_advise.specs.declared.advice.Obstacle.{Obstacle}
+use Rattle.acc_advise.specs.declared.trials.SpareTrial.{SpareTrial}
+use Rattle.acc_advise.specs.declared.trials.SpareTrial.TheVariants as trial
 use Rattle.acc_advise.specs.declared.advice.Question.{Question}
 use Rattle.acc_advise.specs.declared.passes.Grown.{Grown}
-use Rattle.acc_advise.specs.declared.spares.Case.{Case}
+use Rattle.acc_advise.specs.declared.spares.Inquiry.{Inquiry}
 use Rattle.acc_advise.specs.TriedDesigns.{without_entry, keyed, point_place_at, spares_of, spares_in, free_drafts, keyed_drafts}
 use Rattle.acc_advise.specs.Stops.{AllProved, AreProofs}
 use Rattle.acc_advise.specs.Candidates.{candidates as candidates_of}
@@ -63,7 +63,7 @@ module _ (d : Design) (q : Question) where
       ∙ all_points d q (λ xs ys. xs ≡ []) refl (keyed q [] ∷ []) []
       (λ x p y r. ap (spares_by d q x p y r) (finds_own (keyed q []) []) ∙ none_of_points x p y r)
 
-pub backed_first : (c : Case) (g : Grown) → g.pairs ≡ [] → g.proofs ≡ [] → IsBacked c g
+pub backed_first : (c : Inquiry) (g : Grown) → g.pairs ≡ [] → g.proofs ≡ [] → IsBacked c g
 backed_first c g e f =
     let d = c.d.now in
     let start : AreProofs d (sequents (keyed_drafts d c.question [])) [] =
@@ -109,25 +109,25 @@ place_is o p x e f = sym e ∙ f
 
 -- ---- what is advised
 
-module _ (c : Case) where
+module _ (c : Inquiry) where
   pub free_advice :
-      (t : Trial) (ps : List Proof) → t ≡ trial.Proved ps → TriesAll c (free_drafts c.d.now c.question) (Ok t)
+      (t : SpareTrial) (ps : List Proof) → t ≡ trial.Proved ps → TriesAll c (free_drafts c.d.now c.question) (Ok t)
       → Advises c.d.now c.question (Ok (Free ps))
   free_advice t ps e h =
       let is : TriesAll c (free_drafts c.d.now c.question) (Ok (trial.Proved ps)) =
-      subst (λ (s : Trial). TriesAll c (free_drafts c.d.now c.question) (Ok s)) e h in (is.1, is.0)
+      subst (λ (s : SpareTrial). TriesAll c (free_drafts c.d.now c.question) (Ok s)) e h in (is.1, is.0)
 
   pub needs_entry :
-      (t : Trial) (o : Origin) (w : Why) → t ≡ trial.Stopped o w → TriesAll c (free_drafts c.d.now c.question) (Ok t)
+      (t : SpareTrial) (o : Origin) (w : Obstacle) → t ≡ trial.Stopped o w → TriesAll c (free_drafts c.d.now c.question) (Ok t)
       → ¬ AllProved c.d.now (sequents (free_drafts c.d.now c.question))
   needs_entry t o w e h =
       let is : TriesAll c (free_drafts c.d.now c.question) (Ok (trial.Stopped o w)) =
-      subst (λ (s : Trial). TriesAll c (free_drafts c.d.now c.question) (Ok s)) e h in
+      subst (λ (s : SpareTrial). TriesAll c (free_drafts c.d.now c.question) (Ok s)) e h in
       open_not_proved c.d.now (sequents (free_drafts c.d.now c.question)) o w is.0
 
   -- the obligations without an entry are those of no entry at all
   pub tried_free :
-      (es : List Entry) (r : Result Trial AdviseError) → es ≡ [] → TriesAll c (spares_in (with_entries c.d.now es) c.question) r
+      (es : List Entry) (r : Result SpareTrial AdviseError) → es ≡ [] → TriesAll c (spares_in (with_entries c.d.now es) c.question) r
       → TriesAll c (free_drafts c.d.now c.question) r
   tried_free es r e h =
       subst (λ ds. TriesAll c ds r) (free_is c.d.now c.question)

@@ -14,7 +14,7 @@ use Rattle.acc_oblig_places.specs.Rooms.{HasFewLocals}
 use Rattle.acc_oblig_places.specs.SeenPlaces.{point_place}
 use Rattle.acc_oblig_places.specs.DesignPlaces.{PointPlace}
 use Rattle.acc_advise.specs.declared.advice.Question.{Question}
-use Rattle.acc_advise.specs.declared.spares.Case.{Case}
+use Rattle.acc_advise.specs.declared.spares.Inquiry.{Inquiry}
 use Rattle.acc_advise.specs.TriedDesigns.{keyed, point_place_at}
 use Rattle.acc_advise.specs.Candidates.{pair_of, pairs_in, candidates}
 use Rattle.acc_advise.specs.Cases.{IsCase}
@@ -62,7 +62,7 @@ module _ (types : List TxType) (q : Question) where
       few_of_each (λ i name. each (pair_of types q i name) step) 48 0 held (omega (arith, few))
       (λ i name l. few_of_each (pair_of types q i name) (length step) 0 step (omega arith) (λ j other m. pair_small i name j other l))
 
-module _ (c : Case) (h : IsCase c) where
+module _ (c : Inquiry) (h : IsCase c) where
   -- those of a case
   pub candidates_are :
       pairs_in c.d.now.types c.question c.held.ty.now.locals c.taken.place.ty.now.locals ≡ candidates c.d.now c.question

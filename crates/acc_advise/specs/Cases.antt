@@ -8,13 +8,13 @@ use Rattle.acc_oblig_goals.specs.Causes.{sequents, first_wide}
 use Rattle.acc_oblig_places.specs.SeenPlaces.{point_place}
 use Rattle.acc_advise.specs.declared.advice.AdviseError.{AdviseError}
 use Rattle.acc_advise.specs.declared.advice.AdviseError.TheVariants.{Wide, Memory}
-use Rattle.acc_advise.specs.declared.spares.Case.{Case}
-use Rattle.acc_advise.specs.declared.trials.Trial.{Trial}
+use Rattle.acc_advise.specs.declared.spares.Inquiry.{Inquiry}
+use Rattle.acc_advise.specs.declared.trials.SpareTrial.{SpareTrial}
 use Rattle.acc_advise.specs.TriedDesigns.{point_place_at}
 use Rattle.acc_advise.specs.Stops.{Tries}
 
 -- the design is well-formed, and the points are those of the question
-pub record IsCase (c : Case) : Type 0 where
+pub record IsCase (c : Inquiry) : Type 0 where
   pub formed : IsWellFormed c.d.now
   pub held : point_place_at c.d.now c.question.held ≡ Some (point_place c.held)
   pub place : point_place_at c.d.now c.question.step ≡ Some (point_place c.taken.place)
@@ -35,6 +35,6 @@ Makes (Ok qs) ds = (qs ≡ sequents ds) × (first_wide ds ≡ None)
 Makes (Err e) ds = TellsWide ds e
 
 -- and they are tried
-abbrev pub TriesAll : Case → List Draft → Result Trial AdviseError → Type 0
+abbrev pub TriesAll : Inquiry → List Draft → Result SpareTrial AdviseError → Type 0
 TriesAll c ds (Ok t) = Tries c.d.now (sequents ds) t × (first_wide ds ≡ None)
 TriesAll c ds (Err e) = TellsWide ds e

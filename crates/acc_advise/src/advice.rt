@@ -19,7 +19,7 @@ pub struct Question {
 
 /// Why the proof of an obligation isn't found.
 #[derive(Drop)]
-pub enum Why {
+pub enum Obstacle {
     /// A branch of its search stays open: all that is known in it, and a point at which that holds, as of a search that isn't `Proved`.
     Open(Seq<Rel>, Seq<(i128, i128)>),
     /// There are too many instances or splits.
@@ -36,7 +36,7 @@ pub enum Why {
 pub struct Beyond {
     pub pair: (u32, u32),
     pub origin: Origin,
-    pub why: Why,
+    pub why: Obstacle,
 }
 
 /// What is advised.

@@ -11,8 +11,8 @@ ghost use Rattle.acc_advise.specs.Stops.{AllProved};
 use crate::advice::{Advice, AdviseError, Question};
 use crate::candidates::candidates;
 use crate::passes::settled;
-use crate::spares::{Case, Taken, place_at};
-use crate::trials::{Trial, tried};
+use crate::spares::{Inquiry, Taken, place_at};
+use crate::trials::{SpareTrial, tried};
 use acc_base::designs::{At, Design, Side};
 use acc_base::sequences::Seq;
 use acc_cert_prove::Searchers;
@@ -22,7 +22,7 @@ use std::alloc::Global;
 /// The entry whose pairs can't be made more, where the step needs one.
 fn keyed_advice<S: Searchers>(
     alloc: Global,
-    case: &Case<'_>,
+    case: &Inquiry<'_>,
     searchers: &S,
 ) -> Result<Advice, AdviseError>
     requires searching { S.ready searchers.now }
@@ -39,9 +39,9 @@ fn keyed_advice<S: Searchers>(
 /// Tries to prove that the step spares the held point without an entry.
 fn tried_free<S: Searchers>(
     alloc: Global,
-    case: &Case<'_>,
+    case: &Inquiry<'_>,
     searchers: &S,
-) -> Result<Trial, AdviseError>
+) -> Result<SpareTrial, AdviseError>
     requires searching { S.ready searchers.now }
     requires case { IsCase case.now }
     ensures { TriesAll case.now (free_drafts case.now.d.now case.now.question) result }
@@ -53,7 +53,7 @@ fn tried_free<S: Searchers>(
 /// What is advised of two points.
 fn advise_case<S: Searchers>(
     alloc: Global,
-    case: &Case<'_>,
+    case: &Inquiry<'_>,
     searchers: &S,
 ) -> Result<Advice, AdviseError>
     requires searching { S.ready searchers.now }
@@ -61,8 +61,8 @@ fn advise_case<S: Searchers>(
     ensures { Advises case.now.d.now case.now.question result }
 {
     match tried_free(alloc, case, searchers) {
-        Ok(Trial::Proved(proofs)) => Ok(Advice::Free(proofs)),
-        Ok(Trial::Stopped(_, _)) => keyed_advice(alloc, case, searchers),
+        Ok(SpareTrial::Proved(proofs)) => Ok(Advice::Free(proofs)),
+        Ok(SpareTrial::Stopped(_, _)) => keyed_advice(alloc, case, searchers),
         Err(error) => Err(error),
     }
 }
@@ -86,7 +86,7 @@ fn advise_held<'a, S: Searchers>(
             let step = point.step(question.side);
             let side = question.side;
             let taken = Taken { place, side, step };
-            let case = Case {
+            let case = Inquiry {
                 d,
                 question,
                 held,

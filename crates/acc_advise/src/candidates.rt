@@ -10,7 +10,7 @@ ghost use Rattle.acc_advise.specs.Candidates.{candidates, pair_of, pairs_in};
 ghost use Rattle.acc_advise.specs.Cases.{IsCase};
 
 use crate::advice::Question;
-use crate::spares::Case;
+use crate::spares::Inquiry;
 use acc_base::designs::TxType;
 use acc_base::sequences::{Seq, Text};
 use acc_form::undos_keep;
@@ -80,7 +80,7 @@ fn pairs_in(
 
 /// The pairs of a held local and a local of the step that have one name, in the order of the held locals; without those of a local that an
 /// undo step assigns.
-pub fn candidates(alloc: Global, case: &Case<'_>) -> Result<Seq<(u32, u32)>, AllocError>
+pub fn candidates(alloc: Global, case: &Inquiry<'_>) -> Result<Seq<(u32, u32)>, AllocError>
     requires { IsCase case.now }
     ensures { IfOk result (λ pairs. pairs ≡ candidates case.now.d.now case.now.question) }
 {

@@ -10,6 +10,6 @@ mod spares;
 mod trials;
 
 pub use acc_cert_prove::{InTurn, Searchers, Searching};
-pub use advice::{Advice, AdviseError, Beyond, Question, Why};
+pub use advice::{Advice, AdviseError, Beyond, Obstacle, Question};
 pub use advising::advise;
 pub use laws::{entries_leave_others, entries_leave_widths, known_stays, own_obligations};

@@ -8,8 +8,8 @@ ghost use Rattle.acc_advise.specs.Cases.{IsCase};
 ghost use Rattle.acc_advise.specs.Steps.{HasPassed, IsKnown, IsSettled, Steps, Tells, reasons, tried_pairs};
 
 use crate::advice::{AdviseError, Beyond, Question};
-use crate::spares::Case;
-use crate::trials::{Trial, tried};
+use crate::spares::Inquiry;
+use crate::trials::{SpareTrial, tried};
 use acc_axioms::nodes::Proof;
 use acc_base::designs::Entry;
 use acc_base::sequences::{Seq, copied};
@@ -55,11 +55,11 @@ fn keyed(
 /// `entries_leave_widths`.
 fn tried_with<S: Searchers>(
     alloc: Global,
-    case: &Case<'_>,
+    case: &Inquiry<'_>,
     searchers: &S,
     pairs: &Seq<(u32, u32)>,
     pair: (u32, u32),
-) -> Result<Trial, AllocError>
+) -> Result<SpareTrial, AllocError>
     requires searching { S.ready searchers.now }
     requires case { IsCase case.now }
     requires narrow { first_wide (free_drafts case.now.d.now case.now.question) ≡ None }
@@ -95,7 +95,7 @@ fn keep(left: &mut Seq<Tried>, beyond: Beyond, among: usize) -> Result<(), Alloc
 /// Adds a pair to a set if all is proved with it, and else keeps what is first open.
 fn try_pair<S: Searchers>(
     alloc: Global,
-    case: &Case<'_>,
+    case: &Inquiry<'_>,
     searchers: &S,
     grown: &mut Grown,
     left: &mut Seq<Tried>,
@@ -110,8 +110,8 @@ fn try_pair<S: Searchers>(
 {
     let among = grown.pairs.len();
     match tried_with(alloc, case, searchers, &grown.pairs, pair) {
-        Ok(Trial::Proved(proofs)) => add_pair(grown, pair, proofs),
-        Ok(Trial::Stopped(origin, why)) => keep(left, Beyond { pair, origin, why }, among),
+        Ok(SpareTrial::Proved(proofs)) => add_pair(grown, pair, proofs),
+        Ok(SpareTrial::Stopped(origin, why)) => keep(left, Beyond { pair, origin, why }, among),
         Err(AllocError) => Err(AllocError),
     }
 }
@@ -119,7 +119,7 @@ fn try_pair<S: Searchers>(
 /// Tries a pair again if the set has grown since it was tried, and else keeps what is known: the obligations would be the same.
 fn try_again<S: Searchers>(
     alloc: Global,
-    case: &Case<'_>,
+    case: &Inquiry<'_>,
     searchers: &S,
     grown: &mut Grown,
     left: &mut Seq<Tried>,
@@ -143,7 +143,7 @@ fn try_again<S: Searchers>(
 /// The first pass: tries each candidate, adds those with which all is proved, and keeps what is first open with each other.
 fn first_pass<S: Searchers>(
     alloc: Global,
-    case: &Case<'_>,
+    case: &Inquiry<'_>,
     searchers: &S,
     grown: &mut Grown,
     candidates: &[(u32, u32)],
@@ -166,7 +166,7 @@ fn first_pass<S: Searchers>(
 /// proved, and keeps what is first open with each other.
 fn pass<S: Searchers>(
     alloc: Global,
-    case: &Case<'_>,
+    case: &Inquiry<'_>,
     searchers: &S,
     grown: &mut Grown,
     outside: Seq<Tried>,
@@ -200,7 +200,7 @@ fn reasons(alloc: Global, left: Seq<Tried>) -> Result<Seq<Beyond>, AllocError>
 /// The set that grows from nothing by passes over pairs, until a pass adds none; with what is beyond.
 pub fn settled<S: Searchers>(
     alloc: Global,
-    case: &Case<'_>,
+    case: &Inquiry<'_>,
     searchers: &S,
     candidates: &[(u32, u32)],
 ) -> Result<(Grown, Seq<Beyond>), AllocError>

@@ -27,7 +27,7 @@ pub struct Taken<'a> {
 
 /// What is asked of a design, with the held point and the step.
 #[derive(Drop)]
-pub struct Case<'a> {
+pub struct Inquiry<'a> {
     pub d: &'a Design,
     pub question: Question,
     pub held: PointPlace<'a>,
@@ -119,7 +119,7 @@ fn add_spares(
 fn add_case_spares(
     alloc: Global,
     out: &mut Seq<Sequent>,
-    case: &Case<'_>,
+    case: &Inquiry<'_>,
     entries: &[Entry],
 ) -> Result<(), ObligError>
     requires case { IsCase case.now }
@@ -132,7 +132,7 @@ fn add_case_spares(
 /// The obligations that the step spares the held point, where the design had these entries.
 pub fn spares(
     alloc: Global,
-    case: &Case<'_>,
+    case: &Inquiry<'_>,
     entries: &[Entry],
 ) -> Result<Seq<Sequent>, AdviseError>
     requires case { IsCase case.now }

@@ -10,8 +10,8 @@ ghost use Rattle.acc_advise.specs.TriedDesigns.{spares_in};
 ghost use Rattle.acc_advise.specs.Stops.{first_stop, later_stop, stop_of, Ends, Tries};
 ghost use Rattle.acc_advise.specs.Cases.{IsCase, IsMemory, TriesAll};
 
-use crate::advice::{AdviseError, Why};
-use crate::spares::{Case, spares};
+use crate::advice::{AdviseError, Obstacle};
+use crate::spares::{Inquiry, spares};
 use acc_axioms::nodes::Proof;
 use acc_base::designs::{Design, Entry};
 use acc_base::sequences::Seq;
@@ -21,15 +21,15 @@ use std::alloc::{AllocError, Global};
 
 /// What comes of obligations that are to be proved.
 #[derive(Drop)]
-pub enum Trial {
+pub enum SpareTrial {
     /// Each is proved: the proofs, in their order.
     Proved(Seq<Proof>),
     /// The first that isn't proved comes from here, for this reason.
-    Stopped(Origin, Why),
+    Stopped(Origin, Obstacle),
 }
 
 /// Keeps the first reason why a proof isn't found.
-fn keep_stop(stop: &mut Option<(Origin, Why)>, origin: Origin, why: Why)
+fn keep_stop(stop: &mut Option<(Origin, Obstacle)>, origin: Origin, why: Obstacle)
     ensures { stop.new ≡ later_stop stop.old origin why }
 {
     if stop.is_none() {
@@ -41,7 +41,7 @@ fn keep_stop(stop: &mut Option<(Origin, Why)>, origin: Origin, why: Why)
 fn add_found(
     finding: Finding,
     proofs: &mut Vec<Proof>,
-    stop: &mut Option<(Origin, Why)>,
+    stop: &mut Option<(Origin, Obstacle)>,
 ) -> Result<(), AllocError>
     ensures proofs { OnOk result (proofs.new.items ≡ proofs.old.items ++ found_proofs finding.found) }
     ensures stop { OnOk result (stop.new ≡ stop_of stop.old finding) }
@@ -54,19 +54,19 @@ fn add_found(
             Ok(())
         }
         Ok(Found::Unproved(leaf, point)) => {
-            keep_stop(stop, origin, Why::Open(leaf, point));
+            keep_stop(stop, origin, Obstacle::Open(leaf, point));
             Ok(())
         }
         Err(SearchError::Crowded) => {
-            keep_stop(stop, origin, Why::Crowded);
+            keep_stop(stop, origin, Obstacle::Crowded);
             Ok(())
         }
         Err(SearchError::Wide) => {
-            keep_stop(stop, origin, Why::Wide);
+            keep_stop(stop, origin, Obstacle::Wide);
             Ok(())
         }
         Err(SearchError::Many) => {
-            keep_stop(stop, origin, Why::Many);
+            keep_stop(stop, origin, Obstacle::Many);
             Ok(())
         }
         Err(SearchError::Memory) => Err(AllocError),
@@ -77,7 +77,7 @@ fn add_found(
 fn add_all(
     findings: Seq<Finding>,
     proofs: &mut Vec<Proof>,
-) -> Result<Option<(Origin, Why)>, AllocError>
+) -> Result<Option<(Origin, Obstacle)>, AllocError>
     ensures proofs { OnOk result (proofs.new.items ≡ proofs.old.items ++ finding_proofs findings) }
     ensures stop { IfOk result (λ stop. stop ≡ first_stop findings) }
     ensures ended { OnOk result (AllByRecursion HasEnded findings) }
@@ -90,13 +90,13 @@ fn add_all(
 }
 
 /// What comes of obligations by what their searches found.
-fn ended(alloc: Global, findings: Seq<Finding>) -> Result<Trial, AllocError>
+fn ended(alloc: Global, findings: Seq<Finding>) -> Result<SpareTrial, AllocError>
     ensures { IfOk result (Ends findings) }
 {
     let mut proofs = Vec::new(alloc);
     match add_all(findings, &mut proofs)? {
-        None => Ok(Trial::Proved(Seq::from_vec(proofs))),
-        Some((origin, why)) => Ok(Trial::Stopped(origin, why)),
+        None => Ok(SpareTrial::Proved(Seq::from_vec(proofs))),
+        Some((origin, why)) => Ok(SpareTrial::Stopped(origin, why)),
     }
 }
 
@@ -106,7 +106,7 @@ fn searched<S: Searchers>(
     d: &Design,
     sequents: &[Sequent],
     searchers: &S,
-) -> Result<Trial, AllocError>
+) -> Result<SpareTrial, AllocError>
     requires searching { S.ready searchers.now }
     requires formed { IsWellFormed d.now }
     ensures { IfOk result (Tries d.now sequents.now) }
@@ -121,7 +121,7 @@ fn searched_or<S: Searchers>(
     d: &Design,
     sequents: &[Sequent],
     searchers: &S,
-) -> Result<Trial, AdviseError>
+) -> Result<SpareTrial, AdviseError>
     requires searching { S.ready searchers.now }
     requires formed { IsWellFormed d.now }
     ensures tries { IfOk result (Tries d.now sequents.now) }
@@ -136,10 +136,10 @@ fn searched_or<S: Searchers>(
 /// Tries to prove that the step spares the held point, where the design had these entries.
 pub fn tried<S: Searchers>(
     alloc: Global,
-    case: &Case<'_>,
+    case: &Inquiry<'_>,
     entries: &[Entry],
     searchers: &S,
-) -> Result<Trial, AdviseError>
+) -> Result<SpareTrial, AdviseError>
     requires searching { S.ready searchers.now }
     requires case { IsCase case.now }
     requires entries { All IsSmallEntry entries.now }

@@ -1,10 +1,9 @@
 -- The clauses of a well-formed design can be tried.
-use Rattle.std.proofs.Common.{◌≡◌, ℕ, zero, suc, ◌+◌, ◌<◌, ◌≤◌, ◌^◌, ◌==◌, Bool, true, false, ◌&&◌, List, [], ◌∷◌, ◌++◌, length, get_or, Option, Some}
-use Rattle.std.proofs.Common.{None, All, refl, sym, ap, ◌∙◌, ℤ, pos, subst, arith, slice_get, length-append, nat_le}
+use Rattle.std.proofs.Common.{◌≡◌, ℕ, ◌+◌, ◌<◌, ◌≤◌, ◌^◌, ◌==◌, true, ◌&&◌, List, [], ◌∷◌, length, get_or, Option, Some}
+use Rattle.std.proofs.Common.{None, All, refl, ℤ, pos, arith, slice_get, length-append, nat_le}
 use Rattle.std.specs.Prelude.{IsTrue, option_and_then}
 use Rattle.std.specs.List.{list_all}
-use Rattle.std.proofs.lemmas.Bool.{false≢true, and_parts, leb-true, ltb-true, eqb-true}
-use Rattle.std.proofs.lemmas.Option.{none-some}
+use Rattle.std.proofs.lemmas.Bool.{false≢true, and_parts, leb-true, eqb-true}
 use Rattle.std.proofs.lemmas.List.Elements.{All-nil}
 use Rattle.std.proofs.lemmas.List.Sums.{AllPass-from_list_all}
 use Rattle.acc_base.specs.declared.forms.Lin.{Lin}
@@ -25,8 +24,8 @@ use Rattle.acc_base.specs.Runnable.{IsKey, IsSmallFrame}
 use Rattle.acc_base.specs.Sums.{Term}
 use Rattle.acc_base.proofs.Items.{at_slice_get}
 use Rattle.acc_formed.specs.Ranges.{clause_in, rel_in, product_in, atom_in}
-use Rattle.acc_formed.specs.Widths.{is_key, is_prefix, clause_fits, rel_fits, product_fits, atom_fits}
-use Rattle.acc_formed.specs.Sizes.{clause_small, is_short, rel_small, table_small}
+use Rattle.acc_formed.specs.Widths.{is_key, is_prefix, rel_fits, product_fits, atom_fits}
+use Rattle.acc_formed.specs.Sizes.{clause_small, is_short, rel_small}
 use Rattle.acc_formed.specs.WellFormed.{IsClauseFormed, AreClausesFormed, IsTypeFormed, IsPointFormed, IsWellFormed}
 use Rattle.acc_formed.proofs.InRange.{design_range, TypeInRange, PointInRange}
 use Rattle.acc_formed.proofs.Runs.{IsTableSmall, table_is_small}

@@ -1,13 +1,12 @@
 -- What a complaint in a state, or that there is none, tells of the truth of what is asserted there.
 use Rattle.std.proofs.Common.{◌≡◌, ℕ, zero, suc, ◌+◌, ◌-◌, ◌<◌, ◌≤◌, List, [], ◌∷◌, ◌++◌, length, take, Option, Some, None, All, refl, sym, ap, ◌∙◌}
 use Rattle.std.proofs.Common.{ℤ, subst, arith, slice_get, true, length-append, inl, inr}
-use Rattle.std.specs.Prelude.{option_and_then, IsTrue}
+use Rattle.std.specs.Prelude.{option_and_then}
 use Rattle.std.proofs.lemmas.Bool.{false≢true}
 use Rattle.std.proofs.lemmas.Option.{none-some, same_Some}
 use Rattle.acc_base.specs.declared.tables.Row.{Row}
 use Rattle.acc_base.specs.declared.forms.Clause.{Clause}
 use Rattle.acc_base.specs.declared.designs.Design.{Design}
-use Rattle.acc_base.specs.declared.machines.Frame.{Frame}
 use Rattle.acc_base.specs.declared.machines.Event.{Event}
 use Rattle.acc_base.specs.Assertions.{clauses_of}
 use Rattle.acc_base.specs.Effects.{point_of}
@@ -17,11 +16,11 @@ use Rattle.acc_base.specs.Truth.{ClauseTrue}
 use Rattle.acc_base.proofs.Items.{at_slice_get}
 use Rattle.acc_audit_trial.specs.Trials.{FailsAt, HoldsAt}
 use Rattle.acc_audit_complaints.specs.declared.searches.Complaint.{Complaint}
-use Rattle.acc_audit_complaints.specs.declared.searches.Complaint.TheVariants.{False, Large}
-use Rattle.acc_audit_complaints.specs.Complaints.{Judges, IsFirst, IsFirstAt}
-use Rattle.acc_audit_complaints.proofs.Judging.{Fails, false_shown, none_false}
-use Rattle.acc_audit.specs.Audits.{Found, IsFirstOf, IsFirstFrame, IsClear, IsFirstAlways, IsFirstBehind, Complains, IsClearAt, IsClearTo}
-use Rattle.acc_audit.specs.Audits.{IsFoundAt, IsNoRunAt, IsAsserted, ShowsFalse, AreInRanges, NeverFalse}
+use Rattle.acc_audit_complaints.specs.declared.searches.Complaint.TheVariants.{False}
+use Rattle.acc_audit_complaints.specs.Complaints.{Judges, IsFirstAt}
+use Rattle.acc_audit_complaints.proofs.Judging.{false_shown, none_false}
+use Rattle.acc_audit.specs.Audits.{IsFirstOf, IsClear, IsFirstAlways, IsFirstBehind, Complains, IsClearTo}
+use Rattle.acc_audit.specs.Audits.{IsFoundAt, IsAsserted, ShowsFalse, AreInRanges, NeverFalse}
 use Rattle.acc_audit.specs.Audits.IsAsserted.{always, of_frame}
 
 -- the item between two parts of a list

@@ -1,9 +1,8 @@
 -- What an event writes, and what it leaves of the frames.
-use Rattle.std.proofs.Common.{◌≡◌, ◌⊎◌, inl, inr, ℕ, zero, suc, ◌+◌, ◌-◌, ◌<◌, ◌≤◌, ◌^◌, ◌==◌, List, [], ◌∷◌, ◌++◌, length, Bool, true, false, cond, Option}
+use Rattle.std.proofs.Common.{◌≡◌, ◌⊎◌, inl, inr, ℕ, zero, suc, ◌+◌, ◌-◌, ◌<◌, ◌^◌, ◌==◌, List, [], ◌∷◌, ◌++◌, length, Bool, true, false, cond, Option}
 use Rattle.std.proofs.Common.{Some, None, All, refl, sym, ap, ◌∙◌, subst, arith, set, length-append}
-use Rattle.std.specs.Prelude.{slice_get, if◌then◌else◌, find, IfSome}
+use Rattle.std.specs.Prelude.{slice_get, if◌then◌else◌, IfSome}
 use Rattle.std.specs.List.{filter_map, cons_option, AllByRecursion}
-use Rattle.std.proofs.lemmas.Bool.{false≢true}
 use Rattle.std.proofs.lemmas.Bool.Decides.{Decides-eqb, nat_tests}
 use Rattle.std.proofs.lemmas.List.Elements.{recursion_from_All, All-from_recursion, filter_map-append}
 use Rattle.std.proofs.lemmas.Option.{none-some, same_Some}
@@ -18,9 +17,9 @@ use Rattle.acc_base.specs.declared.machines.Frame.{Frame}
 use Rattle.acc_base.specs.declared.machines.Transaction.{Transaction}
 use Rattle.acc_base.specs.declared.machines.Transaction.TheVariants.{Forward, Undoing}
 use Rattle.acc_base.specs.Machine.{World, frame_in, unfinished, transaction_at, begun, next_number, call_fits, after_event, becomes, became}
-use Rattle.acc_base.specs.Machine.{with_begun, changed, stepped, turned, undone}
+use Rattle.acc_base.specs.Machine.{with_begun, changed}
 use Rattle.acc_plain.specs.Reached.{IsReached}
-use Rattle.acc_plain.proofs.Fitting.{IsOwn, Fits, AreFit}
+use Rattle.acc_plain.proofs.Fitting.{IsOwn, AreFit}
 use Rattle.acc_plain.proofs.Steady.{steady_reached}
 use Rattle.acc_plain.proofs.Turning.{at_place}
 use Rattle.acc_store.specs.declared.writes.Write.{Write}

@@ -1,6 +1,6 @@
 -- An audit tells one thing of a list of events.
-use Rattle.std.proofs.Common.{◌≡◌, ℕ, ◌+◌, ◌-◌, ◌<◌, ◌≤◌, ◌⊎◌, inl, inr, List, [], ◌∷◌, ◌++◌, length, take, Option, Some, None, All}
-use Rattle.std.proofs.Common.{refl, sym, ap, ◌∙◌, subst, arith, ⊎_elim}
+use Rattle.std.proofs.Common.{◌≡◌, ℕ, ◌+◌, ◌<◌, ◌⊎◌, inl, inr, List, [], length, take, Option, Some, None, All}
+use Rattle.std.proofs.Common.{refl, sym, ap, ◌∙◌, subst, arith}
 use Rattle.std.specs.Prelude.{Result, Ok, Err}
 use Rattle.std.specs.List.{AllByRecursion}
 use Rattle.std.proofs.lemmas.Bool.{cases_order}
@@ -19,11 +19,11 @@ use Rattle.acc_audit_complaints.specs.declared.searches.Complaint.TheVariants as
 use Rattle.acc_audit_complaints.specs.Complaints.{IsFirst}
 use Rattle.acc_audit_complaints.proofs.OneFirst.{none_of_all, one_first}
 use Rattle.acc_audit_complaints.proofs.OneComplaint.{one_first_of}
-use Rattle.acc_audit.specs.declared.steps.Finding.{Finding}
-use Rattle.acc_audit.specs.declared.steps.Finding.TheVariants as finding
+use Rattle.acc_audit.specs.declared.steps.AuditFinding.{AuditFinding}
+use Rattle.acc_audit.specs.declared.steps.AuditFinding.TheVariants as finding
 use Rattle.acc_audit.specs.declared.steps.AuditError.{AuditError}
 use Rattle.acc_audit.specs.declared.steps.AuditError.TheVariants as error
-use Rattle.acc_audit.specs.Audits.{Found, IsFirstOf, IsFirstFrame, IsClear, IsFirstAlways, IsFirstBehind, Complains}
+use Rattle.acc_audit.specs.Audits.{Found, IsFirstOf, IsFirstFrame, IsClear, Complains}
 use Rattle.acc_audit.specs.Audits.{IsClearAt, IsClearTo, IsFoundAt, IsNoRunAt, Tells}
 
 -- what is found of a clause: its number, and what is wrong with it
@@ -150,13 +150,13 @@ module _ (d : Design) (events : List Event) where
 -- ---- what is told
 
 -- what is told of what is found
-told_at : ℕ → Found → Result Finding AuditError
+told_at : ℕ → Found → Result AuditFinding AuditError
 told_at place (t, n, complaint.False own) = Ok (finding.False place t n own)
 told_at place (t, n, complaint.Large) = Err (error.Large place t n)
 
 module _ (d : Design) (events : List Event) where
   -- memory ran out in one of them
-  abbrev Lacks : Result Finding AuditError → Result Finding AuditError → Type 0
+  abbrev Lacks : Result AuditFinding AuditError → Result AuditFinding AuditError → Type 0
   Lacks a b = (a ≡ Err error.Memory) ⊎ (b ≡ Err error.Memory)
 
   same_told : (p q : ℕ) (a b : Found) → IsFoundAt d events p a → IsFoundAt d events q b → told_at p a ≡ told_at q b
@@ -164,7 +164,7 @@ module _ (d : Design) (events : List Event) where
       let same = found_once d events p q a b f g in
       λ i. told_at (same.same_place i) (same.same_found i)
 
-  pub one_telling : (a b : Result Finding AuditError) → Tells d events a → Tells d events b → (a ≡ b) ⊎ Lacks a b
+  pub one_telling : (a b : Result AuditFinding AuditError) → Tells d events a → Tells d events b → (a ≡ b) ⊎ Lacks a b
   unfolding told_at
   one_telling (Err error.Memory) b h k = inr (inl refl)
   one_telling a (Err error.Memory) h k = inr (inr refl)

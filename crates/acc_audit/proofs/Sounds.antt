@@ -1,5 +1,5 @@
 -- An audit of lawful events of a sound design tells of no false clause, and of no event that is none.
-use Rattle.std.proofs.Common.{◌≡◌, ℕ, ◌+◌, ◌-◌, ◌==◌, false, if◌then◌else◌, List, ◌∷◌, take, drop, Option, Some, None, refl, sym, ap, ◌∙◌, subst, slice_get, arith, ℤ, []}
+use Rattle.std.proofs.Common.{◌≡◌, ℕ, ◌+◌, ◌-◌, ◌==◌, false, if◌then◌else◌, List, take, drop, Some, None, sym, ◌∙◌, subst, slice_get, arith, ℤ, []}
 use Rattle.std.specs.Prelude.{Result, Ok, Err}
 use Rattle.std.proofs.lemmas.Bool.Decides.{nat_tests}
 use Rattle.std.proofs.lemmas.Option.{none-some, same_Some}
@@ -22,13 +22,13 @@ use Rattle.acc_base.proofs.Items.{at_slice_get}
 use Rattle.acc_formed.specs.WellFormed.{IsWellFormed}
 use Rattle.acc_lift.proofs.FormRules.{run_rules}
 use Rattle.acc_lift.proofs.Theorem.{front_steady, lead_runs}
-use Rattle.acc_audit.specs.declared.steps.Finding.{Finding}
-use Rattle.acc_audit.specs.declared.steps.Finding.TheVariants as finding
+use Rattle.acc_audit.specs.declared.steps.AuditFinding.{AuditFinding}
+use Rattle.acc_audit.specs.declared.steps.AuditFinding.TheVariants as finding
 use Rattle.acc_audit.specs.declared.steps.AuditError.{AuditError}
 use Rattle.acc_audit.specs.declared.steps.AuditError.TheVariants as error
-use Rattle.acc_audit.specs.Audits.{IsAsserted, ShowsFalse, TellsMeaning, IsKindToSound, IsKind}
+use Rattle.acc_audit.specs.Audits.{IsAsserted, ShowsFalse, TellsMeaning, IsKindToSound}
 use Rattle.acc_audit.specs.Audits.IsAsserted.{always, of_frame}
-use Rattle.acc_audit.proofs.SmallFrames.{IsUnfinishedAt, unfinished_at}
+use Rattle.acc_audit.proofs.SmallFrames.{unfinished_at}
 use Rattle.acc_audit.proofs.Meaning.{parted}
 
 -- an unfinished transaction's assertion holds in a steady state
@@ -63,7 +63,7 @@ module _ (d : Design) (formed : IsWellFormed d) (events : List Event) (sound : I
   is_run : world d events ≡ None → ⊥
   is_run h = none-some lawful.0 (sym h ∙ lead_runs d events start lawful.0 lawful.1)
 
-pub kind_to_sound : (d : Design) → IsWellFormed d → (events : List Event) (told : Result Finding AuditError) → TellsMeaning d events told →
+pub kind_to_sound : (d : Design) → IsWellFormed d → (events : List Event) (told : Result AuditFinding AuditError) → TellsMeaning d events told →
     IsKindToSound d events told
 kind_to_sound d formed events (Ok finding.Clean) m sound lawful = tt
 kind_to_sound d formed events (Ok (finding.False place t n own)) m sound lawful =

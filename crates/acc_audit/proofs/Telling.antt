@@ -1,20 +1,20 @@
 -- What is told of a list of events, event by event.
-use Rattle.std.proofs.Common.{◌≡◌, ℕ, zero, suc, ◌+◌, ◌-◌, ◌<◌, ◌≤◌, List, [], ◌∷◌, ◌++◌, length, take, get_or, Option, Some, None, refl, sym, ap, ◌∙◌}
+use Rattle.std.proofs.Common.{◌≡◌, ℕ, zero, suc, ◌+◌, ◌-◌, ◌<◌, ◌≤◌, List, [], ◌∷◌, ◌++◌, length, take, get_or, Some, refl, sym, ap, ◌∙◌}
 use Rattle.std.proofs.Common.{subst, arith, ◌⊎◌, inl, inr}
 use Rattle.std.specs.Prelude.{Result, Ok, Err, IsErrAnd, option_and_then}
 use Rattle.std.proofs.lemmas.Result.{err_from_is_err_and}
-use Rattle.std.proofs.lemmas.List.{take_more, take_all}
-use Rattle.std.proofs.lemmas.Option.{none-some, same_Some}
+use Rattle.std.proofs.lemmas.List.{take_more}
+use Rattle.std.proofs.lemmas.Option.{same_Some}
 use Rattle.acc_base.specs.declared.designs.Design.{Design}
 use Rattle.acc_base.specs.declared.machines.Event.{Event}
 use Rattle.acc_base.specs.Machine.{World, unfinished, start, world, after_event}
 use Rattle.acc_plain.proofs.Runs.{after_events-one}
 use Rattle.acc_audit_complaints.specs.declared.searches.Complaint.TheVariants as complaint
-use Rattle.acc_audit.specs.declared.steps.Finding.{Finding}
-use Rattle.acc_audit.specs.declared.steps.Finding.TheVariants as finding
+use Rattle.acc_audit.specs.declared.steps.AuditFinding.{AuditFinding}
+use Rattle.acc_audit.specs.declared.steps.AuditFinding.TheVariants as finding
 use Rattle.acc_audit.specs.declared.steps.AuditError.{AuditError}
 use Rattle.acc_audit.specs.declared.steps.AuditError.TheVariants as error
-use Rattle.acc_audit.specs.Audits.{Found, IsClear, Complains, IsClearAt, IsClearTo, IsFoundAt, IsNoRunAt, Tells, TellsMeaning}
+use Rattle.acc_audit.specs.Audits.{Found, IsClear, IsClearAt, IsClearTo, IsFoundAt, IsNoRunAt, Tells, TellsMeaning}
 use Rattle.acc_audit.specs.Events.{IsToldAfter, IsClearAfter, TellsEvent}
 use Rattle.acc_audit.proofs.Meaning.{found_shows, clear_never, no_run}
 
@@ -79,7 +79,7 @@ module _ (d : Design) (events : List Event) (i : ℕ) (e x : Event) (within : i 
     complains = t.complains;
   }
 
-  pub some_tells : (after : World) (f : Finding) → TellsEvent d w e i after (Ok (Some f)) → Tells d events (Ok f)
+  pub some_tells : (after : World) (f : AuditFinding) → TellsEvent d w e i after (Ok (Some f)) → Tells d events (Ok f)
   some_tells after finding.Clean h = absurd h
   some_tells after (finding.False p t n own) h =
       subst (λ (k : ℕ). IsFoundAt d events k (t, n, complaint.False own)) (sym h.0) (found_at after (t, n, complaint.False own) h.1)
@@ -96,7 +96,7 @@ pub all_walked : (d : Design) (events : List Event) (n : ℕ) (w : World) → n 
 all_walked d events n w all walked = subst (IsClearTo d events) all walked.clear
 
 -- what it means
-pub tells_meaning : (d : Design) (events : List Event) (told : Result Finding AuditError) → Tells d events told → TellsMeaning d events told
+pub tells_meaning : (d : Design) (events : List Event) (told : Result AuditFinding AuditError) → Tells d events told → TellsMeaning d events told
 tells_meaning d events (Ok finding.Clean) h = clear_never d events h
 tells_meaning d events (Ok (finding.False place t n own)) h = found_shows d events place t n own h
 tells_meaning d events (Err (error.NotRun at)) h = no_run d events (at + 1) h.stops
@@ -104,7 +104,7 @@ tells_meaning d events (Err (error.Large place t n)) h = tt
 tells_meaning d events (Err error.Memory) h = tt
 
 -- a refusal that is handed on
-pub handed_on : (d : Design) (events : List Event) (r : Result Finding AuditError) (a : AuditError) → IsErrAnd r (λ y. y ≡ a) →
+pub handed_on : (d : Design) (events : List Event) (r : Result AuditFinding AuditError) (a : AuditError) → IsErrAnd r (λ y. y ≡ a) →
     Tells d events (Err a) → Tells d events r
 handed_on d events r a h tells =
     let p = err_from_is_err_and r h in

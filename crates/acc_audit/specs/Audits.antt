@@ -17,9 +17,9 @@ use Rattle.acc_audit_ranges.specs.Ranges.{is_in_range}
 use Rattle.acc_audit_trial.specs.Trials.{HoldsAt, FailsAt}
 use Rattle.acc_audit_complaints.specs.declared.searches.Complaint.{Complaint}
 use Rattle.acc_audit_complaints.specs.declared.searches.Complaint.TheVariants as complaint
-use Rattle.acc_audit_complaints.specs.Complaints.{Judges, IsFirst, IsFirstAt}
-use Rattle.acc_audit.specs.declared.steps.Finding.{Finding}
-use Rattle.acc_audit.specs.declared.steps.Finding.TheVariants as finding
+use Rattle.acc_audit_complaints.specs.Complaints.{IsFirst}
+use Rattle.acc_audit.specs.declared.steps.AuditFinding.{AuditFinding}
+use Rattle.acc_audit.specs.declared.steps.AuditFinding.TheVariants as finding
 use Rattle.acc_audit.specs.declared.steps.AuditError.{AuditError}
 use Rattle.acc_audit.specs.declared.steps.AuditError.TheVariants as error
 
@@ -94,7 +94,7 @@ pub record IsNoRunAt (d : Design) (events : List Event) (at : ℕ) : Type 0 wher
   pub clear : IsClearTo d events at
   pub stops : world d (take (at + 1) events) ≡ None
 
-abbrev pub Tells : Design → List Event → Result Finding AuditError → Type 0
+abbrev pub Tells : Design → List Event → Result AuditFinding AuditError → Type 0
 Tells d events (Ok finding.Clean) = IsClearTo d events (length events)
 Tells d events (Ok (finding.False place t n own)) = IsFoundAt d events place (t, n, complaint.False own)
 Tells d events (Err (error.NotRun at)) = IsNoRunAt d events at
@@ -132,7 +132,7 @@ NeverFalse d events =
     → world d (take k events) ≡ Some w → IsAsserted d w t n env c → length own ≡ length c.vars → AreInRanges w.rows env c own
     → HoldsAt w.rows (env ++ own) c
 
-abbrev pub TellsMeaning : Design → List Event → Result Finding AuditError → Type 0
+abbrev pub TellsMeaning : Design → List Event → Result AuditFinding AuditError → Type 0
 TellsMeaning d events (Ok finding.Clean) = NeverFalse d events
 TellsMeaning d events (Ok (finding.False place t n own)) = ShowsFalse d events place t n own
 TellsMeaning d events (Err (error.NotRun at)) = world d events ≡ None
@@ -140,7 +140,7 @@ TellsMeaning d events (Err (error.Large place t n)) = ⊤
 TellsMeaning d events (Err error.Memory) = ⊤
 
 -- no clause is told to be false, and no event to be none of a run
-abbrev pub IsKind : Result Finding AuditError → Type 0
+abbrev pub IsKind : Result AuditFinding AuditError → Type 0
 IsKind (Ok finding.Clean) = ⊤
 IsKind (Ok (finding.False place t n own)) = ⊥
 IsKind (Err (error.NotRun at)) = ⊥
@@ -148,12 +148,12 @@ IsKind (Err (error.Large place t n)) = ⊤
 IsKind (Err error.Memory) = ⊤
 
 -- the law: so it is where the design is sound and the events are lawful
-abbrev pub IsKindToSound : Design → List Event → Result Finding AuditError → Type 0
+abbrev pub IsKindToSound : Design → List Event → Result AuditFinding AuditError → Type 0
 IsKindToSound d events told = IsSound d → AreLawful d events → IsKind told
 
 -- ---- that it is one
 
 -- the law: two such answers to the same events are the same, but where memory ran out
 abbrev pub TellsOne : Type 0
-TellsOne = (d : Design) (events : List Event) (a b : Result Finding AuditError) → Tells d events a → Tells d events b
+TellsOne = (d : Design) (events : List Event) (a b : Result AuditFinding AuditError) → Tells d events a → Tells d events b
     → (a ≡ b) ⊎ (a ≡ Err error.Memory) ⊎ (b ≡ Err error.Memory)

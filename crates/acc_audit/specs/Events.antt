@@ -3,16 +3,15 @@ use Rattle.std.specs.Prelude.{◌≡◌, ⊤, ℕ, ◌+◌, Option, Some, None, 
 use Rattle.acc_base.specs.declared.designs.Design.{Design}
 use Rattle.acc_base.specs.declared.machines.Event.{Event}
 use Rattle.acc_base.specs.Machine.{World, unfinished, after_event}
-use Rattle.acc_audit_complaints.specs.declared.searches.Complaint.{Complaint}
 use Rattle.acc_audit_complaints.specs.declared.searches.Complaint.TheVariants as complaint
-use Rattle.acc_audit.specs.declared.steps.Finding.{Finding}
-use Rattle.acc_audit.specs.declared.steps.Finding.TheVariants as finding
+use Rattle.acc_audit.specs.declared.steps.AuditFinding.{AuditFinding}
+use Rattle.acc_audit.specs.declared.steps.AuditFinding.TheVariants as finding
 use Rattle.acc_audit.specs.declared.steps.AuditError.{AuditError}
 use Rattle.acc_audit.specs.declared.steps.AuditError.TheVariants as error
 use Rattle.acc_audit.specs.Audits.{Found, IsClear, Complains}
 
 -- what a complaint tells after so many events
-abbrev pub told : ℕ → Option Found → Result (Option Finding) AuditError
+abbrev pub told : ℕ → Option Found → Result (Option AuditFinding) AuditError
 told place None = Ok None
 told place (Some (t, n, complaint.False own)) = Ok (Some (finding.False place t n own))
 told place (Some (t, n, complaint.Large)) = Err (error.Large place t n)
@@ -28,7 +27,7 @@ pub record IsClearAfter (d : Design) (w : World) (e : Event) (after : World) : T
   pub clear : IsClear d after.rows (unfinished after)
 
 -- what is told of an event behind so many
-abbrev pub TellsEvent : Design → World → Event → ℕ → World → Result (Option Finding) AuditError → Type 0
+abbrev pub TellsEvent : Design → World → Event → ℕ → World → Result (Option AuditFinding) AuditError → Type 0
 TellsEvent d w e place after (Ok None) = IsClearAfter d w e after
 TellsEvent d w e place after (Ok (Some finding.Clean)) = ⊥
 TellsEvent d w e place after (Ok (Some (finding.False p t n own))) =

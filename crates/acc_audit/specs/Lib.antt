@@ -1,3 +1,4 @@
 pub mod Audits
 pub mod Events
 pub mod Since
+pub mod Totals

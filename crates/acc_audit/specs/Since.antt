@@ -14,7 +14,7 @@ use Rattle.acc_base.specs.Reads.{Reading}
 use Rattle.acc_audit_complaints.specs.Complaints.{IsFirst}
 use Rattle.acc_store.specs.declared.writes.Write.{Write}
 use Rattle.acc_store.specs.Rows.{written}
-use Rattle.acc_audit.specs.declared.frames.Known.{Known}
+use Rattle.acc_audit.specs.declared.frames.KnownBefore.{KnownBefore}
 use Rattle.acc_audit.specs.Audits.{IsFirstOf}
 
 -- ---- what an event writes
@@ -55,19 +55,19 @@ pub record WereClearBut (d : Design) (ws : List Write) (db : List Row) (moved : 
   pub always : IsFirst before [] d.always None
   pub each : All (λ f. (f.t ≡ moved) ⊎ IsFirstOf d before f None) frames
 
-abbrev pub IsKnown : Design → List Row → List Frame → Option Known → Type 0
+abbrev pub IsKnown : Design → List Row → List Frame → Option KnownBefore → Type 0
 IsKnown d db frames known = IfSome known (λ k. WereClearBut d k.writes.now db k.moved frames)
 
 -- the writes since then, if it is known
-abbrev pub writes_in : Option Known → Option (List Write)
+abbrev pub writes_in : Option KnownBefore → Option (List Write)
 writes_in None = None
 writes_in (Some k) = Some k.writes.now
 
 -- the same, but for what the transaction asserts that moved
-abbrev pub writes_for : ℕ → Option Known → Option (List Write)
+abbrev pub writes_for : ℕ → Option KnownBefore → Option (List Write)
 writes_for t None = None
 writes_for t (Some k) = if k.moved == t then None else Some k.writes.now
 
 -- what is known behind so many events of the state before the last
-abbrev pub known_at : ℕ → ℕ → Bor (List Write) → Option Known
+abbrev pub known_at : ℕ → ℕ → Bor (List Write) → Option KnownBefore
 known_at place moved writes = if place == 0 then None else Some (record { writes = writes; moved = moved })

@@ -1,17 +1,28 @@
 //! The audit of a list of events.
-ghost use Rattle.std.specs.Prelude.{◌≡◌, ◌<◌, ◌^◌, length};
+ghost use Rattle.std.specs.Prelude.{◌≡◌, ◌<◌, ◌^◌, length, [], IfOk};
 ghost use Rattle.acc_base.specs.Machine.{start};
 ghost use Rattle.acc_formed.specs.WellFormed.{IsWellFormed};
 ghost use Rattle.acc_audit.specs.Audits.{Tells, TellsMeaning, IsKindToSound};
 
-use crate::steps::{AuditError, Finding, take_event};
+use crate::steps::{AuditError, AuditFinding, take_event};
+use crate::totals::totals_read;
 use acc_audit_ranges::KeyedStore;
 use acc_base::designs::Design;
 use acc_base::machines::Event;
+use acc_index_store::IndexStore;
 use acc_plain::Machine;
 use acc_progress::Progress;
-use acc_store::{MapStore, Store};
+use acc_store::{Store, StoreError};
 use std::alloc::Global;
+
+/// A store without rows that keeps the totals that clauses of a design read, and knows the keys of its rows.
+fn store_for(alloc: Global, d: &Design) -> Result<KeyedStore<IndexStore>, StoreError>
+    ensures { IfOk result (λ s. s ≡ []) }
+{
+    let kept = totals_read(alloc, d)?;
+    let rows = IndexStore::keeping(alloc, kept.as_slice())?;
+    Ok(KeyedStore::new(alloc, rows))
+}
 
 /// Goes through events on a machine that has done none. How far it is, is told behind each.
 fn walk<S: Store, P: Progress>(
@@ -20,7 +31,7 @@ fn walk<S: Store, P: Progress>(
     machine: &mut Machine<'_, KeyedStore<S>>,
     events: &[Event],
     progress: &mut P,
-) -> Result<Finding, AuditError>
+) -> Result<AuditFinding, AuditError>
     requires formed { IsWellFormed d.now }
     requires few { length events.now < 2 ^ 30 }
     requires design { machine.old.design ≡ d.now }
@@ -34,7 +45,7 @@ fn walk<S: Store, P: Progress>(
             None => progress.replayed(place as u64 + 1, events.len() as u64),
         }
     }
-    Ok(Finding::Clean)
+    Ok(AuditFinding::Clean)
 }
 
 /// Judges a list of events: whether they are a run of the plain machine, and whether after each of them every clause that is asserted
@@ -50,20 +61,21 @@ fn walk<S: Store, P: Progress>(
 /// The design needs no certificate. Where it is sound and the events are lawful, the answer is never `False` or `NotRun`.
 ///
 /// No row is copied. After each event each clause that it can have changed is tried at each tuple of its values: one of a table that it
-/// writes, or of the transaction that it began or moved. How far it is, is told.
+/// writes, or of the transaction that it began or moved. The sums and the numbers of rows that clauses read are kept, and not added up
+/// anew. How far it is, is told.
 pub fn audit<P: Progress>(
     alloc: Global,
     d: &Design,
     events: &[Event],
     progress: &mut P,
-) -> Result<Finding, AuditError>
+) -> Result<AuditFinding, AuditError>
     requires formed { IsWellFormed d.now }
     requires few { length events.now < 2 ^ 30 }
     ensures exact { Tells d.now events.now result }
     ensures meaning { TellsMeaning d.now events.now result }
     ensures sound { IsKindToSound d.now events.now result }
 {
-    let store = KeyedStore::new(alloc, MapStore::new(alloc));
+    let store = store_for(alloc, d)?;
     let mut machine = Machine::new(alloc, d, store);
     walk(alloc, d, &mut machine, events, progress)
 }

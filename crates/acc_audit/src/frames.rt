@@ -21,7 +21,7 @@ use std::alloc::{AllocError, Global};
 
 /// What is known of the state before an event: nothing was wrong there.
 #[derive(Clone, Copy)]
-pub struct Known<'a> {
+pub struct KnownBefore<'a> {
     /// What the event wrote.
     pub writes: &'a [Write],
     /// The number of the transaction that it began or moved.
@@ -70,7 +70,7 @@ fn clauses_complaint<S: Store>(
 }
 
 /// The writes since nothing was wrong with what is asserted at all times, if that is known.
-fn writes_in<'a>(known: Option<Known<'a>>) -> Option<&'a [Write]>
+fn writes_in<'a>(known: Option<KnownBefore<'a>>) -> Option<&'a [Write]>
     ensures { option_copied result ≡ writes_in known.entry }
 {
     match known {
@@ -80,7 +80,7 @@ fn writes_in<'a>(known: Option<Known<'a>>) -> Option<&'a [Write]>
 }
 
 /// The writes since nothing was wrong with what a transaction asserts, if that is known.
-fn writes_for<'a>(t: u64, known: Option<Known<'a>>) -> Option<&'a [Write]>
+fn writes_for<'a>(t: u64, known: Option<KnownBefore<'a>>) -> Option<&'a [Write]>
     ensures { option_copied result ≡ writes_for t known.entry }
 {
     match known {
@@ -121,7 +121,7 @@ fn frames_complaint<S: Store>(
     d: &Design,
     s: &KeyedStore<S>,
     frames: &[Frame],
-    known: Option<Known<'_>>,
+    known: Option<KnownBefore<'_>>,
 ) -> Result<Option<(u64, u32, Complaint)>, AllocError>
     requires formed { IsWellFormed d.now }
     requires keyed { AreKeyed s.now }
@@ -159,7 +159,7 @@ pub fn state_complaint<S: Store>(
     d: &Design,
     s: &KeyedStore<S>,
     frames: &[Frame],
-    known: Option<Known<'_>>,
+    known: Option<KnownBefore<'_>>,
 ) -> Result<Option<(u64, u32, Complaint)>, AllocError>
     requires formed { IsWellFormed d.now }
     requires keyed { AreKeyed s.now }

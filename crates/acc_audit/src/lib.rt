@@ -5,7 +5,8 @@ pub mod audits;
 mod frames;
 pub mod laws;
 mod steps;
+mod totals;
 mod writes;
 
 pub use audits::audit;
-pub use steps::{AuditError, Finding};
+pub use steps::{AuditError, AuditFinding};

@@ -7,7 +7,7 @@ ghost use Rattle.acc_audit.specs.Events.{told, TellsEvent};
 ghost use Rattle.acc_audit.specs.Since.{IsKnown, known_at, moved_by};
 ghost use Rattle.acc_base.specs.Machine.{unfinished};
 
-use crate::frames::{Known, state_complaint};
+use crate::frames::{KnownBefore, state_complaint};
 use crate::writes::{moved_by, writes_of};
 use acc_audit_complaints::Complaint;
 use acc_audit_ranges::KeyedStore;
@@ -15,12 +15,12 @@ use acc_base::designs::Design;
 use acc_base::machines::{Event, Frame};
 use acc_base::sequences::Seq;
 use acc_plain::{Machine, PlainError};
-use acc_store::{Store, Write};
+use acc_store::{Store, StoreError, Write};
 use std::alloc::{AllocError, Global};
 
 /// What an audit finds.
 #[derive(Drop)]
-pub enum Finding {
+pub enum AuditFinding {
     /// After no event a clause is false at values of its ranges.
     Clean,
     /// After so many events, from 1, a clause is false: the number of the transaction whose point it is of, or 0 where it is asserted
@@ -48,6 +48,16 @@ impl From<AllocError> for AuditError {
     }
 }
 
+impl From<StoreError> for AuditError {
+    ghost from_gives = { λ _ e. e ≡ OutOfMemory };
+
+    fn from(error: StoreError) -> Self {
+        match error {
+            StoreError::Memory => AuditError::Memory,
+        }
+    }
+}
+
 impl From<PlainError> for AuditError {
     ghost from_gives = { λ _ e. e ≡ OutOfMemory };
 
@@ -63,7 +73,7 @@ fn complaint_now<S: Store>(
     alloc: Global,
     d: &Design,
     machine: &Machine<'_, KeyedStore<S>>,
-    known: Option<Known<'_>>,
+    known: Option<KnownBefore<'_>>,
 ) -> Result<Option<(u64, u32, Complaint)>, AllocError>
     requires formed { IsWellFormed d.now }
     requires design { machine.now.design ≡ d.now }
@@ -81,25 +91,28 @@ fn known_at<'a>(
     event: &Event,
     frames: &[Frame],
     writes: &'a [Write],
-) -> Option<Known<'a>>
+) -> Option<KnownBefore<'a>>
     ensures { result ≡ known_at place (moved_by event.now frames.now) writes.entry }
 {
     if place == 0 {
         return None;
     }
-    Some(Known {
+    Some(KnownBefore {
         writes,
         moved: moved_by(event, frames),
     })
 }
 
 /// What a complaint tells after so many events.
-fn told(place: u64, found: Option<(u64, u32, Complaint)>) -> Result<Option<Finding>, AuditError>
+fn told(
+    place: u64,
+    found: Option<(u64, u32, Complaint)>,
+) -> Result<Option<AuditFinding>, AuditError>
     ensures { result ≡ told place found }
 {
     match found {
         Some((t, clause, Complaint::False(values))) => {
-            Ok(Some(Finding::False(place, t, clause, values)))
+            Ok(Some(AuditFinding::False(place, t, clause, values)))
         }
         Some((t, clause, Complaint::Large)) => Err(AuditError::Large(place, t, clause)),
         None => Ok(None),
@@ -113,7 +126,7 @@ pub fn take_event<S: Store>(
     machine: &mut Machine<'_, KeyedStore<S>>,
     place: u64,
     event: &Event,
-) -> Result<Option<Finding>, AuditError>
+) -> Result<Option<AuditFinding>, AuditError>
     requires formed { IsWellFormed d.now }
     requires design { machine.old.design ≡ d.now }
     requires few { length machine.old.world.events < 2 ^ 30 }

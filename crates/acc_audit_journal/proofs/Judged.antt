@@ -6,8 +6,8 @@ use Rattle.acc_base.specs.declared.machines.Event.{Event}
 use Rattle.acc_formed.specs.WellFormed.{IsWellFormed}
 use Rattle.acc_print.specs.Designs.{printed}
 use Rattle.acc_wal.specs.Journals.{Counts}
-use Rattle.acc_audit.specs.declared.steps.Finding.{Finding}
-use Rattle.acc_audit.specs.declared.steps.Finding.TheVariants as finding
+use Rattle.acc_audit.specs.declared.steps.AuditFinding.{AuditFinding}
+use Rattle.acc_audit.specs.declared.steps.AuditFinding.TheVariants as finding
 use Rattle.acc_audit.specs.declared.steps.AuditError.{AuditError}
 use Rattle.acc_audit.specs.declared.steps.AuditError.TheVariants as error
 use Rattle.acc_audit.specs.Audits.{Tells}
@@ -19,7 +19,7 @@ use Rattle.acc_audit_journal.specs.declared.journals.JudgeError.{JudgeError}
 use Rattle.acc_audit_journal.specs.declared.journals.JudgeError.TheVariants.{Journal, OtherDesign, NotRun, Memory}
 use Rattle.acc_audit_journal.specs.Judging.{judged_by, Judges, JudgesMeaning, IsKindToSound}
 
-pub judges : (d : Design) (bytes : List ℕ) (events : List Event) (told : Result Finding AuditError) → Counts bytes (printed d) events
+pub judges : (d : Design) (bytes : List ℕ) (events : List Event) (told : Result AuditFinding AuditError) → Counts bytes (printed d) events
     → Tells d events told → Judges d bytes (judged_by (length events) told)
 judges d bytes events (Ok finding.Clean) counts h = record { events = events; counts = counts; so = (refl, h) }
 judges d bytes events (Ok (finding.False place t clause own)) counts h = record { events = events; counts = counts; so = h }

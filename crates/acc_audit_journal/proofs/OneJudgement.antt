@@ -9,8 +9,8 @@ use Rattle.acc_wal.specs.Journals.{Counts}
 use Rattle.acc_wal.specs.declared.errors.WalError.{WalError}
 use Rattle.acc_wal.specs.declared.errors.WalError.TheVariants.{Memory as NoMemory}
 use Rattle.acc_wal.proofs.Apart.{one_answer}
-use Rattle.acc_audit.specs.declared.steps.Finding.{Finding}
-use Rattle.acc_audit.specs.declared.steps.Finding.TheVariants as finding
+use Rattle.acc_audit.specs.declared.steps.AuditFinding.{AuditFinding}
+use Rattle.acc_audit.specs.declared.steps.AuditFinding.TheVariants as finding
 use Rattle.acc_audit.specs.declared.steps.AuditError.{AuditError}
 use Rattle.acc_audit.specs.declared.steps.AuditError.TheVariants as error
 use Rattle.acc_audit.specs.Audits.{Tells}
@@ -53,7 +53,7 @@ module _ (d : Design) (bytes : List ℕ) where
   record IsAudited (a : Result Judgement JudgeError) : Type 0 where
     events : List Event
     counts : Counts bytes (printed d) events
-    told : Result Finding AuditError
+    told : Result AuditFinding AuditError
     tells : Tells d events told
     lasts : told ≡ Err error.Memory → ⊥
     is : a ≡ judged_by (length events) told
@@ -67,7 +67,7 @@ module _ (d : Design) (bytes : List ℕ) where
   abbrev Sees : Result Judgement JudgeError → Type 0
   Sees a = IsAudited a ⊎ ((a ≡ Err OtherDesign) × IsOfOther d bytes) ⊎ IsNone a
 
-  audited : (events : List Event) (told : Result Finding AuditError) → Counts bytes (printed d) events → Tells d events told
+  audited : (events : List Event) (told : Result AuditFinding AuditError) → Counts bytes (printed d) events → Tells d events told
       → (told ≡ Err error.Memory → ⊥) → Sees (judged_by (length events) told)
   audited events told counts tells lasts =
       inl (record { events = events; counts = counts; told = told; tells = tells; lasts = lasts; is = refl })

@@ -8,8 +8,8 @@ use Rattle.acc_base.specs.Soundness.{IsSound}
 use Rattle.acc_print.specs.Designs.{printed}
 use Rattle.acc_wal.specs.Attaching.{CountedAs}
 use Rattle.acc_wal.specs.Journals.{Counts}
-use Rattle.acc_audit.specs.declared.steps.Finding.{Finding}
-use Rattle.acc_audit.specs.declared.steps.Finding.TheVariants as finding
+use Rattle.acc_audit.specs.declared.steps.AuditFinding.{AuditFinding}
+use Rattle.acc_audit.specs.declared.steps.AuditFinding.TheVariants as finding
 use Rattle.acc_audit.specs.declared.steps.AuditError.{AuditError}
 use Rattle.acc_audit.specs.declared.steps.AuditError.TheVariants as error
 use Rattle.acc_audit.specs.Audits.{Tells, NeverFalse, ShowsFalse}
@@ -51,7 +51,7 @@ NotCounted bytes (NotRun at) = ⊥
 NotCounted bytes Memory = ⊤
 
 -- what is told of so many events, by what their audit tells
-abbrev pub judged_by : ℕ → Result Finding AuditError → Result Judgement JudgeError
+abbrev pub judged_by : ℕ → Result AuditFinding AuditError → Result Judgement JudgeError
 judged_by n (Ok finding.Clean) = Ok (Clean n)
 judged_by n (Ok (finding.False place t clause own)) = Ok (False place t clause own)
 judged_by n (Err (error.Large place t clause)) = Ok (Large place t clause)

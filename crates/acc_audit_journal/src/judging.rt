@@ -4,18 +4,18 @@ ghost use Rattle.acc_formed.specs.WellFormed.{IsWellFormed};
 ghost use Rattle.acc_audit_journal.specs.Judging.{judged_by, Judges, JudgesMeaning, IsKindToSound};
 
 use crate::journals::{JudgeError, Judgement, is_of, journal_of};
-use acc_audit::{AuditError, Finding, audit};
+use acc_audit::{AuditError, AuditFinding, audit};
 use acc_base::designs::Design;
 use acc_progress::Progress;
 use std::alloc::Global;
 
 /// What is told of so many events, by what their audit tells.
-fn judged(events: u64, told: Result<Finding, AuditError>) -> Result<Judgement, JudgeError>
+fn judged(events: u64, told: Result<AuditFinding, AuditError>) -> Result<Judgement, JudgeError>
     ensures { result ≡ judged_by events told }
 {
     match told {
-        Ok(Finding::Clean) => Ok(Judgement::Clean(events)),
-        Ok(Finding::False(place, t, clause, values)) => {
+        Ok(AuditFinding::Clean) => Ok(Judgement::Clean(events)),
+        Ok(AuditFinding::False(place, t, clause, values)) => {
             Ok(Judgement::False(place, t, clause, values))
         }
         Err(AuditError::Large(place, t, clause)) => Ok(Judgement::Large(place, t, clause)),

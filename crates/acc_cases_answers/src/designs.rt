@@ -2,7 +2,7 @@
 use crate::answers::tell_lines;
 use acc_cases_changes::designs::{judged_text, spelled};
 use acc_cases_commands::memory;
-use acc_cases_commands::texts::{self, Change, first_word};
+use acc_cases_commands::texts::{self, Exchange, first_word};
 use acc_io::MemSink;
 use std::alloc::{AllocError, Global};
 use std::rt::Files;
@@ -56,7 +56,7 @@ fn show_changed<R: Print + AllocGlobal>(
     rt: &R,
     verb: &str,
     design: &str,
-    change: Change<'_>,
+    change: Exchange<'_>,
 ) -> io::Result<()> {
     match texts::changed(rt.alloc(), design, change)? {
         Some(changed) => show_beside(rt, verb, design, changed.as_str()),

@@ -50,7 +50,7 @@ fn answer<R: Print + AllocGlobal>(
 /// A disk's bytes, the calls of it that fail, the one from which on all fail, the writes of the sink that fail and, behind a `/`, how many
 /// bytes the others take; and the command line.
 #[derive(Clone, Copy)]
-struct Case<'a> {
+struct DiskCase<'a> {
     bytes: &'a str,
     fails: &'a str,
     from: &'a str,
@@ -59,12 +59,12 @@ struct Case<'a> {
 }
 
 /// The case that is written `BYTES FAILS FROM WRITES WORDS`.
-fn case_of(text: &str) -> Case<'_> {
+fn case_of(text: &str) -> DiskCase<'_> {
     let (bytes, rest) = first_word(text);
     let (fails, rest) = first_word(rest);
     let (from, rest) = first_word(rest);
     let (writes, words) = first_word(rest);
-    Case {
+    DiskCase {
         bytes,
         fails,
         from,
@@ -87,7 +87,7 @@ const COPY: &str = "journal";
 fn disk_of(
     alloc: Global,
     base: &[u8],
-    case: Case<'_>,
+    case: DiskCase<'_>,
     shelf: &mut MemShelf,
 ) -> Result<MemDisk, AllocError> {
     let file = file(alloc, base, case.bytes)?;
@@ -98,7 +98,7 @@ fn disk_of(
 /// Answers a case over a shelf.
 fn over_shelf<R: Print + AllocGlobal>(
     rt: &R,
-    case: Case<'_>,
+    case: DiskCase<'_>,
     shelf: &mut MemShelf,
 ) -> io::Result<()> {
     let (fails, takes) = case.writes.split_once('/').unwrap_or((case.writes, "-"));

@@ -3,7 +3,7 @@ use std::alloc::{AllocError, Global};
 
 /// A piece of a text, what stands in its place, and a piece that stands so often where that has an `@`.
 #[derive(Clone, Copy)]
-pub struct Change<'a> {
+pub struct Exchange<'a> {
     old: &'a str,
     new: &'a str,
     piece: &'a str,
@@ -11,10 +11,10 @@ pub struct Change<'a> {
 }
 
 /// The change that is written `OLD -> NEW` or `OLD -> NEW -> COUNT PIECE`.
-pub fn change_of(text: &str) -> Option<Change<'_>> {
+pub fn change_of(text: &str) -> Option<Exchange<'_>> {
     let (old, rest) = text.split_once(" -> ")?;
     let Some((new, many)) = rest.split_once(" -> ") else {
-        return Some(Change {
+        return Some(Exchange {
             old,
             new: rest,
             piece: "",
@@ -22,7 +22,7 @@ pub fn change_of(text: &str) -> Option<Change<'_>> {
         });
     };
     let (count, piece) = many.split_once(" ")?;
-    Some(Change {
+    Some(Exchange {
         old,
         new,
         piece,
@@ -49,7 +49,7 @@ pub fn pieces(alloc: Global, piece: &str, count: u64) -> Result<String, AllocErr
 pub fn changed(
     alloc: Global,
     text: &str,
-    change: Change<'_>,
+    change: Exchange<'_>,
 ) -> Result<Option<String>, AllocError> {
     let Some((before, after)) = text.split_once(change.old) else {
         return Ok(None);

@@ -11,7 +11,7 @@ use crate::answers::answer;
 use crate::blocks::{block, lines_of};
 use crate::journals::Journals;
 use crate::refusals::{of_change, of_script};
-use crate::rows::{Row, row_of};
+use crate::rows::{DocumentRow, row_of};
 use std::alloc::{AllocError, Global};
 use std::rt::Files;
 use std::{fs, io};
@@ -58,7 +58,7 @@ fn tell_command<R: Files + Print + AllocGlobal>(
 fn answer_row(
     alloc: Global,
     design: &str,
-    row: &Row,
+    row: &DocumentRow,
     is_script: bool,
 ) -> Result<String, AllocError> {
     if is_script {
@@ -72,7 +72,7 @@ fn answer_row(
 fn tell_row<R: Print + AllocGlobal>(
     rt: &R,
     document: Document<'_>,
-    row: &Row,
+    row: &DocumentRow,
     is_script: bool,
 ) -> io::Result<()> {
     let asked = format!(in rt.alloc(); "{} -> {}", row.first, row.second)?;

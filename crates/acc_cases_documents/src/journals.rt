@@ -3,7 +3,7 @@ use std::alloc::{AllocError, Global};
 
 /// A journal's file.
 #[derive(Drop)]
-struct Journal {
+struct JournalFile {
     name: String,
     bytes: Vec<u8>,
 }
@@ -11,7 +11,7 @@ struct Journal {
 /// Files of journals by name. Of several of one name the last counts.
 #[derive(Drop)]
 pub struct Journals {
-    held: Vec<Journal>,
+    held: Vec<JournalFile>,
 }
 
 impl Journals {
@@ -37,7 +37,7 @@ impl Journals {
     pub fn hold(&mut self, alloc: Global, name: &str, bytes: &[u8]) -> Result<(), AllocError> {
         let bytes = bytes.to_vec(alloc)?;
         let name = String::from_str(alloc, name)?;
-        self.held.push(Journal { name, bytes })?;
+        self.held.push(JournalFile { name, bytes })?;
         Ok(())
     }
 

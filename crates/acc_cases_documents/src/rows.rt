@@ -6,7 +6,7 @@ const BAR: &str = "\u{1}";
 
 /// A row of a table that shows a refusal.
 #[derive(Drop)]
-pub struct Row {
+pub struct DocumentRow {
     pub first: String,
     pub second: String,
     pub refusal: String,
@@ -28,8 +28,8 @@ fn row_of_codes(
     first: &str,
     second: &str,
     refusal: &str,
-) -> Result<Row, AllocError> {
-    Ok(Row {
+) -> Result<DocumentRow, AllocError> {
+    Ok(DocumentRow {
         first: with_bars(alloc, first)?,
         second: with_bars(alloc, second)?,
         refusal: with_bars(alloc, refusal)?,
@@ -42,7 +42,7 @@ fn row_of_cells(
     first: Option<&str>,
     second: Option<&str>,
     third: Option<&str>,
-) -> Result<Option<Row>, AllocError> {
+) -> Result<Option<DocumentRow>, AllocError> {
     match (code(first), code(second), code(third)) {
         (Some(first), Some(second), Some(refusal)) if refusal.starts_with("refused ") => {
             Ok(Some(row_of_codes(alloc, first, second, refusal)?))
@@ -52,7 +52,7 @@ fn row_of_cells(
 }
 
 /// The row that a line shows, if it shows a refusal.
-pub fn row_of(alloc: Global, line: &str) -> Result<Option<Row>, AllocError> {
+pub fn row_of(alloc: Global, line: &str) -> Result<Option<DocumentRow>, AllocError> {
     let line = line.replace(alloc, "\\|", BAR)?;
     let mut cells = line.as_str().split('|');
     cells.next();

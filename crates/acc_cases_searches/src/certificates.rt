@@ -2,7 +2,7 @@
 use crate::judged::push_judged;
 use crate::texts;
 use acc_axioms::nodes::Cert;
-use acc_cases_sequents::given::Given;
+use acc_cases_sequents::given::CaseGiven;
 use acc_cert::{CertError, read, write};
 use std::alloc::{AllocError, Global};
 use std::fmt::Write;
@@ -56,7 +56,7 @@ pub fn push_count(out: &mut String, cert: Option<&Cert>) -> Result<(), AllocErro
 fn push_first(
     alloc: Global,
     out: &mut String,
-    given: &Given,
+    given: &CaseGiven,
     cert: Option<&Cert>,
 ) -> Result<(), AllocError> {
     match cert {
@@ -69,7 +69,7 @@ fn push_first(
 pub fn push_proved(
     alloc: Global,
     out: &mut String,
-    given: &Given,
+    given: &CaseGiven,
     text: &str,
 ) -> Result<(), AllocError> {
     let cert = certificate(alloc, text)?;

@@ -1,6 +1,6 @@
 //! Whether a proof is one of the sequent.
 use acc_axioms::nodes::Proof;
-use acc_cases_sequents::given::Given;
+use acc_cases_sequents::given::CaseGiven;
 use acc_proof::checks::proves;
 use acc_proof::errors::ProofError;
 use std::alloc::{AllocError, Global};
@@ -23,7 +23,7 @@ fn push_verdict(
 pub fn push_judged(
     alloc: Global,
     out: &mut String,
-    given: &Given,
+    given: &CaseGiven,
     proof: Option<&Proof>,
     yes: &str,
 ) -> Result<(), AllocError> {

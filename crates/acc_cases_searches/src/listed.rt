@@ -1,6 +1,6 @@
 //! The splits and instances of a sequent.
 use acc_base::sequences::Seq;
-use acc_cases_sequents::given::Given;
+use acc_cases_sequents::given::CaseGiven;
 use acc_cases_sequents::written::{add_instances, add_splits, written};
 use acc_inst::listing::{InstError, Listed};
 use acc_inst::lists::lists;
@@ -8,7 +8,7 @@ use std::alloc::{AllocError, Global};
 use std::fmt::Write;
 
 /// The splits and instances, where there are a sequent and hints.
-fn listed(alloc: Global, given: &Given) -> Option<Result<Listed, InstError>> {
+fn listed(alloc: Global, given: &CaseGiven) -> Option<Result<Listed, InstError>> {
     let (sequent, hints) = (given.sequent.as_ref()?, given.hints.as_ref()?);
     Some(lists(alloc, sequent, hints.as_slice()))
 }
@@ -29,7 +29,7 @@ fn push_nodes(alloc: Global, out: &mut String, listed: &Listed) -> Result<(), Al
 }
 
 /// Pushes the splits and instances.
-pub fn push_lists(alloc: Global, out: &mut String, given: &Given) -> Result<(), AllocError> {
+pub fn push_lists(alloc: Global, out: &mut String, given: &CaseGiven) -> Result<(), AllocError> {
     match listed(alloc, given) {
         Some(Ok(listed)) => push_nodes(alloc, out, &listed),
         Some(Err(error)) => push_error(out, error),
@@ -43,7 +43,7 @@ fn push_numbers(out: &mut String, listed: &Listed) -> Result<(), AllocError> {
 }
 
 /// Pushes how many splits and instances there are.
-pub fn push_counts(alloc: Global, out: &mut String, given: &Given) -> Result<(), AllocError> {
+pub fn push_counts(alloc: Global, out: &mut String, given: &CaseGiven) -> Result<(), AllocError> {
     match listed(alloc, given) {
         Some(Ok(listed)) => push_numbers(out, &listed),
         Some(Err(error)) => push_error(out, error),

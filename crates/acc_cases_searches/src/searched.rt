@@ -3,7 +3,7 @@ use crate::judged::push_judged;
 use acc_axioms::nodes::Node;
 use acc_base::forms::Rel;
 use acc_base::sequences::{Seq, copied};
-use acc_cases_sequents::given::Given;
+use acc_cases_sequents::given::CaseGiven;
 use acc_cases_sequents::written::written;
 use acc_prover::found::{Found, SearchError};
 use acc_prover::searching::search;
@@ -11,7 +11,7 @@ use std::alloc::{AllocError, Global};
 use std::fmt::Write;
 
 /// What the search finds, where there are a design, a sequent and hints.
-fn searched(alloc: Global, given: &Given) -> Option<Result<Found, SearchError>> {
+fn searched(alloc: Global, given: &CaseGiven) -> Option<Result<Found, SearchError>> {
     let (design, sequent) = (given.design.as_ref()?, given.sequent.as_ref()?);
     let hints = given.hints.as_ref()?;
     Some(search(alloc, design, sequent, hints.as_slice()))
@@ -63,7 +63,7 @@ fn push_open(
 fn push_found(
     alloc: Global,
     out: &mut String,
-    given: &Given,
+    given: &CaseGiven,
     found: &Found,
 ) -> Result<(), AllocError> {
     match found {
@@ -73,7 +73,7 @@ fn push_found(
 }
 
 /// Pushes whether the sequent is proved, or where it stays open.
-pub fn push_end(alloc: Global, out: &mut String, given: &Given) -> Result<(), AllocError> {
+pub fn push_end(alloc: Global, out: &mut String, given: &CaseGiven) -> Result<(), AllocError> {
     match searched(alloc, given) {
         Some(Ok(found)) => push_found(alloc, out, given, &found),
         Some(Err(error)) => push_error(out, error),
@@ -89,7 +89,7 @@ fn push_nodes(alloc: Global, out: &mut String, found: Found) -> Result<(), Alloc
 }
 
 /// Pushes the proof that the search finds.
-pub fn push_proof(alloc: Global, out: &mut String, given: &Given) -> Result<(), AllocError> {
+pub fn push_proof(alloc: Global, out: &mut String, given: &CaseGiven) -> Result<(), AllocError> {
     match searched(alloc, given) {
         Some(Ok(found)) => push_nodes(alloc, out, found),
         Some(Err(error)) => push_error(out, error),

@@ -1,13 +1,13 @@
 //! What the lines so far have given.
 use crate::certificates::certificate;
 use acc_axioms::nodes::{Cert, Proof};
-use acc_cases_sequents::given::Given;
+use acc_cases_sequents::given::CaseGiven;
 use std::alloc::{AllocError, Global};
 
 /// What the lines so far have given: a design, a sequent and hints, and a certificate with how many of its proofs were asked for.
 #[derive(Drop)]
 pub struct Told {
-    pub given: Given,
+    pub given: CaseGiven,
     pub cert: Option<Cert>,
     asked: usize,
 }
@@ -16,7 +16,7 @@ impl Told {
     /// Nothing so far.
     pub fn new(alloc: Global) -> Self {
         Told {
-            given: Given::new(alloc),
+            given: CaseGiven::new(alloc),
             cert: None,
             asked: 0,
         }

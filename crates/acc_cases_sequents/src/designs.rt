@@ -7,7 +7,7 @@ use serde_json::Value;
 use std::alloc::{AllocError, Global};
 
 /// Of each table how many parts its keys have, and 1 where it is private, else 0; and of each type how many locals it has.
-type Spelled = (Seq<(u32, u32)>, Seq<u32>);
+type SpelledDesign = (Seq<(u32, u32)>, Seq<u32>);
 
 /// So many names.
 pub fn names(alloc: Global, count: u32) -> Result<Seq<Text>, AllocError> {
@@ -56,12 +56,12 @@ fn types(alloc: Global, counts: Seq<u32>) -> Result<Seq<TxType>, AllocError> {
     Ok(types)
 }
 
-fn spelled(alloc: Global, text: &str) -> Option<Spelled> {
+fn spelled(alloc: Global, text: &str) -> Option<SpelledDesign> {
     let value = Value::from_str(alloc, text).ok()?;
     Part::read(alloc, &value).ok()
 }
 
-fn design(alloc: Global, (tables_of, types_of): Spelled) -> Result<Design, AllocError> {
+fn design(alloc: Global, (tables_of, types_of): SpelledDesign) -> Result<Design, AllocError> {
     let tables = tables(alloc, tables_of)?;
     Ok(Design {
         tables,

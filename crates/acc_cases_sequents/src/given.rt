@@ -8,16 +8,16 @@ use std::alloc::{AllocError, Global};
 
 /// The design, the sequent and the hints, as the lines spelled them.
 #[derive(Drop)]
-pub struct Given {
+pub struct CaseGiven {
     pub design: Option<Design>,
     pub sequent: Option<Sequent>,
     pub hints: Option<Seq<Lin>>,
 }
 
-impl Given {
+impl CaseGiven {
     /// Nothing so far.
     pub fn new(alloc: Global) -> Self {
-        Given {
+        CaseGiven {
             design: None,
             sequent: None,
             hints: Some(Seq::new(alloc)),

@@ -9,22 +9,26 @@ use serde_json::Value;
 use std::alloc::{AllocError, Global};
 
 /// A form, and 1 where it is 0, else 0.
-type Relation = (Form, u32);
+type SpelledRelation = (Form, u32);
 
 /// How many variables a hypothesis has of its own, its guards, and its relation.
-type Hypothesis = (u32, Seq<Relation>, Relation);
+type Hypothesis = (u32, Seq<SpelledRelation>, SpelledRelation);
 
 /// The rule, the variables and the type; the hypotheses; and the relations with the goal.
-type Spelled = ((u32, u32, u32), Seq<Hypothesis>, (Seq<Relation>, Form));
+type SpelledSequent = (
+    (u32, u32, u32),
+    Seq<Hypothesis>,
+    (Seq<SpelledRelation>, Form),
+);
 
-fn relation((form, equal): Relation) -> Rel {
+fn relation((form, equal): SpelledRelation) -> Rel {
     Rel {
         form,
         equal: equal == 1,
     }
 }
 
-fn relations(alloc: Global, spelled: Seq<Relation>) -> Result<Seq<Rel>, AllocError> {
+fn relations(alloc: Global, spelled: Seq<SpelledRelation>) -> Result<Seq<Rel>, AllocError> {
     let mut relations = Seq::new(alloc);
     for one in spelled.into_vec() {
         relations.push(relation(one))?;
@@ -83,7 +87,7 @@ fn origin(rule: Rule, ty: u32) -> Origin {
     }
 }
 
-fn sequent(alloc: Global, spelled: Spelled) -> Result<Option<Sequent>, AllocError> {
+fn sequent(alloc: Global, spelled: SpelledSequent) -> Result<Option<Sequent>, AllocError> {
     let ((number, vars, ty), hyps, (rels, goal)) = spelled;
     let Some(rule) = rule(number) else {
         return Ok(None);
@@ -98,7 +102,7 @@ fn sequent(alloc: Global, spelled: Spelled) -> Result<Option<Sequent>, AllocErro
     }))
 }
 
-fn spelled(alloc: Global, text: &str) -> Option<Spelled> {
+fn spelled(alloc: Global, text: &str) -> Option<SpelledSequent> {
     let value = Value::from_str(alloc, text).ok()?;
     Part::read(alloc, &value).ok()
 }

@@ -11,7 +11,7 @@ use std::fmt::Write;
 
 /// Where a transaction stands: its number, its point and its locals.
 #[derive(Drop)]
-struct Place {
+struct FramePlace {
     t: u64,
     at: At,
     locals: Vec<i64>,
@@ -24,8 +24,8 @@ fn place_in(
     ty: &str,
     point: &str,
     locals: &str,
-) -> Result<Place, AllocError> {
-    Ok(Place {
+) -> Result<FramePlace, AllocError> {
+    Ok(FramePlace {
         t: number(t),
         at: at(ty, point),
         locals: list(alloc, locals)?,
@@ -37,7 +37,7 @@ fn push_entered(
     out: &mut String,
     index: &mut LockIndex,
     d: &Design,
-    place: &Place,
+    place: &FramePlace,
 ) -> Result<(), AllocError>
     requires { IsWellFormed d.now }
 {
@@ -55,7 +55,7 @@ fn push_prepared(
     out: &mut String,
     index: &mut LockIndex,
     d: &Design,
-    place: &Place,
+    place: &FramePlace,
     changes: bool,
 ) -> Result<(), AllocError>
     requires { IsWellFormed d.now }
@@ -96,7 +96,7 @@ fn push_first_to(
     out: &mut String,
     index: &LockIndex,
     d: &Design,
-    place: &Place,
+    place: &FramePlace,
     to: At,
 ) -> Result<(), AllocError>
     requires { IsWellFormed d.now }
@@ -116,7 +116,7 @@ fn push_first(
     out: &mut String,
     index: &LockIndex,
     d: &Design,
-    place: &Place,
+    place: &FramePlace,
 ) -> Result<(), AllocError>
     requires { IsWellFormed d.now }
 {

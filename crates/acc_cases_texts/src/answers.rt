@@ -1,6 +1,6 @@
 //! The calls by name.
 use crate::cases::{bytes_of, number};
-use crate::designs::{Question, tell_design};
+use crate::designs::{TreeQuestion, tell_design};
 use crate::statements::{tell_line, tell_lines};
 use crate::trees::tell_tree;
 use crate::words::{tell_tokens, tell_words};
@@ -8,10 +8,10 @@ use std::alloc::{AllocError, Global};
 use std::fmt::Write;
 
 /// The limits that are asked for: of two numbers of statements the lowest on those, else the first fault.
-fn limits(words: &str) -> Question {
+fn limits(words: &str) -> TreeQuestion {
     match words.split_once(' ') {
-        Some((from, to)) => Question::LowestOn(number(from), number(to)),
-        None => Question::FirstFault,
+        Some((from, to)) => TreeQuestion::LowestOn(number(from), number(to)),
+        None => TreeQuestion::FirstFault,
     }
 }
 
@@ -25,7 +25,7 @@ fn tell_of_tree(
 ) -> Result<(), AllocError> {
     match name {
         "limit" => tell_design(alloc, out, limits(rest), text),
-        "meaning" => tell_design(alloc, out, Question::Meaning, text),
+        "meaning" => tell_design(alloc, out, TreeQuestion::Meaning, text),
         _ => write!(out, " no call"),
     }
 }

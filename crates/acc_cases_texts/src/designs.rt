@@ -12,7 +12,7 @@ use std::fmt::Write;
 
 /// What is asked of a design's tree.
 #[derive(Clone, Copy)]
-pub enum Question {
+pub enum TreeQuestion {
     FirstFault,
     LowestOn(u64, u64),
     Meaning,
@@ -91,13 +91,13 @@ fn tell_meaning(alloc: Global, out: &mut String, tree: &DesignTree) -> Result<()
 fn tell(
     alloc: Global,
     out: &mut String,
-    question: Question,
+    question: TreeQuestion,
     tree: &DesignTree,
 ) -> Result<(), AllocError> {
     match question {
-        Question::FirstFault => add_fault(out, first_fault(tree)),
-        Question::LowestOn(from, to) => add_limit(out, lowest_on(tree, from, to)),
-        Question::Meaning => tell_meaning(alloc, out, tree),
+        TreeQuestion::FirstFault => add_fault(out, first_fault(tree)),
+        TreeQuestion::LowestOn(from, to) => add_limit(out, lowest_on(tree, from, to)),
+        TreeQuestion::Meaning => tell_meaning(alloc, out, tree),
     }
 }
 
@@ -105,7 +105,7 @@ fn tell(
 pub fn tell_design(
     alloc: Global,
     out: &mut String,
-    question: Question,
+    question: TreeQuestion,
     text: &[u8],
 ) -> Result<(), AllocError> {
     let Ok(words) = words(alloc, text) else {

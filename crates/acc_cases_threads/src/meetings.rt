@@ -11,16 +11,16 @@ const LOOKS: u64 = 100_000_000;
 
 /// One of the two: its number, whether it is there, and whether it found the other one there.
 #[derive(Drop)]
-struct Side {
+struct Meeter {
     t: u64,
     is_there: AtomicBool,
     has_met: AtomicBool,
 }
 
-impl Side {
+impl Meeter {
     /// It isn't there yet.
-    fn new(t: u64) -> Side {
-        Side {
+    fn new(t: u64) -> Meeter {
+        Meeter {
             t,
             is_there: AtomicBool::new(false),
             has_met: AtomicBool::new(false),
@@ -28,7 +28,7 @@ impl Side {
     }
 
     /// Comes, and looks for the other.
-    fn meet(&self, other: &Side) {
+    fn meet(&self, other: &Meeter) {
         self.is_there.store(true, Ordering::SeqCst);
         for _ in 0..LOOKS {
             if other.is_there.load(Ordering::SeqCst) {
@@ -44,16 +44,16 @@ impl Side {
 /// other has ended, which needs two workers.
 #[derive(Drop)]
 pub struct Meeting {
-    one: Side,
-    other: Side,
+    one: Meeter,
+    other: Meeter,
 }
 
 impl Meeting {
     /// A meeting of the transactions with these numbers.
     pub fn new(one: u64, other: u64) -> Meeting {
         Meeting {
-            one: Side::new(one),
-            other: Side::new(other),
+            one: Meeter::new(one),
+            other: Meeter::new(other),
         }
     }
 

@@ -25,7 +25,7 @@ const MEET: (u64, u64) = (3, 4);
 
 /// A run: how many work, the call of the disk from which on all fail, and the names of the files.
 #[derive(Clone, Copy)]
-struct Case<'a> {
+struct CrewRun<'a> {
     workers: &'a str,
     from: &'a str,
     design: &'a str,
@@ -35,13 +35,13 @@ struct Case<'a> {
 }
 
 /// The run that is written `WORKERS FROM DESIGN CERT FIRST SCRIPT`.
-fn case_of(text: &str) -> Case<'_> {
+fn case_of(text: &str) -> CrewRun<'_> {
     let (workers, rest) = first_word(text);
     let (from, rest) = first_word(rest);
     let (design, rest) = first_word(rest);
     let (certificate, rest) = first_word(rest);
     let (first, script) = first_word(rest);
-    Case {
+    CrewRun {
         workers,
         from,
         design,
@@ -54,9 +54,9 @@ fn case_of(text: &str) -> Case<'_> {
 /// The journal with which a run begins.
 fn journal_of<R: Files<File = File> + AllocGlobal>(
     rt: &R,
-    case: Case<'_>,
+    case: CrewRun<'_>,
 ) -> Result<Vec<u8>, AllocError> {
-    let Case {
+    let CrewRun {
         design,
         certificate,
         first,
@@ -94,15 +94,15 @@ fn answer_in_threads<
 /// The disk with which the run of a case begins.
 fn disk_of<R: Files<File = File> + AllocGlobal>(
     rt: &R,
-    case: Case<'_>,
+    case: CrewRun<'_>,
 ) -> Result<MemDisk, AllocError> {
     let journal = journal_of(rt, case)?;
     memory::disk(rt.alloc(), &journal, &[], case.from.parse().ok())
 }
 
 /// The command line of the run of a case.
-fn line_of(alloc: Global, case: Case<'_>) -> Result<String, AllocError> {
-    let Case {
+fn line_of(alloc: Global, case: CrewRun<'_>) -> Result<String, AllocError> {
+    let CrewRun {
         workers,
         design,
         certificate,
@@ -117,7 +117,7 @@ fn run<R: Files<File = File> + AllocGlobal, T: Threads + Wait + Sync, G: Gate + 
     rt: &R,
     threads: &T,
     gate: &G,
-    case: Case<'_>,
+    case: CrewRun<'_>,
 ) -> Result<Answered, AllocError> {
     let disk = disk_of(rt, case)?;
     let line = line_of(rt.alloc(), case)?;
@@ -149,10 +149,10 @@ fn tell_answer<R: Print>(rt: &R, answered: &Answered) -> io::Result<()> {
 fn tell_left<R: Files<File = File> + Print + AllocGlobal>(
     rt: &R,
     verb: &str,
-    case: Case<'_>,
+    case: CrewRun<'_>,
     bytes: &[u8],
 ) -> io::Result<()> {
-    let Case {
+    let CrewRun {
         design,
         certificate,
         ..
@@ -165,7 +165,7 @@ fn tell_left<R: Files<File = File> + Print + AllocGlobal>(
 /// Tells what a run answered, and of what it left.
 fn tell_answered<R: Files<File = File> + Print + AllocGlobal>(
     rt: &R,
-    case: Case<'_>,
+    case: CrewRun<'_>,
     answered: &Answered,
 ) -> io::Result<()> {
     tell_answer(rt, answered)?;
@@ -177,7 +177,7 @@ fn tell_answered<R: Files<File = File> + Print + AllocGlobal>(
 fn tell_run<R: Files<File = File> + Print + AllocGlobal, T: Threads + Wait + Sync>(
     rt: &R,
     threads: &T,
-    case: Case<'_>,
+    case: CrewRun<'_>,
 ) -> io::Result<()> {
     let answered = run(rt, threads, &OpenGate, case)?;
     tell_answered(rt, case, &answered)
@@ -194,7 +194,7 @@ fn reply_count(text: &str) -> usize {
 fn tell_verified<R: Files<File = File> + Print + AllocGlobal, T: Threads + Wait + Sync>(
     rt: &R,
     threads: &T,
-    case: Case<'_>,
+    case: CrewRun<'_>,
 ) -> io::Result<()> {
     let answered = run(rt, threads, &OpenGate, case)?;
     let replies = reply_count(answered.text.as_str());
@@ -206,7 +206,7 @@ fn tell_verified<R: Files<File = File> + Print + AllocGlobal, T: Threads + Wait 
 fn tell_calls<R: Files<File = File> + Print + AllocGlobal, W: Wait>(
     rt: &R,
     waits: &W,
-    case: Case<'_>,
+    case: CrewRun<'_>,
 ) -> io::Result<()> {
     let disk = disk_of(rt, case)?;
     let line = line_of(rt.alloc(), case)?;
@@ -218,7 +218,7 @@ fn tell_calls<R: Files<File = File> + Print + AllocGlobal, W: Wait>(
 fn tell_meeting<R: Files<File = File> + Print + AllocGlobal, T: Threads + Wait + Sync>(
     rt: &R,
     threads: &T,
-    case: Case<'_>,
+    case: CrewRun<'_>,
 ) -> io::Result<()> {
     let meeting = Meeting::new(MEET.0, MEET.1);
     run(rt, threads, &meeting, case)?;

@@ -9,7 +9,7 @@ use tpcc_gen::{
 
 /// How many transactions a mix has, and the number that it is drawn from.
 #[derive(Clone, Copy)]
-pub struct Mix {
+pub struct MixCase {
     pub count: u64,
     pub start: u64,
     ghost within: { IsMix count start },
@@ -38,9 +38,9 @@ pub fn scale_of(words: &str) -> (Scale, &str) {
 }
 
 /// The count and the start that two words spell.
-pub fn mix_of(words: &str) -> Mix {
+pub fn mix_of(words: &str) -> MixCase {
     let (count, start) = parted(words, " ");
-    Mix {
+    MixCase {
         count: number(count).min(MOST_TRANSACTIONS),
         start: number(start).min(LARGEST_START),
     }

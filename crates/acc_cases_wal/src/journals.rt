@@ -4,7 +4,7 @@ ghost use Rattle.acc_wal.specs.Spellings.{Fits};
 
 use crate::answers::push_end;
 use crate::events::{event, push_events};
-use crate::listing::{Listed, events_in};
+use crate::listing::{ListedEvents, events_in};
 use crate::states::{push_seal, push_states};
 use crate::stops::{push_changes, push_stops};
 use crate::words::{bytes, push_bytes};
@@ -101,7 +101,7 @@ fn make(
     alloc: Global,
     held: &mut Held,
     text: &str,
-    listed: &Listed,
+    listed: &ListedEvents,
     seal: Option<&[u8]>,
 ) -> Result<(), WalError> {
     let events = listed.events();

@@ -13,12 +13,12 @@ const MOST: usize = 1 << 20;
 
 /// Events that fit their fields and are spelled in few bytes.
 #[derive(Drop)]
-pub struct Listed {
+pub struct ListedEvents {
     events: Vec<Event>,
     bytes: usize,
 }
 
-impl Model for Listed {
+impl Model for ListedEvents {
     ghost use Rattle.std.specs.Prelude.{◌≡◌, ◌<◌, ◌^◌, List, length, All};
     ghost use Rattle.acc_base.specs.declared.machines.Event.{Event};
     ghost use Rattle.acc_wal.specs.Spellings.{body, Fits};
@@ -30,11 +30,11 @@ impl Model for Listed {
     ghost invariant = { λ l. All Fits l.events.items × (l.bytes ≡ length (body l.events.items)) × (l.bytes < 2 ^ 20) };
 }
 
-impl Listed {
+impl ListedEvents {
     fn new(alloc: Global) -> Self
         ensures { result ≡ [] }
     {
-        Listed {
+        ListedEvents {
             events: Vec::new(alloc),
             bytes: 0,
         }
@@ -65,8 +65,8 @@ impl Listed {
 }
 
 /// The events of those words, as far as they are some.
-pub fn events_in(alloc: Global, words: &str) -> Result<Listed, AllocError> {
-    let mut read = Listed::new(alloc);
+pub fn events_in(alloc: Global, words: &str) -> Result<ListedEvents, AllocError> {
+    let mut read = ListedEvents::new(alloc);
     for part in words.split(',') {
         let part: Vec<&str> = part.split(' ').collect(alloc)?;
         match event(alloc, part.as_slice())? {

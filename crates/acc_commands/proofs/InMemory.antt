@@ -11,7 +11,7 @@ use Rattle.acc_commands_journals.specs.Answers.{said_of, said_alone}
 use Rattle.acc_commands_journals.specs.Words.{is_journalled}
 use Rattle.acc_journalled.specs.declared.answers.Answer.{Answer}
 use Rattle.acc_journalled.specs.Tellings.{telling_of}
-use Rattle.acc_commands_files.specs.declared.memory_runs.Run.{Run}
+use Rattle.acc_commands_files.specs.declared.memory_runs.MemoryRun.{MemoryRun}
 use Rattle.acc_commands_files.specs.Runs.{told_by}
 use Rattle.acc_commands_journals.specs.Disks.{Ends, seen}
 use Rattle.acc_commands.specs.Means.{MeansOfFiles, Means, LeavesOf, TellsInMemory}
@@ -77,7 +77,7 @@ module _ {D : Type 0} (clock : D → ℕ) (left_since : D → ℕ → List ℕ �
 
   -- of a run in memory
   pub ends_run : (c : Command) (points files : List (List ℕ)) → is_journalled c ≡ false → (old new : D) → new ≡ old
-      → (run : Result Run AllocError) (answer : Result Answer AllocError) (history : List Event) (settled : ℕ)
+      → (run : Result MemoryRun AllocError) (answer : Result Answer AllocError) (history : List Event) (settled : ℕ)
       → TellsInMemory run answer history → settled ≡ 0 → IfOk run (λ r. MeansOfFiles c points files (told_by r))
       → Ends told may_leave faults (Means c points files) (LeavesOf clock left_since told may_leave faults c files) old new answer history settled
   ends_run c points files is old new same (Ok r) answer history settled tells none says =
@@ -89,7 +89,7 @@ module _ {D : Type 0} (clock : D → ℕ) (left_since : D → ℕ → List ℕ �
       (subst (λ (x : Result Answer AllocError). IfOk x (λ a. MeansOfFiles c points files (said_of a history))) (sym tells.0) tt)
 
 -- where memory lacks for a run, no event is told
-pub lacks_run : (run : Result Run AllocError) (answer : Result Answer AllocError) (history : List Event) → TellsInMemory run answer history
+pub lacks_run : (run : Result MemoryRun AllocError) (answer : Result Answer AllocError) (history : List Event) → TellsInMemory run answer history
     → IfErr answer (λ e. history ≡ [])
 lacks_run (Ok r) answer history tells =
     subst (λ (x : Result Answer AllocError). IfErr x (λ e. history ≡ [])) (sym tells.0) tt

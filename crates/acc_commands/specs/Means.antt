@@ -6,7 +6,7 @@ use Rattle.acc_base.specs.declared.machines.Event.{Event}
 use Rattle.acc_commands_journals.specs.Command.{Command}
 use Rattle.acc_commands_journals.specs.Command.TheVariants as command
 use Rattle.acc_commands_journals.specs.Words.{is_journalled}
-use Rattle.acc_commands_files.specs.declared.memory_runs.Run.{Run}
+use Rattle.acc_commands_files.specs.declared.memory_runs.MemoryRun.{MemoryRun}
 use Rattle.acc_journalled.specs.declared.answers.Answer.{Answer}
 use Rattle.acc_journalled.specs.declared.answers.Ending.TheVariants.{Done}
 use Rattle.acc_journalled.specs.declared.answers.Wanted.TheVariants.{Counts, Rows, Replies}
@@ -212,6 +212,6 @@ module _ {D : Type 0} (clock : D → ℕ) (left_since : D → ℕ → List ℕ �
   LeavesOf command.Version files = LeavesDisk
 
 -- what a run in memory says and tells; want of memory tells no event
-abbrev pub TellsInMemory : Result Run AllocError → Result Answer AllocError → List Event → Type 0
+abbrev pub TellsInMemory : Result MemoryRun AllocError → Result Answer AllocError → List Event → Type 0
 TellsInMemory (Ok r) answer history = (answer ≡ Ok r.answer) × (history ≡ r.history)
 TellsInMemory (Err e) answer history = (answer ≡ Err e) × (history ≡ [])

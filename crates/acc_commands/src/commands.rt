@@ -15,7 +15,7 @@ use acc_commands_files::audits::audit_files;
 use acc_commands_files::benches::bench_files;
 use acc_commands_files::designs::{check_files, draw_file, print_file};
 use acc_commands_files::follows::follow_files;
-use acc_commands_files::memory_runs::Run;
+use acc_commands_files::memory_runs::MemoryRun;
 use acc_commands_files::plays::play_files;
 use acc_commands_files::provings::prove_file;
 use acc_commands_files::schedules::schedule_files;
@@ -54,13 +54,13 @@ fn version(alloc: Global) -> Result<Answer, AllocError>
 }
 
 /// How a run in memory ends: the disk is handed back as it is, and no event is durable.
-fn ran<D>(alloc: Global, disk: D, run: Result<Run, AllocError>) -> Ended<D>
+fn ran<D>(alloc: Global, disk: D, run: Result<MemoryRun, AllocError>) -> Ended<D>
     ensures disk { result.disk ≡ disk }
     ensures settled { result.settled ≡ 0 }
     ensures tells { TellsInMemory run result.answer result.history }
 {
     match run {
-        Ok(Run { answer, history }) => Ended {
+        Ok(MemoryRun { answer, history }) => Ended {
             disk,
             history,
             settled: 0,

@@ -3,10 +3,10 @@ use Rattle.std.proofs.Common.{◌≡◌, true, arith}
 use Rattle.std.proofs.lemmas.Bool.Decides.{nat_tests}
 use Rattle.tpcc_gen.specs.Bounds.{IsScale, IsMix}
 use Rattle.acc_commands_inputs.specs.Scales.{is_scale, is_mix}
-use Rattle.acc_commands_inputs.specs.declared.scales.Scale.{Scale}
+use Rattle.acc_commands_inputs.specs.declared.scales.AskedScale.{AskedScale}
 use Rattle.acc_commands_inputs.specs.declared.scales.Mix.{Mix}
 
-pub scale_fits : (s : Scale) → is_scale s ≡ true → IsScale s.warehouses s.items s.customers
+pub scale_fits : (s : AskedScale) → is_scale s ≡ true → IsScale s.warehouses s.items s.customers
 scale_fits s fit = record {
   some_warehouse = grind (arith, nat_tests, fit);
   few_warehouses = grind (arith, nat_tests, fit);

@@ -19,8 +19,8 @@ use Rattle.acc_advise.specs.declared.advice.Advice.{Advice}
 use Rattle.acc_advise.specs.declared.advice.Advice.TheVariants.{Free, Keyed}
 use Rattle.acc_advise.specs.declared.advice.Beyond.{Beyond}
 use Rattle.acc_advise.specs.declared.advice.Question.{Question}
-use Rattle.acc_advise.specs.declared.advice.Why.{Why}
-use Rattle.acc_advise.specs.declared.advice.Why.TheVariants.{Open, Crowded, Wide, Many}
+use Rattle.acc_advise.specs.declared.advice.Obstacle.{Obstacle}
+use Rattle.acc_advise.specs.declared.advice.Obstacle.TheVariants.{Open, Crowded, Wide, Many}
 use Rattle.acc_advise.specs.Advices.{asked, IsAdvice}
 use Rattle.acc_advise.specs.TriedDesigns.{keyed, free_drafts}
 use Rattle.acc_commands_inputs.specs.Refusals.{RefusesDesign}
@@ -52,7 +52,7 @@ step_at d side word = option_and_then (may_forbid side) (named d word)
 -- ---- lines
 
 -- why a search ended, as `prove` says it
-abbrev pub why_text : Why → List ℕ
+abbrev pub why_text : Obstacle → List ℕ
 why_text (Open leaf point) = point_text point
 why_text Crowded = codes "crowded"
 why_text Wide = codes "wide"

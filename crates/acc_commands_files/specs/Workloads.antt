@@ -2,7 +2,7 @@
 -- calls of TPC-C.
 use Rattle.std.specs.Prelude.{ℕ, List, [], if◌then◌else◌}
 use Rattle.acc_commands_inputs.specs.Scales.{is_scale, is_mix}
-use Rattle.acc_commands_inputs.specs.declared.scales.Scale.{Scale}
+use Rattle.acc_commands_inputs.specs.declared.scales.AskedScale.{AskedScale}
 use Rattle.acc_commands_inputs.specs.declared.scales.Mix.{Mix}
 use Rattle.acc_commands_inputs.specs.Texts.{IsDesignText}
 use Rattle.acc_print.specs.Designs.{printed}
@@ -24,10 +24,10 @@ pub record PrintsBooking (said : Said) : Type 0 where
   pub same : IsDesignText (printed booking_design) booking_design
 
 -- the script of the load, where there may be such a one, and else nothing
-abbrev pub load_said : Scale → List ℕ
+abbrev pub load_said : AskedScale → List ℕ
 load_said s = if is_scale s then load_text s.warehouses s.items s.customers else []
 
-abbrev pub PrintsLoad : Scale → Said → Type 0
+abbrev pub PrintsLoad : AskedScale → Said → Type 0
 PrintsLoad s = Says Done (load_said s)
 
 -- the script of the mix, likewise

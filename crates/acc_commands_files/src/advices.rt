@@ -14,7 +14,7 @@ ghost use Rattle.acc_commands_files.specs.Advising.{AdvisesFile};
 
 use crate::pages::finished;
 use crate::points::{held_at, step_at};
-use acc_advise::{Advice, AdviseError, Beyond, Question, Searchers, Why, advise};
+use acc_advise::{Advice, AdviseError, Beyond, Obstacle, Question, Searchers, advise};
 use acc_base::designs::{Design, Entry, Side};
 use acc_base::sequences::Seq;
 use acc_base::sequents::Origin;
@@ -27,14 +27,14 @@ use acc_print::{push_entry, push_pair_of};
 use std::alloc::{AllocError, Global};
 
 /// The line of an obligation that isn't proved, and why.
-fn push_stop(out: &mut Page, d: &Design, origin: &Origin, why: &Why)
+fn push_stop(out: &mut Page, d: &Design, origin: &Origin, why: &Obstacle)
     ensures { Adds out.old out.new (line_of d.now origin.now (why_text why.now)) }
 {
     match why {
-        Why::Open(_, point) => push_point(out, d, origin, point.as_slice()),
-        Why::Crowded => push_ended(out, d, origin, b"crowded"),
-        Why::Wide => push_ended(out, d, origin, b"wide"),
-        Why::Many => push_ended(out, d, origin, b"many"),
+        Obstacle::Open(_, point) => push_point(out, d, origin, point.as_slice()),
+        Obstacle::Crowded => push_ended(out, d, origin, b"crowded"),
+        Obstacle::Wide => push_ended(out, d, origin, b"wide"),
+        Obstacle::Many => push_ended(out, d, origin, b"many"),
     }
 }
 

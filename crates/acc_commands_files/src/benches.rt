@@ -11,14 +11,14 @@ ghost use Rattle.acc_commands_files.specs.Runs.{told_by};
 ghost use Rattle.acc_commands_files.specs.Workloads.{mix_said};
 ghost use Rattle.acc_commands_files.specs.BenchFiles.{order_of, SaysBench, SaysOfMix, SaysOfLoad, SaysOfTables, BenchesCertified, BenchesFiles};
 
-use crate::memory_runs::{Run, unplayed};
+use crate::memory_runs::{MemoryRun, unplayed};
 use crate::workloads::{load_script, mix_script};
 use acc_base::designs::Design;
 use acc_base::machines::Call;
 use acc_base::sequences::Seq;
 use acc_bench::{Benched, bench, bench_answer};
 use acc_commands_inputs::{
-    Admission, CertifiedFiles, FoundSchema, Mix, ReadDesign, ReadScript, Scale, admit,
+    Admission, AskedScale, CertifiedFiles, FoundSchema, Mix, ReadDesign, ReadScript, admit,
     design_refused, find_schema, read_design, read_script,
 };
 use acc_lift::Accepted;
@@ -34,7 +34,7 @@ fn mix_order(alloc: Global, asked: Mix) -> Result<Seq<u64>, AllocError>
         → All (IsPlace (length calls)) numbers) }
 {
     if asked.is_fit() {
-        let Scale {
+        let AskedScale {
             warehouses,
             items,
             customers,
@@ -53,7 +53,7 @@ fn mix_order(alloc: Global, asked: Mix) -> Result<Seq<u64>, AllocError>
 }
 
 /// What is said of a load and a mix, and their events.
-fn benched_run(alloc: Global, benched: Benched) -> Result<Run, AllocError>
+fn benched_run(alloc: Global, benched: Benched) -> Result<MemoryRun, AllocError>
     ensures { IfOk result (λ r. told_by r ≡
         record { ending = bench_ending benched; text = bench_text benched; history = benched.history }) }
 {
@@ -64,7 +64,7 @@ fn benched_run(alloc: Global, benched: Benched) -> Result<Run, AllocError>
         history,
         against: _,
     } = benched;
-    Ok(Run { answer, history })
+    Ok(MemoryRun { answer, history })
 }
 
 /// Runs the calls of a load, and then those of a mix in its order.
@@ -76,7 +76,7 @@ fn bench_calls<P: Progress>(
     load: &[Call],
     calls: &[Call],
     progress: &mut P,
-) -> Result<Run, AllocError>
+) -> Result<MemoryRun, AllocError>
     requires schema { IsSchemaOf tables.now accepted.now }
     requires load_fits { AllFit accepted.now load.now }
     requires calls_fit { AllFit accepted.now calls.now }
@@ -97,7 +97,7 @@ fn bench_mix<P: Progress>(
     asked: Mix,
     load: &[Call],
     progress: &mut P,
-) -> Result<Run, AllocError>
+) -> Result<MemoryRun, AllocError>
     requires schema { IsSchemaOf tables.now accepted.now }
     requires load_fits { AllFit accepted.now load.now }
     ensures { IfOk result (λ r. SaysOfMix accepted.now tables.now asked load.now (told_by r)) }
@@ -119,7 +119,7 @@ fn bench_load<P: Progress>(
     tables: &TableSet,
     asked: Mix,
     progress: &mut P,
-) -> Result<Run, AllocError>
+) -> Result<MemoryRun, AllocError>
     requires schema { IsSchemaOf tables.now accepted.now }
     ensures { IfOk result (λ r. SaysOfLoad accepted.now tables.now asked (told_by r)) }
 {
@@ -138,7 +138,7 @@ fn bench_accepted<P: Progress>(
     accepted: &Accepted,
     asked: Mix,
     progress: &mut P,
-) -> Result<Run, AllocError>
+) -> Result<MemoryRun, AllocError>
     ensures { IfOk result (λ r. SaysOfTables accepted.now asked (told_by r)) }
 {
     match find_schema(alloc, accepted.design())? {
@@ -154,7 +154,7 @@ fn bench_design<P: Progress>(
     certificate: &[u8],
     asked: Mix,
     progress: &mut P,
-) -> Result<Run, AllocError>
+) -> Result<MemoryRun, AllocError>
     ensures { IfOk result (λ r. BenchesCertified d certificate.now asked (told_by r)) }
 {
     match admit(alloc, d, certificate)? {
@@ -170,7 +170,7 @@ pub fn bench_files<P: Progress>(
     files: CertifiedFiles,
     asked: Mix,
     progress: &mut P,
-) -> Result<Run, AllocError>
+) -> Result<MemoryRun, AllocError>
     ensures { IfOk result (λ r. BenchesFiles asked files.entry.design.now files.entry.certificate.now (told_by r)) }
 {
     match read_design(alloc, files.design)? {

@@ -20,7 +20,7 @@ pub use audits::audit_files;
 pub use benches::bench_files;
 pub use designs::{check_files, draw_file, print_file};
 pub use follows::follow_files;
-pub use memory_runs::{Run, unplayed};
+pub use memory_runs::{MemoryRun, unplayed};
 pub use plays::play_files;
 pub use provings::prove_file;
 pub use schedules::schedule_files;

@@ -10,16 +10,16 @@ use std::alloc::Global;
 
 /// What a run in memory says, and its events, oldest first.
 #[derive(Drop)]
-pub struct Run {
+pub struct MemoryRun {
     pub answer: Answer,
     pub history: Seq<Event>,
 }
 
 /// An answer, where nothing ran.
-pub fn unplayed(alloc: Global, answer: Answer) -> Run
+pub fn unplayed(alloc: Global, answer: Answer) -> MemoryRun
     ensures { told_by result ≡ said_alone answer }
 {
-    Run {
+    MemoryRun {
         answer,
         history: Seq::new(alloc),
     }

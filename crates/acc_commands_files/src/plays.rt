@@ -7,7 +7,7 @@ ghost use Rattle.acc_player.specs.Playing.{AllFit};
 ghost use Rattle.acc_commands_inputs.specs.Scripts.{SaysOfScript, SaysOfOrder};
 ghost use Rattle.acc_commands_files.specs.PlayFiles.{PlaysFiles, SaysPlay};
 
-use crate::memory_runs::{Run, unplayed};
+use crate::memory_runs::{MemoryRun, unplayed};
 use acc_base::designs::Design;
 use acc_base::machines::Call;
 use acc_commands_inputs::{
@@ -18,19 +18,24 @@ use acc_play::{Transcript, play};
 use std::alloc::{AllocError, Global};
 
 /// The answer of a play, and its events.
-fn played(transcript: Transcript) -> Run
+fn played(transcript: Transcript) -> MemoryRun
     ensures { told_by result ≡ record { ending = Done; text = transcript.text.items; history = transcript.history } }
 {
     let Transcript { text, history } = transcript;
     let ending = Ending::Done;
-    Run {
+    MemoryRun {
         answer: Answer { ending, text },
         history,
     }
 }
 
 /// Plays the calls in the order that the file gives.
-fn play_order(alloc: Global, d: &Design, asked: &[Call], file: &[u8]) -> Result<Run, AllocError>
+fn play_order(
+    alloc: Global,
+    d: &Design,
+    asked: &[Call],
+    file: &[u8],
+) -> Result<MemoryRun, AllocError>
     requires runnable { IsRunnable d.now }
     requires fit { AllFit d.now asked.now }
     ensures { IfOk result (λ r. SaysOfOrder (SaysPlay d.now) asked.now file.now (told_by r)) }
@@ -42,7 +47,12 @@ fn play_order(alloc: Global, d: &Design, asked: &[Call], file: &[u8]) -> Result<
 }
 
 /// Plays the calls of a script.
-fn play_script(alloc: Global, d: &Design, script: &[u8], file: &[u8]) -> Result<Run, AllocError>
+fn play_script(
+    alloc: Global,
+    d: &Design,
+    script: &[u8],
+    file: &[u8],
+) -> Result<MemoryRun, AllocError>
     requires runnable { IsRunnable d.now }
     ensures { IfOk result (λ r. SaysOfScript (SaysPlay d.now) d.now script.now file.now (told_by r)) }
 {
@@ -54,7 +64,7 @@ fn play_script(alloc: Global, d: &Design, script: &[u8], file: &[u8]) -> Result<
 
 /// Plays a script's calls in the order that is given, on the plain machine of a design.
 #[tactic(auto, using(acc_formed::proofs::Runs::well_formed_runs))]
-pub fn play_files(alloc: Global, files: PlayFiles) -> Result<Run, AllocError>
+pub fn play_files(alloc: Global, files: PlayFiles) -> Result<MemoryRun, AllocError>
     ensures { IfOk result (λ r. PlaysFiles files.entry.design.now files.entry.script.now files.entry.order.now (told_by r)) }
 {
     match read_design(alloc, files.design)? {

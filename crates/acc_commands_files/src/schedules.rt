@@ -5,7 +5,7 @@ ghost use Rattle.acc_player.specs.Playing.{AllFit};
 ghost use Rattle.acc_commands_inputs.specs.Scripts.{SaysOfScript, SaysOfOrder};
 ghost use Rattle.acc_commands_files.specs.ScheduleFiles.{SchedulesFiles, SaysOfCertificate, SaysSchedule, ending_at};
 
-use crate::memory_runs::{Run, unplayed};
+use crate::memory_runs::{MemoryRun, unplayed};
 use acc_base::designs::Design;
 use acc_base::machines::Call;
 use acc_commands_inputs::{
@@ -18,7 +18,7 @@ use acc_schedule::{Scheduled, schedule};
 use std::alloc::{AllocError, Global};
 
 /// The answer of a schedule, and its events.
-fn scheduled_answer(told: Scheduled) -> Run
+fn scheduled_answer(told: Scheduled) -> MemoryRun
     ensures { told_by result ≡ record { ending = ending_at told.all_begun; text = told.text.items; history = told.history } }
 {
     let Scheduled {
@@ -31,7 +31,7 @@ fn scheduled_answer(told: Scheduled) -> Run
     } else {
         Ending::Unbegun
     };
-    Run {
+    MemoryRun {
         answer: Answer { ending, text },
         history,
     }
@@ -43,7 +43,7 @@ fn schedule_order(
     accepted: &Accepted,
     asked: &[Call],
     file: &[u8],
-) -> Result<Run, AllocError>
+) -> Result<MemoryRun, AllocError>
     requires fit { AllFit accepted.now asked.now }
     ensures { IfOk result (λ r. SaysOfOrder (SaysSchedule accepted.now) asked.now file.now (told_by r)) }
 {
@@ -62,7 +62,7 @@ fn schedule_script(
     accepted: &Accepted,
     script: &[u8],
     file: &[u8],
-) -> Result<Run, AllocError>
+) -> Result<MemoryRun, AllocError>
     ensures { IfOk result (λ r. SaysOfScript (SaysSchedule accepted.now) accepted.now script.now file.now (told_by r)) }
 {
     match read_script(alloc, accepted.design(), script)? {
@@ -78,7 +78,7 @@ fn schedule_design(
     certificate: &[u8],
     script: &[u8],
     file: &[u8],
-) -> Result<Run, AllocError>
+) -> Result<MemoryRun, AllocError>
     ensures { IfOk result (λ r. SaysOfCertificate d certificate.now script.now file.now (told_by r)) }
 {
     match admit(alloc, d, certificate)? {
@@ -89,7 +89,7 @@ fn schedule_design(
 
 /// Plays a script's calls in the order that is given and then to their end, by the rules of locks, on a design that is accepted with
 /// its certificate.
-pub fn schedule_files(alloc: Global, files: ScheduleFiles) -> Result<Run, AllocError>
+pub fn schedule_files(alloc: Global, files: ScheduleFiles) -> Result<MemoryRun, AllocError>
     ensures { IfOk result (λ r. SchedulesFiles files.entry.design.now files.entry.certificate.now
         files.entry.script.now files.entry.order.now
         (told_by r)) }

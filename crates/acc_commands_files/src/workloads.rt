@@ -4,7 +4,7 @@ ghost use Rattle.acc_commands_inputs.specs.Answers.{said_alone};
 ghost use Rattle.acc_commands_files.specs.Workloads.{PrintsShipped, PrintsBooking, load_said, PrintsLoad, mix_said, PrintsMix};
 
 use acc_booking::BookError;
-use acc_commands_inputs::{Mix, Scale};
+use acc_commands_inputs::{AskedScale, Mix};
 use acc_journalled::{Answer, Ending};
 use std::alloc::{AllocError, Global};
 use tpcc_gen::{load, mix};
@@ -37,7 +37,7 @@ pub fn print_booking(alloc: Global) -> Result<Answer, AllocError>
 }
 
 /// The script that loads a scale. It is empty for one that no load may have; no words ask for such a one.
-pub(crate) fn load_script(alloc: Global, scale: Scale) -> Result<Vec<u8>, AllocError>
+pub(crate) fn load_script(alloc: Global, scale: AskedScale) -> Result<Vec<u8>, AllocError>
     ensures { IfOk result (λ text. text.items ≡ load_said scale) }
 {
     if scale.is_fit() {
@@ -48,7 +48,7 @@ pub(crate) fn load_script(alloc: Global, scale: Scale) -> Result<Vec<u8>, AllocE
 }
 
 /// Prints the script that loads a scale.
-pub fn print_load(alloc: Global, scale: Scale) -> Result<Answer, AllocError>
+pub fn print_load(alloc: Global, scale: AskedScale) -> Result<Answer, AllocError>
     ensures { IfOk result (λ a. PrintsLoad scale (said_alone a)) }
 {
     Ok(Answer {
@@ -62,7 +62,7 @@ pub(crate) fn mix_script(alloc: Global, asked: Mix) -> Result<Vec<u8>, AllocErro
     ensures { IfOk result (λ text. text.items ≡ mix_said asked) }
 {
     if asked.is_fit() {
-        let Scale {
+        let AskedScale {
             warehouses,
             items,
             customers,

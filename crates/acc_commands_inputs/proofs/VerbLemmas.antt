@@ -9,8 +9,8 @@ use Rattle.acc_base.specs.declared.designs.Side.{Side}
 use Rattle.acc_base.specs.declared.designs.Side.TheVariants.{Next, Undo}
 use Rattle.acc_commands_inputs.specs.declared.words.Command.{Command}
 use Rattle.acc_commands_inputs.specs.declared.words.Command.TheVariants as command
-use Rattle.acc_commands_inputs.specs.declared.words.Form.TheVariants.{Files}
-use Rattle.acc_commands_inputs.specs.declared.scales.Scale.{Scale}
+use Rattle.acc_commands_inputs.specs.declared.words.Operands.TheVariants.{Files}
+use Rattle.acc_commands_inputs.specs.declared.scales.AskedScale.{AskedScale}
 use Rattle.acc_commands_inputs.specs.declared.scales.Mix.{Mix}
 use Rattle.tpcc_gen.specs.declared.bounds.TheConstants.{MOST_WAREHOUSES, MOST_ITEMS, MOST_CUSTOMERS, MOST_TRANSACTIONS, LARGEST_START}
 use Rattle.acc_commands_inputs.specs.declared.words.TheConstants.{MOST_WORKERS, MOST_PIECE}
@@ -72,7 +72,7 @@ advice_given side (a ∷ b ∷ []) three = absurd (omega (arith, three))
 advice_given side (a ∷ b ∷ c ∷ d ∷ more) three = absurd (omega (arith, three))
 
 -- a scale is told by the numerals of its numbers
-scale_given : (s : Scale) → is_scale s ≡ true
+scale_given : (s : AskedScale) → is_scale s ≡ true
     → scale_of (decimal s.warehouses) (decimal s.items) (decimal s.customers) ≡ Some s
 scale_given s fit =
     let w : IsWithin 1 MOST_WAREHOUSES s.warehouses = grind (arith, nat_tests, fit) in
@@ -84,7 +84,7 @@ scale_given s fit =
       number_of_numeral 1 MOST_CUSTOMERS s.customers (omega arith) c,
     ) refl
 
-load_given : (s : Scale) (names : List (List ℕ)) → is_scale s ≡ true → length names ≡ 0
+load_given : (s : AskedScale) (names : List (List ℕ)) → is_scale s ≡ true → length names ≡ 0
     → command_of (codes "tpcc" ∷ codes "load" ∷ (names ++ decimal s.warehouses ∷ decimal s.items ∷ decimal s.customers ∷ []))
     ≡ Some (command.TpccLoad s)
 unfolding form_of workload_of

@@ -7,13 +7,14 @@ use Rattle.acc_base.specs.declared.designs.Side.{Side}
 use Rattle.acc_base.specs.declared.designs.Side.TheVariants.{Next, Undo}
 use Rattle.tpcc_gen.specs.declared.bounds.TheConstants.{MOST_WAREHOUSES, MOST_ITEMS, MOST_CUSTOMERS, MOST_TRANSACTIONS, LARGEST_START}
 use Rattle.acc_commands_inputs.specs.declared.words.TheConstants.{MOST_WORKERS, MOST_PIECE}
-use Rattle.acc_commands_inputs.specs.declared.scales.Scale.{Scale}
+use Rattle.acc_commands_inputs.specs.declared.scales.AskedScale.{AskedScale}
 use Rattle.acc_commands_inputs.specs.declared.scales.Mix.{Mix}
+use Rattle.acc_commands_inputs.specs.declared.usage.Usage.{Usage}
 use Rattle.acc_commands_inputs.specs.declared.words.Workload.{Workload}
 use Rattle.acc_commands_inputs.specs.declared.words.Workload.TheVariants.{Design, Load, Mix as MixOf}
 use Rattle.acc_commands_inputs.specs.Scales.{IsWithin, is_within}
-use Rattle.acc_commands_inputs.specs.declared.words.Form.{Form}
-use Rattle.acc_commands_inputs.specs.declared.words.Form.TheVariants.{Files, Workers, Pieces, Tpcc, Booking, Bench, Advice}
+use Rattle.acc_commands_inputs.specs.declared.words.Operands.{Operands}
+use Rattle.acc_commands_inputs.specs.declared.words.Operands.TheVariants.{Files, Workers, Pieces, Tpcc, Booking, Bench, Advice}
 use Rattle.acc_commands_inputs.specs.declared.words.Command.{Command}
 use Rattle.acc_commands_inputs.specs.declared.words.Command.TheVariants as command
 
@@ -21,7 +22,7 @@ use Rattle.acc_commands_inputs.specs.declared.words.Command.TheVariants as comma
 -- or of the files of `follow` and then that of a piece's bytes;
 -- behind `tpcc` or `booking`, what is wanted of it, with its files and numbers; those of the files of `bench` and then the numbers of its
 -- mix; or those of the design and of two points of it, and then a side
-unfoldable pub form_of : List ℕ → Option Form
+unfoldable pub form_of : List ℕ → Option Operands
 form_of verb =
     if bytes_eq verb (codes "play") then Some (Files command.Play) else
     (if bytes_eq verb (codes "rehearse") then Some (Files command.Rehearse) else
@@ -69,89 +70,61 @@ side_of word =
     (if bytes_eq word (codes "undo") then Some Undo else
     None)
 
--- the words that ask for a command: one, or two
+-- how a command is asked for: by the words of its verb, one or two; behind them so many words name its files, and then so many points of
+-- the design; and whether it goes over a journal
+pub record UsageLine : Type 0 where
+  pub verb : List (List ℕ)
+  pub files : ℕ
+  pub points : ℕ
+  pub over_journal : Bool
+
+-- the table of commands
+abbrev pub usage_line : Command → UsageLine
+usage_line command.Play = record { verb = codes "play" ∷ []; files = 3; points = 0; over_journal = false }
+usage_line command.Rehearse = record { verb = codes "rehearse" ∷ []; files = 4; points = 0; over_journal = false }
+usage_line command.Print = record { verb = codes "print" ∷ []; files = 1; points = 0; over_journal = false }
+usage_line command.Draw = record { verb = codes "draw" ∷ []; files = 1; points = 0; over_journal = false }
+usage_line command.Check = record { verb = codes "check" ∷ []; files = 2; points = 0; over_journal = false }
+usage_line command.Prove = record { verb = codes "prove" ∷ []; files = 1; points = 0; over_journal = false }
+usage_line (command.Advise side) = record { verb = codes "advise" ∷ []; files = 1; points = 2; over_journal = false }
+usage_line command.Audit = record { verb = codes "audit" ∷ []; files = 2; points = 0; over_journal = false }
+usage_line (command.Follow size) = record { verb = codes "follow" ∷ []; files = 3; points = 0; over_journal = false }
+usage_line command.Init = record { verb = codes "init" ∷ []; files = 1; points = 0; over_journal = true }
+usage_line command.Sched = record { verb = codes "sched" ∷ []; files = 4; points = 0; over_journal = true }
+usage_line (command.Run workers) = record { verb = codes "run" ∷ []; files = 3; points = 0; over_journal = true }
+usage_line command.Recover = record { verb = codes "recover" ∷ []; files = 2; points = 0; over_journal = true }
+usage_line command.Dump = record { verb = codes "dump" ∷ []; files = 2; points = 0; over_journal = true }
+usage_line command.Replies = record { verb = codes "replies" ∷ []; files = 2; points = 0; over_journal = true }
+usage_line command.Verify = record { verb = codes "verify" ∷ []; files = 2; points = 0; over_journal = true }
+usage_line command.Migrate = record { verb = codes "migrate" ∷ []; files = 3; points = 0; over_journal = true }
+usage_line command.TpccDesign = record { verb = codes "tpcc" ∷ codes "design" ∷ []; files = 0; points = 0; over_journal = false }
+usage_line (command.TpccLoad scale) = record { verb = codes "tpcc" ∷ codes "load" ∷ []; files = 0; points = 0; over_journal = false }
+usage_line (command.TpccMix mix) = record { verb = codes "tpcc" ∷ codes "mix" ∷ []; files = 0; points = 0; over_journal = false }
+usage_line command.BookingDesign = record { verb = codes "booking" ∷ codes "design" ∷ []; files = 0; points = 0; over_journal = false }
+usage_line command.BookingVerify = record { verb = codes "booking" ∷ codes "verify" ∷ []; files = 2; points = 0; over_journal = true }
+usage_line (command.Bench mix) = record { verb = codes "bench" ∷ []; files = 2; points = 0; over_journal = false }
+usage_line command.Help = record { verb = codes "--help" ∷ []; files = 0; points = 0; over_journal = false }
+usage_line command.Version = record { verb = codes "--version" ∷ []; files = 0; points = 0; over_journal = false }
+
+-- what a line says in numbers
+abbrev pub usage_in : UsageLine → Usage
+usage_in l = record { verb = length l.verb; files = l.files; points = l.points; over_journal = l.over_journal }
+
+-- the words that ask for a command
 abbrev pub verb_of : Command → List (List ℕ)
-verb_of command.Play = codes "play" ∷ []
-verb_of command.Rehearse = codes "rehearse" ∷ []
-verb_of command.Print = codes "print" ∷ []
-verb_of command.Draw = codes "draw" ∷ []
-verb_of command.Check = codes "check" ∷ []
-verb_of command.Prove = codes "prove" ∷ []
-verb_of (command.Advise side) = codes "advise" ∷ []
-verb_of command.Audit = codes "audit" ∷ []
-verb_of (command.Follow size) = codes "follow" ∷ []
-verb_of command.Init = codes "init" ∷ []
-verb_of command.Sched = codes "sched" ∷ []
-verb_of (command.Run workers) = codes "run" ∷ []
-verb_of command.Recover = codes "recover" ∷ []
-verb_of command.Dump = codes "dump" ∷ []
-verb_of command.Replies = codes "replies" ∷ []
-verb_of command.Verify = codes "verify" ∷ []
-verb_of command.Migrate = codes "migrate" ∷ []
-verb_of command.TpccDesign = codes "tpcc" ∷ codes "design" ∷ []
-verb_of command.BookingDesign = codes "booking" ∷ codes "design" ∷ []
-verb_of command.BookingVerify = codes "booking" ∷ codes "verify" ∷ []
-verb_of (command.TpccLoad scale) = codes "tpcc" ∷ codes "load" ∷ []
-verb_of (command.TpccMix mix) = codes "tpcc" ∷ codes "mix" ∷ []
-verb_of (command.Bench mix) = codes "bench" ∷ []
-verb_of command.Help = codes "--help" ∷ []
-verb_of command.Version = codes "--version" ∷ []
+verb_of c = (usage_line c).verb
 
 -- how many files a command reads: the first words behind the verb name them
 unfoldable pub file_count : Command → ℕ
-file_count command.Play = 3
-file_count command.Rehearse = 4
-file_count command.Print = 1
-file_count command.Draw = 1
-file_count command.Check = 2
-file_count command.Prove = 1
-file_count (command.Advise side) = 1
-file_count command.Audit = 2
-file_count (command.Follow size) = 3
-file_count command.Init = 1
-file_count command.Sched = 4
-file_count (command.Run workers) = 3
-file_count command.Recover = 2
-file_count command.Dump = 2
-file_count command.Replies = 2
-file_count command.Verify = 2
-file_count command.Migrate = 3
-file_count command.TpccDesign = 0
-file_count command.BookingDesign = 0
-file_count command.BookingVerify = 2
-file_count (command.TpccLoad scale) = 0
-file_count (command.TpccMix mix) = 0
-file_count (command.Bench mix) = 2
-file_count command.Help = 0
-file_count command.Version = 0
+file_count c = (usage_line c).files
 
 -- how many points of the design a command names: the words behind those of its files do
 unfoldable pub point_count : Command → ℕ
-point_count command.Play = 0
-point_count command.Rehearse = 0
-point_count command.Print = 0
-point_count command.Draw = 0
-point_count command.Check = 0
-point_count command.Prove = 0
-point_count (command.Advise side) = 2
-point_count command.Audit = 0
-point_count (command.Follow size) = 0
-point_count command.Init = 0
-point_count command.Sched = 0
-point_count (command.Run workers) = 0
-point_count command.Recover = 0
-point_count command.Dump = 0
-point_count command.Replies = 0
-point_count command.Verify = 0
-point_count command.Migrate = 0
-point_count command.TpccDesign = 0
-point_count command.BookingDesign = 0
-point_count command.BookingVerify = 0
-point_count (command.TpccLoad scale) = 0
-point_count (command.TpccMix mix) = 0
-point_count (command.Bench mix) = 0
-point_count command.Help = 0
-point_count command.Version = 0
+point_count c = (usage_line c).points
+
+-- whether a command goes over a journal
+abbrev pub is_journalled : Command → Bool
+is_journalled c = (usage_line c).over_journal
 
 -- the words that name the files of a command, and those that name points
 abbrev pub files_of : Command → List (List ℕ) → List (List ℕ)
@@ -163,34 +136,6 @@ points_of c words = take (point_count c) (drop (length (verb_of c) + file_count 
 -- how many words ask for a command and name its files and points
 abbrev pub word_count : Command → ℕ
 word_count c = length (verb_of c) + file_count c + point_count c
-
--- whether a command goes over a journal
-abbrev pub is_journalled : Command → Bool
-is_journalled command.Play = false
-is_journalled command.Rehearse = false
-is_journalled command.Print = false
-is_journalled command.Draw = false
-is_journalled command.Check = false
-is_journalled command.Prove = false
-is_journalled (command.Advise side) = false
-is_journalled command.Audit = false
-is_journalled (command.Follow size) = false
-is_journalled command.Init = true
-is_journalled command.Sched = true
-is_journalled (command.Run workers) = true
-is_journalled command.Recover = true
-is_journalled command.Dump = true
-is_journalled command.Replies = true
-is_journalled command.Verify = true
-is_journalled command.Migrate = true
-is_journalled command.TpccDesign = false
-is_journalled command.BookingDesign = false
-is_journalled command.BookingVerify = true
-is_journalled (command.TpccLoad scale) = false
-is_journalled (command.TpccMix mix) = false
-is_journalled (command.Bench mix) = false
-is_journalled command.Help = false
-is_journalled command.Version = false
 
 -- the number that a word tells: the one of which it is the decimal numeral, if that is within bounds
 abbrev pub number_of : ℕ → ℕ → List ℕ → Option ℕ
@@ -224,17 +169,17 @@ abbrev pub with_pieces : List (List ℕ) → Option Command
 with_pieces words = option_map command.Follow (number_in 1 MOST_PIECE (drop 3 words))
 
 -- the scale of these numbers, if each of them is told
-abbrev pub scale_from : Option ℕ → Option ℕ → Option ℕ → Option Scale
+abbrev pub scale_from : Option ℕ → Option ℕ → Option ℕ → Option AskedScale
 scale_from None items customers = None
 scale_from (Some w) None customers = None
 scale_from (Some w) (Some i) None = None
 scale_from (Some w) (Some i) (Some c) = Some (record { warehouses = w; items = i; customers = c })
 
-abbrev pub scale_of : List ℕ → List ℕ → List ℕ → Option Scale
+abbrev pub scale_of : List ℕ → List ℕ → List ℕ → Option AskedScale
 scale_of w i c = scale_from (number_of 1 MOST_WAREHOUSES w) (number_of 1 MOST_ITEMS i) (number_of 1 MOST_CUSTOMERS c)
 
 -- the mix of these, likewise
-abbrev pub mix_from : Option Scale → Option ℕ → Option ℕ → Option Mix
+abbrev pub mix_from : Option AskedScale → Option ℕ → Option ℕ → Option Mix
 mix_from None count start = None
 mix_from (Some s) None start = None
 mix_from (Some s) (Some n) None = None
@@ -308,7 +253,7 @@ abbrev pub with_bench : List (List ℕ) → Option Command
 with_bench words = option_map command.Bench (mix_of (drop 2 words))
 
 -- the command, if such words stand behind its verb
-abbrev pub with_form : Option Form → List (List ℕ) → Option Command
+abbrev pub with_form : Option Operands → List (List ℕ) → Option Command
 with_form None words = None
 with_form (Some (Files c)) words = with_files c words
 with_form (Some Workers) words = with_workers words
@@ -337,7 +282,7 @@ is_over_journal None = false
 is_over_journal (Some c) = is_journalled c
 
 -- whether such words behind its verb ask for a command over a journal
-abbrev pub is_journal_form : Option Form → List (List ℕ) → Bool
+abbrev pub is_journal_form : Option Operands → List (List ℕ) → Bool
 is_journal_form None words = false
 is_journal_form (Some (Files c)) words = is_journalled c
 is_journal_form (Some Workers) words = true
@@ -360,7 +305,7 @@ abbrev pub HasVerb : ℕ → Command → Type 0
 HasVerb n c = (length (verb_of c) ≡ n) × (point_count c ≡ 0)
 
 -- where names of files alone stand behind it, the verb is one word
-abbrev pub IsOneWord : Form → Type 0
+abbrev pub IsOneWord : Operands → Type 0
 IsOneWord (Files c) = HasVerb 1 c
 IsOneWord Workers = ⊤
 IsOneWord Pieces = ⊤

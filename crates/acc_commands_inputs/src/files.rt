@@ -4,13 +4,14 @@ ghost use Rattle.acc_io.specs.Counted.{after_files};
 ghost use Rattle.acc_commands_inputs.specs.Files.{AllGiven, AreFiles, IsFirstRefused};
 ghost use Rattle.acc_commands_inputs.specs.Words.{point_count, word_count, files_of, points_of, file_names};
 
-use crate::words::{Command, command_of, file_count, point_count, verb_count};
+use crate::usage::{file_count, point_count, verb_count};
+use crate::words::{Command, command_of};
 use acc_io::{Shelf, ShelfError};
 use std::alloc::Global;
 
 /// The first file that isn't given, and why.
 #[derive(Clone, Copy)]
-pub struct Refusal<'a> {
+pub struct FileRefusal<'a> {
     pub name: &'a str,
     pub error: ShelfError,
 }
@@ -20,7 +21,7 @@ pub fn read_all<'a, H: Shelf>(
     alloc: Global,
     shelf: &mut H,
     names: &'a [String],
-) -> Result<Vec<Vec<u8>>, Refusal<'a>>
+) -> Result<Vec<Vec<u8>>, FileRefusal<'a>>
     ensures held { H.held shelf.new ≡ H.held shelf.old }
     ensures faults { (H.counts shelf.old).faults ≤ (H.counts shelf.new).faults }
     ensures absences { (H.counts shelf.old).absences ≤ (H.counts shelf.new).absences }
@@ -36,11 +37,11 @@ pub fn read_all<'a, H: Shelf>(
         let name = name.as_str();
         let file = match shelf.read(alloc, name) {
             Ok(file) => file,
-            Err(error) => return Err(Refusal { name, error }),
+            Err(error) => return Err(FileRefusal { name, error }),
         };
         if files.push(file).is_err() {
             let error = ShelfError::Memory;
-            return Err(Refusal { name, error });
+            return Err(FileRefusal { name, error });
         }
     }
     Ok(files)

@@ -4,7 +4,7 @@ ghost use Rattle.std.specs.Str.{bytes_eq};
 ghost use Rattle.acc_commands_inputs.specs.Scales.{IsWithin, is_within};
 ghost use Rattle.acc_commands_inputs.specs.Words.{number_of, scale_of, mix_of};
 
-use crate::scales::{Mix, Scale};
+use crate::scales::{AskedScale, Mix};
 use itoa::Buffer;
 use tpcc_gen::{LARGEST_START, MOST_CUSTOMERS, MOST_ITEMS, MOST_TRANSACTIONS, MOST_WAREHOUSES};
 
@@ -39,13 +39,13 @@ pub fn number_of(least: u64, most: u64, word: &str) -> Option<u64>
 }
 
 /// The scale that three words tell.
-pub(crate) fn scale_of(warehouses: &str, items: &str, customers: &str) -> Option<Scale>
+pub(crate) fn scale_of(warehouses: &str, items: &str, customers: &str) -> Option<AskedScale>
     ensures { result ≡ scale_of warehouses.now items.now customers.now }
 {
     let warehouses = number_of(1, MOST_WAREHOUSES, warehouses)?;
     let items = number_of(1, MOST_ITEMS, items)?;
     let customers = number_of(1, MOST_CUSTOMERS, customers)?;
-    Some(Scale {
+    Some(AskedScale {
         warehouses,
         items,
         customers,

@@ -3,7 +3,7 @@ ghost use Rattle.std.specs.Prelude.{◌≡◌, map, length, string_bytes};
 ghost use Rattle.acc_commands_inputs.specs.Words.{file_count, point_count};
 ghost use Rattle.acc_commands_inputs.specs.Requests.{command_in, texts_in, points_in, certified_texts, scheduled_texts};
 
-use crate::scales::{Mix, Scale};
+use crate::scales::{AskedScale, Mix};
 use crate::words::Command;
 use acc_base::designs::Side;
 
@@ -122,7 +122,7 @@ pub enum Request<'a> {
     TpccDesign,
     BookingDesign,
     BookingVerify(CertifiedFiles<'a>),
-    TpccLoad(Scale),
+    TpccLoad(AskedScale),
     TpccMix(Mix),
     /// With the numbers of its mix.
     Bench(CertifiedFiles<'a>, Mix),

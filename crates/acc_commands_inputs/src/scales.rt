@@ -6,13 +6,13 @@ use tpcc_gen::{LARGEST_START, MOST_CUSTOMERS, MOST_ITEMS, MOST_TRANSACTIONS, MOS
 
 /// How many warehouses, items, and customers of each district there are.
 #[derive(Clone, Copy)]
-pub struct Scale {
+pub struct AskedScale {
     pub warehouses: u64,
     pub items: u64,
     pub customers: u64,
 }
 
-impl Scale {
+impl AskedScale {
     /// Whether a load may be so large: 1 to 10 warehouses, 1 to 100,000 items, and 1 to 3,000 customers of each district.
     pub fn is_fit(self) -> bool
         ensures { result ≡ is_scale self }
@@ -26,7 +26,7 @@ impl Scale {
 /// The transactions of a mix: over which scale, how many, and the number that they are drawn from.
 #[derive(Clone, Copy)]
 pub struct Mix {
-    pub scale: Scale,
+    pub scale: AskedScale,
     pub count: u64,
     pub start: u64,
 }

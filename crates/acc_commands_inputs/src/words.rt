@@ -1,12 +1,12 @@
 //! The forms of the command line.
 ghost use Rattle.std.specs.Prelude.{◌≡◌, ◌+◌, ◌≤◌, map, length, string_bytes, IfSome};
-ghost use Rattle.acc_commands_inputs.specs.Words.{form_of, workload_of, booking_of, side_of, verb_of, file_count, point_count, word_count};
-ghost use Rattle.acc_commands_inputs.specs.Words.{is_journalled, HasVerb, IsOneWord};
+ghost use Rattle.acc_commands_inputs.specs.Words.{form_of, workload_of, booking_of, side_of, file_count, word_count, HasVerb, IsOneWord};
 ghost use Rattle.acc_commands_inputs.specs.Words.{with_files, with_workers, with_design, with_load, with_mix, with_tpcc, with_booking, with_bench};
 ghost use Rattle.acc_commands_inputs.specs.Words.{with_pieces, with_advice, is_over_journal, command_of, wanted_of, asks_journal};
 
 use crate::numbers::{mix_of, number_of, scale_of};
-use crate::scales::{Mix, Scale};
+use crate::scales::{AskedScale, Mix};
+use crate::usage::{file_count, is_journalled};
 use acc_base::designs::Side;
 
 /// The most workers that `run` takes.
@@ -55,7 +55,7 @@ pub enum Command {
     /// `tpcc design`
     TpccDesign,
     /// `tpcc load W ITEMS CUSTOMERS`
-    TpccLoad(Scale),
+    TpccLoad(AskedScale),
     /// `tpcc mix W ITEMS CUSTOMERS COUNT START`
     TpccMix(Mix),
     /// `booking design`
@@ -72,7 +72,7 @@ pub enum Command {
 
 /// What stands behind a verb.
 #[derive(Clone, Copy)]
-enum Form {
+enum Operands {
     /// The names of the command's files.
     Files(Command),
     /// The names of the files of `run`, and the number of workers.
@@ -101,33 +101,33 @@ enum Workload {
 
 /// What stands behind this verb.
 #[tactic(auto, unfolding(crate::specs::Words::form_of, crate::specs::Words::point_count))]
-fn form_of(verb: &str) -> Option<Form>
+fn form_of(verb: &str) -> Option<Operands>
     ensures form { result ≡ form_of verb.now }
     ensures one_word { IfSome result IsOneWord }
 {
     match verb {
-        "play" => Some(Form::Files(Command::Play)),
-        "rehearse" => Some(Form::Files(Command::Rehearse)),
-        "print" => Some(Form::Files(Command::Print)),
-        "draw" => Some(Form::Files(Command::Draw)),
-        "check" => Some(Form::Files(Command::Check)),
-        "prove" => Some(Form::Files(Command::Prove)),
-        "advise" => Some(Form::Advice),
-        "audit" => Some(Form::Files(Command::Audit)),
-        "follow" => Some(Form::Pieces),
-        "init" => Some(Form::Files(Command::Init)),
-        "sched" => Some(Form::Files(Command::Sched)),
-        "run" => Some(Form::Workers),
-        "recover" => Some(Form::Files(Command::Recover)),
-        "dump" => Some(Form::Files(Command::Dump)),
-        "replies" => Some(Form::Files(Command::Replies)),
-        "verify" => Some(Form::Files(Command::Verify)),
-        "migrate" => Some(Form::Files(Command::Migrate)),
-        "tpcc" => Some(Form::Tpcc),
-        "booking" => Some(Form::Booking),
-        "bench" => Some(Form::Bench),
-        "--help" => Some(Form::Files(Command::Help)),
-        "--version" => Some(Form::Files(Command::Version)),
+        "play" => Some(Operands::Files(Command::Play)),
+        "rehearse" => Some(Operands::Files(Command::Rehearse)),
+        "print" => Some(Operands::Files(Command::Print)),
+        "draw" => Some(Operands::Files(Command::Draw)),
+        "check" => Some(Operands::Files(Command::Check)),
+        "prove" => Some(Operands::Files(Command::Prove)),
+        "advise" => Some(Operands::Advice),
+        "audit" => Some(Operands::Files(Command::Audit)),
+        "follow" => Some(Operands::Pieces),
+        "init" => Some(Operands::Files(Command::Init)),
+        "sched" => Some(Operands::Files(Command::Sched)),
+        "run" => Some(Operands::Workers),
+        "recover" => Some(Operands::Files(Command::Recover)),
+        "dump" => Some(Operands::Files(Command::Dump)),
+        "replies" => Some(Operands::Files(Command::Replies)),
+        "verify" => Some(Operands::Files(Command::Verify)),
+        "migrate" => Some(Operands::Files(Command::Migrate)),
+        "tpcc" => Some(Operands::Tpcc),
+        "booking" => Some(Operands::Booking),
+        "bench" => Some(Operands::Bench),
+        "--help" => Some(Operands::Files(Command::Help)),
+        "--version" => Some(Operands::Files(Command::Version)),
         _ => None,
     }
 }
@@ -167,72 +167,6 @@ fn side_of(word: &str) -> Option<Side>
         "next" => Some(Side::Next),
         "undo" => Some(Side::Undo),
         _ => None,
-    }
-}
-
-/// How many words ask for a command.
-pub(crate) fn verb_count(command: Command) -> usize
-    ensures { result ≡ length (verb_of command) }
-{
-    match command {
-        Command::TpccDesign | Command::TpccLoad(_) | Command::TpccMix(_) => 2,
-        Command::BookingDesign | Command::BookingVerify => 2,
-        Command::Play | Command::Rehearse | Command::Print | Command::Draw => 1,
-        Command::Check | Command::Prove | Command::Advise(_) | Command::Audit => 1,
-        Command::Follow(_) | Command::Bench(_) => 1,
-        Command::Init | Command::Sched | Command::Run(_) | Command::Recover => 1,
-        Command::Dump | Command::Replies | Command::Verify | Command::Migrate => 1,
-        Command::Help | Command::Version => 1,
-    }
-}
-
-/// How many of the words behind the verb name files.
-#[tactic(auto, unfolding(crate::specs::Words::file_count))]
-pub(crate) fn file_count(command: Command) -> usize
-    ensures { result ≡ file_count command }
-{
-    match command {
-        Command::Play | Command::Run(_) | Command::Migrate | Command::Follow(_) => 3,
-        Command::Rehearse | Command::Sched => 4,
-        Command::Print | Command::Draw | Command::Prove => 1,
-        Command::Advise(_) | Command::Init => 1,
-        Command::BookingVerify | Command::Check | Command::Recover | Command::Dump => 2,
-        Command::Replies | Command::Verify | Command::Audit | Command::Bench(_) => 2,
-        Command::TpccDesign | Command::TpccLoad(_) | Command::TpccMix(_) => 0,
-        Command::BookingDesign | Command::Help | Command::Version => 0,
-    }
-}
-
-/// How many of the words behind those of the files name points.
-#[tactic(auto, unfolding(crate::specs::Words::point_count))]
-pub(crate) fn point_count(command: Command) -> usize
-    ensures { result ≡ point_count command }
-{
-    match command {
-        Command::Advise(_) => 2,
-        Command::Play | Command::Rehearse | Command::Print | Command::Draw => 0,
-        Command::Check | Command::Prove | Command::Init | Command::Sched | Command::Run(_) => 0,
-        Command::Recover | Command::Dump | Command::Replies | Command::Verify => 0,
-        Command::TpccDesign | Command::TpccLoad(_) | Command::TpccMix(_) => 0,
-        Command::BookingDesign | Command::BookingVerify | Command::Bench(_) => 0,
-        Command::Migrate | Command::Audit | Command::Follow(_) => 0,
-        Command::Help | Command::Version => 0,
-    }
-}
-
-/// Whether a command goes over a journal.
-fn is_journalled(command: Command) -> bool
-    ensures { result ≡ is_journalled command }
-{
-    match command {
-        Command::Init | Command::Sched | Command::Run(_) => true,
-        Command::Recover | Command::Dump | Command::Replies | Command::Verify => true,
-        Command::Migrate | Command::BookingVerify => true,
-        Command::Play | Command::Rehearse | Command::Print | Command::Draw => false,
-        Command::Check | Command::Prove | Command::Bench(_) | Command::Help | Command::Version =>
-            false,
-        Command::TpccDesign | Command::TpccLoad(_) | Command::TpccMix(_) => false,
-        Command::BookingDesign | Command::Advise(_) | Command::Audit | Command::Follow(_) => false,
     }
 }
 
@@ -366,13 +300,13 @@ pub fn command_of(words: &[String]) -> Option<Command>
         return None;
     };
     match form_of(verb.as_str())? {
-        Form::Files(command) => with_files(command, behind),
-        Form::Workers => with_workers(behind),
-        Form::Pieces => with_pieces(behind),
-        Form::Tpcc => with_tpcc(behind),
-        Form::Booking => with_booking(behind),
-        Form::Bench => with_bench(behind),
-        Form::Advice => with_advice(behind),
+        Operands::Files(command) => with_files(command, behind),
+        Operands::Workers => with_workers(behind),
+        Operands::Pieces => with_pieces(behind),
+        Operands::Tpcc => with_tpcc(behind),
+        Operands::Booking => with_booking(behind),
+        Operands::Bench => with_bench(behind),
+        Operands::Advice => with_advice(behind),
     }
 }
 
@@ -405,9 +339,10 @@ pub fn asks_journal(words: &[String]) -> bool
         return false;
     };
     match form_of(verb.as_str()) {
-        Some(Form::Files(command)) => is_journalled(command),
-        Some(Form::Workers) => true,
-        Some(Form::Booking) => is_over_journal(wanted_of(behind)),
-        Some(Form::Pieces | Form::Tpcc | Form::Bench | Form::Advice) | None => false,
+        Some(Operands::Files(command)) => is_journalled(command),
+        Some(Operands::Workers) => true,
+        Some(Operands::Booking) => is_over_journal(wanted_of(behind)),
+        Some(Operands::Pieces | Operands::Tpcc | Operands::Bench | Operands::Advice) | None =>
+            false,
     }
 }

@@ -26,7 +26,7 @@ const LARGE: &[u8] =
 /// What the line of an audit tells: of a clause that is false, or can't be told of, behind so many events, by its transaction, or 0, and
 /// its number; and the values that show it, as they are spelled.
 #[derive(Clone, Copy)]
-struct Found<'a> {
+struct AuditLine<'a> {
     is_false: bool,
     place: u64,
     t: u64,
@@ -40,11 +40,11 @@ fn split_word(text: &str) -> (&str, &str) {
 }
 
 /// What is told behind the first word of a line.
-fn numbers_in(is_false: bool, text: &str) -> Option<Found<'_>> {
+fn numbers_in(is_false: bool, text: &str) -> Option<AuditLine<'_>> {
     let (place, behind) = split_word(text);
     let (t, behind) = split_word(behind);
     let (clause, values) = split_word(behind);
-    Some(Found {
+    Some(AuditLine {
         is_false,
         place: place.parse::<u64>().ok()?,
         t: t.parse::<u64>().ok()?,
@@ -54,7 +54,7 @@ fn numbers_in(is_false: bool, text: &str) -> Option<Found<'_>> {
 }
 
 /// What a line tells, if it is one that an audit prints of a clause.
-fn found_in(line: &str) -> Option<Found<'_>> {
+fn found_in(line: &str) -> Option<AuditLine<'_>> {
     match line.strip_prefix("false ") {
         Some(behind) => numbers_in(true, behind),
         None => numbers_in(false, line.strip_prefix("large ")?),
@@ -169,7 +169,7 @@ fn clauses_at(d: &Design, held: Option<At>) -> &[Clause] {
 }
 
 /// Says of a clause that it is false, or can't be told of, behind so many events, and with which values.
-fn push_found(out: &mut Page, d: &Design, found: Found, frame: Option<&Frame>) {
+fn push_found(out: &mut Page, d: &Design, found: AuditLine, frame: Option<&Frame>) {
     let held = frame.map(|frame| frame.at());
     out.push(if found.is_false {
         b"this is false behind event ".as_slice()
@@ -203,7 +203,7 @@ fn push_clause(
     d: &Design,
     design: File,
     events: &[Event],
-    found: Found,
+    found: AuditLine,
 ) -> Result<(), AllocError>
     requires { IsWellFormed d.now }
 {

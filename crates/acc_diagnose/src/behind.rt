@@ -3,7 +3,7 @@ use acc_commands_inputs::Command;
 
 /// What a command asks for in its design.
 #[derive(Clone, Copy)]
-pub enum Workload {
+pub enum NamesWanted {
     /// TPC-C's tables: the command's verb.
     Tables(&'static [u8]),
     /// That it is the shipped booking design.
@@ -13,18 +13,18 @@ pub enum Workload {
 }
 
 /// What a command asks for in its design.
-pub fn asks_tables(command: Command) -> Workload {
+pub fn asks_tables(command: Command) -> NamesWanted {
     match command {
-        Command::Verify => Workload::Tables(b"verify"),
-        Command::Bench(_) => Workload::Tables(b"bench"),
-        Command::BookingVerify => Workload::Booking,
-        Command::Rehearse | Command::Check | Command::Sched | Command::Run(_) => Workload::None,
-        Command::Recover | Command::Dump | Command::Replies | Command::Draw => Workload::None,
-        Command::Play | Command::Print | Command::Prove | Command::Init => Workload::None,
-        Command::Audit | Command::Follow(_) | Command::Migrate => Workload::None,
-        Command::TpccDesign | Command::TpccLoad(_) | Command::TpccMix(_) => Workload::None,
+        Command::Verify => NamesWanted::Tables(b"verify"),
+        Command::Bench(_) => NamesWanted::Tables(b"bench"),
+        Command::BookingVerify => NamesWanted::Booking,
+        Command::Rehearse | Command::Check | Command::Sched | Command::Run(_) => NamesWanted::None,
+        Command::Recover | Command::Dump | Command::Replies | Command::Draw => NamesWanted::None,
+        Command::Play | Command::Print | Command::Prove | Command::Init => NamesWanted::None,
+        Command::Audit | Command::Follow(_) | Command::Migrate => NamesWanted::None,
+        Command::TpccDesign | Command::TpccLoad(_) | Command::TpccMix(_) => NamesWanted::None,
         Command::BookingDesign | Command::Advise(_) | Command::Help | Command::Version => {
-            Workload::None
+            NamesWanted::None
         }
     }
 }

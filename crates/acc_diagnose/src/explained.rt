@@ -2,7 +2,7 @@
 ghost use Rattle.acc_formed.specs.WellFormed.{IsWellFormed};
 
 use crate::audits::push_audit;
-use crate::behind::{Second, Workload, asks_tables, second_of};
+use crate::behind::{NamesWanted, Second, asks_tables, second_of};
 use crate::journals::{push_disk, push_full, push_journal};
 use crate::obligations::{File, push_fault};
 use crate::openings::push_unproved;
@@ -137,12 +137,12 @@ fn push_workload(
     printed: &[u8],
 ) -> Result<(), AllocError> {
     match asks_tables(command) {
-        Workload::Tables(verb) => push_verified(alloc, out, d, design, verb, printed),
-        Workload::Booking => {
+        NamesWanted::Tables(verb) => push_verified(alloc, out, d, design, verb, printed),
+        NamesWanted::Booking => {
             push_other(out, design, printed);
             Ok(())
         }
-        Workload::None => Ok(()),
+        NamesWanted::None => Ok(()),
     }
 }
 

@@ -23,7 +23,7 @@ pub struct File<'a> {
 
 /// The place of an obligation in the list of a design, from 1, and how many there are.
 #[derive(Clone, Copy)]
-struct Place {
+struct ObligationPlace {
     number: u64,
     count: u64,
 }
@@ -35,7 +35,11 @@ fn push_mark(out: &mut Page, file: File, mark: &Marked) {
 
 /// The place of the obligation that comes from here.
 #[tactic(auto, using(acc_oblig_places::proofs::ManyEntries::formed_but_entries))]
-fn place_of(alloc: Global, d: &Design, origin: &Origin) -> Result<Option<Place>, AllocError>
+fn place_of(
+    alloc: Global,
+    d: &Design,
+    origin: &Origin,
+) -> Result<Option<ObligationPlace>, AllocError>
     requires { IsWellFormed d.now }
 {
     let sequents = match obligations(alloc, d) {
@@ -45,7 +49,7 @@ fn place_of(alloc: Global, d: &Design, origin: &Origin) -> Result<Option<Place>,
     };
     let list = sequents.as_slice();
     match list.iter().position(|sequent| sequent.origin == *origin) {
-        Some(place) => Ok(Some(Place {
+        Some(place) => Ok(Some(ObligationPlace {
             number: (place as u64).saturating_add(1),
             count: list.len() as u64,
         })),
@@ -54,7 +58,7 @@ fn place_of(alloc: Global, d: &Design, origin: &Origin) -> Result<Option<Place>,
 }
 
 /// Puts a number, and of how many it is one.
-fn push_place(out: &mut Page, place: Place) {
+fn push_place(out: &mut Page, place: ObligationPlace) {
     out.push(b"number ");
     out.push_number(place.number);
     out.push(b" of ");
@@ -88,7 +92,7 @@ pub fn push_assertion(
 }
 
 /// Says that the certificate has no proof of an obligation.
-fn push_missing(out: &mut Page, certificate: File, place: Place) {
+fn push_missing(out: &mut Page, certificate: File, place: ObligationPlace) {
     begin_note(out, certificate.name);
     out.push(b"the certificate has ");
     out.push_number(proofs_in(certificate.text));
@@ -105,7 +109,7 @@ fn push_proof(
     alloc: Global,
     out: &mut Page,
     certificate: File,
-    place: Place,
+    place: ObligationPlace,
     what: &[u8],
     rule: Rule,
 ) {
@@ -131,7 +135,13 @@ pub fn push_wide(out: &mut Page, design: File) {
 }
 
 /// Says what the certificate has for an obligation that isn't shown.
-fn push_lack(alloc: Global, out: &mut Page, certificate: File, refusal: &Refusal, place: Place) {
+fn push_lack(
+    alloc: Global,
+    out: &mut Page,
+    certificate: File,
+    refusal: &Refusal,
+    place: ObligationPlace,
+) {
     match refusal {
         Refusal::Missing(_) => push_missing(out, certificate, place),
         Refusal::NotProved(origin) => {

@@ -12,49 +12,49 @@ const ASKING: [&[u8]; 3] = [b"help", b"-h", b"-?"];
 
 /// A number that a command takes: what it is, and from which number to which it goes.
 #[derive(Clone, Copy)]
-struct Number {
+struct NumberRange {
     what: &'static [u8],
     least: u64,
     most: u64,
 }
 
 /// The number of `run`.
-const WORKERS: Number = Number {
+const WORKERS: NumberRange = NumberRange {
     what: b"number of workers",
     least: 1,
     most: MOST_WORKERS,
 };
 
 /// The number of `follow`.
-const PIECE: Number = Number {
+const PIECE: NumberRange = NumberRange {
     what: b"number of bytes",
     least: 1,
     most: MOST_PIECE,
 };
 
 /// The numbers of `tpcc mix` and of `bench`, of which the first three are those of `tpcc load`.
-const MIX: [Number; 5] = [
-    Number {
+const MIX: [NumberRange; 5] = [
+    NumberRange {
         what: b"number of warehouses",
         least: 1,
         most: MOST_WAREHOUSES,
     },
-    Number {
+    NumberRange {
         what: b"number of items",
         least: 1,
         most: MOST_ITEMS,
     },
-    Number {
+    NumberRange {
         what: b"number of a district's customers",
         least: 1,
         most: MOST_CUSTOMERS,
     },
-    Number {
+    NumberRange {
         what: b"number of transactions",
         least: 0,
         most: MOST_TRANSACTIONS,
     },
-    Number {
+    NumberRange {
         what: b"number to draw from",
         least: 0,
         most: LARGEST_START,
@@ -94,7 +94,7 @@ fn push_verb(out: &mut Page, verb: &[u8], usage: &[u8]) {
 }
 
 /// Says that the word in the place of a command's number is none.
-fn push_number(out: &mut Page, command: &[u8], word: &[u8], number: Number) {
+fn push_number(out: &mut Page, command: &[u8], word: &[u8], number: NumberRange) {
     push_quoted(out, word);
     out.push(b" is no ");
     out.push(number.what);

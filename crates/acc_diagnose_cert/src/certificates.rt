@@ -1,6 +1,6 @@
 //! Where a certificate's file is wrong.
 use crate::json::{item_of, items_in, line_and_column, place_of, start_of, value_at};
-use crate::shapes::{Shape, is_array, item_shape, push_shape};
+use crate::shapes::{PartShape, is_array, item_shape, push_shape};
 use acc_diagnose_spot::line_spot;
 use acc_diagnose_words::Spot;
 use serde_json::Value;
@@ -37,8 +37,8 @@ fn small_number(digits: &[u8]) -> u64 {
 }
 
 /// What the part to which these numbers lead should be.
-fn shape_at(text: &[u8], path: &[u64]) -> Shape {
-    let mut shape = Shape::Certificate;
+fn shape_at(text: &[u8], path: &[u64]) -> PartShape {
+    let mut shape = PartShape::Certificate;
     for (i, number) in path.iter().enumerate() {
         let place = place_of(text, &path[..i]);
         let axiom = small_number(item_of(text, place, 1));
@@ -48,8 +48,8 @@ fn shape_at(text: &[u8], path: &[u64]) -> Shape {
 }
 
 /// What is found: an item too many, or an array of so many items.
-fn push_found(spot: &mut Spot, text: &[u8], place: usize, shape: Shape) {
-    if shape == Shape::Surplus {
+fn push_found(spot: &mut Spot, text: &[u8], place: usize, shape: PartShape) {
+    if shape == PartShape::Surplus {
         return spot.what.push(b"; this item is too many");
     }
     match value_at(text, place).first() {

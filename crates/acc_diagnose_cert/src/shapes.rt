@@ -7,7 +7,7 @@ use acc_page::Page;
 
 /// What a part of a certificate should be.
 #[derive(Clone, Copy, PartialEq, Eq)]
-pub enum Shape {
+pub enum PartShape {
     Certificate,
     Proof,
     Node,
@@ -36,13 +36,13 @@ pub enum Shape {
 }
 
 /// The item of an array of items of these shapes.
-fn one_of(shapes: &[Shape], number: u64) -> Shape {
+fn one_of(shapes: &[PartShape], number: u64) -> PartShape {
     for (i, shape) in shapes.iter().enumerate() {
         if i as u64 == number {
             return *shape;
         }
     }
-    Shape::Surplus
+    PartShape::Surplus
 }
 
 /// What the arguments of the axiom with this number are; an unknown where there is no such axiom.
@@ -64,78 +64,98 @@ fn unquoted(string: &[u8]) -> Option<&str> {
 }
 
 /// The item of a node that begins with this word; none is no node's.
-fn of_node(word: Option<NodeWord>, axiom: u64, number: u64) -> Shape {
+fn of_node(word: Option<NodeWord>, axiom: u64, number: u64) -> PartShape {
     match word {
-        Some(NodeWord::Split) => one_of(&[Shape::NodeWord, Shape::Form], number),
+        Some(NodeWord::Split) => one_of(&[PartShape::NodeWord, PartShape::Form], number),
         Some(NodeWord::Inst) => one_of(
-            &[Shape::NodeWord, Shape::Index, Shape::Key, Shape::Lists],
+            &[
+                PartShape::NodeWord,
+                PartShape::Index,
+                PartShape::Key,
+                PartShape::Lists,
+            ],
             number,
         ),
         Some(NodeWord::Axiom) => {
             let shapes = [
-                Shape::NodeWord,
-                Shape::AxiomNumber,
-                Shape::Arguments(arguments_of(axiom)),
-                Shape::Lists,
+                PartShape::NodeWord,
+                PartShape::AxiomNumber,
+                PartShape::Arguments(arguments_of(axiom)),
+                PartShape::Lists,
             ];
             one_of(&shapes, number)
         }
-        Some(NodeWord::Leaf) => one_of(&[Shape::NodeWord, Shape::Mults], number),
-        None => Shape::NodeWord,
+        Some(NodeWord::Leaf) => one_of(&[PartShape::NodeWord, PartShape::Mults], number),
+        None => PartShape::NodeWord,
     }
 }
 
 /// The item of the arguments of an axiom.
-fn of_arguments(arguments: Arguments, number: u64) -> Shape {
+fn of_arguments(arguments: Arguments, number: u64) -> PartShape {
     match arguments {
-        Arguments::TableKey => one_of(&[Shape::Index, Shape::Key], number),
-        Arguments::TableKeyNumber => one_of(&[Shape::Index, Shape::Key, Shape::Index], number),
-        Arguments::UnknownPair => one_of(&[Shape::Unknown, Shape::Unknown], number),
-        Arguments::Unknown => one_of(&[Shape::Unknown], number),
+        Arguments::TableKey => one_of(&[PartShape::Index, PartShape::Key], number),
+        Arguments::TableKeyNumber => one_of(
+            &[PartShape::Index, PartShape::Key, PartShape::Index],
+            number,
+        ),
+        Arguments::UnknownPair => one_of(&[PartShape::Unknown, PartShape::Unknown], number),
+        Arguments::Unknown => one_of(&[PartShape::Unknown], number),
         Arguments::UnknownPlaceSide => {
-            one_of(&[Shape::Unknown, Shape::Index, Shape::Index], number)
+            one_of(
+                &[PartShape::Unknown, PartShape::Index, PartShape::Index],
+                number,
+            )
         }
     }
 }
 
 /// The item of an atom that begins with the word of this kind; none is no atom's.
-fn of_atom(kind: Option<AtomKind>, number: u64) -> Shape {
+fn of_atom(kind: Option<AtomKind>, number: u64) -> PartShape {
     match kind {
-        Some(AtomKind::One) => one_of(&[Shape::AtomWord], number),
-        Some(AtomKind::Var) => one_of(&[Shape::AtomWord, Shape::Index], number),
+        Some(AtomKind::One) => one_of(&[PartShape::AtomWord], number),
+        Some(AtomKind::Var) => one_of(&[PartShape::AtomWord, PartShape::Index], number),
         Some(AtomKind::Has | AtomKind::Count) => {
-            one_of(&[Shape::AtomWord, Shape::Index, Shape::Key], number)
+            one_of(
+                &[PartShape::AtomWord, PartShape::Index, PartShape::Key],
+                number,
+            )
         }
         Some(AtomKind::Col | AtomKind::Sum) => one_of(
-            &[Shape::AtomWord, Shape::Index, Shape::Key, Shape::Index],
+            &[
+                PartShape::AtomWord,
+                PartShape::Index,
+                PartShape::Key,
+                PartShape::Index,
+            ],
             number,
         ),
-        None => Shape::AtomWord,
+        None => PartShape::AtomWord,
     }
 }
 
 /// The item with this number of a part of this shape, which begins with this word, as it stands in the file, and has this axiom's number,
 /// where it is a node.
-pub fn item_shape(shape: Shape, word: &[u8], axiom: u64, number: u64) -> Shape {
+pub fn item_shape(shape: PartShape, word: &[u8], axiom: u64, number: u64) -> PartShape {
     match shape {
-        Shape::Certificate => Shape::Proof,
-        Shape::Proof => Shape::Node,
-        Shape::Node => of_node(unquoted(word).and_then(NodeWord::named), axiom, number),
-        Shape::Arguments(arguments) => of_arguments(arguments, number),
-        Shape::Unknown => one_of(&[Shape::Key, Shape::Atom], number),
-        Shape::Atom => of_atom(unquoted(word).and_then(atom_word), number),
-        Shape::Form => one_of(&[Shape::Terms, Shape::Wide], number),
-        Shape::Terms => Shape::Term,
-        Shape::Term => one_of(&[Shape::Unknown, Shape::Wide], number),
-        Shape::Lin => one_of(&[Shape::LinTerms, Shape::Narrow], number),
-        Shape::LinTerms => Shape::LinTerm,
-        Shape::LinTerm => one_of(&[Shape::Index, Shape::Narrow], number),
-        Shape::Key => Shape::Lin,
-        Shape::Lists => Shape::Mults,
-        Shape::Mults => Shape::Mult,
-        Shape::Mult => one_of(&[Shape::Index, Shape::Wide], number),
-        Shape::NodeWord | Shape::AtomWord | Shape::AxiomNumber => Shape::Surplus,
-        Shape::Index | Shape::Wide | Shape::Narrow | Shape::Surplus => Shape::Surplus,
+        PartShape::Certificate => PartShape::Proof,
+        PartShape::Proof => PartShape::Node,
+        PartShape::Node => of_node(unquoted(word).and_then(NodeWord::named), axiom, number),
+        PartShape::Arguments(arguments) => of_arguments(arguments, number),
+        PartShape::Unknown => one_of(&[PartShape::Key, PartShape::Atom], number),
+        PartShape::Atom => of_atom(unquoted(word).and_then(atom_word), number),
+        PartShape::Form => one_of(&[PartShape::Terms, PartShape::Wide], number),
+        PartShape::Terms => PartShape::Term,
+        PartShape::Term => one_of(&[PartShape::Unknown, PartShape::Wide], number),
+        PartShape::Lin => one_of(&[PartShape::LinTerms, PartShape::Narrow], number),
+        PartShape::LinTerms => PartShape::LinTerm,
+        PartShape::LinTerm => one_of(&[PartShape::Index, PartShape::Narrow], number),
+        PartShape::Key => PartShape::Lin,
+        PartShape::Lists => PartShape::Mults,
+        PartShape::Mults => PartShape::Mult,
+        PartShape::Mult => one_of(&[PartShape::Index, PartShape::Wide], number),
+        PartShape::NodeWord | PartShape::AtomWord | PartShape::AxiomNumber => PartShape::Surplus,
+        PartShape::Index | PartShape::Wide | PartShape::Narrow | PartShape::Surplus =>
+            PartShape::Surplus,
     }
 }
 
@@ -151,49 +171,55 @@ fn arguments_text(arguments: Arguments) -> &'static [u8] {
 }
 
 /// A list of parts, in words; none where the shape is no list.
-fn list_text(shape: Shape) -> Option<&'static [u8]> {
+fn list_text(shape: PartShape) -> Option<&'static [u8]> {
     match shape {
-        Shape::Certificate => Some(b"a certificate `[PROOF, ..]`"),
-        Shape::Proof => Some(b"a proof `[NODE, ..]`"),
-        Shape::Terms => Some(b"terms `[[UNKNOWN, \"COEFFICIENT\"], ..]`"),
-        Shape::LinTerms => Some(b"terms `[[VARIABLE, \"COEFFICIENT\"], ..]`"),
-        Shape::Key => Some(b"linear values `[LIN, ..]`"),
-        Shape::Lists => Some(
+        PartShape::Certificate => Some(b"a certificate `[PROOF, ..]`"),
+        PartShape::Proof => Some(b"a proof `[NODE, ..]`"),
+        PartShape::Terms => Some(b"terms `[[UNKNOWN, \"COEFFICIENT\"], ..]`"),
+        PartShape::LinTerms => Some(b"terms `[[VARIABLE, \"COEFFICIENT\"], ..]`"),
+        PartShape::Key => Some(b"linear values `[LIN, ..]`"),
+        PartShape::Lists => Some(
             b"lists of multipliers `[[[RELATION, \"MULTIPLIER\"], ..], ..]`, one a fact that is shown",
         ),
-        Shape::Mults => Some(b"multipliers `[[RELATION, \"MULTIPLIER\"], ..]`"),
-        Shape::Node | Shape::Arguments(_) | Shape::Unknown | Shape::Atom | Shape::Form => None,
-        Shape::Term | Shape::Lin | Shape::LinTerm | Shape::Mult => None,
-        Shape::NodeWord | Shape::AtomWord | Shape::AxiomNumber => None,
-        Shape::Index | Shape::Wide | Shape::Narrow | Shape::Surplus => None,
+        PartShape::Mults => Some(b"multipliers `[[RELATION, \"MULTIPLIER\"], ..]`"),
+        PartShape::Node
+        | PartShape::Arguments(_)
+        | PartShape::Unknown
+        | PartShape::Atom
+        | PartShape::Form => None,
+        PartShape::Term | PartShape::Lin | PartShape::LinTerm | PartShape::Mult => None,
+        PartShape::NodeWord | PartShape::AtomWord | PartShape::AxiomNumber => None,
+        PartShape::Index | PartShape::Wide | PartShape::Narrow | PartShape::Surplus => None,
     }
 }
 
 /// An array with parts of several shapes, in words; none where the shape is no such array.
-fn parts_text(shape: Shape) -> Option<&'static [u8]> {
+fn parts_text(shape: PartShape) -> Option<&'static [u8]> {
     match shape {
-        Shape::Node => Some(
+        PartShape::Node => Some(
             b"a node `[\"split\", FORM]`, `[\"inst\", H, [LIN, ..], [M, ..]]`, `[\"axiom\", N, ARGS, [M, ..]]` or `[\"leaf\", M]`",
         ),
-        Shape::Arguments(arguments) => Some(arguments_text(arguments)),
-        Shape::Unknown => Some(b"an unknown `[[LIN, ..], ATOM]`"),
-        Shape::Atom => Some(
+        PartShape::Arguments(arguments) => Some(arguments_text(arguments)),
+        PartShape::Unknown => Some(b"an unknown `[[LIN, ..], ATOM]`"),
+        PartShape::Atom => Some(
             b"an atom, such as `[\"var\", V]`, `[\"has\", T, [LIN, ..]]` or `[\"col\", T, [LIN, ..], C]`",
         ),
-        Shape::Form => Some(b"a form `[[[UNKNOWN, \"COEFFICIENT\"], ..], \"CONSTANT\"]`"),
-        Shape::Term => Some(b"a term `[UNKNOWN, \"COEFFICIENT\"]`"),
-        Shape::Lin => Some(b"a linear value `[[[VARIABLE, \"COEFFICIENT\"], ..], \"CONSTANT\"]`"),
-        Shape::LinTerm => Some(b"a term `[VARIABLE, \"COEFFICIENT\"]`"),
-        Shape::Mult => Some(b"a pair `[RELATION, \"MULTIPLIER\"]`"),
-        Shape::Certificate | Shape::Proof | Shape::Terms | Shape::LinTerms => None,
-        Shape::Key | Shape::Lists | Shape::Mults => None,
-        Shape::NodeWord | Shape::AtomWord | Shape::AxiomNumber => None,
-        Shape::Index | Shape::Wide | Shape::Narrow | Shape::Surplus => None,
+        PartShape::Form => Some(b"a form `[[[UNKNOWN, \"COEFFICIENT\"], ..], \"CONSTANT\"]`"),
+        PartShape::Term => Some(b"a term `[UNKNOWN, \"COEFFICIENT\"]`"),
+        PartShape::Lin => Some(
+            b"a linear value `[[[VARIABLE, \"COEFFICIENT\"], ..], \"CONSTANT\"]`",
+        ),
+        PartShape::LinTerm => Some(b"a term `[VARIABLE, \"COEFFICIENT\"]`"),
+        PartShape::Mult => Some(b"a pair `[RELATION, \"MULTIPLIER\"]`"),
+        PartShape::Certificate | PartShape::Proof | PartShape::Terms | PartShape::LinTerms => None,
+        PartShape::Key | PartShape::Lists | PartShape::Mults => None,
+        PartShape::NodeWord | PartShape::AtomWord | PartShape::AxiomNumber => None,
+        PartShape::Index | PartShape::Wide | PartShape::Narrow | PartShape::Surplus => None,
     }
 }
 
 /// An array, in words; none where the shape is no array.
-fn array_text(shape: Shape) -> Option<&'static [u8]> {
+fn array_text(shape: PartShape) -> Option<&'static [u8]> {
     match list_text(shape) {
         Some(text) => Some(text),
         None => parts_text(shape),
@@ -201,7 +227,7 @@ fn array_text(shape: Shape) -> Option<&'static [u8]> {
 }
 
 /// Whether a part of this shape is an array.
-pub fn is_array(shape: Shape) -> bool {
+pub fn is_array(shape: PartShape) -> bool {
     array_text(shape).is_some()
 }
 
@@ -213,37 +239,46 @@ fn kinds() -> usize {
 }
 
 /// Writes what a part that is no array should be.
-fn push_single(out: &mut Page, shape: Shape) {
+fn push_single(out: &mut Page, shape: PartShape) {
     match shape {
-        Shape::NodeWord => out.push(
+        PartShape::NodeWord => out.push(
             b"one of the words `\"split\"`, `\"inst\"`, `\"axiom\"` and `\"leaf\"`",
         ),
-        Shape::AxiomNumber => push_with(out, b"the number of an axiom, from 1 to ", kinds(), b""),
-        Shape::AtomWord => out.push(
+        PartShape::AxiomNumber => push_with(
+            out,
+            b"the number of an axiom, from 1 to ",
+            kinds(),
+            b"",
+        ),
+        PartShape::AtomWord => out.push(
             b"one of the words `\"one\"`, `\"var\"`, `\"has\"`, `\"col\"`, `\"count\"` and `\"sum\"`",
         ),
-        Shape::Index => push_with(
+        PartShape::Index => push_with(
             out,
             b"a whole number from 0 to ",
             u32::MAX,
             b", in digits alone and without quotes",
         ),
-        Shape::Wide => out.push(
+        PartShape::Wide => out.push(
             b"a number in quotes: digits without leading zeros, with a `-` where it is below 0, within 2^120 of 0",
         ),
-        Shape::Narrow => out.push(
+        PartShape::Narrow => out.push(
             b"a number in quotes: digits without leading zeros, with a `-` where it is below 0, of 64 bits",
         ),
-        Shape::Surplus => out.push(b"the end of the array"),
-        Shape::Certificate | Shape::Proof | Shape::Node | Shape::Arguments(_) => {}
-        Shape::Unknown | Shape::Atom | Shape::Form | Shape::Terms | Shape::Term => {}
-        Shape::Lin | Shape::LinTerms | Shape::LinTerm | Shape::Key => {}
-        Shape::Lists | Shape::Mults | Shape::Mult => {}
+        PartShape::Surplus => out.push(b"the end of the array"),
+        PartShape::Certificate | PartShape::Proof | PartShape::Node | PartShape::Arguments(_) => {}
+        PartShape::Unknown
+        | PartShape::Atom
+        | PartShape::Form
+        | PartShape::Terms
+        | PartShape::Term => {}
+        PartShape::Lin | PartShape::LinTerms | PartShape::LinTerm | PartShape::Key => {}
+        PartShape::Lists | PartShape::Mults | PartShape::Mult => {}
     }
 }
 
 /// Writes what a part should be.
-pub fn push_shape(out: &mut Page, shape: Shape) {
+pub fn push_shape(out: &mut Page, shape: PartShape) {
     match array_text(shape) {
         Some(text) => out.push(text),
         None => push_single(out, shape),

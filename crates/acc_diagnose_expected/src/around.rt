@@ -4,7 +4,7 @@ use acc_lex::{Kind, Token};
 
 /// The words round a place of a text; each is empty where there is none.
 #[derive(Clone, Copy)]
-pub struct Around<'a> {
+pub struct Neighbours<'a> {
     /// The word with which the statement begins; none at the head of one.
     pub statement: &'a [u8],
     /// The word before within the statement; at the head of one, the word with which the statement before begins.
@@ -13,10 +13,10 @@ pub struct Around<'a> {
     pub found: &'a [u8],
 }
 
-impl<'a> Around<'a> {
+impl<'a> Neighbours<'a> {
     /// What stands round a place of which nothing is known.
     pub fn nothing() -> Self {
-        Around {
+        Neighbours {
             statement: &[],
             before: &[],
             found: &[],
@@ -25,7 +25,7 @@ impl<'a> Around<'a> {
 
     /// The same place, where this was found.
     pub fn with(self, found: &'a [u8]) -> Self {
-        Around {
+        Neighbours {
             statement: self.statement,
             before: self.before,
             found,
@@ -35,14 +35,14 @@ impl<'a> Around<'a> {
 
 /// What stands round the first token of a text that begins at this byte or behind it, or round the text's end. Empty statements
 /// don't count.
-pub fn around_at<'a>(text: &'a [u8], tokens: &[Token], from: u64) -> Around<'a> {
+pub fn around_at<'a>(text: &'a [u8], tokens: &[Token], from: u64) -> Neighbours<'a> {
     let mut statement: &[u8] = &[];
     let mut before: &[u8] = &[];
     for token in tokens {
         let word = bytes_of(text, token);
         let is_end = token.kind == Kind::End;
         if token.from >= from {
-            return Around {
+            return Neighbours {
                 statement,
                 before,
                 found: word,
@@ -58,7 +58,7 @@ pub fn around_at<'a>(text: &'a [u8], tokens: &[Token], from: u64) -> Around<'a> 
             before = word;
         }
     }
-    Around {
+    Neighbours {
         statement,
         before,
         found: &[],

@@ -1,15 +1,15 @@
 //! What a usual mistake has at its place.
-use crate::around::Around;
+use crate::around::Neighbours;
 use crate::signs::{
     is_clause, is_head, is_of_part, is_of_path, is_of_point, is_of_type, is_path_end, is_read,
 };
-use crate::wanted::Wanted;
+use crate::wanted::Alternatives;
 use acc_diagnose_spot::is_one_of;
 use acc_lex::{Sign, keyword, language};
 
 /// Words of the language that are alike.
 #[derive(Clone, Copy)]
-pub enum Group {
+pub enum WordGroup {
     All,
     /// Those that begin a statement.
     Heads,
@@ -24,7 +24,7 @@ pub enum Group {
 
 /// Where a usual mistake stands.
 #[derive(Clone, Copy)]
-pub enum Place {
+pub enum MistakePlace {
     Anywhere,
     /// At the head of a statement.
     Head,
@@ -46,7 +46,7 @@ pub enum Place {
 
 /// What stands at the place of a usual mistake.
 #[derive(Clone, Copy)]
-pub enum Asked {
+pub enum Misplaced {
     Any,
     /// This word.
     Is(&'static [u8]),
@@ -57,7 +57,7 @@ pub enum Asked {
     /// `<=`, `>=` or `=`
     Relation,
     /// A word of the language.
-    Of(Group),
+    Of(WordGroup),
 }
 
 /// What could stand at the place of a usual mistake.
@@ -75,15 +75,15 @@ pub enum Could {
 }
 
 /// Whether a word of the language is of a group.
-fn is_of(group: Group, sign: Sign) -> bool {
+fn is_of(group: WordGroup, sign: Sign) -> bool {
     match group {
-        Group::All => true,
-        Group::Heads => is_head(sign),
-        Group::Reads => is_read(sign),
-        Group::OfPaths => is_of_path(sign),
-        Group::OfTypes => is_of_type(sign),
-        Group::OfPoints => is_of_point(sign),
-        Group::Parts => is_of_part(sign),
+        WordGroup::All => true,
+        WordGroup::Heads => is_head(sign),
+        WordGroup::Reads => is_read(sign),
+        WordGroup::OfPaths => is_of_path(sign),
+        WordGroup::OfTypes => is_of_type(sign),
+        WordGroup::OfPoints => is_of_point(sign),
+        WordGroup::Parts => is_of_part(sign),
     }
 }
 
@@ -109,36 +109,36 @@ fn is_number(word: &[u8]) -> bool {
 }
 
 /// Whether a mistake with this place stands here.
-pub fn is_there(place: Place, around: Around) -> bool {
+pub fn is_there(place: MistakePlace, around: Neighbours) -> bool {
     let is_head = around.statement.is_empty();
     match place {
-        Place::Anywhere => true,
-        Place::Head => is_head,
-        Place::HeadBehindPath => is_head && keyword(around.before).is_some_and(is_path_end),
-        Place::Within => !is_head,
-        Place::In(word) => around.statement == word,
-        Place::InRead => keyword(around.statement).is_some_and(is_read),
-        Place::InClause => keyword(around.statement).is_some_and(is_clause),
-        Place::Behind(word) => !is_head && around.before == word,
-        Place::BehindName => !is_head && is_name(around.before),
+        MistakePlace::Anywhere => true,
+        MistakePlace::Head => is_head,
+        MistakePlace::HeadBehindPath => is_head && keyword(around.before).is_some_and(is_path_end),
+        MistakePlace::Within => !is_head,
+        MistakePlace::In(word) => around.statement == word,
+        MistakePlace::InRead => keyword(around.statement).is_some_and(is_read),
+        MistakePlace::InClause => keyword(around.statement).is_some_and(is_clause),
+        MistakePlace::Behind(word) => !is_head && around.before == word,
+        MistakePlace::BehindName => !is_head && is_name(around.before),
     }
 }
 
 /// Whether a word, which may be none, is what stands at a mistake's place.
-pub fn fits(asked: Asked, word: &[u8]) -> bool {
+pub fn fits(asked: Misplaced, word: &[u8]) -> bool {
     match asked {
-        Asked::Any => true,
-        Asked::Is(known) => word == known,
-        Asked::Front(known) => word.starts_with(known),
-        Asked::Name => is_name(word),
-        Asked::Number => is_number(word),
-        Asked::Relation => is_relation(word),
-        Asked::Of(group) => keyword(word).is_some_and(|sign| is_of(group, sign)),
+        Misplaced::Any => true,
+        Misplaced::Is(known) => word == known,
+        Misplaced::Front(known) => word.starts_with(known),
+        Misplaced::Name => is_name(word),
+        Misplaced::Number => is_number(word),
+        Misplaced::Relation => is_relation(word),
+        Misplaced::Of(group) => keyword(word).is_some_and(|sign| is_of(group, sign)),
     }
 }
 
 /// Whether what could stand at a place is what could at a mistake's.
-pub fn could_be(could: Could, wanted: &Wanted) -> bool {
+pub fn could_be(could: Could, wanted: &Alternatives) -> bool {
     match could {
         Could::Free => true,
         Could::Takes(sign) => wanted.has(sign),

@@ -1,18 +1,18 @@
 //! The first byte of a line with which no text goes on, and what is said of it.
-use crate::around::Around;
-use crate::asked::Asked::Front;
+use crate::around::Neighbours;
 use crate::asked::Could::Free;
-use crate::asked::Place::{Anywhere, BehindName, In};
+use crate::asked::Misplaced::Front;
+use crate::asked::MistakePlace::{Anywhere, BehindName, In};
 use crate::hints;
 use crate::mistakes::{Mistake, hint_among, push_hint};
-use crate::wanted::Wanted;
+use crate::wanted::Alternatives;
 use acc_lex::language::{PRIVATE, TABLE, TYPE};
 use acc_page::Page;
 use std::alloc::Global;
 
 /// What the bytes before one are part of.
 #[derive(Clone, Copy)]
-enum Run {
+enum ByteRun {
     Gap,
     Name,
     Zero,
@@ -20,22 +20,22 @@ enum Run {
 }
 
 /// What a byte is part of, behind others; none where it can't follow.
-fn next_run(run: Run, byte: u8) -> Option<Run> {
+fn next_run(run: ByteRun, byte: u8) -> Option<ByteRun> {
     if byte.is_ascii_alphabetic() || byte == b'_' {
         match run {
-            Run::Gap if byte == b'_' => None,
-            Run::Gap | Run::Name => Some(Run::Name),
-            Run::Zero | Run::Number => None,
+            ByteRun::Gap if byte == b'_' => None,
+            ByteRun::Gap | ByteRun::Name => Some(ByteRun::Name),
+            ByteRun::Zero | ByteRun::Number => None,
         }
     } else if byte.is_ascii_digit() {
         match run {
-            Run::Gap if byte == b'0' => Some(Run::Zero),
-            Run::Gap | Run::Number => Some(Run::Number),
-            Run::Name => Some(Run::Name),
-            Run::Zero => None,
+            ByteRun::Gap if byte == b'0' => Some(ByteRun::Zero),
+            ByteRun::Gap | ByteRun::Number => Some(ByteRun::Number),
+            ByteRun::Name => Some(ByteRun::Name),
+            ByteRun::Zero => None,
         }
     } else {
-        Some(Run::Gap)
+        Some(ByteRun::Gap)
     }
 }
 
@@ -64,7 +64,7 @@ pub fn bad_byte(line: &[u8]) -> Option<usize> {
     if is_comment(line) {
         return bad_in_comment(line);
     }
-    let mut run = Run::Gap;
+    let mut run = ByteRun::Gap;
     let mut before = b' ';
     for (i, byte) in line.iter().enumerate() {
         let next = line.get(i + 1).copied().unwrap_or(b' ');
@@ -122,8 +122,8 @@ fn plain_hint(byte: u8) -> &'static [u8] {
 }
 
 /// Writes how a byte that can't stand in a text is mended; what was found begins with it.
-pub fn push_byte_hint(alloc: Global, out: &mut Page, around: Around, byte: u8) {
-    let usual = hint_among(&BYTES, around, &Wanted::nothing(alloc));
+pub fn push_byte_hint(alloc: Global, out: &mut Page, around: Neighbours, byte: u8) {
+    let usual = hint_among(&BYTES, around, &Alternatives::nothing(alloc));
     let hint = if usual.is_empty() {
         plain_hint(byte)
     } else {

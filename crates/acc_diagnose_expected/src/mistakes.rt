@@ -1,11 +1,13 @@
 //! The usual mistakes, each by where it stands, and how it is mended.
-use crate::around::Around;
-use crate::asked::Asked::{Any, Is, Name, Number, Of, Relation};
+use crate::around::Neighbours;
 use crate::asked::Could::{Free, Takes, TakesName, TakesNameOrEnd, TakesNumber, TakesOnly};
-use crate::asked::Place::{Behind, BehindName, Head, HeadBehindPath, In, InClause, InRead, Within};
-use crate::asked::{Asked, Could, Group, Place, could_be, fits, is_there};
+use crate::asked::Misplaced::{Any, Is, Name, Number, Of, Relation};
+use crate::asked::MistakePlace::{
+    Behind, BehindName, Head, HeadBehindPath, In, InClause, InRead, Within,
+};
+use crate::asked::{Could, Misplaced, MistakePlace, WordGroup, could_be, fits, is_there};
 use crate::hints;
-use crate::wanted::Wanted;
+use crate::wanted::Alternatives;
 use acc_diagnose_words::push_quoted;
 use acc_lex::Sign;
 use acc_lex::language::{
@@ -15,7 +17,7 @@ use acc_lex::language::{
 use acc_page::Page;
 
 /// A usual mistake: where it stands, what could stand there, and what stands there; and how it is mended.
-pub type Mistake = (Place, Could, Asked, &'static [u8]);
+pub type Mistake = (MistakePlace, Could, Misplaced, &'static [u8]);
 
 /// How many usual mistakes there are.
 const ROWS: usize = 89;
@@ -39,30 +41,40 @@ const MISTAKES: [Mistake; ROWS] = [
     (
         HeadBehindPath,
         Takes(Sign::Path),
-        Of(Group::OfPaths),
+        Of(WordGroup::OfPaths),
         hints::PATH_ENDED,
     ),
     (
         Head,
         Takes(Sign::Path),
-        Of(Group::OfPaths),
+        Of(WordGroup::OfPaths),
         hints::BEHIND_PATH,
     ),
-    (Head, Takes(Sign::Put), Of(Group::Reads), hints::READS_FIRST),
+    (
+        Head,
+        Takes(Sign::Put),
+        Of(WordGroup::Reads),
+        hints::READS_FIRST,
+    ),
     (Head, Takes(Sign::Goto), Any, hints::PATH_ENDS),
     (Head, Takes(Sign::Undo), Any, hints::TWO_STEPS),
     (Head, Takes(Sign::Limit), Any, hints::TYPE_LIMIT),
-    (Head, Takes(Sign::Next), Of(Group::Reads), hints::NEXT_FIRST),
     (
         Head,
         Takes(Sign::Next),
-        Of(Group::OfPaths),
+        Of(WordGroup::Reads),
+        hints::NEXT_FIRST,
+    ),
+    (
+        Head,
+        Takes(Sign::Next),
+        Of(WordGroup::OfPaths),
         hints::NEXT_FIRST,
     ),
     (Head, Takes(Sign::Next), Is(PATH), hints::NEXT_FIRST),
-    (Head, Free, Of(Group::OfTypes), hints::TYPE_ORDER),
-    (Head, Free, Of(Group::OfPoints), hints::POINT_ORDER),
-    (Head, Free, Of(Group::Parts), hints::PARTS_ORDER),
+    (Head, Free, Of(WordGroup::OfTypes), hints::TYPE_ORDER),
+    (Head, Free, Of(WordGroup::OfPoints), hints::POINT_ORDER),
+    (Head, Free, Of(WordGroup::Parts), hints::PARTS_ORDER),
     (Head, Takes(Sign::Point), Any, hints::POINT_FIRST),
     // Words of other languages within a statement, and statements with a number or an equality too many.
     (Within, Free, Is(b"or"), hints::NO_OR),
@@ -83,15 +95,30 @@ const MISTAKES: [Mistake; ROWS] = [
     (
         Within,
         TakesNameOrEnd,
-        Of(Group::Heads),
+        Of(WordGroup::Heads),
         hints::NAME_OR_HEAD,
     ),
-    (Within, Takes(Sign::End), Of(Group::Heads), hints::PARTED),
+    (
+        Within,
+        Takes(Sign::End),
+        Of(WordGroup::Heads),
+        hints::PARTED,
+    ),
     (Within, Takes(Sign::Minus), Is(HAS), hints::NO_READ),
     (Within, Takes(Sign::Minus), Is(COUNT), hints::NO_READ),
     (Within, Takes(Sign::Minus), Is(SUM), hints::NO_READ),
-    (Behind(COMMA), Free, Of(Group::Heads), hints::NO_SEMICOLON),
-    (Within, Takes(Sign::Minus), Of(Group::Reads), hints::NO_READ),
+    (
+        Behind(COMMA),
+        Free,
+        Of(WordGroup::Heads),
+        hints::NO_SEMICOLON,
+    ),
+    (
+        Within,
+        Takes(Sign::Minus),
+        Of(WordGroup::Reads),
+        hints::NO_READ,
+    ),
     (In(ENTRY), Takes(Sign::Next), Any, hints::STEP),
     (In(HINT), Takes(Sign::Next), Any, hints::STEP),
     (In(ENTRY), Takes(Sign::By), Any, hints::ENTRY),
@@ -103,7 +130,7 @@ const MISTAKES: [Mistake; ROWS] = [
     (In(ENTRY), TakesName, Number, hints::PAIR),
     (Within, Takes(Sign::Colon), Any, hints::FORALL),
     (Within, Free, Is(ONESELF), hints::OWN),
-    (Within, TakesName, Of(Group::All), hints::NO_NAME),
+    (Within, TakesName, Of(WordGroup::All), hints::NO_NAME),
     // Statements of names alone.
     (In(TYPE), TakesNameOrEnd, Any, hints::PARAMETERS),
     (Within, TakesNameOrEnd, Is(COMMA), hints::NO_COMMA),
@@ -139,7 +166,11 @@ const MISTAKES: [Mistake; ROWS] = [
 ];
 
 /// How a mistake is mended, where it is one of these: the first of them that stands there so; else nothing.
-pub fn hint_among(mistakes: &[Mistake], around: Around, wanted: &Wanted) -> &'static [u8] {
+pub fn hint_among(
+    mistakes: &[Mistake],
+    around: Neighbours,
+    wanted: &Alternatives,
+) -> &'static [u8] {
     for (place, could, asked, hint) in mistakes {
         if is_there(*place, around) && fits(*asked, around.found) && could_be(*could, wanted) {
             return *hint;
@@ -149,7 +180,7 @@ pub fn hint_among(mistakes: &[Mistake], around: Around, wanted: &Wanted) -> &'st
 }
 
 /// Writes a hint, with the words of the text that it names.
-pub fn push_hint(out: &mut Page, hint: &[u8], around: Around) {
+pub fn push_hint(out: &mut Page, hint: &[u8], around: Neighbours) {
     for byte in hint {
         match *byte {
             hints::FOUND => push_quoted(out, around.found),
@@ -160,6 +191,6 @@ pub fn push_hint(out: &mut Page, hint: &[u8], around: Around) {
 }
 
 /// Writes how a mistake is mended, where it is a usual one.
-pub fn push_mending(out: &mut Page, around: Around, wanted: &Wanted) {
+pub fn push_mending(out: &mut Page, around: Neighbours, wanted: &Alternatives) {
     push_hint(out, hint_among(&MISTAKES, around, wanted), around)
 }

@@ -1,8 +1,8 @@
 //! The word with which no design goes on, and what could stand there.
-use crate::around::{Around, around_at};
+use crate::around::{Neighbours, around_at};
 use crate::bytes::{bad_byte, push_byte_hint};
 use crate::mistakes::push_mending;
-use crate::wanted::{Wanted, could_stand};
+use crate::wanted::{Alternatives, could_stand};
 use acc_base::sequences::Seq;
 use acc_diagnose_spot::{bytes_of, line_spot, spot_at};
 use acc_diagnose_words::{Spot, line_at, push_quoted};
@@ -49,7 +49,7 @@ fn push_found(spot: &mut Spot, found: &[u8]) {
 }
 
 /// Says what could stand at a spot.
-fn push_wanted(spot: &mut Spot, wanted: &Wanted) {
+fn push_wanted(spot: &mut Spot, wanted: &Alternatives) {
     if wanted.is_empty() {
         return spot.what.push(b"no design goes on here");
     }
@@ -104,7 +104,7 @@ fn push_byte(spot: &mut Spot, byte: u8) {
 }
 
 /// The spot of a byte of a line with which no text goes on; this stands round it.
-fn byte_spot<'a>(alloc: Global, line: &'a [u8], around: Around<'a>) -> Spot {
+fn byte_spot<'a>(alloc: Global, line: &'a [u8], around: Neighbours<'a>) -> Spot {
     let mut spot = line_spot(alloc);
     match bad_byte(line) {
         Some(place) if place < line.len() => {
@@ -185,7 +185,7 @@ fn spot_of_bad(alloc: Global, text: &[u8], line: u64, bad: u64) -> Result<Spot, 
     let front = front_of(text, bad);
     let tokens = match lex(alloc, front) {
         Ok(tokens) => tokens,
-        Err(LexError::Bad(_)) => return Ok(byte_spot(alloc, refused, Around::nothing())),
+        Err(LexError::Bad(_)) => return Ok(byte_spot(alloc, refused, Neighbours::nothing())),
         Err(LexError::Memory) => return Err(AllocError),
     };
     match spot_before(alloc, front, tokens.as_slice(), line)? {
@@ -207,6 +207,6 @@ pub fn syntax_spot(alloc: Global, text: &[u8], line: u64) -> Result<Spot, AllocE
     };
     match spot_in_words(alloc, text, tokens.as_slice())? {
         Some(spot) => Ok(spot),
-        None => Ok(byte_spot(alloc, line_at(text, line), Around::nothing())),
+        None => Ok(byte_spot(alloc, line_at(text, line), Neighbours::nothing())),
     }
 }

@@ -12,7 +12,7 @@ const MOST_WORDS: usize = 1 << 16;
 
 /// What could stand at a place; nothing where that isn't told.
 #[derive(Drop)]
-pub struct Wanted {
+pub struct Alternatives {
     pub signs: Vec<Sign>,
     pub name: bool,
     pub number: bool,
@@ -20,10 +20,10 @@ pub struct Wanted {
     pub end: bool,
 }
 
-impl Wanted {
+impl Alternatives {
     /// It isn't told what could stand there.
     pub fn nothing(alloc: Global) -> Self {
-        Wanted {
+        Alternatives {
             signs: Vec::new(alloc),
             name: false,
             number: false,
@@ -129,9 +129,9 @@ fn push_signs(
 }
 
 /// What could stand behind words that are the front of a design's, where they aren't too many.
-pub fn could_stand(alloc: Global, words: &mut Seq<Word>) -> Result<Wanted, AllocError> {
+pub fn could_stand(alloc: Global, words: &mut Seq<Word>) -> Result<Alternatives, AllocError> {
     if words.len() > MOST_WORDS {
-        return Ok(Wanted::nothing(alloc));
+        return Ok(Alternatives::nothing(alloc));
     }
     let mut signs = Vec::new(alloc);
     push_signs(alloc, words, &mut signs)?;
@@ -139,7 +139,7 @@ pub fn could_stand(alloc: Global, words: &mut Seq<Word>) -> Result<Wanted, Alloc
     let name = takes(alloc, words, name)?;
     let number = takes(alloc, words, Word::Number(1))?;
     let end = are_whole(alloc, words.as_slice())?;
-    Ok(Wanted {
+    Ok(Alternatives {
         signs,
         name,
         number,

@@ -10,8 +10,8 @@ use Rattle.acc_parse.specs.Texts.{IsDesignText}
 use Rattle.acc_parse.specs.Syntax.{IsWrongAt}
 use Rattle.acc_parse.specs.Faults.{IsNameFaultAt, IsLimitAt}
 use Rattle.acc_diagnose_sources.specs.Sources.{IsPrintedBehind}
-use Rattle.acc_diagnose_faults.specs.declared.designs.Refusal.{Refusal}
-use Rattle.acc_diagnose_faults.specs.declared.designs.Refusal.TheVariants as refusal
+use Rattle.acc_diagnose_faults.specs.declared.designs.DesignRefusal.{DesignRefusal}
+use Rattle.acc_diagnose_faults.specs.declared.designs.DesignRefusal.TheVariants as refusal
 use Rattle.acc_diagnose_faults.specs.declared.designs.Diagnosed.{Diagnosed}
 use Rattle.acc_diagnose_faults.specs.declared.designs.Diagnosed.TheVariants as diagnosed
 
@@ -25,7 +25,7 @@ pub record IsFormFaultAt (text : List ℕ) (rule : FormRule) (printed line : ℕ
   pub on_line : IsLineOf text statement line
 
 -- what a refusal says of a line of a text
-abbrev pub IsRefused : List ℕ → Refusal → ℕ → Type 0
+abbrev pub IsRefused : List ℕ → DesignRefusal → ℕ → Type 0
 IsRefused text refusal.Syntax line = IsWrongAt text line
 IsRefused text refusal.Name line = IsNameFaultAt text line
 IsRefused text (refusal.Limit limit) line = IsLimitAt text line limit

@@ -21,7 +21,7 @@ use std::alloc::{AllocError, Global};
 
 /// Why a text is no design that can be played.
 #[derive(Clone, Copy)]
-pub enum Refusal {
+pub enum DesignRefusal {
     /// It isn't of the grammar.
     Syntax,
     /// A name isn't defined, or is defined a second time.
@@ -35,7 +35,7 @@ pub enum Refusal {
 /// What is wrong with the text of a design.
 #[derive(Drop)]
 pub struct Diagnosis {
-    pub refusal: Refusal,
+    pub refusal: DesignRefusal,
     /// The line of the text, from 1.
     pub line: u64,
     /// The word on that line, what is wrong in words, and how to mend it.
@@ -77,17 +77,17 @@ fn text_diagnosis(alloc: Global, text: &[u8], error: ParseError) -> Result<Diagn
 {
     match error {
         ParseError::Syntax(line) => Ok(Diagnosis {
-            refusal: Refusal::Syntax,
+            refusal: DesignRefusal::Syntax,
             line,
             spot: syntax_spot(alloc, text, line)?,
         }),
         ParseError::Name(line) => Ok(Diagnosis {
-            refusal: Refusal::Name,
+            refusal: DesignRefusal::Name,
             line,
             spot: wrong_name(alloc, text)?,
         }),
         ParseError::Limit(line, limit) => Ok(Diagnosis {
-            refusal: Refusal::Limit(limit),
+            refusal: DesignRefusal::Limit(limit),
             line,
             spot: passed_limit(alloc, text, line, limit)?,
         }),
@@ -121,7 +121,7 @@ fn form_diagnosis(
     let mut spot = statement_spot(alloc, text, tokens.as_slice(), source.statement);
     push_broken(&mut spot, rule);
     Ok(Diagnosis {
-        refusal: Refusal::Form(rule, printed),
+        refusal: DesignRefusal::Form(rule, printed),
         line: source.line,
         spot,
     })

@@ -7,5 +7,5 @@ mod forms;
 mod tokens;
 
 pub use certificates::{CertFault, Judged, judge};
-pub use designs::{Diagnosed, Diagnosis, Refusal, diagnose};
+pub use designs::{DesignRefusal, Diagnosed, Diagnosis, diagnose};
 pub use tokens::tokens_of;

@@ -15,7 +15,7 @@ use std::alloc::{AllocError, Global};
 
 /// A branch of a search that stays open: what is known there, its unknowns, and a point.
 #[derive(Clone, Copy)]
-struct Branch<'a> {
+struct OpenBranch<'a> {
     leaf: &'a [Rel],
     unknowns: &'a [Unknown],
     point: &'a [(i128, i128)],
@@ -47,7 +47,7 @@ fn begun<'a>(
 
 /// Writes the locals that begin as 0 where this isn't known, as assertions of the first point; nothing of another point, and nothing
 /// where something is written.
-fn push_begun(out: &mut Page, d: &Design, origin: &Origin, at: At, branch: &Branch) {
+fn push_begun(out: &mut Page, d: &Design, origin: &Origin, at: At, branch: &OpenBranch) {
     if at.point != 0 || !out.is_empty() {
         return;
     }
@@ -92,7 +92,7 @@ fn push_sure(out: &mut Page, d: &Design, origin: &Origin, at: At, action: &Actio
 }
 
 /// Writes what a path needs to know of the first own row that it may find, or not find, against what is meant.
-fn push_own(out: &mut Page, d: &Design, origin: &Origin, at: At, branch: &Branch) {
+fn push_own(out: &mut Page, d: &Design, origin: &Origin, at: At, branch: &OpenBranch) {
     for action in actions_of(d, origin) {
         if is_unsure(d, at, action, branch.unknowns, branch.point) {
             return push_sure(out, d, origin, at, action);
@@ -116,7 +116,7 @@ fn push_row_of(out: &mut Page, d: &Design, origin: &Origin, at: At) {
 
 /// What a path does to the rows of an own table.
 #[derive(Clone, Copy)]
-enum Change<'a> {
+enum RowChange<'a> {
     Nothing,
     /// It drops the row of this key, and does no more.
     Drop(&'a [Lin]),
@@ -124,15 +124,16 @@ enum Change<'a> {
 }
 
 /// What actions do to the rows of an own table.
-fn change_of(actions: &[Action], table: u32) -> Change<'_> {
-    let mut change = Change::Nothing;
+fn change_of(actions: &[Action], table: u32) -> RowChange<'_> {
+    let mut change = RowChange::Nothing;
     for action in actions {
         if action.table() == table {
             change = match (action, change) {
-                (Action::Del(_, key), Change::Nothing) => Change::Drop(key.as_slice()),
-                (Action::Del(_, _), Change::Drop(_) | Change::Other) => return Change::Other,
-                (Action::Put(_, _, _) | Action::Set(_, _, _, _), _) => return Change::Other,
-                (Action::Add(_, _, _, _), _) => return Change::Other,
+                (Action::Del(_, key), RowChange::Nothing) => RowChange::Drop(key.as_slice()),
+                (Action::Del(_, _), RowChange::Drop(_) | RowChange::Other) =>
+                    return RowChange::Other,
+                (Action::Put(_, _, _) | Action::Set(_, _, _, _), _) => return RowChange::Other,
+                (Action::Add(_, _, _, _), _) => return RowChange::Other,
             };
         }
     }
@@ -146,18 +147,18 @@ fn push_left(out: &mut Page, d: &Design, origin: &Origin, at: At) {
         return;
     };
     match change_of(actions_of(d, origin), number) {
-        Change::Nothing => {
+        RowChange::Nothing => {
             out.push(match at.point {
                 0 => b"it isn't known that the transaction has none: ",
                 _ => b"drop the rows on the path, or hold that the transaction has none: ",
             });
             push_none(out, d, at, table)
         }
-        Change::Drop(key) if is_steady(d, at, origin.side, key) => {
+        RowChange::Drop(key) if is_steady(d, at, origin.side, key) => {
             out.push(b"it isn't known that the transaction has no other row: ");
             push_only(out, d, at, table, key)
         }
-        Change::Drop(_) | Change::Other => {}
+        RowChange::Drop(_) | RowChange::Other => {}
     }
 }
 
@@ -187,7 +188,7 @@ fn push_for(
     d: &Design,
     origin: &Origin,
     at: At,
-    branch: &Branch,
+    branch: &OpenBranch,
 ) -> Result<(), AllocError> {
     match origin.rule {
         Rule::Promises => push_begun(out, d, origin, at, branch),
@@ -217,7 +218,7 @@ pub fn push_cure(
         return Ok(());
     };
     let unknowns = unknowns_of(alloc, leaf)?;
-    let branch = Branch {
+    let branch = OpenBranch {
         leaf,
         unknowns: unknowns.as_slice(),
         point,

@@ -1,5 +1,5 @@
 //! The entry that keeps a step apart from an assertion that it may break.
-use crate::meetings::{Question, tally_of};
+use crate::meetings::{Meeting, tally_of};
 use crate::names::{assigns, locals_of, type_at};
 use crate::values::push_word;
 use acc_base::designs::{At, Design, Entry, Side};
@@ -47,7 +47,7 @@ fn parts(d: &Design, clash: Clash, pair: (usize, usize)) -> bool {
     let (Some(held), Some(step)) = (d.point(clash.held), d.step(clash.step, clash.side)) else {
         return false;
     };
-    let question = Question {
+    let question = Meeting {
         pair,
         own: (
             locals_of(d, clash.held).len(),

@@ -6,7 +6,7 @@ use acc_base::steps::{Action, Path};
 /// A local of the transaction that holds an assertion and one of the transaction that takes a step, the numbers of both, all as variables
 /// of the design, and the paths of the step.
 #[derive(Clone, Copy)]
-pub struct Question<'a> {
+pub struct Meeting<'a> {
     pub pair: (usize, usize),
     pub own: (usize, usize),
     pub paths: &'a [Path],
@@ -30,14 +30,14 @@ fn changes(action: &Action, atom: &Atom) -> bool {
 }
 
 /// Whether two components are never equal: two constants, or the numbers of the two transactions.
-fn differ(question: &Question, held: &Lin, step: &Lin) -> bool {
+fn differ(question: &Meeting, held: &Lin, step: &Lin) -> bool {
     let are_constants = held.coeffs.is_empty() && step.coeffs.is_empty();
     let are_numbers = is_alone(held, question.own.0) && is_alone(step, question.own.1);
     are_numbers || (are_constants && held.constant != step.constant)
 }
 
 /// Counts a meeting of two keys, unless they are never equal.
-fn add_meeting(tally: &mut Tally, question: &Question, held: &[Lin], step: &[Lin]) {
+fn add_meeting(tally: &mut Tally, question: &Meeting, held: &[Lin], step: &[Lin]) {
     let mut has_pair = false;
     for (left, right) in held.iter().zip(step.iter()) {
         if differ(question, left, right) {
@@ -52,31 +52,31 @@ fn add_meeting(tally: &mut Tally, question: &Question, held: &[Lin], step: &[Lin
     }
 }
 
-fn add_action(tally: &mut Tally, question: &Question, atom: &Atom, action: &Action) {
+fn add_action(tally: &mut Tally, question: &Meeting, atom: &Atom, action: &Action) {
     if atom.table() == Some(action.table()) && changes(action, atom) {
         add_meeting(tally, question, atom.key(), action_key(action));
     }
 }
 
-fn add_path(tally: &mut Tally, question: &Question, atom: &Atom, path: &Path) {
+fn add_path(tally: &mut Tally, question: &Meeting, atom: &Atom, path: &Path) {
     for action in path.actions.as_slice() {
         add_action(tally, question, atom, action);
     }
 }
 
-fn add_atom(tally: &mut Tally, question: &Question, atom: &Atom) {
+fn add_atom(tally: &mut Tally, question: &Meeting, atom: &Atom) {
     for path in question.paths {
         add_path(tally, question, atom, path);
     }
 }
 
-fn add_form(tally: &mut Tally, question: &Question, form: &Form) {
+fn add_form(tally: &mut Tally, question: &Meeting, form: &Form) {
     for (unknown, _) in form.terms.as_slice() {
         add_atom(tally, question, &unknown.atom);
     }
 }
 
-fn add_clause(tally: &mut Tally, question: &Question, clause: &Clause) {
+fn add_clause(tally: &mut Tally, question: &Meeting, clause: &Clause) {
     for guard in clause.guards.as_slice() {
         add_form(tally, question, &guard.form);
     }
@@ -84,7 +84,7 @@ fn add_clause(tally: &mut Tally, question: &Question, clause: &Clause) {
 }
 
 /// Counts the meetings of the actions of a step with what some assertions speak of.
-pub fn tally_of(question: &Question, clauses: &[Clause]) -> Tally {
+pub fn tally_of(question: &Meeting, clauses: &[Clause]) -> Tally {
     let mut tally = Tally {
         with: 0,
         without: 0,

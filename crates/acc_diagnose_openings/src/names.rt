@@ -9,7 +9,7 @@ use acc_page::Page;
 
 /// What a variable of an obligation is.
 #[derive(Clone, Copy)]
-enum Variable<'a> {
+enum ObligationVariable<'a> {
     /// A local, as the step leaves it to its path, or as the transaction has it where there is no step.
     Local(&'a [u8]),
     /// A local that a read of the step assigns, before it.
@@ -120,23 +120,23 @@ fn is_local(d: &Design, origin: &Origin, name: &[u8]) -> bool {
 }
 
 /// The variable of an obligation's assertion that has this place among them.
-fn of_clause<'a>(d: &'a Design, origin: &Origin, place: usize) -> Variable<'a> {
+fn of_clause<'a>(d: &'a Design, origin: &Origin, place: usize) -> ObligationVariable<'a> {
     match clause_name(d, origin, place) {
-        Some(name) if is_local(d, origin, name) => Variable::Shared(name),
-        Some(name) => Variable::Named(name),
-        None => Variable::Component((place as u64).saturating_add(1)),
+        Some(name) if is_local(d, origin, name) => ObligationVariable::Shared(name),
+        Some(name) => ObligationVariable::Named(name),
+        None => ObligationVariable::Component((place as u64).saturating_add(1)),
     }
 }
 
 /// The variable that has this place behind those of the step.
-fn behind_step<'a>(d: &'a Design, origin: &Origin, place: usize) -> Variable<'a> {
+fn behind_step<'a>(d: &'a Design, origin: &Origin, place: usize) -> ObligationVariable<'a> {
     let Some(held) = origin.held else {
         return of_clause(d, origin, place);
     };
     let locals = locals_of(d, held);
     match locals.get(place) {
-        Some(name) => Variable::Held(name.as_slice()),
-        None if place == locals.len() => Variable::HeldOwn,
+        Some(name) => ObligationVariable::Held(name.as_slice()),
+        None if place == locals.len() => ObligationVariable::HeldOwn,
         None => of_clause(
             d,
             origin,
@@ -151,26 +151,31 @@ pub fn assigns(reads: &[Read], local: usize) -> bool {
 }
 
 /// The variable of a step's read.
-fn of_read<'a>(locals: &'a [Text], reads: &[Read], place: usize, local: usize) -> Variable<'a> {
+fn of_read<'a>(
+    locals: &'a [Text],
+    reads: &[Read],
+    place: usize,
+    local: usize,
+) -> ObligationVariable<'a> {
     let name = match locals.get(local) {
         Some(name) => name.as_slice(),
         None => &[],
     };
     let number = place.saturating_add(1);
     match reads.get(number..) {
-        Some(later) if assigns(later, local) => Variable::Behind(name, number as u64),
-        _ => Variable::Local(name),
+        Some(later) if assigns(later, local) => ObligationVariable::Behind(name, number as u64),
+        _ => ObligationVariable::Local(name),
     }
 }
 
 /// What a variable of an obligation at a point is.
-fn at_point<'a>(d: &'a Design, origin: &Origin, at: At, place: usize) -> Variable<'a> {
+fn at_point<'a>(d: &'a Design, origin: &Origin, at: At, place: usize) -> ObligationVariable<'a> {
     let locals = locals_of(d, at);
     let reads = reads_of(d, at, origin);
     match locals.get(place) {
-        Some(name) if assigns(reads, place) => return Variable::Before(name.as_slice()),
-        Some(name) => return Variable::Local(name.as_slice()),
-        None if place == locals.len() => return Variable::Own,
+        Some(name) if assigns(reads, place) => return ObligationVariable::Before(name.as_slice()),
+        Some(name) => return ObligationVariable::Local(name.as_slice()),
+        None if place == locals.len() => return ObligationVariable::Own,
         None => {}
     }
     let place = place.saturating_sub(locals.len()).saturating_sub(1);
@@ -180,7 +185,7 @@ fn at_point<'a>(d: &'a Design, origin: &Origin, at: At, place: usize) -> Variabl
     }
 }
 
-fn variable_of<'a>(d: &'a Design, origin: &Origin, place: usize) -> Variable<'a> {
+fn variable_of<'a>(d: &'a Design, origin: &Origin, place: usize) -> ObligationVariable<'a> {
     match origin.at {
         Some(at) => at_point(d, origin, at, place),
         None => of_clause(d, origin, place),
@@ -190,10 +195,14 @@ fn variable_of<'a>(d: &'a Design, origin: &Origin, place: usize) -> Variable<'a>
 /// Whether a variable of an obligation is the number of a transaction.
 pub fn is_number(d: &Design, origin: &Origin, variable: u32) -> bool {
     match variable_of(d, origin, variable as usize) {
-        Variable::Own | Variable::HeldOwn => true,
-        Variable::Local(_) | Variable::Before(_) | Variable::Behind(_, _) => false,
-        Variable::Held(_) | Variable::Named(_) | Variable::Shared(_) => false,
-        Variable::Component(_) => false,
+        ObligationVariable::Own | ObligationVariable::HeldOwn => true,
+        ObligationVariable::Local(_)
+        | ObligationVariable::Before(_)
+        | ObligationVariable::Behind(_, _) => false,
+        ObligationVariable::Held(_)
+        | ObligationVariable::Named(_)
+        | ObligationVariable::Shared(_) => false,
+        ObligationVariable::Component(_) => false,
     }
 }
 
@@ -213,30 +222,30 @@ pub fn resting_at(at: At) -> Origin {
 /// Writes what a variable of an obligation is called.
 pub fn push_variable(out: &mut Page, d: &Design, origin: &Origin, variable: u32) {
     match variable_of(d, origin, variable as usize) {
-        Variable::Local(name) | Variable::Named(name) => out.push(name),
-        Variable::Before(name) => {
+        ObligationVariable::Local(name) | ObligationVariable::Named(name) => out.push(name),
+        ObligationVariable::Before(name) => {
             out.push(b"old ");
             out.push(name)
         }
-        Variable::Behind(name, read) => {
+        ObligationVariable::Behind(name, read) => {
             out.push(name);
             out.push(b" of read ");
             out.push_number(read)
         }
-        Variable::Shared(name) => {
+        ObligationVariable::Shared(name) => {
             out.push(name);
             out.push(b" of the assertion")
         }
-        Variable::Own => out.push(language::ONESELF),
-        Variable::Held(name) => {
+        ObligationVariable::Own => out.push(language::ONESELF),
+        ObligationVariable::Held(name) => {
             out.push(b"held ");
             out.push(name)
         }
-        Variable::HeldOwn => {
+        ObligationVariable::HeldOwn => {
             out.push(b"held ");
             out.push(language::ONESELF)
         }
-        Variable::Component(number) => {
+        ObligationVariable::Component(number) => {
             out.push(b"key ");
             out.push_number(number)
         }

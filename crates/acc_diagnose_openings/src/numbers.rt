@@ -10,7 +10,7 @@ use acc_base::steps::{Action, Read};
 use acc_page::Page;
 
 /// A number that a step uses.
-enum Number<'a> {
+enum StepNumber<'a> {
     /// A component of a key, or what an action writes.
     Value(&'a Lin),
     /// What a read assigns to a local.
@@ -56,16 +56,16 @@ fn count_of(reads: &[Read]) -> usize {
 }
 
 /// The number of some reads with this place.
-fn among_reads(reads: &[Read], place: usize) -> Option<Number<'_>> {
+fn among_reads(reads: &[Read], place: usize) -> Option<StepNumber<'_>> {
     let mut left = place;
     for read in reads {
         let key = read_key(read);
         if let Some(value) = key.get(left) {
-            return Some(Number::Value(value));
+            return Some(StepNumber::Value(value));
         }
         left = left.saturating_sub(key.len());
         if left == 0 {
-            return Some(Number::Assigned(read.assigned()));
+            return Some(StepNumber::Assigned(read.assigned()));
         }
         left -= 1;
     }
@@ -73,16 +73,16 @@ fn among_reads(reads: &[Read], place: usize) -> Option<Number<'_>> {
 }
 
 /// The number of some actions with this place: of each its key's, and then what it writes.
-fn among_actions(actions: &[Action], place: usize) -> Option<Number<'_>> {
+fn among_actions(actions: &[Action], place: usize) -> Option<StepNumber<'_>> {
     let mut left = place;
     for action in actions {
         let key = action_key(action);
         if let Some(value) = key.get(left) {
-            return Some(Number::Value(value));
+            return Some(StepNumber::Value(value));
         }
         left = left.saturating_sub(key.len());
         if let Some(value) = written(action, left) {
-            return Some(Number::Value(value));
+            return Some(StepNumber::Value(value));
         }
         left = left.saturating_sub(writes(action));
     }
@@ -90,7 +90,7 @@ fn among_actions(actions: &[Action], place: usize) -> Option<Number<'_>> {
 }
 
 /// The number that an obligation on ranges is about.
-fn number_of<'a>(d: &'a Design, at: At, origin: &Origin) -> Option<Number<'a>> {
+fn number_of<'a>(d: &'a Design, at: At, origin: &Origin) -> Option<StepNumber<'a>> {
     let place = origin.clause.checked_sub(1)? as usize;
     let reads = d.step(at, origin.side)?.reads.as_slice();
     match path_of(d, origin) {
@@ -115,8 +115,8 @@ fn push_ranged(out: &mut Page, d: &Design, origin: &Origin) {
         return;
     };
     match number_of(d, at, origin) {
-        Some(Number::Value(value)) => push_lin(out, d, &resting_at(at), value),
-        Some(Number::Assigned(local)) => push_local(out, locals_of(d, at), local),
+        Some(StepNumber::Value(value)) => push_lin(out, d, &resting_at(at), value),
+        Some(StepNumber::Assigned(local)) => push_local(out, locals_of(d, at), local),
         None => {}
     }
 }

@@ -1,5 +1,5 @@
 //! The name of a statement that isn't defined, or is defined a second time.
-use crate::roles::{NameFault, Role, push_fault};
+use crate::roles::{NameFault, NameRole, push_fault};
 use crate::scopes::{
     is_table, local_named, locals, named_in, parameters, point_named, table_named, tokens_from,
     type_named,
@@ -12,7 +12,7 @@ use acc_lex::{Kind, Token, language};
 use std::alloc::Global;
 
 /// A fault of a name that isn't defined.
-fn undefined<'a>(token: &'a Token, role: Role<'a>) -> Option<NameFault<'a>> {
+fn undefined<'a>(token: &'a Token, role: NameRole<'a>) -> Option<NameFault<'a>> {
     Some(NameFault {
         token,
         role,
@@ -24,7 +24,7 @@ fn undefined<'a>(token: &'a Token, role: Role<'a>) -> Option<NameFault<'a>> {
 fn again<'a>(
     token: Option<&'a Token>,
     first: Option<&'a Token>,
-    role: Role<'a>,
+    role: NameRole<'a>,
 ) -> Option<NameFault<'a>> {
     let token = token?;
     let first = first?;
@@ -43,7 +43,7 @@ fn repeated<'a>(
     text: &'a [u8],
     names: &'a [Token],
     others: &'a [Token],
-    role: Role<'a>,
+    role: NameRole<'a>,
 ) -> Option<NameFault<'a>> {
     for (i, token) in names.iter().enumerate() {
         let name = bytes_of(text, token);
@@ -65,9 +65,9 @@ fn table_fault<'a>(text: &'a [u8], tokens: &'a [Token], of: &'a [Token]) -> Opti
         Some(statement) => statement.get(1),
         None => None,
     };
-    match again(of.get(1), first, Role::Table) {
+    match again(of.get(1), first, NameRole::Table) {
         Some(fault) => Some(fault),
-        None => repeated(text, tokens_from(of, 3), &[], Role::Column(name)),
+        None => repeated(text, tokens_from(of, 3), &[], NameRole::Column(name)),
     }
 }
 
@@ -77,9 +77,9 @@ fn type_fault<'a>(text: &'a [u8], tokens: &'a [Token], of: &'a [Token]) -> Optio
         Some(of_type) => of_type.get(1),
         None => None,
     };
-    match again(of.get(1), first, Role::Type) {
+    match again(of.get(1), first, NameRole::Type) {
         Some(fault) => Some(fault),
-        None => repeated(text, tokens_from(of, 2), &[], Role::Variable),
+        None => repeated(text, tokens_from(of, 2), &[], NameRole::Variable),
     }
 }
 
@@ -106,7 +106,7 @@ fn column_fault<'a>(
     let of = table_named(text, tokens, table)?;
     match named_in(text, tokens_from(of, 3), bytes_of(text, token)) {
         Some(_) => None,
-        None => undefined(token, Role::Column(table)),
+        None => undefined(token, NameRole::Column(table)),
     }
 }
 
@@ -122,9 +122,9 @@ fn variable_fault<'a>(
         return None;
     }
     let role = if of_type.is_empty() {
-        Role::Bound
+        NameRole::Bound
     } else {
-        Role::Variable
+        NameRole::Variable
     };
     undefined(token, role)
 }
@@ -139,7 +139,7 @@ fn is_mark(text: &[u8], token: Option<&Token>, mark: &[u8]) -> bool {
 
 /// What the names of a statement are looked up in.
 #[derive(Clone, Copy)]
-struct Around<'a> {
+struct NameScope<'a> {
     text: &'a [u8],
     tokens: &'a [Token],
     of_type: &'a [Token],
@@ -149,7 +149,7 @@ struct Around<'a> {
 
 /// The fault of a name of a statement that is used, between its neighbours; `table` is the last one before.
 fn use_fault<'a>(
-    around: Around<'a>,
+    around: NameScope<'a>,
     table: &'a [u8],
     before: Option<&Token>,
     token: &'a Token,
@@ -159,7 +159,7 @@ fn use_fault<'a>(
     if is_mark(text, next, language::OPEN) {
         match table_named(text, around.tokens, bytes_of(text, token)) {
             Some(_) => None,
-            None => undefined(token, Role::Table),
+            None => undefined(token, NameRole::Table),
         }
     } else if is_mark(text, before, language::DOT) {
         column_fault(text, around.tokens, table, token)
@@ -169,7 +169,7 @@ fn use_fault<'a>(
 }
 
 /// The first name of a statement that is used and isn't defined.
-fn first_undefined<'a>(around: Around<'a>, used: &'a [Token]) -> Option<NameFault<'a>> {
+fn first_undefined<'a>(around: NameScope<'a>, used: &'a [Token]) -> Option<NameFault<'a>> {
     let mut table: &[u8] = &[];
     let mut before: Option<&Token> = None;
     for (i, token) in used.iter().enumerate() {
@@ -194,15 +194,15 @@ fn value_fault<'a>(
     of: Statement<'a>,
 ) -> Option<NameFault<'a>> {
     let own = forall_names(text, of.tokens);
-    let around = Around {
+    let around = NameScope {
         text,
         tokens,
         of_type: of.of_type,
         own,
     };
-    match repeated(text, own, parameters(of.of_type), Role::Variable) {
+    match repeated(text, own, parameters(of.of_type), NameRole::Variable) {
         Some(fault) => Some(fault),
-        None => match repeated(text, own, locals(text, of.of_type), Role::Variable) {
+        None => match repeated(text, own, locals(text, of.of_type), NameRole::Variable) {
             Some(fault) => Some(fault),
             None => first_undefined(around, tokens_from(of.tokens, 1)),
         },
@@ -221,10 +221,10 @@ fn point_name_fault<'a>(
     };
     let name = bytes_of(text, type_name);
     match type_named(text, tokens, name) {
-        None => undefined(type_name, Role::Type),
+        None => undefined(type_name, NameRole::Type),
         Some(of_type) => match point_named(text, of_type, bytes_of(text, point)) {
             Some(_) => None,
-            None => undefined(point, Role::Point(name)),
+            None => undefined(point, NameRole::Point(name)),
         },
     }
 }
@@ -242,7 +242,7 @@ fn pairs_fault<'a>(text: &'a [u8], tokens: &'a [Token], of: &'a [Token]) -> Opti
         };
         let name = bytes_of(text, token);
         if is_name(text, token) && local_named(text, of_type, name).is_none() {
-            return undefined(token, Role::Variable);
+            return undefined(token, NameRole::Variable);
         }
     }
     None
@@ -265,7 +265,7 @@ fn hint_fault<'a>(text: &'a [u8], tokens: &'a [Token], of: &'a [Token]) -> Optio
         Some(fault) => Some(fault),
         None => {
             let of_type = type_named(text, tokens, word_at(text, of, 1)).unwrap_or(&[]);
-            let around = Around {
+            let around = NameScope {
                 text,
                 tokens,
                 of_type,
@@ -281,7 +281,7 @@ fn goto_fault<'a>(text: &'a [u8], of: Statement<'a>) -> Option<NameFault<'a>> {
     let token = of.tokens.get(1)?;
     match point_named(text, of.of_type, bytes_of(text, token)) {
         Some(_) => None,
-        None => undefined(token, Role::Point(word_at(text, of.of_type, 1))),
+        None => undefined(token, NameRole::Point(word_at(text, of.of_type, 1))),
     }
 }
 
@@ -292,7 +292,7 @@ fn point_fault<'a>(text: &'a [u8], of: Statement<'a>) -> Option<NameFault<'a>> {
     again(
         Some(token),
         first,
-        Role::Point(word_at(text, of.of_type, 1)),
+        NameRole::Point(word_at(text, of.of_type, 1)),
     )
 }
 
@@ -309,7 +309,7 @@ fn statement_fault<'a>(
         type_fault(text, tokens, of.tokens)
     } else if head == language::LOCAL {
         let names = tokens_from(of.tokens, 1);
-        repeated(text, names, parameters(of.of_type), Role::Variable)
+        repeated(text, names, parameters(of.of_type), NameRole::Variable)
     } else if head == language::POINT {
         point_fault(text, of)
     } else if head == language::GOTO {

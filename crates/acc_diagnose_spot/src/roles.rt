@@ -5,7 +5,7 @@ use acc_page::Page;
 
 /// What a name stands for.
 #[derive(Clone, Copy)]
-pub enum Role<'a> {
+pub enum NameRole<'a> {
     Table,
     /// A column of a table.
     Column(&'a [u8]),
@@ -22,46 +22,46 @@ pub enum Role<'a> {
 #[derive(Clone, Copy)]
 pub struct NameFault<'a> {
     pub token: &'a Token,
-    pub role: Role<'a>,
+    pub role: NameRole<'a>,
     /// Where it was defined first, if it is defined a second time.
     pub first: Option<&'a Token>,
 }
 
 /// Puts what a name is, as a message begins.
-fn push_role(out: &mut Page, role: Role) {
+fn push_role(out: &mut Page, role: NameRole) {
     match role {
-        Role::Table => out.push(b"table"),
-        Role::Column(table) => {
+        NameRole::Table => out.push(b"table"),
+        NameRole::Column(table) => {
             out.push(b"column of ");
             push_quoted(out, table)
         }
-        Role::Type => out.push(b"type"),
-        Role::Point(ty) => {
+        NameRole::Type => out.push(b"type"),
+        NameRole::Point(ty) => {
             out.push(b"point of the type ");
             push_quoted(out, ty)
         }
-        Role::Variable => out.push(b"local"),
-        Role::Bound => out.push(b"name of a `forall`"),
+        NameRole::Variable => out.push(b"local"),
+        NameRole::Bound => out.push(b"name of a `forall`"),
     }
 }
 
 /// How a name is defined.
-fn definition_hint(role: Role) -> &'static [u8] {
+fn definition_hint(role: NameRole) -> &'static [u8] {
     match role {
-        Role::Table => b"tables are defined at the beginning: `table NAME COMPONENTS COLUMNS`",
-        Role::Column(_) =>
+        NameRole::Table => b"tables are defined at the beginning: `table NAME COMPONENTS COLUMNS`",
+        NameRole::Column(_) =>
             b"the columns of a table stand in its own line, behind the number of its key's components",
-        Role::Type => b"a type is defined by `type NAME PARAMETERS`",
-        Role::Point(_) => b"a point is defined by `point NAME`, within the type",
-        Role::Variable =>
+        NameRole::Type => b"a type is defined by `type NAME PARAMETERS`",
+        NameRole::Point(_) => b"a point is defined by `point NAME`, within the type",
+        NameRole::Variable =>
             b"a type's locals are its parameters and the names behind `local`; in a clause also the names of its `forall`",
-        Role::Bound =>
+        NameRole::Bound =>
             b"outside of types a clause has the names of its `forall` alone, as in `always forall s : RELATION`",
     }
 }
 
 /// Says that a name is defined a second time.
-fn push_again(spot: &mut Spot, role: Role, name: &[u8], first: &Token) {
+fn push_again(spot: &mut Spot, role: NameRole, name: &[u8], first: &Token) {
     spot.what.push(b"there is a second ");
     push_role(&mut spot.what, role);
     spot.what.push(b" called ");
@@ -72,7 +72,7 @@ fn push_again(spot: &mut Spot, role: Role, name: &[u8], first: &Token) {
 }
 
 /// Says that a name isn't defined.
-fn push_none(spot: &mut Spot, role: Role, name: &[u8]) {
+fn push_none(spot: &mut Spot, role: NameRole, name: &[u8]) {
     spot.what.push(b"there is no ");
     push_role(&mut spot.what, role);
     spot.what.push(b" called ");

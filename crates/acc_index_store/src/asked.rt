@@ -44,8 +44,8 @@ fn is_among(prefixes: Prefixes, kept: &[Prefixes]) -> bool
     kept.iter().any(|other| is_alike(prefixes, other))
 }
 
-/// Adds some, unless they are there.
-fn add(kept: &mut Vec<Prefixes>, prefixes: Prefixes) -> Result<(), AllocError>
+/// Adds totals to those that a store shall keep, unless they are there. It fails for want of memory, and adds nothing then.
+pub fn add(kept: &mut Vec<Prefixes>, prefixes: Prefixes) -> Result<(), AllocError>
     ensures { OnOk result (Adds (λ k. is_alike k prefixes) kept.old.items kept.new.items) }
 {
     if !is_among(prefixes, kept) {

@@ -9,6 +9,6 @@ pub mod prefixes;
 pub mod stores;
 mod totals;
 
-pub use asked::totals_asked;
+pub use asked::{add, totals_asked};
 pub use prefixes::Prefixes;
 pub use stores::IndexStore;

@@ -31,7 +31,7 @@ use std::{env, io};
 
 /// How a command line ended: the status, the disk that was handed in, how many events the history has that is told, and what was printed.
 #[derive(Drop)]
-struct Answered<'a, D> {
+struct CommandEnd<'a, D> {
     status: u8,
     disk: D,
     events: usize,
@@ -81,7 +81,7 @@ fn answer<'a, 'd, D: Disk, C: Crew<Engine<'d, IndexStore, D>>, S: Searchers>(
     crew: &C,
     searchers: &S,
     slot: &'d mut Option<Accepted>,
-) -> Answered<'a, D>
+) -> CommandEnd<'a, D>
     requires ready { C.ready crew.now }
     requires searching { S.ready searchers.now }
 {
@@ -101,7 +101,7 @@ fn answer<'a, 'd, D: Disk, C: Crew<Engine<'d, IndexStore, D>>, S: Searchers>(
     );
     progress.end_line();
     progress.tell_speed(done.history.len());
-    Answered {
+    CommandEnd {
         status: done.status,
         disk: done.disk,
         events: done.history.len(),
@@ -116,7 +116,7 @@ fn answer_in_threads<'a, 'd, R: Threads + Wait + Sync>(
     words: &[String],
     disk: FileDisk<'a, HostRuntime>,
     slot: &'d mut Option<Accepted>,
-) -> Answered<'a, FileDisk<'a, HostRuntime>> {
+) -> CommandEnd<'a, FileDisk<'a, HostRuntime>> {
     let crew = Called::new::<Engine<'d, IndexStore, FileDisk<'a, HostRuntime>>>(
         |alloc, engine, workers|
             requires { IsUnworked engine }
@@ -151,7 +151,7 @@ fn answer_by_crew<'a, R: Threads + Wait + Sync>(
     threads: &R,
     words: &[String],
     disk: FileDisk<'a, HostRuntime>,
-) -> Answered<'a, FileDisk<'a, HostRuntime>> {
+) -> CommandEnd<'a, FileDisk<'a, HostRuntime>> {
     let mut slot = None;
     if is_by_crew(words) {
         answer_in_threads(rt, threads, words, disk, &mut slot)
@@ -168,7 +168,7 @@ fn answer_over<R: Threads + Wait + Sync>(
     path: String,
 ) -> Result<u8, AllocError> {
     let disk = journal_disk(rt, words, path.clone()?);
-    let Answered {
+    let CommandEnd {
         status,
         disk,
         events,
@@ -210,7 +210,7 @@ fn answer_without<R: Threads + Sync>(
             requires { IsWellFormed d.now }
         { search_in_threads(threads, alloc, d, sequents) },
     );
-    let Answered { status, out, .. } = answer(rt, words, disk, &Alone, &searchers, &mut None);
+    let CommandEnd { status, out, .. } = answer(rt, words, disk, &Alone, &searchers, &mut None);
     tell(rt, status, words, out.kept());
     Ok(status)
 }

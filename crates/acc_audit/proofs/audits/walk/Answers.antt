@@ -1,5 +1,5 @@
-use Rattle.std.proofs.Common.{◌≡◌, ◌+◌, ◌≤◌, length, arith, ap, subst, refl, Some, None}
-use Rattle.std.specs.Prelude.{Ok, Err}
+use Rattle.std.proofs.Common.{length, arith, ap, subst}
+use Rattle.std.specs.Prelude.{Ok}
 use Rattle.acc_base.specs.Machine.{World}
 use Rattle.acc_audit.specs.Events.{TellsEvent}
 use Rattle.acc_audit.proofs.Telling.{nothing_walked, walked_on, some_tells, error_tells, handed_on, clear_now}

@@ -6,7 +6,7 @@ use Rattle.std.proofs.lemmas.List.Elements.{All-push}
 use Rattle.std.proofs.lemmas.List.{append-nil}
 use Rattle.acc_base.specs.declared.machines.Event.{Event}
 use Rattle.acc_wal.specs.Spellings.{event_bytes, body, Fits}
-use Rattle.acc_cases_wal.proofs.listing.Listed.push.Goals as goal
+use Rattle.acc_cases_wal.proofs.listing.ListedEvents.push.Goals as goal
 
 -- one event more
 longer : (events : List Event) (event : Event) → length (body (events ++ event ∷ [])) ≡ length (body events) + length (event_bytes event)

@@ -3,7 +3,7 @@ use Rattle.std.specs.Prelude.{◌<◌, ◌^◌, All}
 use Rattle.std.proofs.lemmas.List.Elements.{All-nil}
 use Rattle.acc_base.specs.declared.machines.Event.{Event}
 use Rattle.acc_wal.specs.Spellings.{body, Fits}
-use Rattle.acc_cases_wal.proofs.listing.Listed.new.Goals as goal
+use Rattle.acc_cases_wal.proofs.listing.ListedEvents.new.Goals as goal
 
 pub invariant_of-result : goal.invariant_of-result
 unfolding body
